@@ -9,7 +9,7 @@
  *   LOOP_MODE   a device or a program that breaks its word:
  *                 no_sync      a sync does nothing
  *                 late_sync    a sync is made only before the next write: what is answered in between isn't on the disk
- *                 gate_first   a frame's slot is written and synced only after its gate
+ *                 gate_first   the slots of a group of frames are written and synced only after their gates
  *                 no_text_sync, no_folder_sync       a sync of LOOP_TEXT, or of its folder, does nothing
  *                 fail_text_sync, fail_folder_sync   it fails (EIO)
  *   LOOP_FAIL   COUNT:ERRNO, or COUNT:ERRNO:on   the call of that number on any file, from 0, fails so, or all from there on; calls are open,
@@ -48,7 +48,7 @@ static enum { HONEST, NO_SYNC, LATE_SYNC, GATE_FIRST, NO_TEXT_SYNC, NO_FOLDER_SY
 static const char *const MODES[] = {"", "no_sync", "late_sync", "gate_first", "no_text_sync", "no_folder_sync", "fail_text_sync", "fail_folder_sync"};
 static long fail_at = -1;
 static int fail_with, fail_on;
-/* gate_first: the slot that is kept back, and whether its gate was written */
+/* gate_first: the slots that are kept back, as one or several writes bring them, and whether their gates were written */
 static char *kept;
 static size_t kept_count;
 static off_t kept_at;
@@ -221,7 +221,7 @@ static ssize_t written(int fd, const void *bytes, size_t count, off_t at) {
     return syscall(SYS_pwrite64, fd, bytes, count, at);
 }
 
-/* The slot that was kept back is written after its gate. */
+/* The slots that were kept back are written after their gates. */
 static void give_back(int fd) {
     written(fd, kept, kept_count, kept_at);
     free(kept);
@@ -246,6 +246,12 @@ ssize_t pwrite(int fd, const void *bytes, size_t count, off_t at) {
         kept = malloc(count);
         memcpy(kept, bytes, kept_count = count);
         kept_at = at;
+        return count;
+    }
+    if (kept && at == kept_at + (off_t)kept_count) {
+        kept = realloc(kept, kept_count + count);
+        memcpy(kept + kept_count, bytes, count);
+        kept_count += count;
         return count;
     }
     if (kept) gate_is_written = 1;

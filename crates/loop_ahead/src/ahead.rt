@@ -96,6 +96,12 @@ impl<D: Disk + Drop, A: Allocator> Disk for AheadDisk<D, A> {
         self.failures.note(outcome)
     }
 
+    fn write_rows(&mut self, at: u64, rows: &[&[u8]]) -> Result<(), DiskFault> {
+        self.window.held = 0;
+        let outcome = self.inner.write_rows(at, rows);
+        self.failures.note(outcome)
+    }
+
     fn sync(&mut self) -> Result<(), DiskFault> {
         let outcome = self.inner.sync();
         self.failures.note(outcome)

@@ -4,13 +4,12 @@ use Rattle.std.proofs.lemmas.Bool.Decides.{nat_tests}
 use Rattle.loop_vb2.specs.declared.reason.Errno.{Errno}
 use Rattle.loop_vb2.specs.declared.reason.Reason.TheVariants.{BadIndex, NotActive}
 use Rattle.loop_vb2.specs.Buffers.{state_at}
-use Rattle.loop_vb2.specs.Checks.{end_refusal}
+use Rattle.loop_vb2.specs.Refusals.{end_refusal}
 use Rattle.loop_vb2.specs.Effects.{longest_active}
 use Rattle.loop_vb2.specs.Errnos.{errno}
 use Rattle.loop_vb2.proofs.Lines.{least_found}
 use Rattle.loop_vb2.specs.Owner.{is_active}
 use Rattle.loop_vb2.specs.State.{QueueState}
-use Rattle.loop_vb2.specs.Answers.{Fails}
 
 none_past : (n i : ℕ) → i < n → nat_le n i ≡ false
 none_past n i h = grind (arith, nat_tests)
@@ -24,6 +23,6 @@ may_end s i e =
 
 -- a refusal can't be
 pub never_refused : (s : QueueState) (i : ℕ) (refused : Errno) → longest_active s ≡ Some i
-    → Fails (end_refusal i s.body) refused → ⊥
+    → option_map errno (end_refusal i s.body) ≡ Some refused → ⊥
 never_refused s i refused active fails = let none : option_map errno (end_refusal i s.body) ≡ None =
     ap (λ r. option_map errno r) (may_end s i active) in absurd (cc)

@@ -1,3 +1,3 @@
-mod Ticked
+mod SourceTick
 mod Active
 pub mod Crossing

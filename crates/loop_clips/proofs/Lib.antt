@@ -1,3 +1,3 @@
-pub mod Locking
-pub mod Upgrading
+pub mod TableLocks
+pub mod UpgradeWrites
 pub mod Crossing

@@ -2,7 +2,7 @@
 ghost use Rattle.std.specs.Prelude.{◌≡◌, ◌<◌};
 ghost use Rattle.loop_script.specs.Pattern.{timestamp_of};
 
-use crate::record::Source;
+use crate::record::RecordSource;
 use loop_capture::Device;
 use loop_desk::Desk;
 use loop_file::FileDisk;
@@ -40,10 +40,13 @@ impl From<AllocError> for Unrecorded {
 }
 
 /// A camera of a source before a store in a file.
-type FileCamera = Camera<Source, FileDisk, MmapPlane>;
+type FileCamera = Camera<RecordSource, FileDisk, MmapPlane>;
 
 /// What came of filming it.
-type Filmed = Result<Ended<Source, FileDisk, MmapPlane>, Unfilmed<Source, FileDisk, MmapPlane>>;
+type Filmed = Result<
+    Ended<RecordSource, FileDisk, MmapPlane>,
+    Unfilmed<RecordSource, FileDisk, MmapPlane>,
+>;
 
 /// Where the cameras wait until each has begun.
 #[derive(Drop)]
@@ -127,7 +130,7 @@ impl Guide for Post {
 fn camera_before(
     alloc: Global,
     number: u32,
-    source: Source,
+    source: RecordSource,
     store: Store<FileDisk>,
 ) -> Result<FileCamera, Unrecorded> {
     if store.must_reopen() {
@@ -220,7 +223,7 @@ fn film_all<'s, E, R: Threads + Wait + Clock + Sync>(
 pub(crate) fn record_stores<R: Threads + Wait + Clock + Sync>(
     rt: &R,
     alloc: Global,
-    sources: Vec<Source>,
+    sources: Vec<RecordSource>,
     stores: Vec<Store<FileDisk>>,
     frames: u32,
 ) -> Result<Vec<u64>, Unrecorded> {

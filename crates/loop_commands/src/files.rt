@@ -105,8 +105,8 @@ fn tell<E: Write>(undone: Undone<'_>, err: &mut E) -> u8 {
     1
 }
 
-// Prints what can't be done with a path.
-fn print_path<E: Write>(err: &mut E, what: &str, path: &str) -> io::Result<()> {
+/// Prints what can't be done with a path.
+pub(crate) fn print_path<E: Write>(err: &mut E, what: &str, path: &str) -> io::Result<()> {
     print_parts(err, what, &[])?;
     print_line(err, path, &[])
 }

@@ -2,13 +2,14 @@
 ghost use Rattle.std.specs.Prelude.{[], ◌≡◌, ⊤, IfOk, length, vec_len};
 
 use crate::cameras::{Unrecorded, record_stores};
+use crate::files::print_path;
 use loop_capture::{FrameSource, Next, Pattern, Y4mSource};
 use loop_disk::Disk;
 use loop_file::{FileDisk, open_to_read};
 use loop_record::Geometry;
 use loop_script::{
     Likeness, Recording, compare_frames, print_line, print_other_geometry, print_other_rate,
-    print_parts, print_refusal,
+    print_refusal,
 };
 use loop_store::{OpenRefused, Store, StoreFault};
 use loop_y4m::Y4mReader;
@@ -29,7 +30,7 @@ const SOURCE_AT_ONCE: usize = 65_536;
 
 /// Why nothing was recorded, or what was recorded not printed.
 #[derive(Drop)]
-enum Undone<'a> {
+enum NotRecorded<'a> {
     /// The file or pipe of this path can't be opened, or what it begins with isn't the header of a source.
     CannotOpen(&'a str),
     /// The buffers of a camera of the store in this file need more pages than there are.
@@ -40,36 +41,36 @@ enum Undone<'a> {
     Write(Error),
 }
 
-impl From<AllocError> for Undone<'_> {
+impl From<AllocError> for NotRecorded<'_> {
     fn from(_: AllocError) -> Self {
-        Undone::Refused(StoreFault::NoMemory)
+        NotRecorded::Refused(StoreFault::NoMemory)
     }
 }
 
-impl From<Error> for Undone<'_> {
+impl From<Error> for NotRecorded<'_> {
     fn from(error: Error) -> Self {
-        Undone::Write(error)
+        NotRecorded::Write(error)
     }
 }
 
 /// Where a camera's frames come from.
 #[derive(Drop)]
-pub(crate) enum Source {
+pub(crate) enum RecordSource {
     /// The pattern.
     Pattern(Pattern),
     /// A file or pipe, and what its header says its frames are, with a ring of any size.
     Footage(Y4mSource<BufReader<File>>, Geometry),
 }
 
-impl FrameSource for Source {
+impl FrameSource for RecordSource {
     ghost next_gives = { λ source answer bytes after. ⊤ };
 
     ghost lends = { λ source. [] };
 
     fn next(&mut self, out: &mut [u8]) -> Next {
         match self {
-            Source::Pattern(pattern) => pattern.next(out),
-            Source::Footage(footage, _) => footage.next(out),
+            RecordSource::Pattern(pattern) => pattern.next(out),
+            RecordSource::Footage(footage, _) => footage.next(out),
         }
     }
 
@@ -93,21 +94,15 @@ pub(crate) fn run_record<
 }
 
 // Says why nothing was recorded, and answers the program's status.
-fn tell<E: Write>(undone: Undone<'_>, err: &mut E) -> u8 {
+fn tell<E: Write>(undone: NotRecorded<'_>, err: &mut E) -> u8 {
     // The status is the same where this can't be said.
     let _ = match undone {
-        Undone::CannotOpen(path) => print_path(err, "cannot open ", path),
-        Undone::CannotRecord(path) => print_path(err, "cannot record ", path),
-        Undone::Refused(fault) => print_refusal(err, fault),
-        Undone::Write(_) => Ok(()),
+        NotRecorded::CannotOpen(path) => print_path(err, "cannot open ", path),
+        NotRecorded::CannotRecord(path) => print_path(err, "cannot record ", path),
+        NotRecorded::Refused(fault) => print_refusal(err, fault),
+        NotRecorded::Write(_) => Ok(()),
     };
     1
-}
-
-// Prints what can't be done with a path.
-fn print_path<E: Write>(err: &mut E, what: &str, path: &str) -> io::Result<()> {
-    print_parts(err, what, &[])?;
-    print_line(err, path, &[])
 }
 
 // Opens each file in the order of the words, records, and prints what came of it. Memory to print comes first. A source
@@ -117,10 +112,10 @@ fn perform<
     R: AllocGlobal + Files<File = File> + Threads + Wait + Clock + Sync,
     W: Write,
     E: Write,
->(rt: &R, recording: &Recording<'a>, out: &mut W, err: &mut E) -> Result<(), Undone<'a>> {
+>(rt: &R, recording: &Recording<'a>, out: &mut W, err: &mut E) -> Result<(), NotRecorded<'a>> {
     let paths = recording.paths.words();
     let Ok(mut out) = BufWriter::new(rt.alloc(), &mut *out) else {
-        return Err(Undone::Refused(StoreFault::NoMemory));
+        return Err(NotRecorded::Refused(StoreFault::NoMemory));
     };
     let sources = open_sources(rt, recording.source, paths.len())?;
     let disks = open_disks(rt, paths)?;
@@ -139,13 +134,13 @@ fn perform<
 // Says that the source has frames of another size or format than one of the stores, or of another rate, once.
 fn tell_others<D: Disk + Drop, E: Write>(
     name: &str,
-    sources: &[Source],
+    sources: &[RecordSource],
     stores: &[Store<D>],
     err: &mut E,
 ) -> io::Result<()> {
     let mut other_rate = None;
     for (source, store) in sources.iter().zip(stores) {
-        let Source::Footage(_, footage) = source else {
+        let RecordSource::Footage(_, footage) = source else {
             continue;
         };
         match compare_frames(footage, &store.geometry()) {
@@ -161,13 +156,13 @@ fn tell_others<D: Disk + Drop, E: Write>(
 }
 
 // Why nothing was recorded, with the path of the camera that is to blame.
-fn blame<'a>(unrecorded: Unrecorded, paths: &[&'a str]) -> Undone<'a> {
+fn blame<'a>(unrecorded: Unrecorded, paths: &[&'a str]) -> NotRecorded<'a> {
     match unrecorded {
         Unrecorded::TooLarge(camera) => match paths.get(camera as usize) {
-            Some(path) => Undone::CannotRecord(path),
-            None => Undone::Refused(StoreFault::NoMemory),
+            Some(path) => NotRecorded::CannotRecord(path),
+            None => NotRecorded::Refused(StoreFault::NoMemory),
         },
-        Unrecorded::Refused(fault) => Undone::Refused(fault),
+        Unrecorded::Refused(fault) => NotRecorded::Refused(fault),
     }
 }
 
@@ -176,7 +171,7 @@ fn open_sources<'a, R: AllocGlobal + Files<File = File>>(
     rt: &R,
     source: &'a str,
     count: usize,
-) -> Result<Vec<Source>, Undone<'a>>
+) -> Result<Vec<RecordSource>, NotRecorded<'a>>
     ensures { IfOk result (λ sources. vec_len sources ≡ count) }
 {
     let mut sources = Vec::with_capacity(rt.alloc(), count)?;
@@ -190,22 +185,22 @@ fn open_sources<'a, R: AllocGlobal + Files<File = File>>(
 fn open_source<'a, R: AllocGlobal + Files<File = File>>(
     rt: &R,
     source: &'a str,
-) -> Result<Source, Undone<'a>> {
+) -> Result<RecordSource, NotRecorded<'a>> {
     if source == PATTERN {
-        return Ok(Source::Pattern(Pattern::new()));
+        return Ok(RecordSource::Pattern(Pattern::new()));
     }
     let Ok(file) = open_to_read(rt, source) else {
-        return Err(Undone::CannotOpen(source));
+        return Err(NotRecorded::CannotOpen(source));
     };
     let Ok(input) = BufReader::with_capacity(rt.alloc(), SOURCE_AT_ONCE, file) else {
-        return Err(Undone::Refused(StoreFault::NoMemory));
+        return Err(NotRecorded::Refused(StoreFault::NoMemory));
     };
     match Y4mReader::open(input) {
         Ok(reader) => {
             let geometry = geometry_of(&reader);
-            Ok(Source::Footage(Y4mSource::new(reader), geometry))
+            Ok(RecordSource::Footage(Y4mSource::new(reader), geometry))
         }
-        Err(_) => Err(Undone::CannotOpen(source)),
+        Err(_) => Err(NotRecorded::CannotOpen(source)),
     }
 }
 
@@ -227,13 +222,13 @@ fn geometry_of<I: Read + Drop>(reader: &Y4mReader<I>) -> Geometry {
 fn open_disks<'a, R: AllocGlobal + Files<File = File>>(
     rt: &R,
     paths: &[&'a str],
-) -> Result<Vec<FileDisk>, Undone<'a>>
+) -> Result<Vec<FileDisk>, NotRecorded<'a>>
     ensures { IfOk result (λ disks. vec_len disks ≡ length paths.now) }
 {
     let mut disks = Vec::with_capacity(rt.alloc(), paths.len())?;
     for path in paths {
         match FileDisk::open(rt, path) {
-            Err(_) => return Err(Undone::CannotOpen(path)),
+            Err(_) => return Err(NotRecorded::CannotOpen(path)),
             Ok(disk) => disks.push_reserved(disk),
         }
     }
@@ -245,13 +240,13 @@ fn find_stores<'a, D: Disk + Drop>(
     alloc: Global,
     disks: Vec<D>,
     keep: u32,
-) -> Result<Vec<Store<D>>, Undone<'a>>
+) -> Result<Vec<Store<D>>, NotRecorded<'a>>
     ensures { IfOk result (λ stores. vec_len stores ≡ vec_len disks) }
 {
     let mut stores = Vec::with_capacity(alloc, disks.len())?;
     for disk in disks {
         match Store::open_keeping(alloc, disk, keep) {
-            Err(OpenRefused { fault, disk: _ }) => return Err(Undone::Refused(fault)),
+            Err(OpenRefused { fault, disk: _ }) => return Err(NotRecorded::Refused(fault)),
             Ok(store) => stores.push_reserved(store),
         }
     }

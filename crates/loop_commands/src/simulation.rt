@@ -4,8 +4,8 @@ ghost use Rattle.loop_script.specs.Sessions.{stored_since};
 
 use loop_record::Span;
 use loop_script::{
-    Command, Listing, MAX_LINE, Session, next_line, print_line, print_parts, print_refusal,
-    read_command, upgrade_words,
+    Listing, MAX_LINE, ScriptCommand, ScriptDesk, next_line, print_line, print_parts,
+    print_refusal, read_command, upgrade_words,
 };
 use loop_store::{ReadFrame, StoreFault};
 use std::alloc::Allocator;
@@ -121,7 +121,7 @@ fn run_line<A: Allocator + Copy, R: Read, W: Write>(
 }
 
 // What the line of this number asks for.
-fn command_in(line: &[u8], number: u32) -> Result<Command, ScriptFault> {
+fn command_in(line: &[u8], number: u32) -> Result<ScriptCommand, ScriptFault> {
     let Ok(text) = str::from_utf8(line) else {
         return Err(ScriptFault::BadLine(number));
     };
@@ -144,7 +144,7 @@ fn show_before_waiting<A: Allocator, R: Read, W: Write>(
 #[derive(Drop)]
 struct Simulation<A: Allocator + Copy> {
     alloc: A,
-    session: Option<Session<A>>,
+    session: Option<ScriptDesk<A>>,
 }
 
 impl<A: Allocator + Copy> Simulation<A> {
@@ -156,32 +156,34 @@ impl<A: Allocator + Copy> Simulation<A> {
     }
 
     // Does what a line asks for and prints what came of it, refusals too. Only a failed write is an error.
-    fn run<W: Write>(&mut self, command: Command, out: &mut W) -> io::Result<()> {
+    fn run<W: Write>(&mut self, command: ScriptCommand, out: &mut W) -> io::Result<()> {
         match (command, &mut self.session) {
-            (Command::Format(geometry), _) => self.begin(
-                Session::format(self.alloc, geometry),
+            (ScriptCommand::Format(geometry), _) => self.begin(
+                ScriptDesk::format(self.alloc, geometry),
                 out,
             ),
-            (Command::FormatV1(geometry), _) => {
-                self.begin(Session::format_v1(self.alloc, geometry), out)
+            (ScriptCommand::FormatV1(geometry), _) => {
+                self.begin(ScriptDesk::format_v1(self.alloc, geometry), out)
             }
-            (Command::Reopen(keep), _) => self.reopen(keep, out),
+            (ScriptCommand::Reopen(keep), _) => self.reopen(keep, out),
             (_, None) => print_refusal(out, StoreFault::NotFormatted),
-            (Command::Store(count), Some(session)) => store(session, self.alloc, count, out),
-            (Command::Submit(count), Some(session)) => submit(session, self.alloc, count, out),
-            (Command::Flush, Some(session)) => flush(session, out),
-            (Command::Read(number), Some(session)) => read(session, self.alloc, number, out),
-            (Command::Lock(span), Some(session)) => lock(session, span, out),
-            (Command::Unlock(id), Some(session)) => unlock(session, id, out),
-            (Command::Upgrade, Some(session)) => upgrade(session, out),
-            (Command::List, Some(session)) => list(session, self.alloc, out),
+            (ScriptCommand::Store(count), Some(session)) => store(session, self.alloc, count, out),
+            (ScriptCommand::Submit(count), Some(session)) => submit(
+                session, self.alloc, count, out,
+            ),
+            (ScriptCommand::Flush, Some(session)) => flush(session, out),
+            (ScriptCommand::Read(number), Some(session)) => read(session, self.alloc, number, out),
+            (ScriptCommand::Lock(span), Some(session)) => lock(session, span, out),
+            (ScriptCommand::Unlock(id), Some(session)) => unlock(session, id, out),
+            (ScriptCommand::Upgrade, Some(session)) => upgrade(session, out),
+            (ScriptCommand::List, Some(session)) => list(session, self.alloc, out),
         }
     }
 
     // Takes a fresh store in place of the one that is there; refused, it keeps that one.
     fn begin<W: Write>(
         &mut self,
-        formatted: Result<Session<A>, StoreFault>,
+        formatted: Result<ScriptDesk<A>, StoreFault>,
         out: &mut W,
     ) -> io::Result<()> {
         match formatted {
@@ -224,7 +226,7 @@ fn print_opened<W: Write>(refusal: Option<StoreFault>, out: &mut W) -> io::Resul
 
 // Submits and flushes so many frames, up to the first refusal, and prints what the flushes stored.
 fn store<A: Allocator + Copy, W: Write>(
-    session: &mut Session<A>,
+    session: &mut ScriptDesk<A>,
     alloc: A,
     count: u64,
     out: &mut W,
@@ -235,7 +237,10 @@ fn store<A: Allocator + Copy, W: Write>(
 }
 
 // Stores the first of the frames that wait, and prints which.
-fn flush<A: Allocator + Copy, W: Write>(session: &mut Session<A>, out: &mut W) -> io::Result<()> {
+fn flush<A: Allocator + Copy, W: Write>(
+    session: &mut ScriptDesk<A>,
+    out: &mut W,
+) -> io::Result<()> {
     let before = session.next();
     let refusal = session.flush().err();
     print_done("stored", since(before, session), refusal, out)
@@ -243,7 +248,7 @@ fn flush<A: Allocator + Copy, W: Write>(session: &mut Session<A>, out: &mut W) -
 
 // Submits so many frames, up to the first refusal, and prints the numbers that they will have.
 fn submit<A: Allocator + Copy, W: Write>(
-    session: &mut Session<A>,
+    session: &mut ScriptDesk<A>,
     alloc: A,
     count: u64,
     out: &mut W,
@@ -288,7 +293,7 @@ fn print_none<W: Write>(done: &str, out: &mut W) -> io::Result<()> {
 }
 
 // The first and the last number of what was stored since a number was the next one, if anything was.
-fn since<A: Allocator + Copy>(before: u64, session: &Session<A>) -> Option<(u64, u64)>
+fn since<A: Allocator + Copy>(before: u64, session: &ScriptDesk<A>) -> Option<(u64, u64)>
     ensures { result ≡ stored_since before session.now.desk.store.next }
 {
     let next = session.next();
@@ -301,7 +306,7 @@ fn since<A: Allocator + Copy>(before: u64, session: &Session<A>) -> Option<(u64,
 
 // Submits and flushes so many frames; answers the refusal that stopped it, if one did.
 fn store_up_to<A: Allocator + Copy>(
-    session: &mut Session<A>,
+    session: &mut ScriptDesk<A>,
     alloc: A,
     count: u64,
 ) -> Option<StoreFault> {
@@ -316,7 +321,7 @@ fn store_up_to<A: Allocator + Copy>(
 
 // The first and the last number of the frames that were submitted, if any, and the refusal that stopped it, if one did.
 fn submit_up_to<A: Allocator + Copy>(
-    session: &mut Session<A>,
+    session: &mut ScriptDesk<A>,
     alloc: A,
     count: u64,
 ) -> (Option<(u64, u64)>, Option<StoreFault>) {
@@ -335,7 +340,7 @@ fn submit_up_to<A: Allocator + Copy>(
 
 // Reads a frame, and prints it.
 fn read<A: Allocator + Copy, W: Write>(
-    session: &mut Session<A>,
+    session: &mut ScriptDesk<A>,
     alloc: A,
     number: u64,
     out: &mut W,
@@ -373,7 +378,7 @@ fn print_bytes<W: Write>(bytes: &[u8], out: &mut W) -> io::Result<()> {
 
 // Locks a clip, and prints its id.
 fn lock<A: Allocator + Copy, W: Write>(
-    session: &mut Session<A>,
+    session: &mut ScriptDesk<A>,
     span: Span,
     out: &mut W,
 ) -> io::Result<()> {
@@ -385,7 +390,7 @@ fn lock<A: Allocator + Copy, W: Write>(
 
 // Unlocks a clip.
 fn unlock<A: Allocator + Copy, W: Write>(
-    session: &mut Session<A>,
+    session: &mut ScriptDesk<A>,
     id: u32,
     out: &mut W,
 ) -> io::Result<()> {
@@ -396,7 +401,10 @@ fn unlock<A: Allocator + Copy, W: Write>(
 }
 
 // Makes version 2 of the layout, and prints whether it did or that it was there.
-fn upgrade<A: Allocator + Copy, W: Write>(session: &mut Session<A>, out: &mut W) -> io::Result<()> {
+fn upgrade<A: Allocator + Copy, W: Write>(
+    session: &mut ScriptDesk<A>,
+    out: &mut W,
+) -> io::Result<()> {
     match session.upgrade() {
         Err(fault) => print_refusal(out, fault),
         Ok(made) => print_line(out, upgrade_words(made), &[]),
@@ -405,7 +413,7 @@ fn upgrade<A: Allocator + Copy, W: Write>(session: &mut Session<A>, out: &mut W)
 
 // Prints what is listed of the desk.
 fn list<A: Allocator + Copy, W: Write>(
-    session: &Session<A>,
+    session: &ScriptDesk<A>,
     alloc: A,
     out: &mut W,
 ) -> io::Result<()> {

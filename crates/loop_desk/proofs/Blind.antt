@@ -1,8 +1,8 @@
 -- Nothing in the model of a desk looks at pixels.
 use Rattle.std.proofs.Common.{◌≡◌, ℕ, ◌+◌, ◌-◌, ◌%◌, Bool, true, false, not, min, if◌then◌else◌, is_some, Option, Some, None, Result, Ok, Err, List, [], ◌∷◌, length, take, map, refl, sym, ap, ◌∙◌, subst, max}
 use Rattle.std.proofs.lemmas.List.{drop-map, length-map, map-append, take-map}
-use Rattle.std.specs.Prelude.{◌==◌, ◌&&◌, ◌||◌, nat_lt}
-use Rattle.std.specs.List.{filter, find, range_with_len}
+use Rattle.std.specs.Prelude.{◌==◌, ◌&&◌, ◌||◌, nat_eq, nat_lt}
+use Rattle.std.specs.List.{dedup, filter, find, range_with_len}
 use Rattle.std.specs.Option.{option_map}
 use Rattle.loop_clips.specs.Table.{clip_list}
 use Rattle.loop_disk.specs.Medium.{Medium}
@@ -11,15 +11,17 @@ use Rattle.loop_record.specs.declared.times.Times.{Times}
 use Rattle.loop_record.specs.Times.{AreRuns, is_in}
 use Rattle.loop_record.specs.Geometry.{frame_bytes}
 use Rattle.loop_record.specs.Layout.{has_tag_place}
-use Rattle.loop_record.specs.Recording.{Picture, Recording, Ring, Step, after_step as stepped, block, blocks_of, frame_under, free_id, holds, is_locked, last_number, lock, needs_recycling, plain, recycle, recycling_first, ring_of, steps, store, stores_after, unlock, victim, with_block}
+use Rattle.loop_record.specs.Recording.{Picture, Recording, Ring, Step, after_step as stepped, block, frame_under, holds, is_locked, last_number, lock, needs_recycling, plain, recycle, recycling_first, ring_of, steps, store, unlock, victim}
 use Rattle.loop_store.specs.declared.fault.StoreFault.{StoreFault}
-use Rattle.loop_store.specs.Calls.{AnswersDue, AreAnswered, Call, IsAnswered, AnswersOtherwise, StoreState, after_store_call as stored, after_calls, appended, steps_asked, checks, due, fault_answered, first_of, has_failed, lacks_victim, locked, made_by, steps_of, unlocked, upgraded, version_after, was_read, was_read_part, sought}
-use Rattle.loop_store.specs.Steps.{if_answered, steps_or_none}
+use Rattle.loop_store.specs.Calls.{AnswersDue, AreAnswered, Call, IsAnswered, AnswersOtherwise, StoreState, after_store_call as stored, after_calls, appended, checks, due, fault_answered, first_of, locked, made_by, steps_of, unlocked, upgraded, version_after, was_read, was_read_part, sought}
 use Rattle.loop_desk.specs.declared.limits.Flushed.{Flushed}
 use Rattle.loop_desk.specs.declared.limits.Outline.{Outline}
 use Rattle.loop_desk.specs.Bare.{IsBlind, IsOutlineOf, bare, bare_call, bare_frame, bare_read, bare_recording, bare_state, bare_store}
 use Rattle.loop_desk.specs.Desk.{AreDeskAnswers, DeskCall, DeskState, IsDeskAnswer, IsDeskTold, IsFlush, Rules, append_of, clip_locked, clip_unlocked, desk_after, desk_after_calls, flushed, frame_read, group_of, layout_upgraded, pending_after, status_told, store_calls, run_told, submitted}
 use Rattle.loop_desk.specs.Seen.{SeenDesk, StandsAt, TellsOutline}
+use Rattle.loop_record.proofs.Blocks.{blocks-made}
+use Rattle.loop_record.proofs.Names.{free_id, stores_after, blocks_of, with_block}
+use Rattle.loop_store.proofs.Names.{lacks_victim, steps_asked, has_failed, if_answered, steps_or_none}
 
 abbrev bare_step : Step → Step
 bare_step (store p) = store (bare p)
@@ -46,6 +48,10 @@ bare_stored (sought times result) = sought times result
 blocks-bare : (ring : Ring) (fs : List (ℕ × Picture)) → blocks_of ring (map bare_frame fs) ≡ blocks_of ring fs
 blocks-bare ring [] = refl
 blocks-bare ring (f ∷ fs) = ap (with_block (block ring f.0)) (blocks-bare ring fs)
+
+held-bare : (ring : Ring) (fs : List (ℕ × Picture))
+    → dedup nat_eq (map (λ f. block ring f.0) (map bare_frame fs)) ≡ dedup nat_eq (map (λ f. block ring f.0) fs)
+held-bare ring fs = blocks-made ring (map bare_frame fs) ∙ blocks-bare ring fs ∙ sym (blocks-made ring fs)
 
 under-bare : (fs : List (ℕ × Picture)) (number : ℕ) → frame_under (map bare_frame fs) number ≡ option_map bare
     (frame_under fs number)
@@ -98,7 +104,7 @@ stores-bare (p ∷ ps) = ap (λ l. store (bare p) ∷ l) (stores-bare ps)
 steps-bare : (ring : Ring) (keep : ℕ) (r : Recording) (ps : List Picture) → steps ring keep (bare_recording r)
     (map bare ps) ≡ option_map (map bare_step) (steps ring keep r ps)
 steps-bare ring keep r ps =
-    let same = blocks-bare ring r.frames in
+    let same = held-bare ring r.frames in
     (λ i. if r.next == last_number ring then None else stores_after
     (recycling_first ((r.next % ring.slots == 0) && (length (same i) == ring.segments))
     (find (λ b. not (is_locked ring r b)) (take (length (same i) - max 1 keep) (same i)))) (map bare ps))
@@ -124,7 +130,7 @@ asked-bare g keep r ps = ap steps_or_none (steps-bare (ring_of g) keep r ps) ∙
 victim-bare : (ring : Ring) (keep : ℕ) (r : Recording)
     → lacks_victim ring keep (bare_recording r) ≡ lacks_victim ring keep r
 victim-bare ring keep r =
-    let same = blocks-bare ring r.frames in
+    let same = held-bare ring r.frames in
     λ i. (r.next % ring.slots == 0 && length (same i) == ring.segments) && not
     (is_some (find (λ b. not (is_locked ring r b)) (take (length (same i) - max 1 keep) (same i))))
 

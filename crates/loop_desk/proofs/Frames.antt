@@ -4,15 +4,16 @@ use Rattle.std.proofs.lemmas.Grind.{flat_map-append}
 use Rattle.std.proofs.lemmas.List.{append-nil, length-take, take-append-drop, take_min}
 use Rattle.std.specs.Prelude.{◌==◌, ◌-◌, ◌%◌}
 use Rattle.loop_record.specs.declared.geometry.Geometry.{Geometry}
-use Rattle.loop_record.specs.Recording.{Picture, Recording, Ring, Step, store, last_number, needs_recycling, recycling_first, ring_of, steps, stores_after, victim}
+use Rattle.loop_record.specs.Recording.{Picture, Recording, Ring, Step, store, last_number, needs_recycling, recycling_first, ring_of, steps, victim}
 use Rattle.loop_record.specs.Turns.{after_all, EachIn}
-use Rattle.loop_record.proofs.Turned.{told-behind}
+use Rattle.loop_record.proofs.TurnRuns.{told-behind}
 use Rattle.loop_store.specs.declared.fault.StoreFault.{StoreFault}
 use Rattle.loop_store.specs.Calls.{AreAnswered, IsAnswered, StoreState, after_store_call, made_by, made_in}
-use Rattle.loop_store.specs.Steps.{steps_or_none}
-use Rattle.loop_store.proofs.Putting.{answered-some}
+use Rattle.loop_store.proofs.AppendAnswers.{answered-some}
 use Rattle.loop_desk.specs.declared.limits.Flushed.{Flushed}
 use Rattle.loop_desk.specs.Desk.{AreTold, DeskCall, DeskState, IsFlush, IsDeskTold, Rules, frame_accepted, accepted_in, append_of, clip_locked, clip_unlocked, desk_after, desk_after_calls, flushed, frame_read, frames_stored, group_of, pending_after, layout_upgraded, status_told, store_calls, store_calls_in, stored_by, run_told, submitted}
+use Rattle.loop_record.proofs.Names.{stores_after}
+use Rattle.loop_store.proofs.Names.{steps_or_none}
 
 pub each-parts : {S X : Type 0} (next : S → X → S) (P : S → X → Type 0) (s : S) (xs ys : List X)
     → EachIn next P s (xs ++ ys) → EachIn next P s xs × EachIn next P (after_all next s xs) ys

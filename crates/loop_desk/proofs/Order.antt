@@ -15,10 +15,11 @@ use Rattle.loop_desk.specs.declared.lane.Lane.{Lane}
 use Rattle.loop_desk.specs.declared.hand.LaneFault.{LaneFault}
 use Rattle.loop_desk.specs.Desk.{DeskCall, frame_accepted, accepted_in}
 use Rattle.loop_desk.specs.Front.{Front, HandState, IsDequeue, IsRequeue, IsSubmit, dequeued, empty, front_after, full, offered, hand_given, hand_state, on_queue, requeued, spent}
-use Rattle.loop_desk.specs.Lane.{IsAtFront, IsLaneTurn, LaneKeeps, LaneRan, LaneTurn, StandsLane, after_turn, at_desk, at_front, calls_at, calls_of_turn, frame_at, frame_of_turn, frames_taken, hand_frame, lane_after, mixed, submit_calls, turn_at}
-use Rattle.loop_desk.proofs.Lasting.{keeps-footage}
-use Rattle.loop_desk.proofs.Queued.{dequeues}
-use Rattle.loop_desk.proofs.Taking.{completes}
+use Rattle.loop_desk.specs.Lane.{IsAtFront, IsLaneTurn, LaneKeeps, LaneRan, LaneTurn, StandsLane, after_turn, at_desk, at_front, calls_of_turn, frame_of_turn, frames_taken, hand_frame, lane_after, mixed, submit_calls, turn_at}
+use Rattle.loop_desk.proofs.FootageRuns.{keeps-footage}
+use Rattle.loop_desk.proofs.QueueTurns.{dequeues}
+use Rattle.loop_desk.proofs.LaneRuns.{calls_at}
+use Rattle.loop_desk.proofs.LaneFrames.{completes}
 
 submit-frames : (h : HandState) (result : Result ℕ StoreFault) → IsSubmit h result
     → accepted_in (submit_calls h result) ++ hand_frame (hand_given h result) ≡ hand_frame h ++ []
@@ -69,7 +70,7 @@ module _ {P A : Type 0} (m : P → Plane) where
       (λ i. flat_map-append frame_accepted (calls_at f x) (told_in (lane_after m) calls_at next xs) i ++ last)
       ∙ append_assoc (accepted_in (calls_at f x)) (accepted_in (told_in (lane_after m) calls_at next xs)) last
       ∙ (λ i. accepted_in (calls_at f x) ++ rest i) ∙ sym (append_assoc (accepted_in (calls_at f x)) (hand_frame next.hand) (frames_taken m next xs))
-      ∙ (λ i. one i ++ frames_taken m next xs) ∙ append_assoc (hand_frame f.hand) (frame_at m f x) (frames_taken m next xs)
+      ∙ (λ i. one i ++ frames_taken m next xs) ∙ append_assoc (hand_frame f.hand) (frame_of_turn m f (turn_at f x)) (frames_taken m next xs)
 
 module _ {D P A : Type 0} (m : P → Plane) (medium : D → Medium) where
   pub in-order : (old new : Lane D P A) (es : List (LaneEvent P A)) (ps : List (LaneReply P A))

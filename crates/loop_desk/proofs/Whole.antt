@@ -3,8 +3,8 @@ use Rattle.std.proofs.Common.{◌≡◌, ℕ, ◌+◌, ◌<◌, ◌≤◌, Bool,
 use Rattle.std.proofs.lemmas.List.{append-nil, append_assoc}
 use Rattle.std.specs.List.{enumerate_from, filter}
 use Rattle.loop_record.specs.Recording.{IsWellFormed, Picture, Recording, RiseBetween, Ring, Step, after_step, block, frame_under, lock, plain, recycle, store, unlock}
-use Rattle.loop_record.proofs.Decided.{clash, differ_test, equal}
-use Rattle.loop_record.proofs.Retired.{under-filter}
+use Rattle.loop_record.proofs.TestFacts.{clash, differ_test, equal}
+use Rattle.loop_record.proofs.WithoutBlock.{under-filter}
 use Rattle.loop_desk.specs.Desk.{frames_stored}
 use Rattle.loop_desk.specs.Footage.{AreClipsWhole, ever}
 
@@ -141,9 +141,6 @@ some-there (Some p) h = (p, refl)
 pub clips-whole : (ring : Ring) (r : Recording) (steps : List Step) → AreBelow r → IsWellFormed (plain ring r steps)
     → AreClipsWhole ring r steps
 clips-whole ring r steps below formed = λ span stands n from to.
-    let held = (formed.clips span stands).each n from to in
-    let there = some-there (frame_under (plain ring r steps).frames n) held in record {
-      picture = there.0;
-      held = there.1;
-      given = sym (given-under ring r steps n below held) ∙ there.1;
-    }
+    let held = (formed.clips span stands).1 n from to in
+    let there = some-there (frame_under (plain ring r steps).frames n) held in
+    (there.0, (there.1, sym (given-under ring r steps n below held) ∙ there.1))

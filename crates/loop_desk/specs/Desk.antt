@@ -2,6 +2,7 @@
 -- said by the store's own calls.
 use Rattle.std.specs.Prelude.{◌≡◌, ℕ, ◌+◌, ◌-◌, ◌%◌, ◌==◌, not, min, Bool, true, false, if◌then◌else◌, Option, Some, None, Result, Ok, Err, List, [], ◌∷◌, ◌++◌, length, slice_get, take, drop}
 use Rattle.std.specs.List.{flat_map}
+use Rattle.std.specs.Result.{result_map_both}
 use Rattle.loop_disk.specs.declared.fault.DiskFault.{DiskFault}
 use Rattle.loop_record.specs.declared.clip.Span.{Span}
 use Rattle.loop_record.specs.declared.frame.FrameHead.{FrameHead}
@@ -9,8 +10,8 @@ use Rattle.loop_record.specs.declared.geometry.Geometry.{Geometry}
 use Rattle.loop_record.specs.declared.times.Times.{Times}
 use Rattle.loop_record.specs.Geometry.{frame_bytes}
 use Rattle.loop_record.specs.Times.{AreRuns, numbers_in_time}
-use Rattle.loop_record.specs.Recording.{Picture, Step, last_number, lock, recycle, ring_of, store, unlock}
-use Rattle.loop_record.specs.Turns.{after_all, told_in, EachIn, Machine}
+use Rattle.loop_record.specs.Recording.{Picture, Step, last_number, ring_of, store}
+use Rattle.loop_record.specs.Turns.{after_all, told_in, EachIn}
 use Rattle.loop_store.specs.Calls.{AreAnswered, Call, StoreState, after_calls, appended, locked, unlocked, upgraded, was_read}
 use Rattle.loop_store.specs.Faults.{failed_in}
 use Rattle.loop_store.specs.declared.fault.StoreFault.{StoreFault}
@@ -50,26 +51,19 @@ abbrev pub group_of : Rules → DeskState → List Picture
 group_of k s =
     take (min k.limits.group (k.geometry.slots - s.store.recording.next % k.geometry.slots)) s.pending
 
--- what the append of a flush answered
-abbrev pub appended_as : Result Flushed StoreFault → Result ℕ StoreFault
-appended_as (Ok f) = Ok f.first
-appended_as (Err fault) = Err fault
-
--- a flush of a group appends it, where it has a frame
+-- a flush of a group appends it, where it has a frame; the append answered the first number, or that refusal
 abbrev pub append_of : List Picture → Result Flushed StoreFault → List Call
 append_of [] result = []
-append_of (p ∷ ps) result = appended (p ∷ ps) (appended_as result) ∷ []
+append_of (p ∷ ps) result = appended (p ∷ ps) (result_map_both (λ f. f.first) (λ fault. fault) result) ∷ []
 
 -- the calls of the store that a call makes, with their answers
 abbrev pub store_calls : Rules → DeskState → DeskCall → List Call
-store_calls k s (submitted p size result) = []
 store_calls k s (flushed result) = append_of (group_of k s) result
 store_calls k s (clip_locked span result) = locked span result ∷ []
 store_calls k s (clip_unlocked id result) = unlocked id result ∷ []
 store_calls k s (frame_read number result) = was_read number result ∷ []
-store_calls k s (status_told status) = []
 store_calls k s (layout_upgraded result) = upgraded result ∷ []
-store_calls k s (run_told times place run) = []
+store_calls k s _ = []
 
 -- the call of the disk that failed, if the answer says that one did
 abbrev pub desk_failed_for : DeskCall → Option DiskFault
@@ -78,9 +72,8 @@ desk_failed_for (flushed result) = failed_in result
 desk_failed_for (clip_locked span result) = failed_in result
 desk_failed_for (clip_unlocked id result) = failed_in result
 desk_failed_for (frame_read number result) = failed_in result
-desk_failed_for (status_told status) = None
 desk_failed_for (layout_upgraded result) = failed_in result
-desk_failed_for (run_told times place run) = None
+desk_failed_for _ = None
 
 -- ---- a desk after a call
 
@@ -107,14 +100,11 @@ submit_answer k s size =
     else if (s.store.recording.next + length s.pending) == last_number (ring_of k.geometry) then Err NumbersSpent
     else Ok (s.store.recording.next + length s.pending)
 
--- what a flush answers that stored so many
-abbrev pub flushed_of : DeskState → ℕ → Flushed
-flushed_of s count = record { first = s.store.recording.next; stored = count; left = length s.pending - count }
-
 -- the answer to a flush of a group: all of it was stored; where it has no frame it is refused only because the store
 -- must be reopened, and otherwise as the append was
 abbrev pub IsFlush : DeskState → List Picture → Result Flushed StoreFault → Type 0
-IsFlush s group (Ok f) = (s.store.must_reopen ≡ false) × (f ≡ flushed_of s (length group))
+IsFlush s group (Ok f) = (s.store.must_reopen ≡ false)
+    × (f ≡ record { first = s.store.recording.next; stored = length group; left = length s.pending - length group })
 IsFlush s [] (Err fault) = (fault ≡ MustReopen) × (s.store.must_reopen ≡ true)
 IsFlush s (p ∷ ps) (Err fault) = Unit {0}
 
@@ -125,21 +115,15 @@ pub record IsStatus (s : DeskState) (status : Status) : Type 0 where
   pub pending : status.pending ≡ length s.pending
   pub must_reopen : status.must_reopen ≡ s.store.must_reopen
 
--- the run of that place among the runs of numbers, from 0; none where they have no more
-abbrev pub IsRunAt : List ℕ → ℕ → Option Span → Type 0
-IsRunAt numbers place run = (runs : List Span) × (AreRuns numbers runs × (slice_get runs place ≡ run))
-
--- the desk's own part of an answer; all else is the answer of the store's call
+-- The desk's own part of an answer; all else is the answer of the store's call. A time's run is that of its place, from
+-- 0, and none where they are no more.
 abbrev pub IsDeskTold : Rules → DeskState → DeskCall → Type 0
 IsDeskTold k s (submitted p size result) = result ≡ submit_answer k s size
 IsDeskTold k s (flushed result) = IsFlush s (group_of k s) result
 IsDeskTold k s (status_told status) = IsStatus s status
-IsDeskTold k s (run_told times place run) = IsRunAt (numbers_in_time times s.store.recording) place run
+IsDeskTold k s (run_told times place run) =
+    (runs : List Span) × (AreRuns (numbers_in_time times s.store.recording) runs × (slice_get runs place ≡ run))
 IsDeskTold k s _ = Unit {0}
-
--- a desk by its states and its own part of the answers
-abbrev pub desk_model : Rules → Machine DeskState DeskCall
-desk_model k = record { after = desk_after k; May = IsDeskTold k }
 
 -- the whole answer of a desk whose disk is honest
 abbrev pub IsDeskAnswer : Rules → DeskState → DeskCall → Type 0
@@ -184,9 +168,7 @@ accepted_in calls = flat_map frame_accepted calls
 -- the frame of a step that stores one
 abbrev pub stored_by : Step → List Picture
 stored_by (store p) = p ∷ []
-stored_by (recycle b) = []
-stored_by (lock span) = []
-stored_by (unlock id) = []
+stored_by _ = []
 
 -- the frames that steps store, in order
 abbrev pub frames_stored : List Step → List Picture

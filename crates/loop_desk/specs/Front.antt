@@ -1,5 +1,6 @@
 -- The front of a lane: a queue with its table of fds, and the hand, which has what was taken from the queue.
-use Rattle.std.specs.Prelude.{◌≡◌, ℕ, Bool, true, false, cond, ◌==◌, is_some, IfOk, List, [], ◌∷◌, ◌++◌, map, take, slice_get, Option, Some, None, option_to_list, Result, Ok, Err}
+use Rattle.std.specs.Prelude.{◌≡◌, ℕ, Bool, true, false, cond, ◌==◌, is_some, IfOk, MatchBool, List, [], ◌∷◌, ◌++◌, map, take, slice_get, Option, Some, None, option_to_list, Result, Ok, Err}
+use Rattle.std.specs.Option.{option_map_or}
 use Rattle.loop_plane.specs.Plane.{Plane}
 use Rattle.loop_plane.specs.Fds.{Fds}
 use Rattle.loop_plane.specs.declared.memory.Memory.{Memory}
@@ -8,12 +9,12 @@ use Rattle.loop_record.specs.Turns.{Machine, Turns, after_all}
 use Rattle.loop_store.specs.declared.fault.StoreFault.{StoreFault}
 use Rattle.loop_store.specs.declared.fault.StoreFault.TheVariants.{NoMemory, WrongSize, HandFull, HandEmpty}
 use Rattle.loop_vb2.specs.declared.buffer.Buffer.{Buffer}
-use Rattle.loop_vb2.specs.declared.buffer.Dequeued.{Dequeued}
 use Rattle.loop_vb2.specs.declared.planes.PlaneSet.{PlaneSet}
 use Rattle.loop_vb2.specs.declared.planes.Shape.{Shape}
 use Rattle.loop_vb2.specs.declared.reason.Reason.TheVariants.{HandHolds}
 use Rattle.loop_vb2.specs.declared.state.BufferState.{BufferState}
 use Rattle.loop_vb2.specs.declared.state.BufferState.TheVariants.{Error}
+use Rattle.loop_vb2.specs.Answers.{buffer_answer}
 use Rattle.loop_vb2.specs.Buffers.{handed_over}
 use Rattle.loop_vb2.specs.Errnos.{errno}
 use Rattle.loop_vb2.specs.Events.{Event, MayHappen, after_event, dqbuf, qbuf}
@@ -26,7 +27,7 @@ use Rattle.loop_ioctl.specs.declared.events.QueueEvent.TheVariants as event
 use Rattle.loop_ioctl.specs.declared.events.QueueReply.{QueueReply}
 use Rattle.loop_ioctl.specs.declared.events.QueueReply.TheVariants as answer
 use Rattle.loop_ioctl.specs.Attached.{values_by_fd}
-use Rattle.loop_ioctl.specs.Calls.{IoctlState, StandsIoctl, HandsBack, planes_given, supply_given}
+use Rattle.loop_ioctl.specs.Calls.{IoctlState, StandsIoctl, HandsBack, memory_given, planes_given, supply_given}
 use Rattle.loop_ioctl.specs.Events.{is_whole, IsTold, state_after}
 use Rattle.loop_ioctl.specs.Modelled.{event_of}
 use Rattle.loop_desk.specs.declared.hand.Hand.{Hand}
@@ -83,15 +84,12 @@ pub record StandsFront {P A : Type 0} (meaning : P → Plane) (code : Lined P) (
 abbrev pub part : Shape → Buffer Plane → ℕ → List ℕ
 part shape b i = take (number_at shape.sizes i) (take (number_at b.used i) (bytes_in (plane_in b.planes i)))
 
-abbrev pub taken_bytes : Shape → Buffer Plane → List ℕ
-taken_bytes shape b = part shape b 0 ++ (part shape b 1 ++ part shape b 2)
-
 abbrev pub taken_frame : Shape → Buffer Plane → Picture
 taken_frame shape b = record {
   sequence = b.stamp.sequence;
   flags = dequeue_bits b.state b.mapped;
   timestamp = b.stamp.timestamp;
-  bytes = taken_bytes shape b;
+  bytes = part shape b 0 ++ (part shape b 1 ++ part shape b 2);
 }
 
 -- the device gave the buffer up
@@ -105,10 +103,6 @@ hand_of body index b =
     cond (was_given_up b.state) (spent index (handed_over body.kind b.planes))
     (full index (taken_frame body.shape b) (handed_over body.kind b.planes))
 
-abbrev pub hand_with : Body Plane → ℕ → Option (Buffer Plane) → HandState
-hand_with body index None = empty
-hand_with body index (Some b) = hand_of body index b
-
 -- ---- turns
 
 -- An event of the front with its reply.
@@ -118,17 +112,11 @@ pub data Turn (P A : Type 0) : Type 0 where
   requeued : Result ℕ LaneFault → Turn P A
   offered : Result ℕ StoreFault → Turn P A
 
--- an index is the hand's
-abbrev pub is_at : Option ℕ → ℕ → Bool
-is_at None index = false
-is_at (Some i) index = i == index
-
 module _ {P A : Type 0} where
   -- the hand forbids REQBUFS, and QBUF and PREPARE_BUF of its buffer
   abbrev pub forbids : Option ℕ → QueueEvent P A → Bool
   forbids held (event.Ioctl (call.ReqBufs type count kind supply)) = is_some held
-  forbids held (event.Ioctl (call.PrepareBuf type index given)) = is_at held index
-  forbids held (event.Ioctl (call.QBuf type index given)) = is_at held index
+  forbids held (event.Ioctl c) = option_map_or (λ b. option_map_or (λ i. i == b.0) held false) (memory_given c) false
   forbids held e = false
 
   -- what is answered then: all that the call brought goes back
@@ -138,17 +126,6 @@ module _ {P A : Type 0} where
   IsForbidden e r = ⊥
 
 -- ---- what a turn does to the front
-
--- what DQBUF answers of a buffer
-abbrev pub buffer_answer : Memory → ℕ → Buffer Plane → Dequeued Plane
-buffer_answer kind index b = record {
-  index = index;
-  sequence = b.stamp.sequence;
-  timestamp = b.stamp.timestamp;
-  flags = record { 0 = dequeue_bits b.state b.mapped };
-  used = b.used;
-  planes = handed_over kind b.planes;
-}
 
 -- the queue's own event, where the hand asks for a buffer
 abbrev pub dequeue_event : IoctlState → Result ℕ LaneFault → List Event
@@ -184,7 +161,7 @@ module _ {P A : Type 0} (meaning : P → Plane) where
       record f { queue = cond (forbids (index_in f.hand) e) f.queue (state_after meaning e r f.queue) }
   front_after f (dequeued (Ok index)) =
       with_hand f.queue (dequeue_event f.queue (Ok index))
-      (hand_with f.queue.queue.body index (slice_get f.queue.queue.body.buffers index))
+      (option_map_or (hand_of f.queue.queue.body index) (slice_get f.queue.queue.body.buffers index) empty)
   front_after f (requeued (Ok index)) = with_hand f.queue (requeue_event (kind_of f.queue) f.hand (Ok index)) empty
   front_after f (offered result) = record f { hand = hand_given f.hand result }
   front_after f t = f
@@ -193,23 +170,11 @@ module _ {P A : Type 0} (meaning : P → Plane) where
   -- refuses it.
   abbrev pub front_event : Front → Turn P A → List Event
   front_event f (on_queue e (Ok r)) = cond (forbids (index_in f.hand) e) [] (event_of meaning e r f.queue)
-  front_event f (on_queue e (Err fault)) = []
   front_event f (dequeued result) = dequeue_event f.queue result
   front_event f (requeued result) = requeue_event (kind_of f.queue) f.hand result
-  front_event f (offered result) = []
+  front_event f t = []
 
 -- ---- the replies
-
-module _ {P A : Type 0} (meaning : P → Plane) where
-  abbrev pub IsToldIf : Bool → QueueEvent P A → QueueReply P A → IoctlState → Type 0
-  IsToldIf true e r j = IsForbidden e r
-  IsToldIf false e r j = IsTold meaning e r j
-
-  -- a Complete of another length than a frame's is refused before all else, then what the hand forbids
-  abbrev pub IsOnQueue : Front → QueueEvent P A → Result (QueueReply P A) LaneFault → Type 0
-  IsOnQueue f e (Ok r) =
-      (is_whole f.queue.queue.body.shape e ≡ true) × IsToldIf (forbids (index_in f.hand) e) e r f.queue
-  IsOnQueue f e (Err fault) = (is_whole f.queue.queue.body.shape e ≡ false) × (fault ≡ Store WrongSize)
 
 -- this is one event of the queue, and it may happen
 abbrev pub IsOneEvent : QueueState → List Event → Type 0
@@ -231,14 +196,17 @@ IsRequeue j (spent i planes) result =
 
 -- only a frame is offered to the desk
 abbrev pub IsSubmit : HandState → Result ℕ StoreFault → Type 0
-IsSubmit empty result = result ≡ Err HandEmpty
 IsSubmit (full i p planes) result = Unit {0}
-IsSubmit (spent i planes) result = result ≡ Err HandEmpty
+IsSubmit h result = result ≡ Err HandEmpty
 
 module _ {P A : Type 0} (meaning : P → Plane) where
-  -- the reply is the model's
+  -- the reply is the model's; a Complete of another length than a frame's is refused before all else, then what the
+  -- hand forbids
   abbrev pub IsFrontTurn : Front → Turn P A → Type 0
-  IsFrontTurn f (on_queue e result) = IsOnQueue meaning f e result
+  IsFrontTurn f (on_queue e (Ok r)) =
+      (is_whole f.queue.queue.body.shape e ≡ true)
+      × MatchBool (forbids (index_in f.hand) e) (IsForbidden e r) (IsTold meaning e r f.queue)
+  IsFrontTurn f (on_queue e (Err fault)) = (is_whole f.queue.queue.body.shape e ≡ false) × (fault ≡ Store WrongSize)
   IsFrontTurn f (dequeued result) = IsDequeue f.queue f.hand result
   IsFrontTurn f (requeued result) = IsRequeue f.queue f.hand result
   IsFrontTurn f (offered result) = IsSubmit f.hand result

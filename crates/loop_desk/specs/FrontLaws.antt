@@ -6,14 +6,14 @@ use Rattle.loop_record.specs.declared.geometry.PixelFormat.{PixelFormat}
 use Rattle.loop_vb2.specs.declared.buffer.Buffer.{Buffer}
 use Rattle.loop_vb2.specs.declared.buffer.Stamp.{Stamp}
 use Rattle.loop_vb2.specs.declared.planes.PlaneSet.{PlaneSet}
-use Rattle.loop_vb2.specs.Buffers.{completed_with}
+use Rattle.loop_vb2.specs.Buffers.{completed_by}
 use Rattle.loop_vb2.specs.First.{shape_of}
-use Rattle.loop_vb2.specs.Planes.{frame_size, has_count}
+use Rattle.loop_vb2.specs.Planes.{frame_size, has_count, slot_filled}
 use Rattle.loop_vb2.specs.State.{QueueState, Lined, StandsQueue}
 use Rattle.loop_ioctl.specs.Names.{names_in}
 use Rattle.loop_ioctl.specs.Calls.{read_names}
 use Rattle.loop_desk.specs.declared.hand.Hand.TheVariants as hand
-use Rattle.loop_desk.specs.Front.{StandsFront, empty, taken_bytes}
+use Rattle.loop_desk.specs.Front.{StandsFront, empty, taken_frame}
 
 -- A queue without buffers, any table and an empty hand stand for the front in which no plane is out.
 abbrev pub NewFrontsStand : {P : Type 0} → Type 0 → (P → Plane) → Type 0
@@ -29,4 +29,5 @@ WholeFramesAreTaken =
     (format : PixelFormat) (width height : ℕ) (stamp : Stamp) (bytes : List ℕ) (b : Buffer Plane) (set : PlaneSet Plane)
     → b.planes ≡ Some set → has_count (shape_of format width height).count set ≡ true
     → length bytes ≡ frame_size (shape_of format width height)
-    → taken_bytes (shape_of format width height) (completed_with (shape_of format width height) stamp bytes b) ≡ bytes
+    → (taken_frame (shape_of format width height)
+    (completed_by slot_filled (shape_of format width height) stamp bytes b)).bytes ≡ bytes

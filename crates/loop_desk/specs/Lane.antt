@@ -6,7 +6,7 @@ use Rattle.loop_plane.specs.Plane.{Plane}
 use Rattle.loop_disk.specs.Medium.{Medium}
 use Rattle.loop_record.specs.declared.geometry.PixelFormat.{PixelFormat}
 use Rattle.loop_record.specs.Recording.{Picture}
-use Rattle.loop_record.specs.Turns.{after_all, told_in, EachIn, Machine, Plays}
+use Rattle.loop_record.specs.Turns.{after_all, told_in, EachIn, Plays}
 use Rattle.loop_store.specs.declared.fault.StoreFault.{StoreFault}
 use Rattle.loop_store.specs.Calls.{StoreState}
 use Rattle.loop_store.specs.Goes.{Stands}
@@ -26,7 +26,7 @@ use Rattle.loop_desk.specs.declared.event.LaneReply.TheVariants as reply
 use Rattle.loop_desk.specs.declared.lane.Lane.{Lane}
 use Rattle.loop_desk.specs.Desk.{DeskCall, frame_accepted, accepted_in, clip_locked, clip_unlocked, flushed, frame_read, submitted}
 use Rattle.loop_desk.specs.Footage.{KeepsFootage}
-use Rattle.loop_desk.specs.Front.{Front, HandState, IsFrontTurn, IsSubmit, StandsFront, Turn, dequeued, empty, front_after, front_event, full, hand_state, on_queue, requeued, spent, offered}
+use Rattle.loop_desk.specs.Front.{Front, HandState, IsFrontTurn, IsSubmit, StandsFront, Turn, dequeued, front_after, front_event, full, hand_state, on_queue, requeued, offered}
 use Rattle.loop_desk.specs.Seen.{DeskGoes}
 
 -- ---- what an event and its reply are
@@ -71,12 +71,8 @@ module _ {P A : Type 0} where
   -- the desk's calls of a turn
   abbrev pub calls_of_turn : HandState → LaneTurn P A → List DeskCall
   calls_of_turn h (at_front (offered result)) = submit_calls h result
-  calls_of_turn h (at_front t) = []
   calls_of_turn h (at_desk c) = c ∷ []
-  calls_of_turn h mixed = []
-
-  abbrev pub calls_at : Front → LaneEvent P A × LaneReply P A → List DeskCall
-  calls_at f x = calls_of_turn f.hand (turn_at f x)
+  calls_of_turn h t = []
 
 module _ {P A : Type 0} (meaning : P → Plane) where
   -- the reply is the model's, as far as the front says it: what the desk answers is said of its calls, and a frame is
@@ -92,15 +88,10 @@ module _ {P A : Type 0} (meaning : P → Plane) where
   -- the front after it
   abbrev pub after_turn : Front → LaneTurn P A → Front
   after_turn f (at_front t) = front_after meaning f t
-  after_turn f (at_desk c) = f
-  after_turn f mixed = f
+  after_turn f t = f
 
   abbrev pub lane_after : Front → LaneEvent P A × LaneReply P A → Front
   lane_after f x = after_turn f (turn_at f x)
-
-  -- the lane's front as a machine
-  abbrev pub lane_machine : Machine Front (LaneEvent P A × LaneReply P A)
-  lane_machine = record { after = lane_after; May = IsLaneTurn }
 
 -- ---- which calls of the desk events and replies show, whatever the front
 
@@ -138,17 +129,17 @@ pub record LaneRan {D P A : Type 0} (meaning : P → Plane) (medium : D → Medi
   pub calls : List DeskCall
   pub shown : AreShownBy es ps calls
   pub desk : DeskGoes medium old.desk new.desk calls
-  pub front : Plays (lane_machine meaning) (StandsLane meaning old) (StandsLane meaning new) (zip es ps)
+  pub front : Plays (record { after = lane_after meaning; May = IsLaneTurn meaning }) (StandsLane meaning old)
+      (StandsLane meaning new) (zip es ps)
   pub are : (f : Front) → StandsLane meaning old f
-      → calls ≡ told_in (lane_after meaning) calls_at f (zip es ps)
+      → calls ≡ told_in (lane_after meaning) (λ g x. calls_of_turn g.hand (turn_at g x)) f (zip es ps)
 
 -- ---- frames
 
 -- the frame in the hand
 abbrev pub hand_frame : HandState → List Picture
-hand_frame empty = []
 hand_frame (full index p planes) = p ∷ []
-hand_frame (spent index planes) = []
+hand_frame h = []
 
 module _ {P A : Type 0} (meaning : P → Plane) where
   -- the frame of a buffer that was dequeued without an error
@@ -157,12 +148,9 @@ module _ {P A : Type 0} (meaning : P → Plane) where
       hand_frame (front_after {P = P} {A = A} meaning f (dequeued (Ok index))).hand
   frame_of_turn f t = []
 
-  abbrev pub frame_at : Front → LaneEvent P A × LaneReply P A → List Picture
-  frame_at f x = frame_of_turn f (turn_at f x)
-
   -- those of events and their replies, in order
   abbrev pub frames_taken : Front → List (LaneEvent P A × LaneReply P A) → List Picture
-  frames_taken f turns = told_in (lane_after meaning) frame_at f turns
+  frames_taken f turns = told_in (lane_after meaning) (λ g x. frame_of_turn g (turn_at g x)) f turns
 
 -- ---- the queue
 
@@ -170,8 +158,7 @@ module _ {P A : Type 0} (meaning : P → Plane) where
   -- which event of the queue's own model a turn is
   abbrev pub event_at_turn : Front → LaneTurn P A → List Event
   event_at_turn f (at_front t) = front_event meaning f t
-  event_at_turn f (at_desk c) = []
-  event_at_turn f mixed = []
+  event_at_turn f t = []
 
   abbrev pub event_at : Front → LaneEvent P A × LaneReply P A → List Event
   event_at f x = event_at_turn f (turn_at f x)
@@ -201,30 +188,21 @@ completed_frame (model.complete index stamp bytes None) =
 completed_frame e = []
 
 module _ {P A : Type 0} (meaning : P → Plane) where
-  -- the front behind turns
-  abbrev pub front_behind : Front → List (LaneEvent P A × LaneReply P A) → Front
-  front_behind f turns = after_all (lane_after meaning) f turns
+  -- the stream is new after the turns: the last of them stopped it, or there are none, and the queue had no buffers
+  abbrev pub StartsAnew : Front → List (LaneEvent P A × LaneReply P A) → Type 0
+  StartsAnew f [] = f.queue.queue.body.buffers ≡ []
+  StartsAnew f (stop ∷ []) = (e : Event) × (event_at meaning f stop ≡ e ∷ []) × (stops e ≡ true)
+  StartsAnew f (x ∷ turns) = StartsAnew (lane_after meaning f x) turns
 
-  -- Some turns from a front on: the frames that were taken are a beginning of those that the device completed, each
-  -- with its bytes.
-  abbrev pub TakesCompleted : Front → List (LaneEvent P A × LaneReply P A) → Type 0
-  TakesCompleted f part =
-      (others : List Picture)
-      × (flat_map completed_frame (queue_events meaning f part)
-      ≡ map without_flags (frames_taken meaning f part) ++ others)
-
-  -- So it is in a list of turns up to the next stop of the stream,
-  pub record TakesFrames (f : Front) (turns : List (LaneEvent P A × LaneReply P A)) : Type 0 where
-    -- from the start on, if the queue had no buffers,
-    pub from_start : (part behind : List (LaneEvent P A × LaneReply P A)) → turns ≡ part ++ behind
-        → list_any stops (queue_events meaning f part) ≡ false → f.queue.queue.body.buffers ≡ []
-        → TakesCompleted f part
-    -- and from each stop on.
-    pub from_stop : (before part behind : List (LaneEvent P A × LaneReply P A)) (stop : LaneEvent P A × LaneReply P A)
-        (e : Event) → turns ≡ before ++ stop ∷ (part ++ behind)
-        → event_at meaning (front_behind f before) stop ≡ e ∷ [] → stops e ≡ true
-        → list_any stops (queue_events meaning (front_behind f (before ++ stop ∷ [])) part) ≡ false
-        → TakesCompleted (front_behind f (before ++ stop ∷ [])) part
+  -- In a list of turns, from where the stream is new up to its next stop, the frames that were taken are a beginning
+  -- of those that the device completed, each with its bytes.
+  abbrev pub TakesFrames : Front → List (LaneEvent P A × LaneReply P A) → Type 0
+  TakesFrames f turns =
+      (before part behind : List (LaneEvent P A × LaneReply P A)) (now : Front) → turns ≡ before ++ (part ++ behind)
+      → StartsAnew f before → now ≡ after_all (lane_after meaning) f before
+      → list_any stops (queue_events meaning now part) ≡ false → (others : List Picture)
+      × (flat_map completed_frame (queue_events meaning now part)
+      ≡ map without_flags (frames_taken meaning now part) ++ others)
 
 -- ---- what a list of events keeps
 

@@ -4,7 +4,7 @@ use Rattle.loop_plane.specs.Plane.{Plane}
 use Rattle.loop_vb2.specs.declared.buffer.Buffer.{Buffer}
 use Rattle.loop_vb2.specs.declared.buffer.Dequeued.{Dequeued}
 use Rattle.loop_vb2.specs.declared.planes.PlaneSet.{PlaneSet}
-use Rattle.loop_vb2.specs.Answers.{IsAnswer, read_answer}
+use Rattle.loop_vb2.specs.Answers.{buffer_answer, read_answer}
 use Rattle.loop_vb2.specs.Buffers.{bytes_at, used_at, state_at, dequeued_from, handed_over}
 use Rattle.loop_vb2.specs.Owner.{is_dequeued}
 use Rattle.loop_vb2.specs.Planes.{number_at, bytes_in, plane_of_set, read_given}
@@ -12,7 +12,7 @@ use Rattle.loop_vb2.specs.State.{Body, QueueState, Lined, StandsQueue}
 use Rattle.loop_ioctl.specs.declared.events.QueueEvent.{QueueEvent}
 use Rattle.loop_ioctl.specs.declared.events.QueueEvent.TheVariants as event
 use Rattle.loop_desk.specs.declared.hand.Hand.{Hand}
-use Rattle.loop_desk.specs.Front.{hand_state, hand_of, taken_bytes}
+use Rattle.loop_desk.specs.Front.{hand_state, hand_of, taken_frame}
 
 -- ---- bytes copied behind others
 
@@ -74,13 +74,14 @@ abbrev pub CopiesFrame : {P : Type 0} → (P → Plane) → Lined P → ℕ → 
 CopiesFrame meaning code index used planes before stop after =
     (s : QueueState) (b : Buffer Plane) → StandsQueue meaning code s → StaysIn s.body index b → used ≡ b.used
     → read_given meaning planes ≡ handed_over s.body.kind b.planes
-    → Appends (taken_bytes s.body.shape b) 0 before stop after
+    → Appends (taken_frame s.body.shape b).bytes 0 before stop after
 
 -- the hand has the buffer
 abbrev pub GetsBuffer : {P A : Type 0} → (P → Plane) → Lined P → Dequeued P → Hand P A → Type 0
 GetsBuffer meaning code answer held =
     (s : QueueState) (b : Buffer Plane) → StandsQueue meaning code s → StaysIn s.body answer.index b
-    → IsAnswer s.body.kind b (read_answer meaning answer) → hand_state meaning held ≡ hand_of s.body answer.index b
+    → read_answer meaning answer ≡ buffer_answer s.body.kind answer.index b
+    → hand_state meaning held ≡ hand_of s.body answer.index b
 
 -- ---- events
 

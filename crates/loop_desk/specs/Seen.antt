@@ -15,7 +15,7 @@ use Rattle.loop_store.specs.Seen.{Seen, StandsFor}
 use Rattle.loop_desk.specs.declared.limits.DeskLimits.{DeskLimits}
 use Rattle.loop_desk.specs.declared.limits.Outline.{Outline}
 use Rattle.loop_desk.specs.declared.limits.Status.{Status}
-use Rattle.loop_desk.specs.Desk.{DeskCall, DeskState, Rules, desk_model, store_calls_in}
+use Rattle.loop_desk.specs.Desk.{DeskCall, DeskState, IsDeskTold, Rules, desk_after, store_calls_in}
 
 -- the store, the frames that wait, and the limits
 pub record SeenDesk (D : Type 0) : Type 0 where
@@ -56,7 +56,8 @@ pub record DeskGoes {D : Type 0} (medium : D → Medium) (old new : SeenDesk D) 
   pub store : (s : DeskState) → TellsDesk old s
       → Goes medium old.store new.store (store_calls_in (rules_of old) s calls)
   -- each answer is the model's, and the desk tells of the state after them
-  pub plays : Plays (desk_model (rules_of old)) (TellsDesk old) (TellsDesk new) calls
+  pub plays : Plays (record { after = desk_after (rules_of old); May = IsDeskTold (rules_of old) }) (TellsDesk old)
+      (TellsDesk new) calls
   pub limits : new.limits ≡ old.limits
 
 -- ---- what a desk tells without a call of the disk

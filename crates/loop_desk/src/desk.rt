@@ -91,7 +91,7 @@ impl<D: Disk + Drop, A: Allocator> Desk<D, A> {
     }
 
     /// Keeps memory for a later frame; where there is no room for it, the oldest that is kept goes.
-    pub fn keep_memory(&mut self, bytes: Vec<u8, A>)
+    pub fn return_memory(&mut self, bytes: Vec<u8, A>)
         ensures { self.new ≡ self.old }
     {
         self.spare.push_back(bytes);
@@ -298,7 +298,7 @@ impl<D: Disk + Drop, A: Allocator> Desk<D, A> {
 impl<D: Disk + Drop, A: Allocator + Copy> Desk<D, A> {
     /// Reads a stored frame, into memory of a frame that was stored or new: `MustReopen`, `NotHeld`, `NoMemory`, then
     /// `Disk` or `Damaged`, as `Store::read_frame`. A frame that waits isn't held yet. Who is done with the frame may
-    /// give its memory back (`keep_memory`).
+    /// give its memory back (`return_memory`).
     pub fn read_frame(&mut self, alloc: A, number: u64) -> Result<ReadFrame<A>, StoreFault>
         ensures goes { DeskGoes D.medium self.old self.new (frame_read number (read_of result) ∷ []) }
         ensures same { self.new.store ≡ record self.old.store { disk = self.new.store.disk } }

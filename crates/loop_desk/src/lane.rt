@@ -89,7 +89,7 @@ fn dequeues<D: Disk + Drop, P: PlaneMemory, A: Allocator + Copy>(
     let mut spare = lane.desk.spare_memory();
     let answer = dequeue(alloc, &mut lane.queue, &mut lane.hand, &mut spare);
     if let Some(bytes) = spare {
-        lane.desk.keep_memory(bytes);
+        lane.desk.return_memory(bytes);
     }
     answer
 }

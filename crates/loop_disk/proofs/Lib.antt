@@ -1,6 +1,7 @@
 pub mod Moments
 pub mod Images
+pub mod RowBytes
 pub mod Calls
-mod Nothing
-pub mod Crashing
-pub mod Tearing
+mod GhostData
+pub mod CrashCalls
+pub mod TornWrites

@@ -1,8 +1,8 @@
 -- How runs of disk calls join.
-use Rattle.std.proofs.Common.{inl, inr, ⊎_elim, ℕ, ◌≤◌, List, length, Option, None, Result, ◌∙◌, ap, subst, arith}
+use Rattle.std.proofs.Common.{inl, inr, ⊎_elim, ℕ, ◌≡◌, ◌≤◌, List, length, Option, None, Result, ◌∙◌, ap, subst, arith}
 use Rattle.loop_disk.specs.declared.fault.DiskFault.{DiskFault}
 use Rattle.loop_disk.specs.declared.fault.Failures.{Failures}
-use Rattle.loop_disk.specs.Medium.{Medium, MayBe, SameOutside, TornAt, IsSettled, Meanwhile, Remembers, LeavesOnly, IsSound}
+use Rattle.loop_disk.specs.Medium.{Medium, MayBe, piece, SameOutside, TornAt, IsSettled, Meanwhile, Remembers, LeavesOnly, IsSound}
 use Rattle.loop_disk.specs.Calls.{Called, Stays, with_failed}
 use Rattle.loop_disk.specs.Steps.{Stores}
 
@@ -78,3 +78,9 @@ pub of_bytes : (old new : Medium) (P : List ℕ → Type 0) → IsSound new → 
     → ((image : List ℕ) → MayBe new image → P image) → P old.bytes
 of_bytes old new P sound stays gives =
     subst P stays.bytes (gives new.bytes (record { size = sound.length_is; agrees = sound.shown }))
+
+-- what a read of an honest disk gave is what stands on it
+pub read_present : (at n : ℕ) {bytes : List ℕ} {old new : Medium} → IsSound new → Stays old new
+    → ((image : List ℕ) → MayBe new image → MayBe old image × (bytes ≡ piece at n image)) → bytes ≡ piece at n old.bytes
+read_present at n {bytes} {old} {new} sound stays gives =
+    of_bytes old new (λ image. bytes ≡ piece at n image) sound stays (λ image may. (gives image may).1)

@@ -3,7 +3,7 @@ use Rattle.std.specs.Prelude.{◌≡◌, ◌↔◌, ℕ, ◌+◌, ◌-◌, ◌^�
 use Rattle.loop_disk.specs.declared.fault.Failures.{Failures}
 use Rattle.loop_disk.specs.declared.fault.DiskFault.{DiskFault}
 use Rattle.loop_disk.specs.declared.fault.DiskFault.TheVariants.{Read, Write, Sync}
-use Rattle.loop_disk.specs.Medium.{Medium, with_bytes_at, SameOutside, TornAt, Only, Meanwhile, Remembers}
+use Rattle.loop_disk.specs.Medium.{Medium, with_bytes_at, SameOutside, TornAt, Meanwhile, Remembers}
 
 -- a count after one more; it stops at the greatest u64
 abbrev pub one_more : ℕ → ℕ
@@ -56,4 +56,4 @@ pub record Writes {T : Type 0} (at : ℕ) (bytes : List ℕ) (old new : Medium) 
 -- A sync. One that fails settles nothing.
 pub record Syncs {T : Type 0} (old new : Medium) (result : Result T DiskFault) : Type 0 where
   pub stays : Stays old new
-  pub settled : OnOk result (Only old.bytes new.may_leave)
+  pub settled : OnOk result ((c : List ℕ) → new.may_leave c → c ≡ old.bytes)

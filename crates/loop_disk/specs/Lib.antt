@@ -3,6 +3,7 @@ pub mod Calls
 pub mod Steps
 pub mod History
 pub mod Behind
+pub mod Rows
 pub mod Sound
 pub mod Crashing
 pub mod Replay

@@ -38,18 +38,14 @@ pub record SameOutside (at n : ℕ) (old new : List ℕ) : Type 0 where
 abbrev pub TornAt : ℕ → ℕ → Medium → List ℕ → Type 0
 TornAt at n old c = (d : List ℕ) × old.may_leave d × SameOutside at n d c
 
--- a crash leaves this image and no other
-abbrev pub Only : List ℕ → (List ℕ → Type 0) → Type 0
-Only image images = (c : List ℕ) → images c → c ≡ image
-
 -- a crash leaves the present bytes
 abbrev pub IsSettled : Medium → Type 0
-IsSettled m = Only m.bytes m.may_leave
+IsSettled m = (c : List ℕ) → m.may_leave c → c ≡ m.bytes
 
 -- the disk holds this image, with nothing written since a sync
 pub record IsFresh (image : List ℕ) (m : Medium) : Type 0 where
   pub bytes : m.bytes ≡ image
-  pub settled : Only image m.may_leave
+  pub settled : (c : List ℕ) → m.may_leave c → c ≡ image
 
 -- From old to new time went on: a crash since t might have left what it might have left before, or what has P.
 pub record Meanwhile (old new : Medium) (P : List ℕ → Type 0) : Type 0 where

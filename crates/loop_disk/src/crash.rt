@@ -3,6 +3,7 @@ ghost use Rattle.std.specs.Prelude.{⊤, ◌≡◌, ◌≤◌, ◌<◌, ◌+◌,
 ghost use Rattle.std.specs.List.{All};
 ghost use Rattle.loop_disk.specs.declared.fault.DiskFault.TheVariants.{Read, Write, Sync};
 ghost use Rattle.loop_disk.specs.declared.crash.DeviceCall.TheVariants as call;
+ghost use Rattle.loop_disk.specs.Rows.{joined};
 ghost use Rattle.loop_disk.specs.Medium.{MayBe, with_bytes_at, piece, IsSettled, LeavesEach, LeavesEachTorn};
 ghost use Rattle.loop_disk.specs.Calls.{Called, Stays, Writes, Syncs, failed_call, no_failures, with_failed};
 ghost use Rattle.loop_disk.specs.History.{Moment, at_rest};
@@ -11,6 +12,7 @@ ghost use Rattle.loop_disk.specs.Crashing.{Tape, call_of, after_call, moment_aft
 ghost use Rattle.loop_disk.specs.Replay.{IsReplayed, PutsSpoiled};
 
 use crate::memory::put;
+use crate::rows::join_rows;
 use crate::{Disk, DiskFault, Failures, MemDisk};
 use std::alloc::{AllocError, Allocator, Global};
 use std::marker::Model;
@@ -142,8 +144,6 @@ impl<A: Allocator + Copy> Disk for CrashDisk<A> {
 
     fn read(&mut self, at: u64, buf: &mut [u8]) -> Result<(), DiskFault>
         requires { at + length buf.old ≤ (medium_after self.old).size }
-        ensures read { (medium_after self.old).honest
-            → OnOk result (buf.new ≡ piece at (length buf.old) (medium_after self.old).bytes) }
         ensures gives { (image : List ℕ) → MayBe (medium_after self.new) image → MayBe (medium_after self.old) image
             × OnOk result (buf.new ≡ piece at (length buf.old) image) }
         ensures disk { (medium_after self.old).honest → Stays (medium_after self.old) (medium_after self.new) }
@@ -186,6 +186,30 @@ impl<A: Allocator + Copy> Disk for CrashDisk<A> {
     {
         match remember_write(self.alloc, &mut self.calls, &mut self.bytes, at, bytes) {
             Ok(()) => Ok(()),
+            Err(_) => {
+                self.failures.count(DiskFault::Write);
+                Err(DiskFault::Write)
+            }
+        }
+    }
+
+    /// It takes memory for the joined bytes, too.
+    fn write_rows(&mut self, at: u64, rows: &[&[u8]]) -> Result<(), DiskFault>
+        requires { at + length (joined rows.now) ≤ (medium_after self.old).size }
+        ensures disk { (medium_after self.old).honest
+            → Writes at (joined rows.now) (medium_after self.old) (medium_after self.new) result }
+        ensures done { OnOk result (self.new
+            ≡ record self.old { calls = self.old.calls ++ call.Write at (joined rows.now) ∷ [] }) }
+        ensures failed { OnErr result (self.new
+            ≡ record self.old { failures = with_failed (failed_call result) self.old.failures }) }
+        ensures each { ⟦<CrashDisk<A> as Disk>⟧.harsh self.old
+            → ⟦<CrashDisk<A> as Disk>⟧.harsh self.new × OnOk result
+            (LeavesEachTorn at (length (joined rows.now)) (medium_after self.old) (medium_after self.new)) }
+        ensures fault { IfErr result (λ fault. fault ≡ Write) }
+        ensures called { Called (medium_after self.old) (medium_after self.new) (failed_call result) }
+    {
+        match join_rows(self.alloc, rows) {
+            Ok(bytes) => self.write_at(at, &bytes),
             Err(_) => {
                 self.failures.count(DiskFault::Write);
                 Err(DiskFault::Write)

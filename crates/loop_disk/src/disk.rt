@@ -2,6 +2,7 @@
 ghost use Rattle.std.specs.Prelude.{◌≡◌, ◌+◌, ◌≤◌, ℕ, List, length, OnOk, IfErr};
 ghost use Rattle.loop_disk.specs.declared.fault.DiskFault.TheVariants.{Read, Write, Sync};
 ghost use Rattle.loop_disk.specs.Medium.{Medium, MayBe, piece, IsSound, LeavesEach, LeavesEachTorn};
+ghost use Rattle.loop_disk.specs.Rows.{joined};
 ghost use Rattle.loop_disk.specs.Calls.{Called, Stays, Writes, Syncs, failed_call};
 
 use crate::DiskFault;
@@ -30,8 +31,6 @@ pub trait Disk {
     /// Fills the buffer with the bytes from `at` on. After a failure it may hold any bytes, and the disk is as it was.
     fn read(&mut self, at: u64, buf: &mut [u8]) -> Result<(), DiskFault>
         requires { at + length buf.old ≤ (medium self.old).size }
-        ensures read { (medium self.old).honest
-            → OnOk result (buf.new ≡ piece at (length buf.old) (medium self.old).bytes) }
         ensures gives { (image : List ℕ) → MayBe (medium self.new) image → MayBe (medium self.old) image
             × OnOk result (buf.new ≡ piece at (length buf.old) image) }
         ensures disk { (medium self.old).honest → Stays (medium self.old) (medium self.new) }
@@ -46,6 +45,16 @@ pub trait Disk {
         ensures disk { (medium self.old).honest → Writes at bytes.now (medium self.old) (medium self.new) result }
         ensures each { harsh self.old
             → harsh self.new × OnOk result (LeavesEachTorn at (length bytes.now) (medium self.old) (medium self.new)) }
+        ensures fault { IfErr result (λ fault. fault ≡ Write) }
+        ensures called { Called (medium self.old) (medium self.new) (failed_call result) };
+
+    /// Writes rows of bytes from `at` on, one behind the other: one write of all their bytes.
+    fn write_rows(&mut self, at: u64, rows: &[&[u8]]) -> Result<(), DiskFault>
+        requires { at + length (joined rows.now) ≤ (medium self.old).size }
+        ensures disk { (medium self.old).honest
+            → Writes at (joined rows.now) (medium self.old) (medium self.new) result }
+        ensures each { harsh self.old → harsh self.new
+            × OnOk result (LeavesEachTorn at (length (joined rows.now)) (medium self.old) (medium self.new)) }
         ensures fault { IfErr result (λ fault. fault ≡ Write) }
         ensures called { Called (medium self.old) (medium self.new) (failed_call result) };
 

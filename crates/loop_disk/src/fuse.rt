@@ -1,6 +1,7 @@
 // A disk that fails from some call on, over another disk.
 ghost use Rattle.std.specs.Prelude.{◌≡◌, ◌+◌, ◌-◌, ◌≤◌, ◌==◌, ◌↔◌, ℕ, List, length, OnOk, IfErr, IsErr};
 ghost use Rattle.loop_disk.specs.declared.fault.DiskFault.TheVariants.{Read, Write, Sync};
+ghost use Rattle.loop_disk.specs.Rows.{joined};
 ghost use Rattle.loop_disk.specs.Medium.{MayBe, piece, LeavesEach, LeavesEachTorn};
 ghost use Rattle.loop_disk.specs.Calls.{Called, Stays, Writes, Syncs, failed_call, no_failures, with_failed};
 ghost use Rattle.loop_disk.specs.Sound.{sound_recounted};
@@ -76,8 +77,6 @@ impl<D: Disk> Disk for FuseDisk<D> {
 
     fn read(&mut self, at: u64, buf: &mut [u8]) -> Result<(), DiskFault>
         requires { at + length buf.old ≤ (D.medium self.old.inner).size }
-        ensures read { (D.medium self.old.inner).honest
-            → OnOk result (buf.new ≡ piece at (length buf.old) (D.medium self.old.inner).bytes) }
         ensures gives { (image : List ℕ) → MayBe (⟦<FuseDisk<D> as Disk>⟧.medium self.new) image
             → MayBe (⟦<FuseDisk<D> as Disk>⟧.medium self.old) image
             × OnOk result (buf.new ≡ piece at (length buf.old) image) }
@@ -114,6 +113,26 @@ impl<D: Disk> Disk for FuseDisk<D> {
     {
         self.admit(DiskFault::Write)?;
         let outcome = self.inner.write_at(at, bytes);
+        self.failures.note(outcome)
+    }
+
+    fn write_rows(&mut self, at: u64, rows: &[&[u8]]) -> Result<(), DiskFault>
+        requires { at + length (joined rows.now) ≤ (D.medium self.old.inner).size }
+        ensures disk { (D.medium self.old.inner).honest
+            → Writes at (joined rows.now) (⟦<FuseDisk<D> as Disk>⟧.medium self.old)
+            (⟦<FuseDisk<D> as Disk>⟧.medium self.new) result }
+        ensures which { FailsOrPasses D.medium (self.old.left == 0) self.old.inner self.new.inner result }
+        ensures left { self.new.left ≡ self.old.left - 1 }
+        ensures each { D.harsh self.old.inner
+            → D.harsh self.new.inner
+            × OnOk result (LeavesEachTorn at (length (joined rows.now)) (⟦<FuseDisk<D> as Disk>⟧.medium self.old)
+            (⟦<FuseDisk<D> as Disk>⟧.medium self.new)) }
+        ensures fault { IfErr result (λ fault. fault ≡ Write) }
+        ensures called { Called (⟦<FuseDisk<D> as Disk>⟧.medium self.old) (⟦<FuseDisk<D> as Disk>⟧.medium self.new)
+            (failed_call result) }
+    {
+        self.admit(DiskFault::Write)?;
+        let outcome = self.inner.write_rows(at, rows);
         self.failures.note(outcome)
     }
 

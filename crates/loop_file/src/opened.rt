@@ -50,6 +50,7 @@ fn take_streams<R: Files<File = File>>(rt: &R) -> io::Result<()> {
         if folder.as_raw_fd() >= STREAMS {
             break;
         }
+        // It stays open as long as the program runs: the stream's number is taken by it.
         let _taken = folder.into_raw_fd();
     }
     Ok(())

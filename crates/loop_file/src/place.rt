@@ -87,6 +87,7 @@ impl FilePlace {
         if self.is_new {
             self.remove(rt, &file);
         } else {
+            // Who gives up has a refusal of its own to tell.
             let _ = close(&file);
         }
     }

@@ -1,17 +1,19 @@
 -- The device's calls, of queue and table.
 use Rattle.std.proofs.Common.{◌≡◌, ℕ, ◌+◌, true, length, List, ◌++◌, Option, Some, None, option_map, take, drop, Ok, Err, refl, sym, ◌∙◌, ap, arith}
 use Rattle.std.specs.Prelude.{Result, Vec}
+use Rattle.std.specs.Result.{result_err}
 use Rattle.loop_plane.specs.Plane.{Plane}
 use Rattle.loop_plane.specs.Fds.{Fds}
 use Rattle.loop_vb2.specs.declared.buffer.Stamp.{Stamp}
 use Rattle.loop_vb2.specs.declared.planes.PlaneSet.{PlaneSet}
 use Rattle.loop_vb2.specs.declared.planes.Shape.{Shape}
 use Rattle.loop_vb2.specs.declared.reason.Errno.{Errno}
-use Rattle.loop_vb2.specs.Buffers.{completed_with, failed_with}
-use Rattle.loop_vb2.specs.Effects.{after_complete, after_fail, fatal_state}
+use Rattle.loop_vb2.specs.Buffers.{failed_with}
+use Rattle.loop_vb2.proofs.Short.{completed_with, body_fatal}
 use Rattle.loop_vb2.specs.Planes.{number_at, slot_filled, set_by, frame_size}
 use Rattle.loop_vb2.specs.State.{QueueState, Lined}
-use Rattle.loop_vb2.specs.Events.{Happens, refusal_of, complete, fail, fatal}
+use Rattle.loop_vb2.specs.Effects.{end_buffer, on_body}
+use Rattle.loop_vb2.specs.Events.{Happens, complete, fail, fatal}
 use Rattle.loop_ioctl.specs.declared.events.QueueEvent.TheVariants as event
 use Rattle.loop_ioctl.specs.declared.events.QueueReply.TheVariants as answer
 use Rattle.loop_ioctl.specs.Names.{Names, value_with_fd, values_in}
@@ -19,8 +21,8 @@ use Rattle.loop_ioctl.specs.Attached.{fd_times, IsLinked}
 use Rattle.loop_ioctl.specs.Events.{is_whole, Reacts}
 use Rattle.loop_ioctl.specs.declared.events.QueueEvent.{QueueEvent}
 use Rattle.std.proofs.lemmas.Bool.{eqb-true}
-use Rattle.loop_ioctl.proofs.Attached.{in_buffer, kept_changed, last_none}
-use Rattle.loop_ioctl.proofs.Putting.{still_linked, moves, stays}
+use Rattle.loop_ioctl.proofs.AttachedFds.{in_buffer, kept_changed, last_none}
+use Rattle.loop_ioctl.proofs.QueueSteps.{still_linked, moves, stays}
 
 -- a plane filled has the fd that it had
 slot_fds : (fd f : ℕ) (p : Option Plane) (bytes : List ℕ) (a b : List (ℕ × Plane)) → fd_times fd a ≡ fd_times fd b
@@ -50,41 +52,41 @@ filled_fds shape bytes (Some set) fd =
     ∙ sym (ap (fd_times fd) (last_none (values_in set))))
 
 pub completed_linked : (index : ℕ) (stamp : Stamp) (bytes : List ℕ) (s : QueueState) (out : List (ℕ × Plane))
-    (n : Names Plane) → IsLinked s.body out n → IsLinked (after_complete index stamp bytes s).body out n
+    (n : Names Plane) → IsLinked s.body out n → IsLinked (end_buffer (completed_with s.body.shape stamp bytes) index s).body out n
 completed_linked index stamp bytes s out n linked =
-    still_linked s.body (after_complete index stamp bytes s).body out n refl
+    still_linked s.body (end_buffer (completed_with s.body.shape stamp bytes) index s).body out n refl
     (λ (fd : ℕ). kept_changed (completed_with s.body.shape stamp bytes) index s.body.buffers fd (λ b d. filled_fds s.body.shape bytes b.planes d)) linked
 
 pub failed_linked : (index : ℕ) (stamp : Stamp) (s : QueueState) (out : List (ℕ × Plane)) (n : Names Plane)
-    → IsLinked s.body out n → IsLinked (after_fail index stamp s).body out n
-failed_linked index stamp s out n linked = still_linked s.body (after_fail index stamp s).body out n refl
+    → IsLinked s.body out n → IsLinked (end_buffer (failed_with stamp) index s).body out n
+failed_linked index stamp s out n linked = still_linked s.body (end_buffer (failed_with stamp) index s).body out n refl
     (λ (fd : ℕ). kept_changed (failed_with stamp) index s.body.buffers fd (λ b d. refl)) linked
 
 module _ {P : Type 0} (A : Type 0) (m : P → Plane) where
   pub complete_reacts : (index : ℕ) (stamp : Stamp) (bytes : Vec ℕ A) (result : Result (Unit {0}) Errno)
-      (q q' : Lined P) (table : Fds P) → Happens m q q' (complete index stamp bytes.items (refusal_of result))
+      (q q' : Lined P) (table : Fds P) → Happens m q q' (complete index stamp bytes.items (result_err result))
       → Reacts m (event.Complete index stamp bytes) (answer.Ended result) q table q' table
   complete_reacts index stamp bytes (Ok u) q q' table step j stands =
       let t = step j.queue stands.queue in (
         t.0,
-        moves m q q' table j (after_complete index stamp bytes.items j.queue) stands t.1
+        moves m q q' table j (end_buffer (completed_with j.queue.body.shape stamp bytes.items) index j.queue) stands t.1
             (completed_linked index stamp bytes.items j.queue j.out j.names stands.linked),
       )
   complete_reacts index stamp bytes (Err e) q q' table step j stands = let t = step j.queue stands.queue in (t.0, stays m q q' table j stands t.1)
 
   pub fail_reacts : (index : ℕ) (stamp : Stamp) (result : Result (Unit {0}) Errno) (q q' : Lined P) (table : Fds P)
-      → Happens m q q' (fail index stamp (refusal_of result)) → Reacts {A = A} m (event.Fail index stamp)
+      → Happens m q q' (fail index stamp (result_err result)) → Reacts {A = A} m (event.Fail index stamp)
       (answer.Ended result) q table q' table
   fail_reacts index stamp (Ok u) q q' table step j stands =
       let t = step j.queue stands.queue in (
         t.0,
-        moves m q q' table j (after_fail index stamp j.queue) stands t.1
+        moves m q q' table j (end_buffer (failed_with stamp) index j.queue) stands t.1
             (failed_linked index stamp j.queue j.out j.names stands.linked),
       )
   fail_reacts index stamp (Err e) q q' table step j stands = let t = step j.queue stands.queue in (t.0, stays m q q' table j stands t.1)
 
   pub fatal_reacts : (q q' : Lined P) (table : Fds P) → Happens m q q' fatal → Reacts {A = A} m event.Fatal answer.Fatal q table q' table
-  fatal_reacts q q' table step j stands = let t = step j.queue stands.queue in (t.0, moves m q q' table j (fatal_state j.queue) stands t.1 stands.linked)
+  fatal_reacts q q' table step j stands = let t = step j.queue stands.queue in (t.0, moves m q q' table j (on_body body_fatal j.queue) stands t.1 stands.linked)
 
 pub whole_bytes : {P A : Type 0} (shape : Shape) (e : QueueEvent P A) (index : ℕ) (stamp : Stamp) (bytes : Vec ℕ A)
     → is_whole shape e ≡ true → e ≡ event.Complete index stamp bytes → length bytes.items ≡ frame_size shape

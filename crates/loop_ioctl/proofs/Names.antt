@@ -2,6 +2,7 @@
 use Rattle.std.proofs.Common.{◌≡◌, ℕ, ◌==◌, Bool, true, false, nat_lt, cond, List, [], ◌∷◌, ◌++◌, Option, Some, None, Ok, Err, refl, sym, ◌∙◌, ap, subst, arith, inl, inr}
 use Rattle.std.proofs.lemmas.Bool.{cases_eq}
 use Rattle.std.proofs.lemmas.Bool.Decides.{nat_tests}
+use Rattle.std.specs.Option.{option_or, option_flatten}
 use Rattle.slab.specs.Slab.{get, Updates, SameValues}
 use Rattle.std.specs.Prelude.{Result, OnOk, IfErr}
 use Rattle.loop_plane.specs.Fds.{Fds, names, IsHere, AttachFault, DetachFault}
@@ -11,7 +12,7 @@ use Rattle.loop_vb2.specs.declared.planes.PlaneSet.{PlaneSet}
 use Rattle.loop_vb2.specs.declared.reason.Reason.{Reason}
 use Rattle.loop_vb2.specs.Planes.{number_at}
 use Rattle.loop_ioctl.specs.declared.call.PlaneFds.{PlaneFds}
-use Rattle.loop_ioctl.specs.Names.{Names, or_else, reason_of, names_in, renamed, fd_refusal, value_of, place_refusal, place_value, place_taken, first_taken, second_taken, set_taken, set_refusal, set_named, value_with_fd, values_in, given_back, TakesPlace, TakesSet, AreAway, GivesBack}
+use Rattle.loop_ioctl.specs.Names.{Names, reason_of, names_in, renamed, fd_refusal, place_refusal, place_value, place_taken, first_taken, set_refusal, set_named, value_with_fd, values_in, given_back, TakesPlace, TakesSet, AreAway, GivesBack}
 
 -- functions that agree everywhere are one
 pub ext : {A B : Type 0} {f g : A → B} → ((x : A) → f x ≡ g x) → f ≡ g
@@ -23,14 +24,14 @@ tested x y e = grind (arith, nat_tests)
 pub differ : (x y : ℕ) → (x ≡ y → ⊥) → (x == y) ≡ false
 differ x y e = grind (arith, nat_tests)
 
-refusal_none : (a b c : Option Reason) → a ≡ None → b ≡ None → c ≡ None → or_else a (or_else b c) ≡ None
-refusal_none a b c e f g = ap (λ x. or_else x (or_else b c)) e ∙ (ap (λ x. or_else x c) f ∙ g)
+refusal_none : (a b c : Option Reason) → a ≡ None → b ≡ None → c ≡ None → option_or a (option_or b c) ≡ None
+refusal_none a b c e f g = ap (λ x. option_or x (option_or b c)) e ∙ (ap (λ x. option_or x c) f ∙ g)
 
-pub else_first : (a b : Option Reason) → or_else a b ≡ None → a ≡ None
+pub else_first : (a b : Option Reason) → option_or a b ≡ None → a ≡ None
 else_first None b e = refl
 else_first (Some r) b e = absurd (cc)
 
-pub else_last : (a b : Option Reason) → or_else a b ≡ None → b ≡ None
+pub else_last : (a b : Option Reason) → option_or a b ≡ None → b ≡ None
 else_last None b e = e
 else_last (Some r) b e = absurd (cc)
 
@@ -68,7 +69,7 @@ module _ {T : Type 0} where
       → Updates before after fd (Some None) → TakesPlace due fd (Ok (Some value)) before after
   took_some due fd value before after d h u =
       let e : names_in before fd ≡ Some (Some value) = names_get before fd ∙ h in
-      subst (λ t. TakesPlace t fd (Ok (Some value)) before after) (sym d) (ap fd_refusal e, sym (ap value_of e), names_updated before after fd (Some None) u)
+      subst (λ t. TakesPlace t fd (Ok (Some value)) before after) (sym d) (ap fd_refusal e, sym (ap option_flatten e), names_updated before after fd (Some None) u)
 
   fault_reason : (fault : FdFault) (name : Option (Option T)) → AttachFault fault name
       → fd_refusal name ≡ Some (reason_of fault)
@@ -113,7 +114,7 @@ module _ {T : Type 0} where
     back : given_back vs after ≡ before
 
   name_restored : (fd : ℕ) (before : Names T) (name : Option (Option T)) → before fd ≡ name → fd_refusal name ≡ None
-      → IsRestored (value_with_fd fd (value_of name)) before (renamed fd (Some None) before)
+      → IsRestored (value_with_fd fd (option_flatten name)) before (renamed fd (Some None) before)
   name_restored fd before None h e = absurd (cc)
   name_restored fd before (Some None) h e = absurd (cc)
   name_restored fd before (Some (Some value)) h e = record { away = (renamed_here fd (Some None) before fd refl, tt); back = restored fd value before h }
@@ -152,8 +153,8 @@ module _ {T : Type 0} where
       let d2 = nat_lt 2 named.count in
       let f1 = number_at named.fds 1 in
       let f2 = number_at named.fds 2 in
-      let n1 = first_taken named (names_in a) in
-      let n2 = second_taken named (names_in a) in
+      let n1 = first_taken named 1 (names_in a) in
+      let n2 = first_taken named 2 (names_in a) in
       let e2 : names_in c ≡ n2 = second.2 ∙ ap (place_taken d1 f1) first.2 in (
         refusal_none (place_refusal (nat_lt 0 named.count) (number_at named.fds 0) (names_in a)) (place_refusal d1 f1 n1) (place_refusal d2 f2 n2) first.0
             (sym (ap (place_refusal d1 f1) first.2) ∙ second.0)
@@ -169,9 +170,9 @@ module _ {T : Type 0} where
   pub set_fails_first : (named : PlaneFds) (reason : Reason) (a b : Fds T) → TakesPlace {T = T} (nat_lt 0 named.count)
       (number_at named.fds 0) (Err reason) a b → TakesSet {T = T} named (Err reason) a b
   set_fails_first named reason a b first =
-      let n1 = first_taken named (names_in a) in
-      let n2 = second_taken named (names_in a) in (
-        ap (λ x. or_else x (or_else (place_refusal (nat_lt 1 named.count) (number_at named.fds 1) n1)
+      let n1 = first_taken named 1 (names_in a) in
+      let n2 = first_taken named 2 (names_in a) in (
+        ap (λ x. option_or x (option_or (place_refusal (nat_lt 1 named.count) (number_at named.fds 1) n1)
             (place_refusal (nat_lt 2 named.count) (number_at named.fds 2) n2))) first.0,
         same_values a b (ap names_in first.1),
       )
@@ -183,9 +184,9 @@ module _ {T : Type 0} where
   set_fails_second named reason y a b c d first second gave =
       let d1 = nat_lt 1 named.count in
       let f1 = number_at named.fds 1 in
-      let last = place_refusal (nat_lt 2 named.count) (number_at named.fds 2) (second_taken named (names_in a)) in (
-        ap (λ x. or_else x (or_else (place_refusal d1 f1 (first_taken named (names_in a))) last)) first.0
-            ∙ ap (λ x. or_else x last) (sym (ap (place_refusal d1 f1) first.2) ∙ second.0),
+      let last = place_refusal (nat_lt 2 named.count) (number_at named.fds 2) (first_taken named 2 (names_in a)) in (
+        ap (λ x. option_or x (option_or (place_refusal d1 f1 (first_taken named 1 (names_in a))) last)) first.0
+            ∙ ap (λ x. option_or x last) (sym (ap (place_refusal d1 f1) first.2) ∙ second.0),
         same_values a d (undone (nat_lt 0 named.count) (number_at named.fds 0) y a b c d first (ap names_in second.1) gave),
       )
 
@@ -199,10 +200,10 @@ module _ {T : Type 0} where
       let f1 = number_at named.fds 1 in
       let d2 = nat_lt 2 named.count in
       let f2 = number_at named.fds 2 in
-      let e2 : names_in c ≡ second_taken named (names_in a) = second.2 ∙ ap (place_taken d1 f1) first.2 in
-      let last = place_refusal d2 f2 (second_taken named (names_in a)) in (
-        ap (λ x. or_else x (or_else (place_refusal d1 f1 (first_taken named (names_in a))) last)) first.0
-            ∙ (ap (λ x. or_else x last) (sym (ap (place_refusal d1 f1) first.2) ∙ second.0)
+      let e2 : names_in c ≡ first_taken named 2 (names_in a) = second.2 ∙ ap (place_taken d1 f1) first.2 in
+      let last = place_refusal d2 f2 (first_taken named 2 (names_in a)) in (
+        ap (λ x. option_or x (option_or (place_refusal d1 f1 (first_taken named 1 (names_in a))) last)) first.0
+            ∙ (ap (λ x. option_or x last) (sym (ap (place_refusal d1 f1) first.2) ∙ second.0)
             ∙ (sym (ap (place_refusal d2 f2) e2) ∙ third.0)),
         same_values a f (undone (nat_lt 0 named.count) (number_at named.fds 0) y a b e f first
             (undone d1 f1 cb b c d e second (ap names_in third.1) gave) more),
@@ -257,35 +258,35 @@ module _ {T : Type 0} where
 
   pub set_passed : (named : PlaneFds) (before : Names T) → set_refusal named before ≡ None
       → (place_refusal (nat_lt 0 named.count) (number_at named.fds 0) before ≡ None)
-      × (place_refusal (nat_lt 1 named.count) (number_at named.fds 1) (first_taken named before) ≡ None)
-      × (place_refusal (nat_lt 2 named.count) (number_at named.fds 2) (second_taken named before) ≡ None)
+      × (place_refusal (nat_lt 1 named.count) (number_at named.fds 1) (first_taken named 1 before) ≡ None)
+      × (place_refusal (nat_lt 2 named.count) (number_at named.fds 2) (first_taken named 2 before) ≡ None)
   set_passed named before e =
       let a = place_refusal (nat_lt 0 named.count) (number_at named.fds 0) before in
-      let b = place_refusal (nat_lt 1 named.count) (number_at named.fds 1) (first_taken named before) in
-      let c = place_refusal (nat_lt 2 named.count) (number_at named.fds 2) (second_taken named before) in
-      let rest : or_else b c ≡ None = else_last a (or_else b c) e in
-      (else_first a (or_else b c) e, else_first b c rest, else_last b c rest)
+      let b = place_refusal (nat_lt 1 named.count) (number_at named.fds 1) (first_taken named 1 before) in
+      let c = place_refusal (nat_lt 2 named.count) (number_at named.fds 2) (first_taken named 2 before) in
+      let rest : option_or b c ≡ None = else_last a (option_or b c) e in
+      (else_first a (option_or b c) e, else_first b c rest, else_last b c rest)
 
   set_restored : (named : PlaneFds) (before : Names T) → set_refusal named before ≡ None
-      → IsRestored (values_in (set_named named before)) before (set_taken named before)
+      → IsRestored (values_in (set_named named before)) before (first_taken named 3 before)
   set_restored named before e =
       let p = set_passed named before e in
-      let n1 = first_taken named before in
-      let n2 = second_taken named before in
+      let n1 = first_taken named 1 before in
+      let n2 = first_taken named 2 before in
       let v0 = value_with_fd (number_at named.fds 0) (place_value (nat_lt 0 named.count) (number_at named.fds 0) before) in
       let v1 = value_with_fd (number_at named.fds 1) (place_value (nat_lt 1 named.count) (number_at named.fds 1) n1) in
       let v2 = value_with_fd (number_at named.fds 2) (place_value (nat_lt 2 named.count) (number_at named.fds 2) n2) in
-      both_restored v2 (v1 ++ v0) before n2 (set_taken named before) (place_restored (nat_lt 2 named.count) (number_at named.fds 2) n2 p.2)
+      both_restored v2 (v1 ++ v0) before n2 (first_taken named 3 before) (place_restored (nat_lt 2 named.count) (number_at named.fds 2) n2 p.2)
       (both_restored v1 v0 before n1 n2 (place_restored (nat_lt 1 named.count) (number_at named.fds 1) n1 p.1)
       (place_restored (nat_lt 0 named.count) (number_at named.fds 0) before p.0))
 
   pub set_undone : (named : PlaneFds) (set : PlaneSet T) (a b c : Fds T) → TakesSet named (Ok set) a b
       → GivesBack (values_in set) b c → names_in c ≡ names_in a
   set_undone named set a b c took gave =
-      let r : IsRestored (values_in (set_named named (names_in a))) (names_in a) (set_taken named (names_in a)) = set_restored named (names_in a) took.0 in
+      let r : IsRestored (values_in (set_named named (names_in a))) (names_in a) (first_taken named 3 (names_in a)) = set_restored named (names_in a) took.0 in
       let away : AreAway (values_in set) (names_in b) =
       subst (λ p. AreAway (values_in p) (names_in b)) (sym took.1) (subst (λ n. AreAway (values_in (set_named named (names_in a))) n) (sym took.2) r.away) in
-      gave away ∙ (ap (given_back (values_in set)) took.2 ∙ (ap (λ p. given_back (values_in p) (set_taken named (names_in a))) took.1 ∙ r.back))
+      gave away ∙ (ap (given_back (values_in set)) took.2 ∙ (ap (λ p. given_back (values_in p) (first_taken named 3 (names_in a))) took.1 ∙ r.back))
 
   pub same_names : (before after : Fds T) → SameValues before after → names_in after ≡ names_in before
   unfolding names_in

@@ -1,13 +1,14 @@
 -- The fds of the planes that a queue holds and that the application keeps: each is attached, and no two are the same.
 use Rattle.std.specs.Prelude.{◌≡◌, ◌⊎◌, ℕ, ◌+◌, cond, ◌==◌, List, [], ◌∷◌, Option, Some, None}
+use Rattle.std.specs.List.{flat_map}
 use Rattle.loop_plane.specs.Plane.{Plane}
 use Rattle.loop_plane.specs.declared.memory.Memory.{Memory}
-use Rattle.loop_plane.specs.declared.memory.Memory.TheVariants.{Mmap, UserPtr, DmaBuf}
-use Rattle.loop_vb2.specs.declared.buffer.Buffer.{Buffer}
+use Rattle.loop_plane.specs.declared.memory.Memory.TheVariants.{DmaBuf}
 use Rattle.loop_vb2.specs.declared.planes.PlaneSet.{PlaneSet}
+use Rattle.loop_vb2.specs.Planes.{same_memory}
 use Rattle.loop_vb2.specs.Requests.{held_sets}
 use Rattle.loop_vb2.specs.State.{Body}
-use Rattle.loop_ioctl.specs.Names.{Names, values_of}
+use Rattle.loop_ioctl.specs.Names.{Names, values_in}
 
 module _ {T : Type 0} where
   -- how many of the values have this fd
@@ -17,13 +18,7 @@ module _ {T : Type 0} where
 
   -- the planes of sets of a kind, each with its fd: only DMA-BUF planes have one
   abbrev pub values_by_fd : Memory → List (PlaneSet T) → List (ℕ × T)
-  values_by_fd Mmap sets = []
-  values_by_fd UserPtr sets = []
-  values_by_fd DmaBuf sets = values_of sets
-
-  -- those that lie in a queue's buffers
-  abbrev pub values_held : Memory → List (Buffer T) → List (ℕ × T)
-  values_held kind bs = values_by_fd kind (held_sets bs)
+  values_by_fd kind sets = cond (same_memory kind DmaBuf) (flat_map values_in sets) []
 
   -- an fd is there not at all, or once, and then it is attached
   abbrev pub IsOnce : ℕ → Option (Option T) → Type 0
@@ -31,4 +26,5 @@ module _ {T : Type 0} where
 
 -- so it is of each fd, of the planes in a queue and of those that are out of it
 abbrev pub IsLinked : Body Plane → List (ℕ × Plane) → Names Plane → Type 0
-IsLinked b out before = (fd : ℕ) → IsOnce (fd_times fd (values_held b.kind b.buffers) + fd_times fd out) (before fd)
+IsLinked b out before =
+    (fd : ℕ) → IsOnce (fd_times fd (values_by_fd b.kind (held_sets b.buffers)) + fd_times fd out) (before fd)

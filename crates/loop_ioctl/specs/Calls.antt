@@ -1,5 +1,6 @@
 -- What an ioctl makes of a queue and the names of fds, and how it is answered.
-use Rattle.std.specs.Prelude.{◌≡◌, ℕ, zero, suc, not, nat_le, cond, List, [], ◌∷◌, length, map, Option, Some, None, option_map, option_to_list, Result, Ok, Err}
+use Rattle.std.specs.Prelude.{◌≡◌, ℕ, not, nat_le, cond, List, [], ◌∷◌, length, map, IsSomeAnd, Option, Some, None, option_map, option_and_then, option_to_list, Result, Ok, Err}
+use Rattle.std.specs.Option.{option_or, option_map_or}
 use Rattle.loop_plane.specs.Plane.{Plane}
 use Rattle.loop_plane.specs.Fds.{Fds}
 use Rattle.loop_plane.specs.declared.memory.Memory.{Memory}
@@ -12,7 +13,7 @@ use Rattle.loop_vb2.specs.declared.reason.Reason.TheVariants.{BadType, BadIndex,
 use Rattle.loop_vb2.specs.declared.reason.Refused.{Refused}
 use Rattle.loop_vb2.specs.Planes.{read_set, read_given, same_memory}
 use Rattle.loop_vb2.specs.Answers.{read_answer}
-use Rattle.loop_vb2.specs.Buffers.{handed_over}
+use Rattle.loop_vb2.specs.Buffers.{at_index, handed_over}
 use Rattle.loop_vb2.specs.Checks.{first_reason}
 use Rattle.loop_vb2.specs.Errnos.{errno}
 use Rattle.loop_vb2.specs.Events.{Event, MayHappen, after_event, refusal_in, reqbufs, prepare_buf, qbuf, dqbuf, streamon, streamoff, querybuf, mmap, munmap}
@@ -25,8 +26,8 @@ use Rattle.loop_ioctl.specs.declared.call.Ioctl.TheVariants as call
 use Rattle.loop_ioctl.specs.declared.call.IoctlReply.{IoctlReply}
 use Rattle.loop_ioctl.specs.declared.call.IoctlReply.TheVariants as reply
 use Rattle.loop_ioctl.specs.Types.{named_type, type_of, same_type}
-use Rattle.loop_ioctl.specs.Names.{Names, names_in, or_else, set_refusal, set_named, set_taken, values_of, given_back}
-use Rattle.loop_ioctl.specs.Attached.{IsLinked}
+use Rattle.loop_ioctl.specs.Names.{first_taken, Names, names_in, set_refusal, set_named, given_back}
+use Rattle.loop_ioctl.specs.Attached.{IsLinked, values_by_fd}
 
 -- a queue, what each fd names, and planes that are out of the queue while their fds stay attached, each with its
 -- fd: the application keeps them. No ioctl changes them.
@@ -62,16 +63,12 @@ kind_named (memory.DmaBuf named) = DmaBuf
 
 -- the planes that it brings to the queue: those by value, or those that its fds name
 abbrev pub planes_brought : {P : Type 0} → (P → Plane) → BufferMemory P → Names Plane → Option (PlaneSet Plane)
-planes_brought meaning memory.Mmap before = None
-planes_brought meaning (memory.UserPtr given) before = read_given meaning given
-planes_brought meaning (memory.DmaBuf None) before = None
 planes_brought meaning (memory.DmaBuf (Some named)) before = Some (set_named named before)
+planes_brought meaning given before = read_given meaning (planes_of given)
 
 -- the planes in the buffer of an index
 abbrev pub planes_at : {P : Type 0} → List (Buffer P) → ℕ → Option (PlaneSet P)
-planes_at [] index = None
-planes_at (b ∷ bs) zero = b.planes
-planes_at (b ∷ bs) (suc index) = planes_at bs index
+planes_at bs index = at_index (λ b. b.planes) None bs index
 
 -- a call that answers nothing but Done
 abbrev pub plain_event : {P A : Type 0} → (Option Errno → Event) → Result (IoctlReply P A) (Refused P A) → Option Event
@@ -104,16 +101,6 @@ module _ {P A : Type 0} (meaning : P → Plane) where
   call_event (call.Munmap type index) result j = plain_event (munmap index) result
   call_event c r j = None
 
--- there is an event, and it may happen
-abbrev pub MayHappenIf : QueueState → Option Event → Type 0
-MayHappenIf s None = ⊥
-MayHappenIf s (Some event) = MayHappen s event
-
--- the state after it
-abbrev pub after_event_if : QueueState → Option Event → QueueState
-after_event_if s None = s
-after_event_if s (Some event) = after_event s event
-
 -- ---- what is refused before it comes to the queue
 
 -- the checks before an fd is looked at: the buffer, then the kind of memory
@@ -124,49 +111,40 @@ early_refusal index b =
 -- planes by fd: those, then the first fd that fails
 abbrev pub memory_refusal : {P : Type 0} → ℕ → BufferMemory P → IoctlState → Option Reason
 memory_refusal index (memory.DmaBuf (Some named)) j =
-    or_else (early_refusal index j.queue.body) (set_refusal named j.names)
+    option_or (early_refusal index j.queue.body) (set_refusal named j.names)
 memory_refusal index given j = None
 
 module _ {P A : Type 0} where
-  -- the buffer type comes first
-  abbrev pub type_refusal : Ioctl P A → IoctlState → Option Reason
-  type_refusal c j = cond (same_type (named_type c) (type_of j.queue.body.format)) None (Some BadType)
+  -- the buffer that a call is given memory for
+  abbrev pub memory_given : Ioctl P A → Option (ℕ × BufferMemory P)
+  memory_given (call.PrepareBuf type index given) = Some (index, given)
+  memory_given (call.QBuf type index given) = Some (index, given)
+  memory_given c = None
 
-  -- then the planes by fd
+  -- why its planes by fd are refused
   abbrev pub fds_refusal : Ioctl P A → IoctlState → Option Reason
-  fds_refusal (call.PrepareBuf type index given) j = memory_refusal index given j
-  fds_refusal (call.QBuf type index given) j = memory_refusal index given j
-  fds_refusal c j = None
+  fds_refusal c j = option_and_then (λ b. memory_refusal b.0 b.1 j) (memory_given c)
 
-  -- why an ioctl is refused before it comes to the queue
+  -- why an ioctl is refused before it comes to the queue: the buffer type comes first
   abbrev pub refusal_before : Ioctl P A → IoctlState → Option Reason
-  refusal_before c j = or_else (type_refusal c j) (fds_refusal c j)
+  refusal_before c j =
+      cond (same_type (named_type c) (type_of j.queue.body.format)) (fds_refusal c j) (Some BadType)
 
 -- ---- planes and fds
 
--- sets that leave a queue of this kind: DMA-BUF planes go back to their fds
-abbrev pub names_left : Memory → List (PlaneSet Plane) → Names Plane → Names Plane
-names_left Mmap sets before = before
-names_left UserPtr sets before = before
-names_left DmaBuf sets before = given_back (values_of sets) before
-
 -- the sets that a reply hands out: those of the application's memory
 abbrev pub handed_out : {X : Type 0} → X → Memory → X → X
-handed_out none Mmap planes = none
-handed_out none UserPtr planes = planes
-handed_out none DmaBuf planes = none
+handed_out none kind planes = cond (same_memory kind UserPtr) planes none
 
 -- the fds of a set that is named are attached
 abbrev pub names_taken : {P : Type 0} → BufferMemory P → Names Plane → Names Plane
-names_taken (memory.DmaBuf (Some named)) before = set_taken named before
+names_taken (memory.DmaBuf (Some named)) before = first_taken named 3 before
 names_taken given before = before
 
 module _ {P A : Type 0} where
   -- the planes and the supply that a call brings
   abbrev pub planes_given : Ioctl P A → Option (PlaneSet P)
-  planes_given (call.PrepareBuf type index given) = planes_of given
-  planes_given (call.QBuf type index given) = planes_of given
-  planes_given c = None
+  planes_given c = option_and_then (λ b. planes_of b.1) (memory_given c)
 
   abbrev pub supply_given : Ioctl P A → List (PlaneSet P)
   supply_given (call.ReqBufs type count kind supply) = supply.items
@@ -176,29 +154,23 @@ module _ {P A : Type 0} where
   abbrev pub HandsBack : Option (PlaneSet P) → List (PlaneSet P) → Refused P A → Type 0
   HandsBack planes supply r = (r.planes ≡ planes) × (r.supply.items ≡ supply)
 
-  -- a reply hands out the planes that leave the queue
-  abbrev pub HandsOut : (P → Plane) → IoctlState → IoctlReply P A → Type 0
-  HandsOut meaning j (reply.Granted g) =
+  -- a reply hands out the planes that leave the queue, and a refusal hands back what the call brought
+  abbrev pub ComesBack : (P → Plane) → Ioctl P A → IoctlState → Result (IoctlReply P A) (Refused P A) → Type 0
+  ComesBack meaning c j (Ok (reply.Granted g)) =
       map (read_set meaning) g.left.items ≡ handed_out [] j.queue.body.kind (held_sets j.queue.body.buffers)
-  HandsOut meaning j (reply.Dequeued answer) =
+  ComesBack meaning c j (Ok (reply.Dequeued answer)) =
       read_given meaning answer.planes
       ≡ handed_out None j.queue.body.kind (planes_at j.queue.body.buffers answer.index)
-  HandsOut meaning j r = Unit {0}
-
-  -- what comes back of planes and supply
-  abbrev pub ComesBack : (P → Plane) → Ioctl P A → IoctlState → Result (IoctlReply P A) (Refused P A) → Type 0
-  ComesBack meaning c j (Ok r) = HandsOut meaning j r
+  ComesBack meaning c j (Ok r) = Unit {0}
   ComesBack meaning c j (Err r) = HandsBack (planes_given c) (supply_given c) r
 
-  -- what fds name after an ioctl that isn't refused
+  -- what fds name after an ioctl that isn't refused: DMA-BUF planes that leave the queue go back to their fds
   abbrev pub names_after : Ioctl P A → IoctlState → IoctlReply P A → Names Plane
-  names_after (call.PrepareBuf type index given) j r = names_taken given j.names
-  names_after (call.QBuf type index given) j r = names_taken given j.names
   names_after (call.ReqBufs type count kind supply) j r =
-      names_left j.queue.body.kind (held_sets j.queue.body.buffers) j.names
+      given_back (values_by_fd j.queue.body.kind (held_sets j.queue.body.buffers)) j.names
   names_after (call.DqBuf type) j (reply.Dequeued answer) =
-      names_left j.queue.body.kind (option_to_list (planes_at j.queue.body.buffers answer.index)) j.names
-  names_after c j r = j.names
+      given_back (values_by_fd j.queue.body.kind (option_to_list (planes_at j.queue.body.buffers answer.index))) j.names
+  names_after c j r = option_map_or (λ b. names_taken b.1 j.names) (memory_given c) j.names
 
 -- ---- any ioctl
 
@@ -206,16 +178,16 @@ module _ {P A : Type 0} (meaning : P → Plane) where
   -- it is refused before it comes to the queue, for this reason, or its event may happen
   abbrev pub IsAnsweredFor : Option Reason → Ioctl P A → IoctlState → Result (IoctlReply P A) (Refused P A) → Type 0
   IsAnsweredFor (Some reason) c j result = refusal_in result ≡ Some (errno reason)
-  IsAnsweredFor None c j result = MayHappenIf j.queue (call_event meaning c result j)
+  IsAnsweredFor None c j result = IsSomeAnd (call_event meaning c result j) (MayHappen j.queue)
 
-  -- it is answered so: a refusal hands back what the call brought
+  -- it is answered so
   abbrev pub IsReplied : Ioctl P A → IoctlState → Result (IoctlReply P A) (Refused P A) → Type 0
   IsReplied c j result = IsAnsweredFor (refusal_before c j) c j result × ComesBack meaning c j result
 
   -- the state after it: a refused call changes nothing
   abbrev pub after_ioctl : Ioctl P A → IoctlState → Result (IoctlReply P A) (Refused P A) → IoctlState
   after_ioctl c j (Ok r) = record j {
-    queue = after_event_if j.queue (call_event meaning c (Ok r) j);
+    queue = option_map_or (after_event j.queue) (call_event meaning c (Ok r) j) j.queue;
     names = names_after c j r;
   }
   after_ioctl c j (Err r) = j

@@ -1,25 +1,25 @@
 -- Lists of events of application and device, each with its reply.
-use Rattle.std.specs.Prelude.{◌≡◌, Bool, true, ◌&&◌, ◌==◌, length, List, [], ◌∷◌, ◌++◌, Option, Some, None}
+use Rattle.std.specs.Prelude.{◌≡◌, Bool, true, ◌&&◌, ◌==◌, length, List, [], ◌∷◌, ◌++◌, IsSomeAnd, Option, Some, None}
+use Rattle.std.specs.Option.{option_map_or}
+use Rattle.std.specs.Result.{result_err}
 use Rattle.loop_plane.specs.Plane.{Plane}
 use Rattle.loop_plane.specs.Fds.{Fds}
 use Rattle.loop_record.specs.Turns.{Machine, Turns, Plays}
 use Rattle.loop_vb2.specs.declared.planes.Shape.{Shape}
-use Rattle.loop_vb2.specs.Events.{Event, refusal_of, complete, fail, fatal}
+use Rattle.loop_vb2.specs.Events.{Event, MayHappen, after_event, complete, fail, fatal}
 use Rattle.loop_vb2.specs.Planes.{frame_size}
 use Rattle.loop_vb2.specs.State.{Lined}
 use Rattle.loop_ioctl.specs.declared.events.QueueEvent.{QueueEvent}
 use Rattle.loop_ioctl.specs.declared.events.QueueEvent.TheVariants as event
 use Rattle.loop_ioctl.specs.declared.events.QueueReply.{QueueReply}
 use Rattle.loop_ioctl.specs.declared.events.QueueReply.TheVariants as answer
-use Rattle.loop_ioctl.specs.Calls.{IoctlState, StandsIoctl, MayHappenIf, after_event_if, IsReplied, after_ioctl}
+use Rattle.loop_ioctl.specs.Calls.{IoctlState, StandsIoctl, IsReplied, after_ioctl}
 
 module _ {P A : Type 0} where
   -- the bytes of a Complete are one whole frame
   abbrev pub is_whole : Shape → QueueEvent P A → Bool
   is_whole shape (event.Complete index stamp bytes) = length bytes.items == frame_size shape
-  is_whole shape (event.Ioctl call) = true
-  is_whole shape (event.Fail index stamp) = true
-  is_whole shape event.Fatal = true
+  is_whole shape e = true
 
   -- those of each Complete are
   abbrev pub are_whole : Shape → List (QueueEvent P A) → Bool
@@ -35,8 +35,8 @@ module _ {P A : Type 0} where
   -- the event of the queue that a call of the device with its answer is
   abbrev pub device_event : QueueEvent P A → QueueReply P A → Option Event
   device_event (event.Complete index stamp bytes) (answer.Ended result) =
-      Some (complete index stamp bytes.items (refusal_of result))
-  device_event (event.Fail index stamp) (answer.Ended result) = Some (fail index stamp (refusal_of result))
+      Some (complete index stamp bytes.items (result_err result))
+  device_event (event.Fail index stamp) (answer.Ended result) = Some (fail index stamp (result_err result))
   device_event event.Fatal answer.Fatal = Some fatal
   device_event e r = None
 
@@ -44,12 +44,12 @@ module _ {P A : Type 0} (meaning : P → Plane) where
   -- the reply is the model's
   abbrev pub IsTold : QueueEvent P A → QueueReply P A → IoctlState → Type 0
   IsTold (event.Ioctl call) (answer.Ioctl result) j = IsReplied meaning call j result
-  IsTold e r j = MayHappenIf j.queue (device_event e r)
+  IsTold e r j = IsSomeAnd (device_event e r) (MayHappen j.queue)
 
   -- the state after the event: the device changes the queue alone
   abbrev pub state_after : QueueEvent P A → QueueReply P A → IoctlState → IoctlState
   state_after (event.Ioctl call) (answer.Ioctl result) j = after_ioctl meaning call j result
-  state_after e r j = record j { queue = after_event_if j.queue (device_event e r) }
+  state_after e r j = record j { queue = option_map_or (after_event j.queue) (device_event e r) j.queue }
 
   -- of an event and its reply as one value
   abbrev pub IsTurn : IoctlState → QueueEvent P A × QueueReply P A → Type 0

@@ -1,9 +1,8 @@
 -- The events of the queue's own model that a run is, and in which order buffers come out.
-use Rattle.std.specs.Prelude.{◌≡◌, List, [], Option, Some, None, option_to_list}
+use Rattle.std.specs.Prelude.{◌≡◌, cond, is_some, List, [], option_to_list}
 use Rattle.loop_plane.specs.Plane.{Plane}
 use Rattle.loop_plane.specs.Fds.{Fds}
 use Rattle.loop_record.specs.Turns.{after_all, told_in, EachIn}
-use Rattle.loop_vb2.specs.declared.reason.Reason.{Reason}
 use Rattle.loop_vb2.specs.Events as model
 use Rattle.loop_vb2.specs.Events.{Event}
 use Rattle.loop_vb2.specs.Laws.{KeepsOrder}
@@ -15,16 +14,11 @@ use Rattle.loop_ioctl.specs.declared.events.QueueReply.TheVariants as answer
 use Rattle.loop_ioctl.specs.Calls.{IoctlState, StandsIoctl, call_event, refusal_before}
 use Rattle.loop_ioctl.specs.Events.{IsTurn, Runs, device_event, after_reply, turns}
 
--- what is refused before it comes to the queue is no event of it
-abbrev pub unless_refused : Option Reason → List Event → List Event
-unless_refused None events = events
-unless_refused (Some reason) events = []
-
 module _ {P A : Type 0} (meaning : P → Plane) where
-  -- any event of a list, with its reply
+  -- any event of a list, with its reply; what is refused before it comes to the queue is no event of it
   abbrev pub event_of : QueueEvent P A → QueueReply P A → IoctlState → List Event
   event_of (event.Ioctl c) (answer.Ioctl result) j =
-      unless_refused (refusal_before c j) (option_to_list (call_event meaning c result j))
+      cond (is_some (refusal_before c j)) [] (option_to_list (call_event meaning c result j))
   event_of e r j = option_to_list (device_event e r)
 
   abbrev pub events_of : IoctlState → QueueEvent P A × QueueReply P A → List Event

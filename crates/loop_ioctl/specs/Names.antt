@@ -1,10 +1,12 @@
 -- What fds name, and the planes of a set that are taken from them and given back.
-use Rattle.std.specs.Prelude.{◌≡◌, ℕ, Bool, cond, ◌==◌, nat_lt, List, [], ◌∷◌, ◌++◌, Option, Some, None, Result, Ok, Err}
+use Rattle.std.specs.Prelude.{◌≡◌, ℕ, zero, suc, Bool, cond, ◌==◌, nat_lt, List, [], ◌∷◌, ◌++◌, Option, Some, None, option_map, option_to_list, Result, Ok, Err}
+use Rattle.std.specs.Option.{option_or, option_flatten}
 use Rattle.slab.specs.Slab.{SameValues}
 use Rattle.loop_plane.specs.Fds.{Fds, names}
 use Rattle.loop_plane.specs.declared.table.FdFault.{FdFault}
 use Rattle.loop_plane.specs.declared.table.FdFault.TheVariants as fault
 use Rattle.loop_vb2.specs.declared.planes.PlaneSet.{PlaneSet}
+use Rattle.loop_vb2.specs.declared.planes.Planes.{Planes}
 use Rattle.loop_vb2.specs.declared.reason.Reason.{Reason}
 use Rattle.loop_vb2.specs.declared.reason.Reason.TheVariants.{NoSuchFd, FdAttached}
 use Rattle.loop_vb2.specs.Planes.{number_at}
@@ -22,11 +24,6 @@ reason_of fault.NotAttached = NoSuchFd
 reason_of fault.NoMemory = NoSuchFd
 reason_of fault.TableFull = NoSuchFd
 
--- the first reason that there is
-abbrev pub or_else : Option Reason → Option Reason → Option Reason
-or_else None later = later
-or_else (Some reason) later = Some reason
-
 module _ {T : Type 0} where
   -- what the fds of a table name
   unfoldable pub names_in : Fds T → Names T
@@ -42,50 +39,41 @@ module _ {T : Type 0} where
   fd_refusal (Some None) = Some FdAttached
   fd_refusal (Some (Some value)) = None
 
-  -- the value of an fd, where it is there
-  abbrev pub value_of : Option (Option T) → Option T
-  value_of None = None
-  value_of (Some value) = value
-
   -- ---- the place of a plane in a set: its value is taken where one is due
 
   abbrev pub place_refusal : Bool → ℕ → Names T → Option Reason
   place_refusal due fd before = cond due (fd_refusal (before fd)) None
 
   abbrev pub place_value : Bool → ℕ → Names T → Option T
-  place_value due fd before = cond due (value_of (before fd)) None
+  place_value due fd before = cond due (option_flatten (before fd)) None
 
   abbrev pub place_taken : Bool → ℕ → Names T → Names T
   place_taken due fd before = cond due (renamed fd (Some None) before) before
 
   -- ---- a set by fd: the first `count` values are taken, one after the other
 
-  abbrev pub first_taken : PlaneFds → Names T → Names T
-  first_taken named before = place_taken (nat_lt 0 named.count) (number_at named.fds 0) before
-
-  abbrev pub second_taken : PlaneFds → Names T → Names T
-  second_taken named before = place_taken (nat_lt 1 named.count) (number_at named.fds 1) (first_taken named before)
-
-  -- the names once all are taken
-  abbrev pub set_taken : PlaneFds → Names T → Names T
-  set_taken named before = place_taken (nat_lt 2 named.count) (number_at named.fds 2) (second_taken named before)
+  -- the names once so many are taken
+  abbrev pub first_taken : PlaneFds → ℕ → Names T → Names T
+  first_taken named zero before = before
+  first_taken named (suc place) before =
+      place_taken (nat_lt place named.count) (number_at named.fds place) (first_taken named place before)
 
   -- the reason of the first fd that fails
   abbrev pub set_refusal : PlaneFds → Names T → Option Reason
   set_refusal named before =
-      or_else (place_refusal (nat_lt 0 named.count) (number_at named.fds 0) before)
-      (or_else (place_refusal (nat_lt 1 named.count) (number_at named.fds 1) (first_taken named before))
-      (place_refusal (nat_lt 2 named.count) (number_at named.fds 2) (second_taken named before)))
+      option_or (place_refusal (nat_lt 0 named.count) (number_at named.fds 0) before)
+      (option_or (place_refusal (nat_lt 1 named.count) (number_at named.fds 1) (first_taken named 1 before))
+      (place_refusal (nat_lt 2 named.count) (number_at named.fds 2) (first_taken named 2 before)))
+
+  -- three planes, by their numbers
+  abbrev pub three_planes : (ℕ → Option T) → Planes T
+  three_planes place = record { y = place 0; cb = place 1; cr = place 2 }
 
   -- the set that they name
   abbrev pub set_named : PlaneFds → Names T → PlaneSet T
-  set_named named before = record {
+  set_named named was = record {
     count = named.count;
-    planes = record {
-      y = place_value (nat_lt 0 named.count) (number_at named.fds 0) before;
-      cb = place_value (nat_lt 1 named.count) (number_at named.fds 1) (first_taken named before);
-      cr = place_value (nat_lt 2 named.count) (number_at named.fds 2) (second_taken named before);
-    };
+    planes = three_planes (λ i. place_value (nat_lt i named.count) (number_at named.fds i) (first_taken named i was));
     fds = named.fds;
   }
 
@@ -93,19 +81,13 @@ module _ {T : Type 0} where
 
   -- the value of a place with its fd, where there is one
   abbrev pub value_with_fd : ℕ → Option T → List (ℕ × T)
-  value_with_fd fd None = []
-  value_with_fd fd (Some value) = (fd, value) ∷ []
+  value_with_fd fd place = option_to_list (option_map (λ value. (fd, value)) place)
 
   -- those of a set, the last first
   abbrev pub values_in : PlaneSet T → List (ℕ × T)
   values_in set =
       value_with_fd (number_at set.fds 2) set.planes.cr
       ++ (value_with_fd (number_at set.fds 1) set.planes.cb ++ value_with_fd (number_at set.fds 0) set.planes.y)
-
-  -- those of sets
-  abbrev pub values_of : List (PlaneSet T) → List (ℕ × T)
-  values_of [] = []
-  values_of (set ∷ sets) = values_in set ++ values_of sets
 
   -- the names once each value is given back under its fd
   abbrev pub given_back : List (ℕ × T) → Names T → Names T
@@ -126,7 +108,7 @@ module _ {T : Type 0} where
   abbrev pub TakesSet : PlaneFds → Result (PlaneSet T) Reason → Fds T → Fds T → Type 0
   TakesSet named (Ok set) before after =
       (set_refusal named (names_in before) ≡ None) × (set ≡ set_named named (names_in before))
-      × (names_in after ≡ set_taken named (names_in before))
+      × (names_in after ≡ first_taken named 3 (names_in before))
   TakesSet named (Err reason) before after =
       (set_refusal named (names_in before) ≡ Some reason) × SameValues before after
 

@@ -1,5 +1,6 @@
 -- What the parts of an ioctl do. Only private functions say it.
 use Rattle.std.specs.Prelude.{◌≡◌, ℕ, List, Option, Result}
+use Rattle.std.specs.List.{flat_map}
 use Rattle.loop_plane.specs.Plane.{Plane}
 use Rattle.loop_plane.specs.Fds.{Fds}
 use Rattle.loop_plane.specs.declared.memory.Memory.{Memory}
@@ -16,7 +17,7 @@ use Rattle.loop_ioctl.specs.declared.call.Ioctl.TheVariants.{PrepareBuf, QBuf}
 use Rattle.loop_ioctl.specs.declared.call.IoctlReply.{IoctlReply}
 use Rattle.loop_ioctl.specs.declared.put.Use.{Use}
 use Rattle.loop_ioctl.specs.declared.put.Use.TheVariants.{Prepare, Queue}
-use Rattle.loop_ioctl.specs.Names.{values_of, GivesBack}
+use Rattle.loop_ioctl.specs.Names.{values_in, GivesBack}
 use Rattle.loop_ioctl.specs.Calls.{IoctlState, StandsIoctl, fds_refusal, IsAnsweredFor, ComesBack, after_ioctl}
 
 -- PREPARE_BUF or QBUF of the queue
@@ -33,7 +34,7 @@ use_call Queue index given type = QBuf type index given
 abbrev pub LetsOut : {T : Type 0} → Memory → List (PlaneSet T) → Fds T → Fds T → Type 0
 LetsOut Mmap sets before after_ioctl = after_ioctl ≡ before
 LetsOut UserPtr sets before after_ioctl = after_ioctl ≡ before
-LetsOut DmaBuf sets before after_ioctl = GivesBack (values_of sets) before after_ioctl
+LetsOut DmaBuf sets before after_ioctl = GivesBack (flat_map values_in sets) before after_ioctl
 
 module _ {P A : Type 0} (meaning : P → Plane) where
   -- an ioctl, whose buffer type is the queue's, in a state

@@ -1,7 +1,7 @@
 -- Buffer types.
 use Rattle.std.specs.Prelude.{Bool, true, false}
 use Rattle.loop_record.specs.declared.geometry.PixelFormat.{PixelFormat}
-use Rattle.loop_record.specs.declared.geometry.PixelFormat.TheVariants.{Grey, Ym12, Ym16, Ym24}
+use Rattle.loop_record.specs.declared.geometry.PixelFormat.TheVariants.{Grey}
 use Rattle.loop_ioctl.specs.declared.call.BufferType.{BufferType}
 use Rattle.loop_ioctl.specs.declared.call.BufferType.TheVariants.{VideoCapture, VideoCaptureMplane}
 use Rattle.loop_ioctl.specs.declared.call.Ioctl.{Ioctl}
@@ -10,9 +10,7 @@ use Rattle.loop_ioctl.specs.declared.call.Ioctl.TheVariants.{ReqBufs, QueryBuf, 
 -- the type of a queue for this format
 abbrev pub type_of : PixelFormat → BufferType
 type_of Grey = VideoCapture
-type_of Ym12 = VideoCaptureMplane
-type_of Ym16 = VideoCaptureMplane
-type_of Ym24 = VideoCaptureMplane
+type_of format = VideoCaptureMplane
 
 -- the type that a call is for
 abbrev pub named_type : {P A : Type 0} → Ioctl P A → BufferType

@@ -1,8 +1,9 @@
 // One ioctl.
 ghost use Rattle.std.specs.Prelude.{◌≡◌, None, [], option_to_list, IfOk, IfErr, OnErr};
+ghost use Rattle.std.specs.Result.{result_err};
 ghost use Rattle.slab.specs.Slab.{SameValues};
 ghost use Rattle.loop_vb2.specs.Errnos.{errno};
-ghost use Rattle.loop_vb2.specs.Events.{refusal_in, refusal_of};
+ghost use Rattle.loop_vb2.specs.Events.{refusal_in};
 ghost use Rattle.loop_ioctl.specs.Types.{same_type, named_type, type_of};
 ghost use Rattle.loop_ioctl.specs.Calls.{HandsBack, planes_of, planes_given, supply_given, handed_out, Applies};
 ghost use Rattle.loop_ioctl.specs.declared.call.IoctlReply.TheVariants.{Done};
@@ -22,7 +23,7 @@ fn done_unless<P, A: Allocator>(
     alloc: A,
     told: Result<(), Errno>,
 ) -> Result<IoctlReply<P, A>, Refused<P, A>>
-    ensures refusal { refusal_in result ≡ refusal_of told }
+    ensures refusal { refusal_in result ≡ result_err told }
     ensures done { IfOk result (λ reply. reply ≡ Done) }
     ensures back { IfErr result (λ refused. HandsBack None [] refused) }
 {

@@ -1,6 +1,7 @@
 // The planes of a set, taken from the table by fd and given back to it.
 ghost use Rattle.std.specs.Prelude.{◌≡◌};
-ghost use Rattle.loop_ioctl.specs.Names.{reason_of, TakesPlace, TakesSet, GivesBack, value_with_fd, values_in, values_of};
+ghost use Rattle.std.specs.List.{flat_map};
+ghost use Rattle.loop_ioctl.specs.Names.{reason_of, TakesPlace, TakesSet, GivesBack, value_with_fd, values_in};
 
 use crate::call::PlaneFds;
 use loop_plane::{FdFault, FdTable};
@@ -40,6 +41,7 @@ fn give_place<P: Drop, A: Allocator>(table: &mut FdTable<P, A>, fd: u32, place: 
 {
     match place {
         Some(plane) => {
+            // It can't be refused, since the fd is attached.
             let _ = table.detach(fd, plane);
         }
         None => {}
@@ -95,7 +97,7 @@ pub(crate) fn give_all<P: Drop, A: Allocator>(
     table: &mut FdTable<P, A>,
     mut sets: Vec<PlaneSet<P>, A>,
 )
-    ensures { GivesBack (values_of sets.items) table.old table.new }
+    ensures { GivesBack (flat_map values_in sets.items) table.old table.new }
 {
     'along: while !sets.is_empty() {
         let set = sets.remove(0);

@@ -1,2 +1,2 @@
-pub mod Recorded
-pub mod Stopped
+pub mod RecordTexts
+pub mod StopImages

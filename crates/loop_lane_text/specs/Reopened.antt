@@ -26,7 +26,7 @@ pub record Reopens {D E P A : Type 0} (meaning : P → Plane) (medium : D → Me
       (steps_made old.desk s ran.calls ++ steps_begun old.desk s ran.calls) image
   pub geometry : store.geometry ≡ old.desk.store.geometry
   pub stands : StandsFor other store (plain (ring_of old.desk.store.geometry) s.recording
-      (take left.count (steps_made old.desk s ran.calls ++ steps_begun old.desk s ran.calls)))
+      (take left.held.count (steps_made old.desk s ran.calls ++ steps_begun old.desk s ran.calls)))
   -- where the power failed once the run was over, that beginning has all that were answered
   pub over : (medium new.desk.store.disk).may_leave image
       → (all : HoldsFrom old.desk.store.geometry s.recording (length (steps_made old.desk s ran.calls))

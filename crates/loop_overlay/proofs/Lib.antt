@@ -1,2 +1,2 @@
-mod Laying
-mod Overlaid
+mod WriteOver
+mod OverlayImages

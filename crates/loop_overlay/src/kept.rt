@@ -54,8 +54,8 @@ pub(crate) fn lay_all<A: Allocator>(writes: &[Kept<A>], at: u64, buf: &mut [u8])
     }
 }
 
-// Keeps a write behind the others, or changes nothing where there is no room.
-pub(crate) fn keep<A: Allocator + Copy>(
+// Puts a write behind the others, or changes nothing where there is no room.
+pub(crate) fn add_write<A: Allocator + Copy>(
     alloc: A,
     writes: &mut Vec<Kept<A>, A>,
     at: u64,

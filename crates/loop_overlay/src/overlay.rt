@@ -2,12 +2,13 @@
 ghost use Rattle.std.specs.Prelude.{◌≡◌, ◌+◌, ◌≤◌, ℕ, List, [], IfErr, IsOk, OnErr, OnOk, length};
 ghost use Rattle.loop_disk.specs.declared.fault.DiskFault.TheVariants.{Read, Write, Sync};
 ghost use Rattle.loop_disk.specs.Medium.{LeavesEach, LeavesEachTorn, MayBe, piece};
+ghost use Rattle.loop_disk.specs.Rows.{joined};
 ghost use Rattle.loop_disk.specs.Calls.{Called, Stays, Syncs, Writes, failed_call, no_failures, with_failed};
 ghost use Rattle.loop_overlay.specs.Layers.{Layered, above};
 ghost use Rattle.loop_overlay.specs.Sound.{sound_overlaid};
 
-use crate::kept::{Kept, keep, lay_all};
-use loop_disk::{Disk, DiskFault, Failures};
+use crate::kept::{Kept, add_write, lay_all};
+use loop_disk::{Disk, DiskFault, Failures, join_rows};
 use std::alloc::{Allocator, Global};
 use std::marker::Model;
 
@@ -83,8 +84,6 @@ impl<D: Disk, A: Allocator + Copy> Disk for OverlayDisk<D, A> {
     /// It fails where the read of the disk beneath does.
     fn read(&mut self, at: u64, buf: &mut [u8]) -> Result<(), DiskFault>
         requires { at + length buf.old ≤ (D.medium self.old.disk).size }
-        ensures read { (D.medium self.old.disk).honest
-            → OnOk result (buf.new ≡ piece at (length buf.old) (above D.medium self.old).bytes) }
         ensures gives { (image : List ℕ) → MayBe (above D.medium self.new) image
             → MayBe (above D.medium self.old) image
             × OnOk result (buf.new ≡ piece at (length buf.old) image) }
@@ -114,8 +113,27 @@ impl<D: Disk, A: Allocator + Copy> Disk for OverlayDisk<D, A> {
         ensures refused { OnErr result (self.new
             ≡ record self.old { failures = with_failed (failed_call result) self.old.failures }) }
     {
-        match keep(self.alloc, &mut self.writes, at, bytes) {
+        match add_write(self.alloc, &mut self.writes, at, bytes) {
             Ok(()) => Ok(()),
+            Err(_) => self.failures.note(Err(DiskFault::Write)),
+        }
+    }
+
+    /// It keeps the joined bytes as one write. It fails where memory for them can't be had.
+    fn write_rows(&mut self, at: u64, rows: &[&[u8]]) -> Result<(), DiskFault>
+        requires { at + length (joined rows.now) ≤ (D.medium self.old.disk).size }
+        ensures disk { (D.medium self.old.disk).honest
+            → Writes at (joined rows.now) (above D.medium self.old) (above D.medium self.new) result }
+        ensures each { ⊥ → ⊥ × OnOk result
+            (LeavesEachTorn at (length (joined rows.now)) (above D.medium self.old) (above D.medium self.new)) }
+        ensures fault { IfErr result (λ fault. fault ≡ Write) }
+        ensures called { Called (above D.medium self.old) (above D.medium self.new) (failed_call result) }
+        ensures beneath { self.new.disk ≡ self.old.disk }
+        ensures refused { OnErr result (self.new
+            ≡ record self.old { failures = with_failed (failed_call result) self.old.failures }) }
+    {
+        match join_rows(self.alloc, rows) {
+            Ok(bytes) => self.write_at(at, &bytes),
             Err(_) => self.failures.note(Err(DiskFault::Write)),
         }
     }

@@ -1,4 +1,4 @@
 pub mod Times
 pub mod Keeps
-pub mod Counted
-pub mod Tried
+pub mod HolderCounts
+pub mod ClaimTries

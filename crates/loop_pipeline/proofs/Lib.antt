@@ -1,8 +1,8 @@
-mod Bringing
+mod BackRuns
 pub mod Crossing
-mod Joining
-mod Keeping
-mod Moving
-mod Starting
-mod Taking
-mod Ticking
+mod RingEnds
+mod KeepCalls
+mod FrontRuns
+mod EmptyQueue
+mod FrameSteps
+mod TickSteps

@@ -99,7 +99,7 @@ impl<D: Disk + Drop, A: Allocator + Copy> Back<D, A> {
             Ok(number) => Brought::Submitted(number),
             Err((fault, frame)) => {
                 self.given_up += 1;
-                self.desk.keep_memory(frame.bytes);
+                self.desk.return_memory(frame.bytes);
                 Brought::GivenUp(fault)
             }
         }
@@ -116,7 +116,7 @@ impl<D: Disk + Drop, A: Allocator + Copy> Back<D, A> {
             return false;
         };
         self.given_up += 1;
-        self.desk.keep_memory(frame.bytes);
+        self.desk.return_memory(frame.bytes);
         true
     }
 

@@ -78,7 +78,7 @@ impl Link {
     }
 
     // Keeps memory for a later frame, where there is a place for it.
-    fn keep_memory<R: Wait>(&self, rt: &R, bytes: Vec<u8>) {
+    fn return_memory<R: Wait>(&self, rt: &R, bytes: Vec<u8>) {
         let mut memory = self.memory.lock(rt);
         if memory.len() < memory.capacity() {
             memory.push_reserved(bytes);
@@ -120,7 +120,7 @@ fn take_all<R: Wait, S: FrameSource + Drop, P: PlaneMemory, G: Guide>(
         }
     }
     if let Some(bytes) = spare {
-        link.keep_memory(rt, bytes);
+        link.return_memory(rt, bytes);
     }
 }
 
@@ -193,7 +193,7 @@ fn give_memory<R: Wait, D: Disk + Drop>(rt: &R, link: &Link, back: &mut Back<D>)
         let Some(bytes) = back.spare_memory() else {
             break;
         };
-        link.keep_memory(rt, bytes);
+        link.return_memory(rt, bytes);
     }
 }
 

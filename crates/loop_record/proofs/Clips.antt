@@ -5,16 +5,17 @@ use Rattle.std.specs.List.{list_any, range_with_len}
 use Rattle.loop_record.specs.declared.clip.Span.{Span}
 use Rattle.loop_record.specs.declared.geometry.Geometry.{Geometry}
 use Rattle.loop_record.specs.Geometry.{segment_at, segment_size, clip_at}
-use Rattle.loop_record.specs.Recording.{Recording, lock, unlock, after_step, may_lock, holds_all, free_id, clip_of, ring_of}
+use Rattle.loop_record.specs.Recording.{Recording, lock, unlock, after_step, may_lock, holds_all, clip_of, ring_of}
 use Rattle.loop_record.specs.Layout.{Segment, segment_in, clip_in}
 use Rattle.loop_record.specs.Reading.{parts_of, shown_by, recording_or_damage, recording_of, is_bad_clip, by_block, open_segments, Holds}
 use Rattle.loop_record.specs.Change.{ShowsClip}
-use Rattle.loop_record.proofs.Decided.{both, neither, or_false, at_most, not_below_test}
+use Rattle.loop_record.proofs.TestFacts.{both, neither, or_false, at_most, not_below_test}
 use Rattle.loop_record.proofs.Bounds.{limits}
-use Rattle.loop_record.proofs.Framing.{SameWithin, map_range, same_segment, same_clip, same_geometry}
+use Rattle.loop_record.proofs.OwnBytes.{SameWithin, map_range, same_segment, same_clip, same_geometry}
 use Rattle.loop_record.proofs.Changes.{shown_of, of_shown}
 use Rattle.loop_record.proofs.Parts.{within_before, within_behind, map_range-set, reading-stages, stages-reading, geometry-good}
 use Rattle.loop_record.proofs.Readings.{get_or-map_range}
+use Rattle.loop_record.proofs.Names.{free_id}
 
 -- the parts of the old image but for one clip
 pub parts-clip : (g : Geometry) (id : ℕ) (c : Option Span) (old new : List ℕ) → g.slots ≤ 256 → id < 64

@@ -6,16 +6,17 @@ use Rattle.std.specs.Prelude.{Contains}
 use Rattle.std.specs.List.{list_any, range_with_len}
 use Rattle.loop_record.specs.declared.clip.Span.{Span}
 use Rattle.loop_record.specs.declared.geometry.Geometry.{Geometry}
-use Rattle.loop_record.specs.Recording.{Recording, holds_all, RiseBetween, IsWhole, IsWellFormed}
+use Rattle.loop_record.specs.Recording.{Recording, holds_all, RiseBetween, IsWellFormed}
 use Rattle.loop_record.specs.Layout.{Segment, clip_in}
-use Rattle.loop_record.specs.Reading.{frames_of, all_frames, next_after, recording_of, is_bad_clip, has_bad_clip, parts_of, open_segments, by_block, Holds}
-use Rattle.loop_record.proofs.Decided.{neither, not_false, not_below, at_most_test}
-use Rattle.loop_record.proofs.Rising.{RiseBetween-lower, RiseBetween-append, RiseBetween-enumerate, none-each}
+use Rattle.loop_record.specs.Reading.{frames_of, next_after, recording_of, is_bad_clip, parts_of, open_segments, by_block, Holds}
+use Rattle.loop_record.proofs.TestFacts.{neither, not_false, not_below, at_most_test}
+use Rattle.loop_record.proofs.NumberOrder.{RiseBetween-lower, RiseBetween-append, RiseBetween-enumerate, none-each}
 use Rattle.loop_record.proofs.Segments.{Rises, Rises-by_block, repeats-by_block}
 use Rattle.loop_record.proofs.Changes.{shown_of, is_overfull}
-use Rattle.loop_record.proofs.WellFormed.{whole_of}
+use Rattle.loop_record.proofs.LegalSteps.{whole_of}
 use Rattle.loop_record.proofs.Parts.{reading-stages}
 use Rattle.loop_record.proofs.Readings.{overfull_none, length-range}
+use Rattle.loop_record.proofs.Names.{all_frames, has_bad_clip, IsWhole}
 
 -- frames of segments whose blocks rise have numbers that rise
 all_frames-rise : (g : Geometry) (low : ℕ) (s : Segment) (ss : List Segment) → Rises (s ∷ ss)

@@ -1,10 +1,10 @@
 -- Open segments as their headers were found.
-use Rattle.std.proofs.Common.{◌≡◌, ℕ, zero, suc, ◌+◌, ◌-◌, ◌*◌, ◌^◌, ◌<◌, ◌≤◌, Bool, true, false, not, ◌&&◌, cond, eqb, leb, Option, Some, None, Result, Ok, Err, List, [], ◌∷◌, ◌++◌, length, take, drop, get_or, set, replicate, map, refl, sym, ap, ◌∙◌, subst, arith}
+use Rattle.std.proofs.Common.{◌≡◌, ℕ, zero, suc, ◌+◌, ◌-◌, ◌*◌, ◌^◌, ◌<◌, ◌≤◌, Bool, true, false, not, ◌&&◌, cond, eqb, Option, Some, None, Result, Ok, Err, List, [], ◌∷◌, ◌++◌, length, take, get_or, set, replicate, map, refl, sym, ap, ◌∙◌, subst, arith}
 use Rattle.std.proofs.lemmas.List.{length-map, take_all, map-append}
 use Rattle.std.proofs.Math.Seq.{take-suc-set}
 use Rattle.std.proofs.lemmas.List.Folds.{list_any-append}
 use Rattle.std.specs.Prelude.{◌||◌, slice_range}
-use Rattle.std.specs.List.{list_any, position_or_len, range_with_len}
+use Rattle.std.specs.List.{list_any, range_with_len}
 use Rattle.loop_record.specs.declared.clip.Span.{Span}
 use Rattle.loop_record.specs.declared.damage.Damage.{Damage}
 use Rattle.loop_record.specs.declared.damage.Damage.TheVariants.{DiskSize, BlockTooHigh, RepeatedBlock, ClosedGate, SlotHead, ClipRange}
@@ -16,39 +16,20 @@ use Rattle.loop_record.specs.declared.image.Found.{Found}
 use Rattle.loop_record.specs.declared.segment.SegmentHead.{SegmentHead}
 use Rattle.loop_record.specs.Geometry.{frame_bytes, segment_at, segment_size, slot_at, disk_size}
 use Rattle.loop_record.specs.Layout.{Slot, Segment, slot_head, is_open, is_slot_of, is_too_high, slot_in, segment_in, whole_frames, entry_at, clip_in, geometry_in, header_at, checked_header}
-use Rattle.loop_record.specs.Reading.{reading, Contents, Holds, contents, with_geometry, shown_by, recording_or_damage, recording_of, is_bad_clip, has_bad_clip, parts_of, open_segments, by_block, in_place, repeats, lacks_frame, hold_from, is_bad_slot, is_high, next_after, all_frames}
-use Rattle.loop_record.specs.Plain.{IsTagFit, segment_of, segments_of, found_of, found_at, held_clip, lacks_number, table_clips, with_segment, IsIn, AreIn, IsSomeHigh}
-use Rattle.loop_record.proofs.Fresh.{header_at-slice, entry_at-slice}
+use Rattle.loop_record.specs.Reading.{reading, Contents, Holds, contents, with_geometry, shown_by, recording_or_damage, recording_of, is_bad_clip, parts_of, open_segments, by_block, repeats, lacks_frame, is_bad_slot, is_high, next_after}
+use Rattle.loop_record.specs.Plain.{IsTagFit, segment_of, segments_of, held_clip, lacks_number, table_clips, IsIn, AreIn, IsSomeHigh}
+use Rattle.loop_record.proofs.Fresh.{entry_at-slice}
 use Rattle.std.proofs.Math.Nat.{mul-le-mul_right, add-mul}
-use Rattle.loop_record.proofs.Framing.{prefix_range-le, slot_within}
+use Rattle.loop_record.proofs.OwnBytes.{slot_within}
 use Rattle.loop_record.proofs.Gates.{range_append}
 use Rattle.loop_record.proofs.Segments.{any-by_block}
-use Rattle.loop_record.proofs.Decided.{equal, equal_test, differ_test, not_below}
+use Rattle.loop_record.proofs.TestFacts.{equal, equal_test, differ_test, not_below}
 use Rattle.std.proofs.lemmas.Bool.Decides.{nat_tests}
 use Rattle.byteorder.specs.Endian.{little_from}
 use Rattle.loop_record.proofs.Growth.{hold_from-append}
 use Rattle.loop_record.specs.Recording.{Picture, head, empty}
 use Rattle.loop_record.proofs.Readings.{length-range}
-
-pub insert-in_place : (g : Geometry) (image : List ℕ) (x : Found) (xs : List Found)
-    → segments_of g image (take (position_or_len (λ f. leb x.block f.block) xs) xs ++ x
-    ∷ drop (position_or_len (λ f. leb x.block f.block) xs) xs) ≡ in_place (segment_of g image x)
-    (segments_of g image xs)
-insert-in_place g image x [] = refl
-insert-in_place g image x (y ∷ ys) = go (leb x.block y.block) (insert-in_place g image x ys)
-  where
-    k : ℕ
-    k = position_or_len (λ f. leb x.block f.block) ys
-
-    go : (t : Bool) → segments_of g image (take k ys ++ x ∷ drop k ys) ≡ in_place (segment_of g image x)
-        (segments_of g image ys)
-        → segments_of g image (take (cond (not t) (1 + k) 0) (y ∷ ys) ++ x ∷ drop (cond (not t) (1 + k) 0) (y ∷ ys)) ≡
-        cond t (segment_of g image x ∷ segment_of g image y ∷ segments_of g image ys)
-        (segment_of g image y ∷ in_place (segment_of g image x) (segments_of g image ys))
-    go true ih = refl
-    go false ih =
-        let next : 1 + k ≡ suc k = omega arith in
-        ap (λ (n : ℕ). segments_of g image (take n (y ∷ ys) ++ x ∷ drop n (y ∷ ys))) next ∙ ap (λ (ss : List Segment). segment_of g image y ∷ ss) ih
+use Rattle.loop_record.proofs.Names.{has_bad_clip, hold_from, all_frames}
 
 any-map : (p : ℕ → Bool) (g : Geometry) (image : List ℕ) (xs : List Found) → list_any (λ (s : Segment). p s.block)
     (segments_of g image xs) ≡ list_any (λ (f : Found). p f.block) xs
@@ -59,14 +40,6 @@ pub repeats-first : (g : Geometry) (image : List ℕ) (x : Found) (xs : List Fou
     → repeats (segments_of g image (x ∷ xs)) ≡ (list_any (λ (f : Found). eqb f.block x.block) xs || repeats
     (segments_of g image xs))
 repeats-first g image x xs = ap (λ (t : Bool). t || repeats (segments_of g image xs)) (any-map (λ b. eqb b x.block) g image xs)
-
-pub place-le : (p : Found → Bool) (xs : List Found) → position_or_len p xs ≤ length xs
-place-le p [] = omega arith
-place-le p (x ∷ xs) = go (p x) (place-le p xs)
-  where
-    go : (t : Bool) → position_or_len p xs ≤ length xs → cond (not t) (1 + position_or_len p xs) 0 ≤ suc (length xs)
-    go true h = omega arith
-    go false h = omega (arith, h)
 
 -- a segment has as many slots as its header says
 pub length-slots : (g : Geometry) (image : List ℕ) (f : Found) → length (segment_of g image f).slots ≡ f.frames
@@ -93,12 +66,6 @@ pub repeats-else : (g : Geometry) (image : List ℕ) (all xs : List Found) (x : 
 repeats-else g image all xs x r s is found e rest =
     rest ∙ ap (λ (t : Bool). t || repeats (segments_of g image xs)) (sym (sym found ∙ e))
     ∙ sym (ap (λ (ys : List Found). repeats (segments_of g image ys)) is ∙ repeats-first g image x xs)
-
--- what the header of segment j, cut out of its image, says
-pub found-is : (g : Geometry) (image : List ℕ) (j at : ℕ) (r : Result (Option SegmentHead) Damage) → g.slots ≤ 256
-    → at ≡ segment_at g j → r ≡ checked_header g (header_at g (slice_range image at (at + 512)) 0)
-    → found_of j r ≡ found_at g image j
-found-is g image j at r few is e = ap (found_of j) (e ∙ ap (checked_header g) (header_at-slice g image at few ∙ ap (header_at g image) is))
 
 -- the first slots of a segment
 abbrev pub read_slots : Geometry → List ℕ → ℕ → ℕ → List Slot
@@ -161,77 +128,16 @@ slots-bad g image f i l fails =
 
 -- ---- what was found
 
-pub found-none : (g : Geometry) (image : List ℕ) (j : ℕ)
-    → (let o : Option Found = None in let r : Result (Option Found) Damage = Ok o in r) ≡ found_at g image j
-    → segment_in g image j ≡ None
-found-none g image j e = gate (is_open image (segment_at g j)) refl e
-  where
-    said : SegmentHead
-    said = record { block = little_from (segment_at g j + 8) 8 image; frames = whole_frames g image j }
-
-    ok : Option Found → Result (Option Found) Damage
-    ok o = Ok o
-
-    high : (t : Bool) → ok None ≡ found_of j (cond t (Err BlockTooHigh) (Ok (Some said))) → ⊥
-    high true e = absurd cc
-    high false e = absurd cc
-
-    gate : (t : Bool) → is_open image (segment_at g j) ≡ t
-        → ok None ≡ found_of j (checked_header g (cond t (Some said) None)) → segment_in g image j ≡ None
-    gate true is e = absurd (high (is_too_high g said.block) e)
-    gate false is e = λ i. cond (is i) (Some (record { block = said.block; slots = read_slots g image j (whole_frames g image j) })) None
-
-pub found-some : (g : Geometry) (image : List ℕ) (j : ℕ) (f : Found)
-    → (let o : Option Found = Some f in let r : Result (Option Found) Damage = Ok o in r) ≡ found_at g image j
-    → (segment_in g image j ≡ Some (segment_of g image f)) × (f.segment ≡ j) × (f.frames ≤ g.slots) × (is_too_high g f.block ≡ false)
-found-some g image j f e = gate (is_open image (segment_at g j)) refl e
-  where
-    said : SegmentHead
-    said = record { block = little_from (segment_at g j + 8) 8 image; frames = whole_frames g image j }
-
-    these : Found
-    these = record { segment = j; block = said.block; frames = said.frames }
-
-    ok : Option Found → Result (Option Found) Damage
-    ok o = Ok o
-
-    same : ok (Some f) ≡ ok (Some these) → these ≡ f
-    same e = cc
-
-    whole : is_open image (segment_at g j) ≡ true → is_too_high g said.block ≡ false → these ≡ f
-        → (segment_in g image j ≡ Some (segment_of g image f)) × (f.segment ≡ j) × (f.frames ≤ g.slots)
-        × (is_too_high g f.block ≡ false)
-    whole is low are = (
-      (λ i. cond (is i) (Some (segment_of g image these)) None) ∙ ap (λ (x : Found). Some (segment_of g image x)) are,
-      sym (ap (λ (x : Found). x.segment) are),
-      omega (arith, ap (λ (x : Found). x.frames) are, prefix_range-le (λ i. is_open image (segment_at g j + 256 + i)) 0 g.slots),
-      sym (ap (λ (x : Found). is_too_high g x.block) are) ∙ low,
-    )
-
-    high : (t : Bool) → is_too_high g said.block ≡ t → is_open image (segment_at g j) ≡ true
-        → ok (Some f) ≡ found_of j (cond t (Err BlockTooHigh) (Ok (Some said)))
-        → (segment_in g image j ≡ Some (segment_of g image f)) × (f.segment ≡ j) × (f.frames ≤ g.slots)
-        × (is_too_high g f.block ≡ false)
-    high true low is e = absurd cc
-    high false low is e = whole is low (same e)
-
-    gate : (t : Bool) → is_open image (segment_at g j) ≡ t
-        → ok (Some f) ≡ found_of j (checked_header g (cond t (Some said) None))
-        → (segment_in g image j ≡ Some (segment_of g image f)) × (f.segment ≡ j) × (f.frames ≤ g.slots)
-        × (is_too_high g f.block ≡ false)
-    gate true is e = high (is_too_high g said.block) refl is e
-    gate false is e = absurd cc
-
 -- what is wrong with a header is that its block is too high
 pub found-high : (g : Geometry) (image : List ℕ) (j : ℕ) (d : Damage)
-    → (let r : Result (Option Found) Damage = Err d in r) ≡ found_at g image j → (d ≡ BlockTooHigh)
-    × IsSomeHigh g (segment_in g image j)
+    → (let r : Result (Option SegmentHead) Damage = Err d in r) ≡ checked_header g (header_at g image (segment_at g j))
+    → (d ≡ BlockTooHigh) × IsSomeHigh g (segment_in g image j)
 found-high g image j d e = gate (is_open image (segment_at g j)) refl e
   where
     said : SegmentHead
     said = record { block = little_from (segment_at g j + 8) 8 image; frames = whole_frames g image j }
 
-    err : Damage → Result (Option Found) Damage
+    err : Damage → Result (Option SegmentHead) Damage
     err x = Err x
 
     same : err d ≡ err BlockTooHigh → d ≡ BlockTooHigh
@@ -246,43 +152,16 @@ found-high g image j d e = gate (is_open image (segment_at g j)) refl e
     there is = λ i. cond (is i) (Some (record { block = said.block; slots = read_slots g image j (whole_frames g image j) })) None
 
     high : (t : Bool) → is_too_high g said.block ≡ t → is_open image (segment_at g j) ≡ true
-        → err d ≡ found_of j (cond t (Err BlockTooHigh) (Ok (Some said))) → (d ≡ BlockTooHigh)
+        → err d ≡ cond t (Err BlockTooHigh) (Ok (Some said)) → (d ≡ BlockTooHigh)
         × IsSomeHigh g (segment_in g image j)
     high true up is e = (same e, subst (IsSomeHigh g) (sym (there is)) up)
     high false up is e = absurd cc
 
     gate : (t : Bool) → is_open image (segment_at g j) ≡ t
-        → err d ≡ found_of j (checked_header g (cond t (Some said) None)) → (d ≡ BlockTooHigh)
+        → err d ≡ checked_header g (cond t (Some said) None) → (d ≡ BlockTooHigh)
         × IsSomeHigh g (segment_in g image j)
     gate true is e = high (is_too_high g said.block) refl is e
     gate false is e = absurd cc
-
-pub AreIn-insert : (g : Geometry) (x : Found) (xs : List Found) (k : ℕ) → IsIn g x → AreIn g xs
-    → AreIn g (take k xs ++ x ∷ drop k xs)
-AreIn-insert g x [] zero i h = (i, tt)
-AreIn-insert g x [] (suc k) i h = (i, tt)
-AreIn-insert g x (y ∷ ys) zero i h = (i, h)
-AreIn-insert g x (y ∷ ys) (suc k) i h = (h.0, AreIn-insert g x ys k i h.1)
-
--- one more segment, of lower index than those before
-pub opened-more : (g : Geometry) (image : List ℕ) (done : ℕ) → done < g.segments
-    → by_block (open_segments (map (segment_in g image) (range_with_len (g.segments - (done + 1)) (done + 1)))) ≡
-    with_segment (segment_in g image (g.segments - 1 - done))
-    (by_block (open_segments (map (segment_in g image) (range_with_len (g.segments - done) done))))
-opened-more g image done l =
-    let j = g.segments - 1 - done in
-    let a : g.segments - (done + 1) ≡ j = omega arith in
-    let b : done + 1 ≡ suc done = omega arith in
-    let c : j + 1 ≡ g.segments - done = omega (arith, l) in
-    (λ i. by_block (open_segments (map (segment_in g image) (range_with_len (a i) (b i))))) ∙ go (segment_in g image j)
-    ∙ ap (λ (k : ℕ). with_segment (segment_in g image j) (by_block (open_segments (map (segment_in g image) (range_with_len k done))))) c
-  where
-    rest : List (Option Segment)
-    rest = map (segment_in g image) (range_with_len (g.segments - 1 - done + 1) done)
-
-    go : (o : Option Segment) → by_block (open_segments (o ∷ rest)) ≡ with_segment o (by_block (open_segments rest))
-    go None = refl
-    go (Some s) = refl
 
 pub some-high : (g : Geometry) (image : List ℕ) (j : ℕ) → j < g.segments → IsSomeHigh g (segment_in g image j)
     → list_any (is_high g) (by_block (open_segments (parts_of g image).segments)) ≡ true
@@ -571,80 +450,72 @@ pub reading-all : (g : Geometry) (image : List ℕ) (ss : List Segment) → IsSo
 reading-all g image ss s good = segments-sound g image ss s ∙ ap (with_geometry g) (passed (has_bad_clip (recording_of g ss (clips_in image))) _ _ good)
 
 -- what was read of an image of this geometry
-pub record IsFoundIn (g : Geometry) (image : List ℕ) (fs xs : List Found) : Type 0 where
+pub record IsFoundIn (g : Geometry) (image : List ℕ) (fs : List Found) : Type 0 where
   pub geometry : geometry_in image ≡ Ok g
   pub size : length image ≡ disk_size g
   pub are : segments_of g image fs ≡ by_block (open_segments (parts_of g image).segments)
   pub within : AreIn g fs
-  pub same : xs ≡ fs
 
-pub found-read : (g : Geometry) (image : List ℕ) (fs xs : List Found) → IsFoundIn g image fs xs
-    → IsRead g image (segments_of g image xs)
-found-read g image fs xs f = record { geometry = f.geometry; size = f.size; are = ap (λ (ys : List Found). segments_of g image ys) f.same ∙ f.are }
+pub found-read : (g : Geometry) (image : List ℕ) (fs : List Found) → IsFoundIn g image fs
+    → IsRead g image (segments_of g image fs)
+found-read g image fs f = record { geometry = f.geometry; size = f.size; are = f.are }
 
-pub found-low : (g : Geometry) (image : List ℕ) (fs xs : List Found) → IsFoundIn g image fs xs
-    → list_any (is_high g) (segments_of g image xs) ≡ false
-found-low g image fs xs f = ap (λ (ys : List Found). list_any (is_high g) (segments_of g image ys)) f.same ∙ AreIn-low g image fs f.within
+pub found-low : (g : Geometry) (image : List ℕ) (fs : List Found) → IsFoundIn g image fs
+    → list_any (is_high g) (segments_of g image fs) ≡ false
+found-low g image fs f = AreIn-low g image fs f.within
 
-pub found-within : (g : Geometry) (image : List ℕ) (fs xs : List Found) → IsFoundIn g image fs xs → AreIn g xs
-found-within g image fs xs f = subst (AreIn g) (sym f.same) f.within
+pub read-repeats : (g : Geometry) (image : List ℕ) (fs : List Found) (r : Bool) → IsFoundIn g image fs
+    → r ≡ repeats (segments_of g image fs) → r ≡ true → reading image ≡ Err (Damaged RepeatedBlock)
+read-repeats g image fs r f is e = reading-repeats g image (segments_of g image fs) (found-read g image fs f) (found-low g image fs f) (sym is ∙ e)
 
-pub read-repeats : (g : Geometry) (image : List ℕ) (fs xs : List Found) (r : Bool) → IsFoundIn g image fs xs
-    → r ≡ repeats (segments_of g image xs) → r ≡ true → reading image ≡ Err (Damaged RepeatedBlock)
-read-repeats g image fs xs r f is e = reading-repeats g image (segments_of g image xs) (found-read g image fs xs f) (found-low g image fs xs f) (sym is ∙ e)
-
-pub read-lacks : (g : Geometry) (image : List ℕ) (fs xs : List Found) (r s : Bool) → IsFoundIn g image fs xs
-    → r ≡ repeats (segments_of g image xs) → r ≡ false → s ≡ lacks_frame g (segments_of g image xs) → s ≡ true
+pub read-lacks : (g : Geometry) (image : List ℕ) (fs : List Found) (r s : Bool) → IsFoundIn g image fs
+    → r ≡ repeats (segments_of g image fs) → r ≡ false → s ≡ lacks_frame g (segments_of g image fs) → s ≡ true
     → reading image ≡ Err (Damaged ClosedGate)
-read-lacks g image fs xs r s f is e lacks e' = reading-lacks g image (segments_of g image xs)
-    (found-read g image fs xs f) (found-low g image fs xs f) (sym is ∙ e) (sym lacks ∙ e')
+read-lacks g image fs r s f is e lacks e' = reading-lacks g image (segments_of g image fs)
+    (found-read g image fs f) (found-low g image fs f) (sym is ∙ e) (sym lacks ∙ e')
 
 -- the segments of the image have no repeated block and lack no frame
-pub record AreFull (g : Geometry) (image : List ℕ) (fs xs : List Found) : Type 0 where
-  pub found : IsFoundIn g image fs xs
-  pub single : repeats (segments_of g image xs) ≡ false
-  pub full : lacks_frame g (segments_of g image xs) ≡ false
+pub record AreFull (g : Geometry) (image : List ℕ) (fs : List Found) : Type 0 where
+  pub found : IsFoundIn g image fs
+  pub single : repeats (segments_of g image fs) ≡ false
+  pub full : lacks_frame g (segments_of g image fs) ≡ false
 
 abbrev pub fault_is : LayoutFault → Result Contents LayoutFault
 fault_is f = Err f
 
-whole-so : (g : Geometry) (image : List ℕ) (fs xs : List Found) → AreFull g image fs xs
-    → list_any (is_bad_slot g) (segments_of g image xs) ≡ false → IsSoundSo g image (segments_of g image xs)
-whole-so g image fs xs a right =
+whole-so : (g : Geometry) (image : List ℕ) (fs : List Found) → AreFull g image fs
+    → list_any (is_bad_slot g) (segments_of g image fs) ≡ false → IsSoundSo g image (segments_of g image fs)
+whole-so g image fs a right =
     record {
-      read = found-read g image fs xs a.found;
-      low = found-low g image fs xs a.found;
+      read = found-read g image fs a.found;
+      low = found-low g image fs a.found;
       single = a.single;
       full =
           a.full;
       right = right;
     }
 
-pub read-bad_clip : (g : Geometry) (image : List ℕ) (fs xs : List Found) (frames : List (ℕ × Picture)) (d : Damage)
-    → AreFull g image fs xs → list_any (is_bad_slot g) (segments_of g image xs) ≡ false
-    → frames ≡ all_frames g (segments_of g image xs)
+pub read-bad_clip : (g : Geometry) (image : List ℕ) (fs : List Found) (frames : List (ℕ × Picture)) (d : Damage)
+    → AreFull g image fs → list_any (is_bad_slot g) (segments_of g image fs) ≡ false
+    → frames ≡ all_frames g (segments_of g image fs)
     → d ≡ ClipRange → some_bad frames (clips_in image) ≡ true → reading image ≡ Err (Damaged d)
-read-bad_clip g image fs xs frames d a right are is bad =
-    reading-bad_clip g image (segments_of g image xs) (whole-so g image fs xs a right)
+read-bad_clip g image fs frames d a right are is bad =
+    reading-bad_clip g image (segments_of g image fs) (whole-so g image fs a right)
     (sym (ap (λ (q : List (ℕ × Picture)). some_bad q (clips_in image)) are) ∙ bad)
     ∙ ap (λ (x : Damage). fault_of x) (sym is)
   where
     fault_of : Damage → Result Contents LayoutFault
     fault_of x = Err (Damaged x)
 
-pub read-all : (g : Geometry) (image : List ℕ) (fs xs : List Found) (next : ℕ) (frames : List (ℕ × Picture))
-    (clips : List (Option Span)) → AreFull g image fs xs → list_any (is_bad_slot g) (segments_of g image xs) ≡ false
-    → frames ≡ all_frames g (segments_of g image xs)
-    → next ≡ next_after g (segments_of g image xs) → clips ≡ clips_in image → some_bad frames (clips_in image) ≡ false
+pub read-all : (g : Geometry) (image : List ℕ) (fs : List Found) (next : ℕ) (frames : List (ℕ × Picture))
+    (clips : List (Option Span)) → AreFull g image fs → list_any (is_bad_slot g) (segments_of g image fs) ≡ false
+    → frames ≡ all_frames g (segments_of g image fs)
+    → next ≡ next_after g (segments_of g image fs) → clips ≡ clips_in image → some_bad frames (clips_in image) ≡ false
     → Holds g (record { next = next; frames = frames; clips = clips }) image
-read-all g image fs xs next frames clips a right are after clips_are good =
-    reading-all g image (segments_of g image xs) (whole-so g image fs xs a right)
+read-all g image fs next frames clips a right are after clips_are good =
+    reading-all g image (segments_of g image fs) (whole-so g image fs a right)
     (sym (ap (λ (q : List (ℕ × Picture)). some_bad q (clips_in image)) are) ∙ good)
     ∙ (λ i. Ok (record { geometry = g; recording = record { next = sym after i; frames = sym are i; clips = sym clips_are i } }))
-
-pub good-frames : (image : List ℕ) (fs gs : List (ℕ × Picture)) → gs ≡ fs → some_bad fs (clips_in image) ≡ false
-    → some_bad gs (clips_in image) ≡ false
-good-frames image fs gs e good = ap (λ (q : List (ℕ × Picture)). some_bad q (clips_in image)) e ∙ good
 
 pub fault-of : {f h : LayoutFault} → f ≡ h → fault_is f ≡ fault_is h
 fault-of e = ap fault_is e

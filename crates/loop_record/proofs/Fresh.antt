@@ -16,11 +16,11 @@ use Rattle.loop_record.specs.Layout.{magic, has_bytes, format_at, geometry_field
 use Rattle.loop_record.specs.Reading.{recording_or_damage, by_block, open_segments, empty_segment}
 use Rattle.loop_record.specs.Laws.{FitsSlot, FitsEntry, WrittenIsRead, FreshImagesAreEmpty}
 use Rattle.loop_record.proofs.Bounds.{limits}
-use Rattle.loop_record.proofs.Decided.{equal, equal_test, at_most_test}
-use Rattle.loop_record.proofs.Framing.{map_range, prefix_range, moved_entry}
+use Rattle.loop_record.proofs.TestFacts.{equal, equal_test, at_most_test}
+use Rattle.loop_record.proofs.OwnBytes.{map_range, prefix_range, moved_entry}
 use Rattle.loop_record.proofs.Gates.{open_gates-are}
 use Rattle.loop_record.proofs.Parts.{stages-reading}
-use Rattle.loop_record.proofs.Written.{slot_in-slot_bytes, geometry_in-super_bytes, version_in-super_bytes, little_from-slice}
+use Rattle.loop_record.proofs.ReadBack.{slot_in-slot_bytes, geometry_in-super_bytes, version_in-super_bytes, little_from-slice}
 
 -- ---- a fresh image
 

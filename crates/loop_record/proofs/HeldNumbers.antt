@@ -9,17 +9,18 @@ use Rattle.std.specs.List.{list_any, list_all, range_with_len, enumerate_from}
 use Rattle.loop_record.specs.declared.geometry.Geometry.{Geometry}
 use Rattle.loop_record.specs.declared.image.Found.{Found}
 use Rattle.loop_record.specs.Recording.{Picture, empty, frame_under}
-use Rattle.loop_record.specs.Reading.{frames_of, all_frames, is_bad_clip}
+use Rattle.loop_record.specs.Reading.{frames_of, is_bad_clip}
 use Rattle.loop_record.specs.Plain.{segment_of, segments_of, found_number, lacks_number, held_clip, table_clips, AreIn}
 use Rattle.loop_record.specs.Geometry.{clip_at}
 use Rattle.loop_record.specs.Layout.{entry_at, clip_in, version_in, checked_clip}
 use Rattle.loop_record.specs.declared.clip.Span.{Span}
 use Rattle.loop_record.specs.declared.damage.Damage.{Damage}
 use Rattle.loop_record.specs.declared.damage.Damage.TheVariants.{ClipRange}
-use Rattle.loop_record.proofs.Framing.{map_range, moved_entry}
+use Rattle.loop_record.proofs.OwnBytes.{map_range, moved_entry}
 use Rattle.loop_record.proofs.Fresh.{byte-slice}
-use Rattle.loop_record.proofs.Decided.{equal, not_below, not_below_test}
+use Rattle.loop_record.proofs.TestFacts.{equal, not_below, not_below_test}
 use Rattle.loop_record.proofs.FoundSegments.{length-slots}
+use Rattle.loop_record.proofs.Names.{all_frames}
 
 under-both : (fs gs : List (ℕ × Picture)) (n : ℕ) → is_some (frame_under (fs ++ gs) n) ≡
     (is_some (frame_under fs n) || is_some (frame_under gs n))

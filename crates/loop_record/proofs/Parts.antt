@@ -17,7 +17,7 @@ use Rattle.loop_record.specs.Change.{ShowsSegment}
 use Rattle.loop_record.specs.Layout.{Segment, segment_in, clip_in, geometry_in, version_in, with_version, super_in, checked_geometry, geometry_fields, format_at, is_formatted, is_super_of}
 use Rattle.loop_record.specs.Reading.{parts_of, shown_by, Contents, with_geometry, contents, reading}
 use Rattle.loop_record.proofs.Bounds.{limits}
-use Rattle.loop_record.proofs.Framing.{SameWithin, map_range, same_segment, same_clip, same_geometry, same_version}
+use Rattle.loop_record.proofs.OwnBytes.{SameWithin, map_range, same_segment, same_clip, same_geometry, same_version}
 
 -- ---- parts of one image and of the other
 

@@ -9,14 +9,15 @@ use Rattle.loop_record.specs.declared.geometry.Geometry.{Geometry}
 use Rattle.loop_record.specs.Geometry.{frame_bytes, gate_at}
 use Rattle.loop_record.specs.Recording.{Recording, store, recycle, plain, after_step, victim, ring_of}
 use Rattle.loop_record.specs.Layout.{Slot, Segment, segment_in, whole_frames, is_open}
-use Rattle.loop_record.specs.Reading.{open_segments, by_block, repeats, is_high, hold_from, parts_of, recording_or_damage, reading, empty_segment}
+use Rattle.loop_record.specs.Reading.{open_segments, by_block, repeats, is_high, parts_of, recording_or_damage, reading, empty_segment}
 use Rattle.loop_record.specs.Change.{ShowsSegment}
 use Rattle.loop_record.proofs.Bounds.{limits}
-use Rattle.loop_record.proofs.Framing.{prefix_range-le}
+use Rattle.loop_record.proofs.OwnBytes.{prefix_range-le}
 use Rattle.loop_record.proofs.Parts.{these, reading-stages, geometry-good, reading-shows}
 use Rattle.loop_record.proofs.Segments.{placed, placed_there, has_block, any-by_block, repeats-by_block}
 use Rattle.loop_record.proofs.Changes.{shown_of, is_overfull, checked-commit, newest-next, checked-begin}
-use Rattle.loop_record.proofs.Retired.{checked-retire}
+use Rattle.loop_record.proofs.WithoutBlock.{checked-retire}
+use Rattle.loop_record.proofs.Names.{hold_from}
 
 -- ---- the options that an image's segments are
 

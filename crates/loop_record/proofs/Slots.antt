@@ -9,13 +9,14 @@ use Rattle.loop_record.specs.declared.geometry.Geometry.{Geometry}
 use Rattle.loop_record.specs.Geometry.{frame_bytes, slot_at}
 use Rattle.loop_record.specs.Recording.{Picture, Recording, frame_under}
 use Rattle.loop_record.specs.Layout.{Slot, Segment, is_open, slot_in, is_slot_of, segment_in, whole_frames}
-use Rattle.loop_record.specs.Reading.{Holds, hold_from, is_bad_slot, frames_of, all_frames, open_segments, by_block, parts_of, recording_or_damage}
-use Rattle.loop_record.proofs.Decided.{both, neither, not_false}
+use Rattle.loop_record.specs.Reading.{Holds, is_bad_slot, frames_of, open_segments, by_block, parts_of, recording_or_damage}
+use Rattle.loop_record.proofs.TestFacts.{both, neither, not_false}
 use Rattle.loop_record.proofs.Parts.{reading-stages}
 use Rattle.loop_record.proofs.Growth.{AllBelow}
 use Rattle.loop_record.proofs.Segments.{placed_there, any_move}
 use Rattle.loop_record.proofs.Changes.{shown_of, is_overfull, all_frames-append}
 use Rattle.loop_record.proofs.Readings.{get_or-map_range, overfull_none, whole-length, segments_length, segment_there}
+use Rattle.loop_record.proofs.Names.{hold_from, all_frames}
 
 -- ---- the frames of lower segments
 

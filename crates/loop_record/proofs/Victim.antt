@@ -8,10 +8,12 @@ use Rattle.std.proofs.lemmas.List.Sums.{count_by-le-length, sum_by-cons, sum_by-
 use Rattle.std.specs.Prelude.{Contains, ◌↔◌}
 use Rattle.std.specs.List.{count_by, find}
 use Rattle.loop_record.specs.declared.clip.Span.{Span}
-use Rattle.loop_record.specs.Recording.{Picture, Recording, Ring, block, meets, with_block, blocks_of, held_blocks, older_blocks, is_locked, victim, RiseBetween, RiseFrom, IsHeldBlock, IsWellFormed, MayGo, IsVictim}
-use Rattle.loop_record.proofs.Decided.{clash, both, not_true, untrue, equal, differ, at_most, at_most_test}
-use Rattle.loop_record.proofs.Retired.{outside_clip}
-use Rattle.loop_record.proofs.Rising.{Among, numbers_of, held-among, among-held, none-each, each-none}
+use Rattle.loop_record.specs.Recording.{Picture, Recording, Ring, block, meets, held_blocks, older_blocks, is_locked, victim, RiseBetween, RiseFrom, IsHeldBlock, IsWellFormed, MayGo, IsVictim}
+use Rattle.loop_record.proofs.Blocks.{blocks-made}
+use Rattle.loop_record.proofs.TestFacts.{clash, both, not_true, untrue, equal, differ, at_most, at_most_test}
+use Rattle.loop_record.proofs.WithoutBlock.{outside_clip}
+use Rattle.loop_record.proofs.NumberOrder.{Among, numbers_of, held-among, among-held, none-each, each-none}
+use Rattle.loop_record.proofs.Names.{with_block, blocks_of}
 
 -- ---- blocks that rise
 
@@ -348,14 +350,18 @@ free-test ring r b some free = each-none (meets ring b) r.clips (λ c at. go c a
 -- the block of a held frame is one of the blocks, and the other way round
 held-block : (ring : Ring) (r : Recording) (b : ℕ) → IsHeldBlock ring r b → Among b (held_blocks ring r)
 held-block ring r b (n, (held, is)) =
-    subst (λ (c : ℕ). Among c (blocks_of ring r.frames)) is (number-block ring n r.frames (held-among n r.frames held))
+    subst (Among b) (sym (blocks-made ring r.frames))
+    (subst (λ (c : ℕ). Among c (blocks_of ring r.frames)) is (number-block ring n r.frames (held-among n r.frames held)))
 
 block-held : (ring : Ring) (r : Recording) (b : ℕ) → Among b (held_blocks ring r) → IsHeldBlock ring r b
-block-held ring r b at = let n = block-number ring b r.frames at in (n.0, (among-held n.0 r.frames n.1.0, n.1.1))
+block-held ring r b at =
+    let n = block-number ring b r.frames (subst (Among b) (blocks-made ring r.frames) at) in
+    (n.0, (among-held n.0 r.frames n.1.0, n.1.1))
 
 -- the blocks of a recording rise
 held-rise : (ring : Ring) (r : Recording) → 1 ≤ ring.slots → IsWellFormed r → RiseFrom (block ring 0) (held_blocks ring r)
-held-rise ring r some w = blocks-rise ring 0 r.next r.frames some w.rising
+held-rise ring r some w =
+    subst (RiseFrom (block ring 0)) (sym (blocks-made ring r.frames)) (blocks-rise ring 0 r.next r.frames some w.rising)
 
 -- a list's elements, by place and one by one
 among-contains : (c : ℕ) (bs : List ℕ) → Among c bs → Contains bs c

@@ -7,11 +7,10 @@ use Rattle.loop_record.specs.declared.damage.Damage.{Damage}
 use Rattle.loop_record.specs.declared.damage.Damage.TheVariants.{ClipRange}
 use Rattle.loop_record.specs.declared.geometry.Geometry.{Geometry}
 use Rattle.loop_record.specs.declared.image.Found.{Found}
-use Rattle.loop_record.specs.declared.segment.SegmentHead.{SegmentHead}
-use Rattle.loop_record.specs.Geometry.{frame_bytes, segment_at, slot_at}
+use Rattle.loop_record.specs.Geometry.{frame_bytes, slot_at}
 use Rattle.loop_record.specs.Recording.{Picture, picture}
-use Rattle.loop_record.specs.Layout.{Segment, checked_header, entry_at, header_at, is_too_high, slot_in}
-use Rattle.loop_record.specs.Reading.{in_place, is_high}
+use Rattle.loop_record.specs.Layout.{Segment, entry_at, is_too_high, slot_in}
+use Rattle.loop_record.specs.Reading.{is_high}
 
 -- frames without where their bytes lie in memory
 abbrev pub pictures : {A : Type 0} → List (Frame A) → List Picture
@@ -30,16 +29,6 @@ segment_of g image f =
 abbrev pub segments_of : Geometry → List ℕ → List Found → List Segment
 segments_of g image fs = map (segment_of g image) fs
 
--- the segment that a header says, if it is open and its block isn't too high
-abbrev pub found_of : ℕ → Result (Option SegmentHead) Damage → Result (Option Found) Damage
-found_of j (Err d) = Err d
-found_of j (Ok None) = Ok None
-found_of j (Ok (Some h)) = Ok (Some (record { segment = j; block = h.block; frames = h.frames }))
-
--- segment j, so found
-abbrev pub found_at : Geometry → List ℕ → ℕ → Result (Option Found) Damage
-found_at g image j = found_of j (checked_header g (header_at g image (segment_at g j)))
-
 -- a found segment is one of the geometry's, has no more frames than there are slots, and its block isn't too high
 pub record IsIn (g : Geometry) (f : Found) : Type 0 where
   pub segment : f.segment < g.segments
@@ -55,11 +44,6 @@ AreIn g (f ∷ fs) = IsIn g f × AreIn g fs
 abbrev pub IsSomeHigh : Geometry → Option Segment → Type 0
 IsSomeHigh g None = ⊥
 IsSomeHigh g (Some s) = is_high g s ≡ true
-
--- segments in the order of their blocks, with one more if it is open
-abbrev pub with_segment : Option Segment → List Segment → List Segment
-with_segment None ss = ss
-with_segment (Some s) ss = in_place s ss
 
 -- a found segment has the frame of that number
 abbrev pub found_number : Geometry → ℕ → Found → Bool

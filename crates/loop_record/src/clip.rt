@@ -1,7 +1,8 @@
 //! Clips, and the entries of the clip table.
 
-ghost use Rattle.std.specs.Prelude.{◌≡◌, ◌≤◌, IfOk, length};
-ghost use Rattle.loop_record.specs.Layout.{entry_at, entry_bytes, checked_clip, tag_at};
+ghost use Rattle.std.specs.Prelude.{◌==◌, ◌≡◌, ◌≤◌, IfOk, if◌then◌else◌, length};
+ghost use Rattle.byteorder.specs.Endian.{little_from};
+ghost use Rattle.loop_record.specs.Layout.{entry_at, entry_bytes, checked_clip};
 ghost use Rattle.loop_record.specs.Plain.{IsTagFit};
 
 use crate::Damage;
@@ -61,7 +62,7 @@ pub fn decode_clip(version: u32, bytes: &[u8]) -> Result<Option<Span>, Damage>
 /// The tag in an entry of this version.
 fn tag_in(version: u32, bytes: &[u8]) -> u64
     requires { 32 ≤ length bytes.now }
-    ensures { result ≡ tag_at version bytes.now 24 }
+    ensures { result ≡ (if version == 2 then little_from 24 8 bytes.now else 0) }
 {
     if version == TAGGED {
         u64_at(bytes, 24)

@@ -10,7 +10,7 @@ use Rattle.loop_record.specs.Change.{ShowsSegment}
 use Rattle.loop_record.specs.Geometry.{frame_bytes, segment_size, segment_at, gate_at, slot_at}
 use Rattle.loop_record.specs.Layout.{Segment, is_open, slot_in, whole_frames, segment_in}
 use Rattle.loop_record.proofs.Fields.{moved_number}
-use Rattle.loop_record.proofs.Framing.{SameWithin, SameWithin-part, prefix_range, prefix_range-le, map_range, slot_within, same_open, same_number, same_slot}
+use Rattle.loop_record.proofs.OwnBytes.{SameWithin, SameWithin-part, prefix_range, prefix_range-le, map_range, slot_within, same_open, same_number, same_slot}
 
 -- an image with the same bytes outside a segment shows what stands in the segment
 pub shows : (g : Geometry) (j : ℕ) (part : Option Segment) (old new : List ℕ) → SameOutside (segment_at g j)

@@ -1,26 +1,19 @@
--- That a ring, its index and a group may go to another thread, and be looked at by several: each alone, and (`in`) as what holds it has it.
+-- That a ring and its index may go to another thread, and be looked at by several: each alone, and (`in`) as what holds it has it.
 use denote.Param.Send.{IsSend, IsSync, sendable}
 use Rattle.std.proofs.Crossing.{crosses}
 use Rattle.std.specs.contracts.alloc.Global as heap
 use Rattle.std.specs.contracts.impls.GlobalAllocator.TheImpl.{ghosts}
-use Rattle.loop_ring.specs.contracts.group.Group as Group
 use Rattle.loop_ring.specs.contracts.index.SegmentIndex as SegmentIndex
 use Rattle.loop_ring.specs.contracts.ring.Ring as Ring
 
 pub ring_in_send : IsSend Ring.the_field.row
 ring_in_send = search sendable depth 40
 
-pub group_in_send : IsSend (Group.the_field heap.the_row ghosts).row
-group_in_send = search (sendable, crosses) depth 20
-
 pub segments_send : IsSend (SegmentIndex.the_row heap.the_row ghosts)
 segments_send = search (sendable, crosses) depth 20
 
 pub ring_in_sync : IsSync Ring.the_field.row
 ring_in_sync = search sendable depth 40
-
-pub group_in_sync : IsSync (Group.the_field heap.the_row ghosts).row
-group_in_sync = search (sendable, crosses) depth 20
 
 pub segments_sync : IsSync (SegmentIndex.the_row heap.the_row ghosts)
 segments_sync = search (sendable, crosses) depth 20

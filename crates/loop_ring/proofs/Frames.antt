@@ -5,10 +5,11 @@ use Rattle.loop_record.specs.declared.geometry.Geometry.{Geometry}
 use Rattle.loop_record.specs.Change.{ShowsSegment}
 use Rattle.loop_record.specs.Geometry.{frame_bytes}
 use Rattle.loop_record.specs.Layout.{Segment, segment_in}
-use Rattle.loop_record.specs.Reading.{Holds, hold_from}
+use Rattle.loop_record.specs.Reading.{Holds}
 use Rattle.loop_record.specs.Recording.{Picture, Recording, store, plain, ring_of}
 use Rattle.loop_record.proofs.Readings.{reading-commit}
 use Rattle.loop_ring.specs.Writes.{ShowsFrames, ShowsBeginning, slots_of, with_more}
+use Rattle.loop_record.proofs.Names.{hold_from}
 
 -- the slots of frames hold the numbers that they were given
 pub hold_from-slots_of : (n number : ℕ) (ps : List Picture) → hold_from n number (slots_of n number ps) ≡ true

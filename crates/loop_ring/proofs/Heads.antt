@@ -18,8 +18,8 @@ use Rattle.loop_record.specs.Recording.{Picture, Recording}
 use Rattle.loop_record.specs.Reading.{parts_of, open_segments, by_block, next_after, repeats, Holds}
 use Rattle.loop_record.proofs.Bounds.{limits}
 use Rattle.loop_record.proofs.Changes.{shown_of, is_overfull}
-use Rattle.loop_record.proofs.Decided.{clash, neither, equal, equal_test, differ, not_below}
-use Rattle.loop_record.proofs.Framing.{map_range}
+use Rattle.loop_record.proofs.TestFacts.{clash, neither, equal, equal_test, differ, not_below}
+use Rattle.loop_record.proofs.OwnBytes.{map_range}
 use Rattle.loop_record.proofs.Parts.{parts-shows, reading-stages, geometry-good}
 use Rattle.loop_record.proofs.Readings.{length-range, segments_length, segment_there, overfull_none, reading-newest, whole-length}
 use Rattle.loop_record.proofs.Segments.{has_block, any-by_block, repeats-by_block}

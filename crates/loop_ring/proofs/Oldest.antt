@@ -8,13 +8,14 @@ use Rattle.std.proofs.lemmas.Slice.Zip.{get_or-zip, length-zip}
 use Rattle.std.specs.Prelude.{Contains}
 use Rattle.std.specs.List.{cons_option, count_by, filter, filter_map, reduce, sum_by, zip}
 use Rattle.loop_record.specs.declared.segment.SegmentHead.{SegmentHead}
-use Rattle.loop_record.proofs.Decided.{at_most, at_most_test, clash, untrue}
-use Rattle.loop_record.proofs.Rising.{Among}
-use Rattle.loop_ring.specs.declared.entry.Entry.{Entry}
-use Rattle.loop_ring.specs.Entries.{IsIndexed, entries_of}
-use Rattle.loop_ring.specs.Heads.{floor_block, free_block, has_frame, held_block, is_free}
-use Rattle.loop_ring.proofs.Chosen.{among-filter, filter-among, greatest, least, none-greatest, none-least}
-use Rattle.loop_ring.proofs.Indexed.{IsOpen, blocks-rise, entry-there, there-entry}
+use Rattle.loop_record.proofs.TestFacts.{at_most, at_most_test, clash, untrue}
+use Rattle.loop_record.proofs.NumberOrder.{Among}
+use Rattle.loop_record.specs.declared.image.Found.{Found}
+use Rattle.loop_ring.specs.Entries.{IsIndexed}
+use Rattle.loop_ring.specs.Heads.{found_at, in_order, put_before, floor_block, free_block, has_frame, held_block, is_free}
+use Rattle.loop_ring.proofs.VictimByHeads.{among-filter, filter-among, greatest, least, none-greatest, none-least}
+use Rattle.loop_ring.proofs.IndexOrder.{IsOpen, blocks-rise, entry-there, there-entry}
+use Rattle.loop_ring.proofs.SegmentOrder.{count-put}
 
 -- ---- what a filter keeps
 
@@ -155,54 +156,53 @@ free-picked floor heads clips same = record {
 
 -- ---- their entries
 
-abbrev nothing : Entry
-nothing = record { block = 0; segment = 0 }
+abbrev nothing : Found
+nothing = record { segment = 0; block = 0; frames = 0 }
 
 -- each of these blocks has an entry
-record Entered (entries : List Entry) (p : ℕ → Bool) (b : ℕ) : Type 0 where
+record Entered (entries : List Found) (p : ℕ → Bool) (b : ℕ) : Type 0 where
   place : ℕ
   within : place < length entries
-  block : (d : Entry) → (get_or entries place d).block ≡ b
-  passes : (d : Entry) → p (get_or entries place d).segment ≡ true
+  block : (d : Found) → (get_or entries place d).block ≡ b
+  passes : (d : Found) → p (get_or entries place d).segment ≡ true
 
-entered : (heads : List (Option SegmentHead)) (p : ℕ → Bool) (entries : List Entry) (capacity b : ℕ)
+entered : (heads : List (Option SegmentHead)) (p : ℕ → Bool) (entries : List Found) (capacity b : ℕ)
     → IsIndexed heads entries capacity → Picked heads p b → Entered entries p b
 entered heads p entries capacity b x k =
-    of (entry-there heads entries capacity k.place k.head (record { block = k.head.block; segment = k.place }) x
-    k.within k.there refl)
+    of (entry-there heads entries capacity k.place k.head x k.there)
   where
-    of : Contains entries (record { block = k.head.block; segment = k.place }) → Entered entries p b
+    of : Contains entries (found_at k.place k.head) → Entered entries p b
     of (m, inside, its) =
-        let every : (d : Entry) → get_or entries m d ≡ record { block = k.head.block; segment = k.place } =
-        λ d. get_or_default entries m d (record { block = k.head.block; segment = k.place }) inside ∙ its in
+        let every : (d : Found) → get_or entries m d ≡ found_at k.place k.head =
+        λ d. get_or_default entries m d (found_at k.place k.head) inside ∙ its in
         record {
           place = m;
           within = inside;
-          block = λ d. ap (λ (y : Entry). y.block) (every d) ∙ k.block;
+          block = λ d. ap (λ (y : Found). y.block) (every d) ∙ k.block;
           passes =
-              λ d. ap (λ (y : Entry). p y.segment) (every d) ∙ k.passes;
+              λ d. ap (λ (y : Found). p y.segment) (every d) ∙ k.passes;
         }
 
 -- the entry that passes has one of the blocks
-entry-among : (heads : List (Option SegmentHead)) (p : ℕ → Bool) (blocks : List ℕ) (entries : List Entry)
-    (capacity i : ℕ) (e : Entry) → IsIndexed heads entries capacity → ArePicked heads p blocks → i < length entries
-    → ((d : Entry) → get_or entries i d ≡ e) → p e.segment ≡ true
+entry-among : (heads : List (Option SegmentHead)) (p : ℕ → Bool) (blocks : List ℕ) (entries : List Found)
+    (capacity i : ℕ) (e : Found) → IsIndexed heads entries capacity → ArePicked heads p blocks → i < length entries
+    → ((d : Found) → get_or entries i d ≡ e) → p e.segment ≡ true
     → Among e.block blocks
 entry-among heads p blocks entries capacity i e x picked inside at passes =
     let o : IsOpen heads e = subst (IsOpen heads) (at e) (there-entry heads entries capacity i e x inside) in
     subst (λ (b : ℕ). Among b blocks) o.block (picked.from e.segment o.head o.within o.there passes)
 
 -- where no entry passes, there is no such block
-none-entered : (heads : List (Option SegmentHead)) (p : ℕ → Bool) (blocks : List ℕ) (entries : List Entry)
+none-entered : (heads : List (Option SegmentHead)) (p : ℕ → Bool) (blocks : List ℕ) (entries : List Found)
     (capacity b : ℕ) → IsIndexed heads entries capacity → ArePicked heads p blocks
-    → ((k : ℕ) (d : Entry) → k < length entries → p (get_or entries k d).segment ≡ false) → Among b blocks → ⊥
+    → ((k : ℕ) (d : Found) → k < length entries → p (get_or entries k d).segment ≡ false) → Among b blocks → ⊥
 none-entered heads p blocks entries capacity b x picked none at =
     let k = entered heads p entries capacity b x (picked.to b at) in
     clash (p (get_or entries k.place nothing).segment) (k.passes nothing) (none k.place nothing k.within)
 
-pub least-none : (heads : List (Option SegmentHead)) (p : ℕ → Bool) (blocks : List ℕ) (entries : List Entry)
+pub least-none : (heads : List (Option SegmentHead)) (p : ℕ → Bool) (blocks : List ℕ) (entries : List Found)
     (capacity : ℕ) → IsIndexed heads entries capacity → ArePicked heads p blocks
-    → ((k : ℕ) (d : Entry) → k < length entries → p (get_or entries k d).segment ≡ false) → None ≡ reduce min blocks
+    → ((k : ℕ) (d : Found) → k < length entries → p (get_or entries k d).segment ≡ false) → None ≡ reduce min blocks
 least-none heads p blocks entries capacity x picked none = go (reduce min blocks) refl
   where
     go : (o : Option ℕ) → reduce min blocks ≡ o → None ≡ o
@@ -210,10 +210,10 @@ least-none heads p blocks entries capacity x picked none = go (reduce min blocks
     go (Some m) e = absurd (none-entered heads p blocks entries capacity m x picked none (least blocks m e).among)
 
 -- the first entry that passes is of the least block
-pub least-first : (heads : List (Option SegmentHead)) (p : ℕ → Bool) (blocks : List ℕ) (entries : List Entry)
-    (capacity i : ℕ) (e : Entry) → IsIndexed heads entries capacity → ArePicked heads p blocks → i < length entries
-    → ((d : Entry) → get_or entries i d ≡ e)
-    → p e.segment ≡ true → ((k : ℕ) (d : Entry) → k < i → p (get_or entries k d).segment ≡ false) → Some e.block ≡ reduce min blocks
+pub least-first : (heads : List (Option SegmentHead)) (p : ℕ → Bool) (blocks : List ℕ) (entries : List Found)
+    (capacity i : ℕ) (e : Found) → IsIndexed heads entries capacity → ArePicked heads p blocks → i < length entries
+    → ((d : Found) → get_or entries i d ≡ e)
+    → p e.segment ≡ true → ((k : ℕ) (d : Found) → k < i → p (get_or entries k d).segment ≡ false) → Some e.block ≡ reduce min blocks
 least-first heads p blocks entries capacity i e x picked inside at passes before = go (reduce min blocks) refl
   where
     among : Among e.block blocks
@@ -226,7 +226,7 @@ least-first heads p blocks entries capacity i e x picked inside at passes before
         pick (inl less) = absurd (clash (p (get_or entries k.place e).segment) (k.passes e) (before k.place e less))
         pick (inr more) =
             let rises = blocks-rise heads entries capacity x i k.place e more k.within in
-            let here : (get_or entries i e).block ≡ e.block = ap (λ (y : Entry). y.block) (at e) in
+            let here : (get_or entries i e).block ≡ e.block = ap (λ (y : Found). y.block) (at e) in
             let there = k.block e in
             omega (arith, rises, here, there)
 
@@ -239,15 +239,15 @@ least-first heads p blocks entries capacity i e x picked inside at passes before
         ap (λ (n : ℕ). Some n) (omega (arith, low, high))
 
 -- one entry more that doesn't pass
-pub none-more : (p : ℕ → Bool) (entries : List Entry) (i : ℕ) (e : Entry)
-    → ((k : ℕ) (d : Entry) → k < i → p (get_or entries k d).segment ≡ false) → ((d : Entry) → get_or entries i d ≡ e)
-    → p e.segment ≡ false → (k : ℕ) (d : Entry) → k < i + 1 → p (get_or entries k d).segment ≡ false
+pub none-more : (p : ℕ → Bool) (entries : List Found) (i : ℕ) (e : Found)
+    → ((k : ℕ) (d : Found) → k < i → p (get_or entries k d).segment ≡ false) → ((d : Found) → get_or entries i d ≡ e)
+    → p e.segment ≡ false → (k : ℕ) (d : Found) → k < i + 1 → p (get_or entries k d).segment ≡ false
 none-more p entries i e before at fails k d l = go (cases_lt k i)
   where
     go : (k < i) ⊎ (i ≤ k) → p (get_or entries k d).segment ≡ false
     go (inl less) = before k d less
     go (inr more) = let same : k ≡ i = omega (arith, l, more) in ap (λ (n : ℕ). p (get_or entries n d).segment) same
-        ∙ ap (λ (y : Entry). p y.segment) (at d) ∙ fails
+        ∙ ap (λ (y : Found). p y.segment) (at d) ∙ fails
 
 -- ---- the floor
 
@@ -255,16 +255,16 @@ abbrev mark : Bool → ℕ
 mark t = cond t 1 0
 
 -- the entry's segment has a frame; and its block is b or above it too
-abbrev pub is_held_entry : List (Option SegmentHead) → Entry → Bool
+abbrev pub is_held_entry : List (Option SegmentHead) → Found → Bool
 is_held_entry heads e = is_held_at heads e.segment
 
-abbrev is_from : List (Option SegmentHead) → ℕ → Entry → Bool
+abbrev is_from : List (Option SegmentHead) → ℕ → Found → Bool
 is_from heads b e = is_held_entry heads e && leb b e.block
 
 -- the held blocks from b on, counted by the entries
 from-entries : (heads hs : List (Option SegmentHead)) (j b : ℕ)
     → ((k : ℕ) → get_or heads (j + k) None ≡ get_or hs k None)
-    → count_by (is_from heads b) (entries_of j hs) ≡ count_by (leb b) (filter_map held_block hs)
+    → count_by (is_from heads b) (in_order j hs) ≡ count_by (leb b) (filter_map held_block hs)
 from-entries heads [] j b same = refl
 from-entries heads (None ∷ hs) j b same = from-entries heads hs (j + 1) b
     (λ k. let next : j + 1 + k ≡ j + suc k = omega arith in ap (λ (n : ℕ). get_or heads n None) next ∙ same (suc k))
@@ -272,8 +272,8 @@ from-entries heads (Some h ∷ hs) j b same = go (ltb 0 h.frames) refl (leb b h.
     (from-entries heads hs (j + 1) b
     (λ k. let next : j + 1 + k ≡ j + suc k = omega arith in ap (λ (n : ℕ). get_or heads n None) next ∙ same (suc k)))
   where
-    rest : List Entry
-    rest = entries_of (j + 1) hs
+    rest : List Found
+    rest = in_order (j + 1) hs
 
     blocks : List ℕ
     blocks = filter_map held_block hs
@@ -282,14 +282,14 @@ from-entries heads (Some h ∷ hs) j b same = go (ltb 0 h.frames) refl (leb b h.
     here = let first : j ≡ j + 0 = omega arith in ap (λ (n : ℕ). get_or heads n None) first ∙ same 0
 
     front : (t u : Bool) → ltb 0 h.frames ≡ t → leb b h.block ≡ u
-        → count_by (is_from heads b) (record { block = h.block; segment = j } ∷ rest) ≡ mark (t && u) + count_by (is_from heads b) rest
-    front t u has is = sum_by-cons (λ e. mark (is_from heads b e)) (record { block = h.block; segment = j }) rest
+        → count_by (is_from heads b) (put_before (λ t. leb h.block t.block) (found_at j h) rest) ≡ mark (t && u) + count_by (is_from heads b) rest
+    front t u has is = count-put (is_from heads b) _ (found_at j h) rest
         ∙ ap (λ (o : Option SegmentHead). mark (has_frame o && leb b h.block) + count_by (is_from heads b) rest) here
         ∙ (λ i. mark (has i && is i) + count_by (is_from heads b) rest)
 
     go : (t : Bool) → ltb 0 h.frames ≡ t → (u : Bool) → leb b h.block ≡ u
         → count_by (is_from heads b) rest ≡ count_by (leb b) blocks
-        → count_by (is_from heads b) (record { block = h.block; segment = j } ∷ rest) ≡ count_by (leb b)
+        → count_by (is_from heads b) (put_before (λ t. leb h.block t.block) (found_at j h) rest) ≡ count_by (leb b)
         (cons_option (cond t (Some h.block) None) blocks)
     go false has u is ih = omega (arith, front false u has is, ih)
     go true has true is ih =
@@ -299,20 +299,20 @@ from-entries heads (Some h ∷ hs) j b same = go (ltb 0 h.frames) refl (leb b h.
         let none : mark (leb b h.block) ≡ 0 = ap mark is in
         omega (arith, front true false has is, ih, none, sum_by-cons (λ c. mark (leb b c)) h.block blocks)
 
-from-index : (heads : List (Option SegmentHead)) (entries : List Entry) (capacity b : ℕ)
+from-index : (heads : List (Option SegmentHead)) (entries : List Found) (capacity b : ℕ)
     → IsIndexed heads entries capacity
     → count_by (leb b) (filter_map held_block heads) ≡ count_by (is_from heads b) entries
 from-index heads entries capacity b x =
     sym (from-entries heads heads 0 b (λ k. let e : 0 + k ≡ k = omega arith in ap (λ (n : ℕ). get_or heads n None) e))
-    ∙ sym (x.same (is_from heads b))
+    ∙ sym (ap (count_by (is_from heads b)) x.are)
 
 -- counts over the entries from a place on that agree there, and up to a place that nothing counts
-from-same : (f g : Entry → ℕ) (xs : List Entry) (i n : ℕ) → i + n ≡ length xs
-    → ((k : ℕ) (d : Entry) → i ≤ k → k < length xs → f (get_or xs k d) ≡ g (get_or xs k d))
+from-same : (f g : Found → ℕ) (xs : List Found) (i n : ℕ) → i + n ≡ length xs
+    → ((k : ℕ) (d : Found) → i ≤ k → k < length xs → f (get_or xs k d) ≡ g (get_or xs k d))
     → sum_by f (drop i xs) ≡ sum_by g (drop i xs)
 from-same f g xs i zero is same = none f ∙ sym (none g)
   where
-    none : (h : Entry → ℕ) → sum_by h (drop i xs) ≡ 0
+    none : (h : Found → ℕ) → sum_by h (drop i xs) ≡ 0
     none h = ap (sum_by h) (drop_all i xs (omega (arith, is)))
 from-same f g xs i (suc n) is same =
     let inside : i < length xs = omega (arith, is) in
@@ -320,8 +320,8 @@ from-same f g xs i (suc n) is same =
     let here = same i nothing (omega arith) inside in
     omega (arith, rest, here, sum_by-drop_more f xs i nothing inside, sum_by-drop_more g xs i nothing inside)
 
-until-none : (f : Entry → ℕ) (xs : List Entry) (i : ℕ) → i ≤ length xs
-    → ((k : ℕ) (d : Entry) → k < i → f (get_or xs k d) ≡ 0) → sum_by f (take i xs) ≡ 0
+until-none : (f : Found → ℕ) (xs : List Found) (i : ℕ) → i ≤ length xs
+    → ((k : ℕ) (d : Found) → k < i → f (get_or xs k d) ≡ 0) → sum_by f (take i xs) ≡ 0
 until-none f xs zero le none = refl
 until-none f xs (suc i) le none =
     let next : suc i ≡ i + 1 = omega arith in
@@ -343,12 +343,12 @@ held-some heads m there = counted (filter_map held_block heads) there
     counted (b ∷ bs) (inr rest) = let later = counted bs rest in omega (arith, later, sum_by-cons (λ c. mark (leb m c)) b bs)
 
 -- so many entries from a place on have a frame
-abbrev held_from : List (Option SegmentHead) → List Entry → ℕ → ℕ
+abbrev held_from : List (Option SegmentHead) → List Found → ℕ → ℕ
 held_from heads entries i = count_by (is_held_entry heads) (drop i entries)
 
 -- as many as that are held from the block of an entry on, and no more from a greater one
-from-least : (heads : List (Option SegmentHead)) (entries : List Entry) (capacity i : ℕ) (e : Entry)
-    → IsIndexed heads entries capacity → i < length entries → ((d : Entry) → get_or entries i d ≡ e)
+from-least : (heads : List (Option SegmentHead)) (entries : List Found) (capacity i : ℕ) (e : Found)
+    → IsIndexed heads entries capacity → i < length entries → ((d : Found) → get_or entries i d ≡ e)
     → held_from heads entries i ≤ count_by (leb e.block) (filter_map held_block heads)
 from-least heads entries capacity i e x inside at =
     omega (arith, from-index heads entries capacity e.block x, same, sum_by-take-drop (λ y. mark (is_from heads e.block y)) entries i)
@@ -357,17 +357,17 @@ from-least heads entries capacity i e x inside at =
     same = from-same (λ y. mark (is_held_entry heads y)) (λ y. mark (is_from heads e.block y)) entries i
         (length entries - i) (omega (arith, inside)) (λ k d low l. agree k d (is_held_entry heads (get_or entries k d)) low l)
       where
-        agree : (k : ℕ) (d : Entry) (t : Bool) → i ≤ k → k < length entries → mark t ≡ mark
+        agree : (k : ℕ) (d : Found) (t : Bool) → i ≤ k → k < length entries → mark t ≡ mark
             (t && leb e.block (get_or entries k d).block)
         agree k d false low l = refl
         agree k d true low l =
             let rises = blocks-rise heads entries capacity x i k d low l in
-            let here : (get_or entries i d).block ≡ e.block = ap (λ (y : Entry). y.block) (at d) in
+            let here : (get_or entries i d).block ≡ e.block = ap (λ (y : Found). y.block) (at d) in
             ap mark (sym (at_most_test e.block (get_or entries k d).block (omega (arith, rises, here))))
 
-from-greater : (heads : List (Option SegmentHead)) (entries : List Entry) (capacity i m : ℕ)
+from-greater : (heads : List (Option SegmentHead)) (entries : List Found) (capacity i m : ℕ)
     → IsIndexed heads entries capacity → i ≤ length entries
-    → ((k : ℕ) (d : Entry) → k < i → (get_or entries k d).block < m)
+    → ((k : ℕ) (d : Found) → k < i → (get_or entries k d).block < m)
     → count_by (leb m) (filter_map held_block heads) ≤ held_from heads entries i
 from-greater heads entries capacity i m x inside below =
     omega (
@@ -387,7 +387,7 @@ from-greater heads entries capacity i m x inside below =
     past : (n : ℕ) → n < m → m ≤ n → ⊥
     past n l k = absurd (omega (arith, l, k))
 
-    none : (y : Entry) → y.block < m → mark (is_from heads m y) ≡ 0
+    none : (y : Found) → y.block < m → mark (is_from heads m y) ≡ 0
     none y l = go (is_held_entry heads y) (untrue (leb m y.block) (λ e. past y.block l (at_most m y.block e)))
       where
         go : (t : Bool) → leb m y.block ≡ false → mark (t && leb m y.block) ≡ 0
@@ -395,8 +395,8 @@ from-greater heads entries capacity i m x inside below =
         go false e = refl
 
 -- where so many entries behind one that has a frame have one too, its block is the floor
-pub floor-found : (heads : List (Option SegmentHead)) (entries : List Entry) (capacity i keep : ℕ) (e : Entry)
-    → IsIndexed heads entries capacity → i < length entries → ((d : Entry) → get_or entries i d ≡ e)
+pub floor-found : (heads : List (Option SegmentHead)) (entries : List Found) (capacity i keep : ℕ) (e : Found)
+    → IsIndexed heads entries capacity → i < length entries → ((d : Found) → get_or entries i d ≡ e)
     → is_held_entry heads e ≡ true → held_from heads entries (i + 1) + 1 ≡ max 1 keep
     → Some e.block ≡ floor_block keep heads
 floor-found heads entries capacity i keep e x inside at held counted = go (floor_block keep heads) refl
@@ -408,7 +408,7 @@ floor-found heads entries capacity i keep e x inside at held counted = go (floor
     passes b = leb keep (count_by (leb b) blocks)
 
     here : mark (is_held_entry heads (get_or entries i e)) ≡ 1
-    here = ap (λ (y : Entry). mark (is_held_entry heads y)) (at e) ∙ ap mark held
+    here = ap (λ (y : Found). mark (is_held_entry heads y)) (at e) ∙ ap mark held
 
     enough : max 1 keep ≤ count_by (leb e.block) blocks
     enough = omega (
@@ -436,10 +436,10 @@ floor-found heads entries capacity i keep e x inside at held counted = go (floor
           from-greater heads entries capacity (i + 1) m x (omega (arith, inside)) (λ k d l. below k d l),
         ))
           where
-            below : (k : ℕ) (d : Entry) → k < i + 1 → (get_or entries k d).block < m
+            below : (k : ℕ) (d : Found) → k < i + 1 → (get_or entries k d).block < m
             below k d l =
                 let rises = blocks-rise heads entries capacity x k i d (omega (arith, l)) inside in
-                let same : (get_or entries i d).block ≡ e.block = ap (λ (y : Entry). y.block) (at d) in
+                let same : (get_or entries i d).block ≡ e.block = ap (λ (y : Found). y.block) (at d) in
                 omega (arith, rises, same, more)
 
     go : (o : Option ℕ) → floor_block keep heads ≡ o → Some e.block ≡ o
@@ -454,7 +454,7 @@ floor-found heads entries capacity i keep e x inside at held counted = go (floor
         ap (λ (n : ℕ). Some n) (omega (arith, low, high))
 
 -- and where fewer entries have a frame, there is no floor
-pub floor-missing : (heads : List (Option SegmentHead)) (entries : List Entry) (capacity keep : ℕ)
+pub floor-missing : (heads : List (Option SegmentHead)) (entries : List Found) (capacity keep : ℕ)
     → IsIndexed heads entries capacity → held_from heads entries 0 < max 1 keep → None ≡ floor_block keep heads
 floor-missing heads entries capacity keep x few = go (floor_block keep heads) refl
   where
@@ -476,12 +476,12 @@ floor-missing heads entries capacity keep x few = go (floor_block keep heads) re
 -- ---- the entries from the end
 
 -- the rest stands at the front of the entries, and so many behind it have a frame
-pub record IsLeft (heads : List (Option SegmentHead)) (entries rest : List Entry) (passed : ℕ) : Type 0 where
+pub record IsLeft (heads : List (Option SegmentHead)) (entries rest : List Found) (passed : ℕ) : Type 0 where
   pub few : length rest ≤ length entries
-  pub same : (k : ℕ) (d : Entry) → k < length rest → get_or rest k d ≡ get_or entries k d
+  pub same : (k : ℕ) (d : Found) → k < length rest → get_or rest k d ≡ get_or entries k d
   pub counted : held_from heads entries (length rest) ≡ passed
 
-pub left-all : (heads : List (Option SegmentHead)) (entries : List Entry) → IsLeft heads entries entries 0
+pub left-all : (heads : List (Option SegmentHead)) (entries : List Found) → IsLeft heads entries entries 0
 left-all heads entries = record {
   few = omega arith;
   same = λ k d l. refl;
@@ -489,28 +489,28 @@ left-all heads entries = record {
 }
 
 -- its last entry
-pub record IsLast (heads : List (Option SegmentHead)) (entries rest : List Entry) (e : Entry) (passed : ℕ) : Type 0 where
+pub record IsLast (heads : List (Option SegmentHead)) (entries rest : List Found) (e : Found) (passed : ℕ) : Type 0 where
   pub inside : length rest < length entries
-  pub at : (d : Entry) → get_or entries (length rest) d ≡ e
-  pub front : (k : ℕ) (d : Entry) → k < length rest → get_or rest k d ≡ get_or entries k d
+  pub at : (d : Found) → get_or entries (length rest) d ≡ e
+  pub front : (k : ℕ) (d : Found) → k < length rest → get_or rest k d ≡ get_or entries k d
   pub counted : held_from heads entries (length rest + 1) ≡ passed
 
-pub left-last : (heads : List (Option SegmentHead)) (entries whole rest : List Entry) (e : Entry) (passed : ℕ)
+pub left-last : (heads : List (Option SegmentHead)) (entries whole rest : List Found) (e : Found) (passed : ℕ)
     → IsLeft heads entries whole passed → whole ≡ rest ++ e ∷ [] → IsLast heads entries rest e passed
 left-last heads entries whole rest e passed left is = record {
   inside = omega (arith, left.few, long);
   at = λ d. sym (left.same (length rest) d (omega (arith, long)))
-      ∙ ap (λ (l : List Entry). get_or l (length rest) d) is ∙ get_or-append_seam rest e [] d;
-  front = λ k d l. sym (ap (λ (xs : List Entry). get_or xs k d) is ∙ get_or_append_left rest (e ∷ []) d k l)
+      ∙ ap (λ (l : List Found). get_or l (length rest) d) is ∙ get_or-append_seam rest e [] d;
+  front = λ k d l. sym (ap (λ (xs : List Found). get_or xs k d) is ∙ get_or_append_left rest (e ∷ []) d k l)
       ∙ left.same k d (omega (arith, l, long));
   counted = ap (held_from heads entries) (sym long) ∙ left.counted;
 }
   where
     long : length whole ≡ length rest + 1
-    long = ap (λ (l : List Entry). length l) is ∙ length-append rest (e ∷ [])
+    long = ap (λ (l : List Found). length l) is ∙ length-append rest (e ∷ [])
 
 -- an entry more is passed: one without a frame, or one with it
-pub left-less : (heads : List (Option SegmentHead)) (entries rest : List Entry) (e : Entry) (passed now : ℕ)
+pub left-less : (heads : List (Option SegmentHead)) (entries rest : List Found) (e : Found) (passed now : ℕ)
     (held : Bool) → IsLast heads entries rest e passed → is_held_entry heads e ≡ held → now ≡ mark held + passed
     → IsLeft heads entries rest now
 left-less heads entries rest e passed now held last is more = record {
@@ -526,7 +526,7 @@ left-less heads entries rest e passed now held last is more = record {
 }
   where
     here : mark (is_held_entry heads (get_or entries (length rest) e)) ≡ mark held
-    here = ap (λ (y : Entry). mark (is_held_entry heads y)) (last.at e) ∙ ap mark is
+    here = ap (λ (y : Found). mark (is_held_entry heads y)) (last.at e) ∙ ap mark is
 
 -- ---- how many are left to pass
 
@@ -541,7 +541,7 @@ pub one-less : (keep left : ℕ) → 2 ≤ left → left ≤ max 1 keep → max 
 one-less keep left more most = omega (arith, more, most)
 
 -- nothing is left of the entries, and fewer were passed
-pub fewer : (heads : List (Option SegmentHead)) (entries rest : List Entry) (keep left : ℕ)
+pub fewer : (heads : List (Option SegmentHead)) (entries rest : List Found) (keep left : ℕ)
     → IsLeft heads entries rest (max 1 keep - left) → length rest ≡ 0 → 1 ≤ left → left ≤ max 1 keep
     → held_from heads entries 0 < max 1 keep
 fewer heads entries rest keep left all none some most =

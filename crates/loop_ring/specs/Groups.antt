@@ -1,5 +1,6 @@
 -- A group of frames in memory, put together as the slots that are to be written.
-use Rattle.std.specs.Prelude.{◌≡◌, ℕ, ◌+◌, ◌*◌, ◌<◌, ◌≤◌, ◌^◌, List, length, map}
+use Rattle.std.specs.Prelude.{◌≡◌, ℕ, ◌+◌, ◌*◌, ◌<◌, ◌≤◌, ◌^◌, List, [], ◌∷◌, ◌++◌, length, map, take}
+use Rattle.std.specs.Borrow.{Bor}
 use Rattle.loop_record.specs.Recording.{Picture}
 use Rattle.loop_ring.specs.Writes.{slots_in, slots_of}
 
@@ -17,11 +18,23 @@ frames_in n bytes count = map (λ s. s.picture) (slots_in n bytes count)
 
 -- ---- what only the group's own code looks at
 
--- the bytes are the slots of these frames and nothing else, and there is memory for as many as there may be
-pub record IsGrouped (size limit first count : ℕ) (bytes : List ℕ) (capacity : ℕ) : Type 0 where
+-- heads, each with the bytes that go with it behind it: the slots of frames
+abbrev pub slots_joined : List (List ℕ) → List (Bor (List ℕ)) → List ℕ
+slots_joined [] bodies = []
+slots_joined (head ∷ heads) [] = []
+slots_joined (head ∷ heads) (body ∷ bodies) = head ++ body.now ++ slots_joined heads bodies
+
+-- the slots of the first frames
+abbrev pub first_slots : ℕ → List (List ℕ) → List (Bor (List ℕ)) → List ℕ
+first_slots count heads bodies = slots_joined (take count heads) (take count bodies)
+
+-- these are the slots of so many frames, of these times, and there is room for as many as there may be
+pub record IsGrouped (size limit first count : ℕ) (heads : List (List ℕ)) (bodies : List (Bor (List ℕ)))
+    (times : List ℕ) : Type 0 where
   pub few : count ≤ limit
   pub most : limit ≤ 8
   pub fits : size < 2 ^ 32
-  pub long : length bytes ≡ count * (32 + size)
-  pub slots : slots_in size bytes count ≡ slots_of size first (frames_in size bytes count)
-  pub room : limit * (32 + size) ≤ capacity
+  pub long : length (first_slots count heads bodies) ≡ count * (32 + size)
+  pub slots : slots_in size (first_slots count heads bodies) count
+      ≡ slots_of size first (frames_in size (first_slots count heads bodies) count)
+  pub stamps : map (λ p. p.timestamp) (frames_in size (first_slots count heads bodies) count) ≡ take count times

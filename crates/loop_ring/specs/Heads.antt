@@ -1,8 +1,9 @@
 -- The segments of a store as their headers say, in the order in which they lie on the disk.
-use Rattle.std.specs.Prelude.{◌≡◌, ℕ, ◌+◌, ◌-◌, ◌/◌, ◌%◌, Bool, false, not, ◌&&◌, ◌==◌, nat_le, nat_lt, max, min, if◌then◌else◌, Option, None, Some, List, map, slice_index_or}
+use Rattle.std.specs.Prelude.{◌≡◌, ℕ, ◌+◌, ◌-◌, ◌/◌, ◌%◌, Bool, false, not, ◌&&◌, ◌==◌, nat_le, nat_lt, max, min, if◌then◌else◌, Option, None, Some, List, [], ◌∷◌, map, slice_index_or}
 use Rattle.std.specs.List.{count_by, filter, filter_map, list_any, range_with_len, reduce, zip}
 use Rattle.loop_record.specs.declared.clip.Span.{Span}
 use Rattle.loop_record.specs.declared.geometry.Geometry.{Geometry}
+use Rattle.loop_record.specs.declared.image.Found.{Found}
 use Rattle.loop_record.specs.declared.segment.SegmentHead.{SegmentHead}
 use Rattle.loop_record.specs.Geometry.{segment_at}
 use Rattle.loop_record.specs.Layout.{header_at}
@@ -26,6 +27,27 @@ has_frame (Some head) = nat_lt 0 head.frames
 abbrev pub has_number : ℕ → ℕ → Option SegmentHead → Bool
 has_number slots number None = false
 has_number slots number (Some head) = (head.block == number / slots) && nat_lt (number % slots) head.frames
+
+-- ---- the open segments by block
+
+-- segment j, as its header says
+abbrev pub found_at : ℕ → SegmentHead → Found
+found_at j h = record { segment = j; block = h.block; frames = h.frames }
+
+-- a segment before the first of these that passes a test, or last
+abbrev pub put_before : (Found → Bool) → Found → List Found → List Found
+put_before p f [] = f ∷ []
+put_before p f (t ∷ ts) = if p t then f ∷ t ∷ ts else t ∷ put_before p f ts
+
+-- the open ones of segments that are numbered from j on, in the order of their blocks, those of one block in the order
+-- in which they lie
+abbrev pub in_order : ℕ → List (Option SegmentHead) → List Found
+in_order j [] = []
+in_order j (None ∷ heads) = in_order (j + 1) heads
+in_order j (Some head ∷ heads) =
+    put_before (λ t. nat_le head.block t.block) (found_at j head) (in_order (j + 1) heads)
+
+-- ---- the block that goes
 
 -- the block of a segment that is open and has a whole frame
 abbrev pub held_block : Option SegmentHead → Option ℕ

@@ -1,12 +1,11 @@
 // How many clips meet the block of each segment.
-ghost use Rattle.std.specs.Prelude.{◌≡◌, ◌<◌, ◌≤◌, ◌^◌, [], All, IsTrue, is_some, length, map, vec_capacity};
+ghost use Rattle.std.specs.Prelude.{◌≡◌, ◌<◌, ◌^◌, All, IsTrue, is_some, length, map};
 ghost use Rattle.std.specs.List.{list_any, zip};
 ghost use Rattle.loop_record.specs.Geometry.{is_good};
 ghost use Rattle.loop_record.specs.Recording.{ring_of};
 ghost use Rattle.loop_ring.specs.Heads.{clip_counts, clips_on, meets_head, without_one, with_one};
 
 use loop_record::{Geometry, SegmentHead, Span, meets};
-use std::alloc::Allocator;
 
 /// How many of these clips meet the block of a segment: none where it is closed.
 pub fn clips_on(geometry: &Geometry, clips: &[Option<Span>], head: Option<SegmentHead>) -> u32
@@ -34,21 +33,20 @@ fn some_stands(clips: &[Option<Span>]) -> bool
     clips.iter().any(|clip| clip.is_some())
 }
 
-// Puts the count of each segment into none. It takes no memory.
-pub(crate) fn count_clips<A: Allocator>(
-    counts: &mut Vec<u32, A>,
+// Sets the count of each segment, where these clips are all that stand.
+pub(crate) fn count_clips(
+    counts: &mut [u32],
     geometry: &Geometry,
     heads: &[Option<SegmentHead>],
     clips: &[Option<Span>],
 )
     requires good { IsTrue (is_good geometry.now) }
     requires few { length clips.now < 2 ^ 32 }
-    requires none { counts.old.items ≡ [] }
-    requires room { length heads.now ≤ vec_capacity counts.old }
-    ensures { counts.new.items ≡ clip_counts (ring_of geometry.now) clips.now heads.now }
+    requires counted { length counts.old ≡ length heads.now }
+    ensures { counts.new ≡ clip_counts (ring_of geometry.now) clips.now heads.now }
 {
-    for head in heads {
-        counts.push_reserved(clips_on(geometry, clips, *head));
+    for (segment, head) in heads.iter().enumerate() {
+        counts[segment] = clips_on(geometry, clips, *head);
     }
 }
 

@@ -1,37 +1,38 @@
 // A group of frames, put together before it is written.
-ghost use Rattle.std.specs.Prelude.{◌≡◌, ◌+◌, ◌*◌, ◌<◌, ◌≤◌, ◌^◌, ◌∷◌, ◌++◌, [], All, IfOk, IsTrue, length, min, slice_index_or, vec_capacity, vec_len};
+ghost use Rattle.std.specs.Prelude.{◌≡◌, ◌+◌, ◌*◌, ◌<◌, ◌≤◌, ◌^◌, ◌∷◌, ◌++◌, [], All, IsTrue, length, min, slice_index_or, take};
+ghost use Rattle.loop_disk.specs.Rows.{joined};
 ghost use Rattle.loop_record.specs.Geometry.{frame_bytes, is_good};
 ghost use Rattle.loop_record.specs.Laws.{FitsSlot};
 ghost use Rattle.loop_record.specs.Layout.{slot_bytes};
 ghost use Rattle.loop_record.specs.Plain.{pictures};
 ghost use Rattle.loop_record.specs.Recording.{Picture, picture};
-ghost use Rattle.loop_ring.specs.Groups.{Grouped, IsGrouped, frames_in};
+ghost use Rattle.loop_ring.specs.Groups.{Grouped, IsGrouped, first_slots, frames_in};
 ghost use Rattle.loop_ring.specs.Writes.{slots_in, slots_of};
 
-use loop_record::{Frame, Geometry, HEAD_SIZE, encode_head, u64_at};
-use std::alloc::{AllocError, Allocator, Global};
+use loop_record::{Frame, Geometry, HEAD_SIZE, encode_head};
+use std::alloc::Allocator;
 use std::marker::Model;
-
-// Where a slot has the time of its frame.
-const TIME_AT: usize = 16;
 
 /// The most frames that one commit takes.
 pub const MAX_GROUP: usize = 8;
 
-/// Frames that are written together, numbered from a first one on. It holds their slots, as they are to stand
-/// on the disk: putting a frame into it is the one copy of its pixels on the way there. In contracts it is the
-/// first number and the list of the frames.
+// How many rows the slots of a group are: the head and the bytes of each frame.
+pub(crate) const MAX_ROWS: usize = 2 * MAX_GROUP;
+
+/// Frames that are written together, numbered from a first one on. It has the heads of their slots, and looks at
+/// their bytes where they are: none is copied. In contracts it is the first number and the list of the frames.
 #[derive(Drop)]
-pub struct Group<A: Allocator = Global> {
-    // The slots, one behind the other.
-    slots: Vec<u8, A>,
+pub struct Group<'a> {
+    heads: [[u8; HEAD_SIZE]; MAX_GROUP],
+    bodies: [&'a [u8]; MAX_GROUP],
+    times: [u64; MAX_GROUP],
     frame_bytes: usize,
     limit: usize,
     first: u64,
     count: usize,
 }
 
-impl<A: Allocator> Model for Group<A> {
+impl<'a> Model for Group<'a> {
     ghost Value = { Grouped };
 
     ghost view = { λ g.
@@ -39,59 +40,49 @@ impl<A: Allocator> Model for Group<A> {
           size = g.frame_bytes;
           limit = g.limit;
           first = g.first;
-          frames = frames_in g.frame_bytes g.slots.items g.count;
+          frames = frames_in g.frame_bytes (first_slots g.count g.heads g.bodies) g.count;
         } };
 
-    ghost invariant = { λ g. IsGrouped g.frame_bytes g.limit g.first g.count g.slots.items (vec_capacity g.slots) };
+    ghost invariant = { λ g. IsGrouped g.frame_bytes g.limit g.first g.count g.heads g.bodies g.times };
 }
 
-impl<A: Allocator> Group<A> {
-    /// A group without a frame, for frames of this geometry. It takes the memory of as many slots as a segment
-    /// has, and at most of `MAX_GROUP`, and keeps it; no later call takes any.
-    pub fn new(alloc: A, geometry: &Geometry) -> Result<Self, AllocError>
+impl<'a> Group<'a> {
+    /// A group without a frame, for frames of this geometry, of which the first gets this number.
+    pub fn new(geometry: &Geometry, first: u64) -> Self
         requires { IsTrue (is_good geometry.now) }
-        ensures { IfOk result (λ group.
-            group ≡ record {
-              size = frame_bytes geometry.now;
-              limit = min 8 geometry.now.slots;
-              first = 0;
-              frames = [];
-            }) }
+        ensures { result ≡ record {
+          size = frame_bytes geometry.now;
+          limit = min 8 geometry.now.slots;
+          first = first;
+          frames = [];
+        } }
     {
-        let frame_bytes = geometry.frame_bytes() as usize;
-        let limit = MAX_GROUP.min(geometry.slots as usize);
-        let slots = Vec::with_capacity(alloc, limit * (HEAD_SIZE + frame_bytes))?;
-        Ok(Group {
-            slots,
-            frame_bytes,
-            limit,
-            first: 0,
+        Group {
+            heads: [[0; HEAD_SIZE]; MAX_GROUP],
+            bodies: [&[]; MAX_GROUP],
+            times: [0; MAX_GROUP],
+            frame_bytes: geometry.frame_bytes() as usize,
+            limit: MAX_GROUP.min(geometry.slots as usize),
+            first,
             count: 0,
-        })
-    }
-
-    /// Begins a group whose first frame gets this number. The frames of the one before are gone.
-    pub fn begin(&mut self, number: u64)
-        ensures { self.new ≡ record self.old { first = number; frames = [] } }
-    {
-        self.slots.clear();
-        self.first = number;
-        self.count = 0;
+        }
     }
 
     /// Puts a frame behind the others.
-    pub fn push<B: Allocator>(&mut self, frame: &Frame<B>)
+    pub fn push<B: Allocator>(&mut self, frame: &'a Frame<B>)
         requires room { length self.old.frames < self.old.limit }
         requires size { length frame.now.bytes.items ≡ self.old.size }
         requires number { self.old.first + length self.old.frames < 2 ^ 64 }
         ensures { self.new ≡ record self.old { frames = self.old.frames ++ picture frame.now ∷ [] } }
     {
-        add_slot(&mut self.slots, self.first + self.count as u64, frame);
+        self.heads[self.count] = head_of(self.first + self.count as u64, frame);
+        self.bodies[self.count] = &frame.bytes;
+        self.times[self.count] = frame.timestamp;
         self.count += 1;
     }
 
     /// Puts frames behind the others, in their order.
-    pub fn push_all<B: Allocator>(&mut self, frames: &[Frame<B>])
+    pub fn push_all<B: Allocator>(&mut self, frames: &'a [Frame<B>])
         requires room { length self.old.frames + length frames.now ≤ self.old.limit }
         requires sizes { All (λ frame. length frame.bytes.items ≡ self.old.size) frames.now }
         requires numbers { self.old.first + length self.old.frames + length frames.now ≤ 2 ^ 64 }
@@ -122,29 +113,43 @@ impl<A: Allocator> Group<A> {
         requires { place < length self.now.frames }
         ensures { (d : Picture) → result ≡ (slice_index_or self.now.frames place d).timestamp }
     {
-        u64_at(
-            &self.slots,
-            place * (HEAD_SIZE + self.frame_bytes) + TIME_AT,
-        )
+        let times: &[u64] = &self.times;
+        times[place]
     }
 
-    // The slots, one behind the other.
-    pub(crate) fn slots(&self) -> &[u8]
-        ensures size { length result.now ≡ length self.now.frames * (32 + self.now.size) }
-        ensures slots { slots_in self.now.size result.now (length self.now.frames)
-            ≡ slots_of self.now.size self.now.first self.now.frames }
+    // The rows of the slots: of each frame the head, and then the bytes.
+    pub(crate) fn rows(&self) -> [&[u8]; MAX_ROWS]
+        ensures size { length (joined (take (2 * length self.now.frames) result))
+            ≡ length self.now.frames * (32 + self.now.size) }
+        ensures slots { slots_in self.now.size (joined (take (2 * length self.now.frames) result))
+            (length self.now.frames) ≡ slots_of self.now.size self.now.first self.now.frames }
     {
-        &self.slots
+        rows_of(&self.heads, &self.bodies, self.count)
     }
 }
 
-// Puts the slot of a frame behind some bytes, for which there is memory.
-fn add_slot<A: Allocator, B: Allocator>(slots: &mut Vec<u8, A>, number: u64, frame: &Frame<B>)
+// The rows of the first slots.
+fn rows_of<'b>(
+    heads: &'b [[u8; HEAD_SIZE]; MAX_GROUP],
+    bodies: &[&'b [u8]; MAX_GROUP],
+    count: usize,
+) -> [&'b [u8]; MAX_ROWS]
+    requires { count ≤ 8 }
+    ensures { joined (take (2 * count) result) ≡ first_slots count heads.now bodies.now }
+{
+    let mut rows: [&'b [u8]; MAX_ROWS] = [&[]; MAX_ROWS];
+    for place in 0..count {
+        rows[2 * place] = &heads[place];
+        rows[2 * place + 1] = bodies[place];
+    }
+    rows
+}
+
+// The head of a frame's slot.
+fn head_of<B: Allocator>(number: u64, frame: &Frame<B>) -> [u8; HEAD_SIZE]
     requires fits { length frame.now.bytes.items < 2 ^ 32 }
-    requires room { vec_len slots.old + (32 + length frame.now.bytes.items) ≤ vec_capacity slots.old }
-    ensures items { slots.new.items ≡ slots.old.items ++ slot_bytes number (picture frame.now) }
+    ensures slot { result ++ frame.now.bytes.items ≡ slot_bytes number (picture frame.now) }
     ensures fits { FitsSlot number (picture frame.now) }
-    ensures capacity { vec_capacity slots.old ≤ vec_capacity slots.new }
 {
     // That the head's numbers fit the slot's fields is known of what was read alone.
     let _sequence = frame.sequence;
@@ -152,18 +157,5 @@ fn add_slot<A: Allocator, B: Allocator>(slots: &mut Vec<u8, A>, number: u64, fra
     let _timestamp = frame.timestamp;
     let mut head = [0; HEAD_SIZE];
     encode_head(number, frame, &mut head);
-    add_bytes(slots, &head);
-    add_bytes(slots, &frame.bytes);
-}
-
-// Puts bytes behind others, for which there is memory.
-fn add_bytes<A: Allocator>(slots: &mut Vec<u8, A>, bytes: &[u8])
-    requires { vec_len slots.old + length bytes.now ≤ vec_capacity slots.old }
-    ensures items { slots.new.items ≡ slots.old.items ++ bytes.now }
-    ensures capacity { vec_capacity slots.old ≤ vec_capacity slots.new }
-{
-    match slots.extend_from_slice(bytes) {
-        Ok(()) => (),
-        Err(_) => unreachable!(),
-    }
+    head
 }

@@ -7,12 +7,12 @@ ghost use Rattle.loop_record.specs.declared.geometry.Geometry.{Geometry};
 ghost use Rattle.loop_record.specs.Reading.{Holds};
 ghost use Rattle.loop_record.specs.Recording.{Recording, ring_of, victim};
 ghost use Rattle.loop_ring.specs.Entries.{IsMended};
-ghost use Rattle.loop_ring.specs.Heads.{Segments, clip_counts, going_free, grown, has_frame, has_number, heads_of, is_of, with_clip, without_clip};
+ghost use Rattle.loop_ring.specs.Heads.{Segments, clip_counts, going_free, grown, has_frame, has_number, heads_of, in_order, is_of, with_clip, without_clip};
 
 use crate::count::{count_clips, lower_counts, raise_counts};
-use crate::entry::{Entry, first_of, insert_segment, insert_segments, remove_segment};
+use crate::entry::{first_of, insert_segment, insert_segments, remove_segment};
 use crate::victim::{has_frame, victim_of};
-use loop_record::{Geometry, SegmentHead, Span};
+use loop_record::{Found, Geometry, SegmentHead, Span};
 use std::alloc::{AllocError, Allocator, Global};
 use std::marker::Model;
 
@@ -25,7 +25,7 @@ pub struct SegmentIndex<A: Allocator = Global> {
     heads: Vec<Option<SegmentHead>, A>,
     clips: Vec<u32, A>,
     // The open segments by block, those of one block by segment. There is room for all segments.
-    entries: Vec<Entry, A>,
+    entries: Vec<Found, A>,
     held: u32,
     keep: u32,
     victim: Option<u64>,
@@ -50,44 +50,17 @@ impl<A: Allocator + Copy> SegmentIndex<A> {
             ≡ record { heads = replicate segments None; clips = replicate segments 0; keep = 1 }) }
     {
         let heads = vec![in alloc; None; segments as usize]?;
-        let clips = vec![in alloc; 0; segments as usize]?;
-        SegmentIndex::with_counts(alloc, heads, clips)
+        SegmentIndex::of(alloc, heads)
     }
 
-    /// Segments whose headers were read before, and the counts of these clips; the newest block is kept. Its only error
-    /// is want of memory; the headers are gone then.
-    pub fn of(
-        alloc: A,
-        geometry: &Geometry,
-        heads: Vec<Option<SegmentHead>, A>,
-        clips: &[Option<Span>],
-    ) -> Result<Self, AllocError>
-        requires good { IsTrue (is_good geometry.now) }
-        requires few { length heads.items < 2 ^ 32 }
-        requires ids { length clips.now < 2 ^ 32 }
-        ensures { IfOk result (λ index. index ≡ record {
-          heads = heads.items;
-          clips = clip_counts (ring_of geometry.now) clips.now heads.items;
-          keep = 1;
-        }) }
+    /// Segments whose headers were read before; no clip is counted, and the newest block is kept. The open ones are
+    /// sorted here. Its only error is want of memory; the headers are gone then.
+    pub fn of(alloc: A, heads: Vec<Option<SegmentHead>, A>) -> Result<Self, AllocError>
+        requires { length heads.items < 2 ^ 32 }
+        ensures { IfOk result (λ index. index
+            ≡ record { heads = heads.items; clips = replicate (length heads.items) 0; keep = 1 }) }
     {
-        let mut counts = Vec::with_capacity(alloc, heads.len())?;
-        count_clips(&mut counts, geometry, &heads, clips);
-        SegmentIndex::with_counts(alloc, heads, counts)
-    }
-}
-
-impl<A: Allocator> SegmentIndex<A> {
-    // Segments with their counts of clips. Its only error is want of memory.
-    fn with_counts(
-        alloc: A,
-        heads: Vec<Option<SegmentHead>, A>,
-        clips: Vec<u32, A>,
-    ) -> Result<Self, AllocError>
-        requires few { length heads.items < 2 ^ 32 }
-        requires counted { length clips.items ≡ length heads.items }
-        ensures { IfOk result (λ index. index ≡ record { heads = heads.items; clips = clips.items; keep = 1 }) }
-    {
+        let clips = vec![in alloc; 0; heads.len()]?;
         let mut entries = Vec::with_capacity(alloc, heads.len())?;
         insert_segments(&mut entries, &heads);
         let held = count_held(&heads);
@@ -100,6 +73,20 @@ impl<A: Allocator> SegmentIndex<A> {
             keep: 1,
             victim,
         })
+    }
+}
+
+impl<A: Allocator> SegmentIndex<A> {
+    /// Counts the clips that meet each block, where these are all that stand. It takes no memory.
+    pub fn count_clips(&mut self, geometry: &Geometry, clips: &[Option<Span>])
+        requires good { IsTrue (is_good geometry.now) }
+        requires ids { length clips.now < 2 ^ 32 }
+        ensures { self.new ≡ record self.old {
+          clips = clip_counts (ring_of geometry.now) clips.now self.old.heads;
+        } }
+    {
+        count_clips(&mut self.clips, geometry, &self.heads, clips);
+        self.victim = victim_of(&self.heads, &self.clips, &self.entries, self.keep);
     }
 
     /// How many of the newest blocks of held frames never go, of which one stays in any case.
@@ -132,6 +119,13 @@ impl<A: Allocator> SegmentIndex<A> {
         &self.heads
     }
 
+    /// The open segments in the order of their blocks, those of one block in the order in which they lie.
+    pub fn in_order(&self) -> &[Found]
+        ensures { result.now ≡ in_order 0 self.now.heads }
+    {
+        &self.entries
+    }
+
     /// Notes what the header of a segment says now, and how many clips meet its block. It takes no memory.
     pub fn set(&mut self, segment: u32, head: Option<SegmentHead>, clips: u32)
         requires { segment < length self.old.heads }
@@ -159,7 +153,10 @@ impl<A: Allocator> SegmentIndex<A> {
         } }
     {
         let place = segment as usize;
-        self.heads[place] = grown(self.heads[place], frames);
+        let head = grown(self.heads[place], frames);
+        remove_segment(&mut self.entries, &self.heads, segment);
+        insert_segment(&mut self.entries, &self.heads, segment, head);
+        self.heads[place] = head;
     }
 
     /// Notes that one more clip stands, where fewer than 64 meet each block so far. It takes no memory.

@@ -9,9 +9,10 @@
 //! gates that a stopped commit left open behind a closed one. `index` has the `SegmentIndex`, what the header
 //! of each segment says, `entry` its open segments by block, and `count` how many clips meet each; `victim`
 //! finds in it the block that goes when room is needed. `specs/Heads` says what an index has where it agrees
-//! with a disk; `proofs/Heads` and `proofs/Held` what it then says of the recording; `specs/Entries` and
-//! `proofs/Indexed` how the open segments are sorted, `proofs/Oldest` that the victim is the first of them that
-//! may go, `proofs/Counted` what a lock and an unlock make of the counts.
+//! with a disk, and how its open segments are sorted (`in_order`); `proofs/Heads` and `proofs/HeldBlocks` what it then
+//! says of the recording; `specs/Entries`, `proofs/SegmentOrder` and `proofs/IndexOrder` how the order is kept and
+//! searched, `proofs/Oldest` that the victim is the first of them that may go, `proofs/ClipCounts` what a lock and
+//! an unlock make of the counts.
 #![tactic(auto)]
 
 mod count;

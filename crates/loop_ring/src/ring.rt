@@ -13,11 +13,10 @@ ghost use Rattle.loop_ring.specs.Writes.{HasNoStray, ShowsBeginning, ShowsFrames
 
 use crate::group::MAX_GROUP;
 use crate::{Group, SlotFault};
-use loop_disk::{Disk, DiskFault, store, store_in_turn};
+use loop_disk::{Disk, DiskFault, store, store_in_turn, store_rows_in_turn};
 use loop_record::{
     Damage, FrameHead, Geometry, HEAD_SIZE, HEADER_SIZE, OPEN, decode_head, encode_header,
 };
-use std::alloc::Allocator;
 
 /// The segments of a store's ring.
 #[derive(Clone, Copy, Debug)]
@@ -76,12 +75,12 @@ impl Ring {
 
     /// Adds the frames of a group to a segment, behind its whole frames, of which there are as many as
     /// `first_slot` says: two writes, each with its sync.
-    pub fn commit<D: Disk, A: Allocator>(
+    pub fn commit<D: Disk>(
         &self,
         disk: &mut D,
         segment: u32,
         first_slot: u32,
-        group: &Group<A>,
+        group: &Group<'_>,
     ) -> Result<(), DiskFault>
         requires extent { (D.medium disk.old).size ≡ disk_size self.now.geometry }
         requires segment { segment < self.now.geometry.segments }
@@ -101,7 +100,9 @@ impl Ring {
         let at = self.geometry.slot_at(segment, first_slot);
         let gate = self.geometry.gate_at(segment, first_slot);
         let gates = [OPEN; MAX_GROUP];
-        store_in_turn(disk, at, group.slots(), gate, &gates[..group.len()])
+        let rows = group.rows();
+        let count = group.len();
+        store_rows_in_turn(disk, at, &rows[..2 * count], gate, &gates[..count])
     }
 
     /// Reads a slot that should hold frame `number`: at most two reads. `out` has the size of a frame and gets

@@ -4,8 +4,7 @@ ghost use Rattle.std.specs.List.{filter_map, reduce, zip};
 ghost use Rattle.loop_ring.specs.Entries.{IsIndexed};
 ghost use Rattle.loop_ring.specs.Heads.{floor_block, free_block, going_free, has_frame, is_free};
 
-use crate::entry::Entry;
-use loop_record::SegmentHead;
+use loop_record::{Found, SegmentHead};
 
 // The block that goes when room is needed: the least block of a held frame that no clip meets and that isn't among so
 // many of the newest blocks of held frames, of which one stays in any case. Nothing where none may go. A segment
@@ -13,7 +12,7 @@ use loop_record::SegmentHead;
 pub(crate) fn victim_of(
     heads: &[Option<SegmentHead>],
     clips: &[u32],
-    entries: &[Entry],
+    entries: &[Found],
     keep: u32,
 ) -> Option<u64>
     requires order { IsIndexed heads.now entries.now (length heads.now) }
@@ -40,7 +39,7 @@ fn is_free(head: Option<SegmentHead>, clips: u32, floor: u64) -> bool
 
 // The block from which on no block may go: the last but so many of the blocks of held frames, in their order. Nothing
 // where fewer are held.
-fn floor_block(heads: &[Option<SegmentHead>], entries: &[Entry], keep: u32) -> Option<u64>
+fn floor_block(heads: &[Option<SegmentHead>], entries: &[Found], keep: u32) -> Option<u64>
     requires { IsIndexed heads.now entries.now (length heads.now) }
     ensures { result ≡ floor_block keep heads.now }
 {
@@ -60,7 +59,7 @@ fn floor_block(heads: &[Option<SegmentHead>], entries: &[Entry], keep: u32) -> O
 fn oldest_free(
     heads: &[Option<SegmentHead>],
     clips: &[u32],
-    entries: &[Entry],
+    entries: &[Found],
     floor: u64,
 ) -> Option<u64>
     requires order { IsIndexed heads.now entries.now (length heads.now) }

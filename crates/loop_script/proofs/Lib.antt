@@ -1,6 +1,6 @@
 pub mod Words
 pub mod Numerals
 pub mod FirstLine
-pub mod Kept
-pub mod Called
-pub mod Reopened
+pub mod SessionLaws
+pub mod DeskCalls
+pub mod Reopenings

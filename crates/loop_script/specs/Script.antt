@@ -6,8 +6,8 @@ use Rattle.std.specs.Char.{is_ascii_digit}
 use Rattle.std.specs.Str.{bytes_eq}
 use Rattle.std.specs.Str.Parse.{digits_value}
 use denote.Ref.{Bor}
-use Rattle.loop_script.specs.declared.command.Command.{Command}
-use Rattle.loop_script.specs.declared.command.Command.TheVariants.{Format, FormatV1, Store, Submit, Flush, Read, Lock, Unlock, List as ListAll, Upgrade, Reopen}
+use Rattle.loop_script.specs.declared.command.ScriptCommand.{ScriptCommand}
+use Rattle.loop_script.specs.declared.command.ScriptCommand.TheVariants.{Format, FormatV1, Store, Submit, Flush, Read, Lock, Unlock, List as ListAll, Upgrade, Reopen}
 use Rattle.loop_record.specs.declared.clip.Span.{Span}
 use Rattle.loop_record.specs.declared.geometry.Geometry.{Geometry}
 use Rattle.loop_record.specs.declared.geometry.PixelFormat.{PixelFormat}
@@ -77,7 +77,7 @@ span_said (from ∷ to ∷ tag ∷ []) = span_of (number from) (number to) (numb
 span_said _ = None
 
 -- what a name and one word ask for, a number
-abbrev pub counted_said : List ℕ → List (List ℕ) → Option Command
+abbrev pub counted_said : List ℕ → List (List ℕ) → Option ScriptCommand
 counted_said name (argument ∷ []) =
     if bytes_eq name (codes "store") then option_map Store (number argument)
     else if bytes_eq name (codes "submit") then option_map Submit (number argument)
@@ -87,7 +87,7 @@ counted_said name (argument ∷ []) =
 counted_said name _ = None
 
 -- what a name alone asks for
-abbrev pub named_said : List ℕ → Option Command
+abbrev pub named_said : List ℕ → Option ScriptCommand
 named_said name =
     if bytes_eq name (codes "list") then Some ListAll
     else if bytes_eq name (codes "reopen") then Some (Reopen 1)
@@ -95,14 +95,14 @@ named_said name =
     else if bytes_eq name (codes "upgrade") then Some Upgrade else None
 
 -- what a name and the words behind it ask for
-abbrev pub behind_said : List ℕ → List (List ℕ) → Option Command
+abbrev pub behind_said : List ℕ → List (List ℕ) → Option ScriptCommand
 behind_said name more =
     if bytes_eq name (codes "format") then option_map Format (geometry_said more)
     else if bytes_eq name (codes "format1") then option_map FormatV1 (geometry_said more)
     else if bytes_eq name (codes "lock") then option_map Lock (span_said more) else counted_said name more
 
 -- what the words of a line ask for, if they can be read
-abbrev pub said : List (List ℕ) → Option Command
+abbrev pub said : List (List ℕ) → Option ScriptCommand
 said [] = None
 said (name ∷ []) = named_said name
 said (name ∷ argument ∷ more) = behind_said name (argument ∷ more)

@@ -8,7 +8,7 @@ use loop_record::{Geometry, PixelFormat, Span};
 
 /// What a line of a script asks for.
 #[derive(Clone, Copy, Debug, PartialEq, Eq)]
-pub enum Command {
+pub enum ScriptCommand {
     /// `format W H X N:D S F`: a fresh store. The geometry isn't checked yet.
     Format(Geometry),
     /// `format1 W H X N:D S F`: the same in version 1 of the layout.
@@ -35,34 +35,34 @@ pub enum Command {
 }
 
 /// What a line, without its 0x0A, asks for; `None` where it can't be read.
-pub fn read_command(line: &str) -> Option<Command>
+pub fn read_command(line: &str) -> Option<ScriptCommand>
     ensures { result ≡ said (words line.now) }
 {
     let (name, rest) = first_word(line);
     match rest {
         None => named(name),
-        Some(rest) if name == "format" => Some(Command::Format(geometry(rest)?)),
-        Some(rest) if name == "format1" => Some(Command::FormatV1(geometry(rest)?)),
-        Some(rest) if name == "lock" => Some(Command::Lock(span(rest)?)),
+        Some(rest) if name == "format" => Some(ScriptCommand::Format(geometry(rest)?)),
+        Some(rest) if name == "format1" => Some(ScriptCommand::FormatV1(geometry(rest)?)),
+        Some(rest) if name == "lock" => Some(ScriptCommand::Lock(span(rest)?)),
         Some(rest) => counted(name, rest),
     }
 }
 
 // What a name alone asks for.
-fn named(name: &str) -> Option<Command>
+fn named(name: &str) -> Option<ScriptCommand>
     ensures { result ≡ named_said name.now }
 {
     match name {
-        "list" => Some(Command::List),
-        "reopen" => Some(Command::Reopen(1)),
-        "flush" => Some(Command::Flush),
-        "upgrade" => Some(Command::Upgrade),
+        "list" => Some(ScriptCommand::List),
+        "reopen" => Some(ScriptCommand::Reopen(1)),
+        "flush" => Some(ScriptCommand::Flush),
+        "upgrade" => Some(ScriptCommand::Upgrade),
         _ => None,
     }
 }
 
 // What a name and a number ask for.
-fn counted(name: &str, text: &str) -> Option<Command>
+fn counted(name: &str, text: &str) -> Option<ScriptCommand>
     ensures { result ≡ counted_said name.now (words text.now) }
 {
     let (argument, rest) = first_word(text);
@@ -70,11 +70,11 @@ fn counted(name: &str, text: &str) -> Option<Command>
         return None;
     }
     match name {
-        "store" => Some(Command::Store(number(argument)?)),
-        "submit" => Some(Command::Submit(number(argument)?)),
-        "read" => Some(Command::Read(number(argument)?)),
-        "unlock" => Some(Command::Unlock(small_number(argument)?)),
-        "reopen" => Some(Command::Reopen(small_number(argument)?)),
+        "store" => Some(ScriptCommand::Store(number(argument)?)),
+        "submit" => Some(ScriptCommand::Submit(number(argument)?)),
+        "read" => Some(ScriptCommand::Read(number(argument)?)),
+        "unlock" => Some(ScriptCommand::Unlock(small_number(argument)?)),
+        "reopen" => Some(ScriptCommand::Reopen(small_number(argument)?)),
         _ => None,
     }
 }

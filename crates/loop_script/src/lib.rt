@@ -24,7 +24,7 @@ mod source;
 mod task;
 mod upgrade;
 
-pub use command::{Command, geometry_in, read_command};
+pub use command::{ScriptCommand, geometry_in, read_command};
 pub use lines::{BadLine, MAX_LINE, next_line};
 pub use listing::Listing;
 pub use number::small_number;
@@ -32,7 +32,7 @@ pub use pattern::{PATTERN_FLAGS, pattern_frame, pattern_sequence, pattern_timest
 pub use print::{print_line, print_parts};
 pub use refusal::{RefusalWords, print_refusal};
 pub use runs::run_length;
-pub use session::{LIMITS, Session};
+pub use session::{LIMITS, ScriptDesk};
 pub use source::{Likeness, compare_frames, print_other_geometry, print_other_rate};
 pub use task::{FileCommand, Paths, Recording, Task, read_task};
 pub use upgrade::upgrade_words;

@@ -45,6 +45,7 @@ fn strip_newline<A: Allocator>(line: &mut Vec<u8, A>)
     ensures { line.new.items ≡ strip_last 10 line.old.items }
 {
     if line.last() == Some(&b'\n') {
+        // The byte is known: it is the 0x0A.
         let _ = line.pop();
     }
 }

@@ -30,13 +30,13 @@ pub const LIMITS: DeskLimits = DeskLimits {
 /// A desk over a store on a disk in memory, and a source of pattern frames for it. Contracts see the desk, and how
 /// many frames were accepted since the store was formatted.
 #[derive(Drop)]
-pub struct Session<A: Allocator + Copy = Global> {
+pub struct ScriptDesk<A: Allocator + Copy = Global> {
     desk: Desk<MemDisk<A>, A>,
     // Frames accepted since the store was formatted. Those that were lost at a reopen count too.
     accepted: u64,
 }
 
-impl<A: Allocator + Copy> Model for Session<A> {
+impl<A: Allocator + Copy> Model for ScriptDesk<A> {
     ghost use Rattle.loop_disk.specs.declared.memory.MemDisk.{MemDisk};
     ghost use Rattle.loop_script.specs.Sessions.{IsSession, Shown};
 
@@ -47,7 +47,7 @@ impl<A: Allocator + Copy> Model for Session<A> {
     ghost invariant = { λ s. IsSession s.desk };
 }
 
-impl<A: Allocator + Copy> Session<A> {
+impl<A: Allocator + Copy> ScriptDesk<A> {
     /// Formats a fresh disk of the right size, and sets a desk before it. It answers BadGeometry or NoMemory, and
     /// then leaves nothing behind.
     pub fn format(alloc: A, geometry: Geometry) -> Result<Self, StoreFault>
@@ -175,7 +175,7 @@ impl<A: Allocator + Copy> Session<A> {
     /// then leaves nothing behind. So does a disk that holds no store of this geometry, which is refused as
     /// NotFormatted, Damaged, BadKeep or BadGeometry. A store that stands for a recording is refused for want of memory
     /// alone.
-    #[tactic(auto, using(crate::proofs::Reopened::refused_for_memory, crate::proofs::Reopened::same_geometry))]
+    #[tactic(auto, using(crate::proofs::Reopenings::refused_for_memory, crate::proofs::Reopenings::same_geometry))]
     pub fn reopen(self, alloc: A, keep: u32) -> Result<Self, StoreFault>
         requires { is_bad_keep self.desk.store.geometry.segments keep ≡ false }
         ensures opened { IfOk result (λ s. IsOpened ⟦<MemDisk<A> as Disk>⟧.medium
@@ -190,7 +190,7 @@ impl<A: Allocator + Copy> Session<A> {
         ensures sound { (r : Recording) → StandsFor ⟦<MemDisk<A> as Disk>⟧.medium self.desk.store r
             → IfErr result (λ fault. fault ≡ StoreFault.NoMemory) }
     {
-        let Session { desk, accepted } = self;
+        let ScriptDesk { desk, accepted } = self;
         let geometry = desk.geometry();
         match Store::open_keeping(alloc, desk.into_disk(), keep) {
             Err(OpenRefused { fault, disk: _ }) => Err(fault),
@@ -275,7 +275,7 @@ fn session_before<A: Allocator + Copy>(
     alloc: A,
     store: Store<MemDisk<A>, A>,
     accepted: u64,
-) -> Result<Session<A>, StoreFault>
+) -> Result<ScriptDesk<A>, StoreFault>
     requires good { IsTrue (is_good store.geometry) }
     requires fine { store.must_reopen ≡ false }
     ensures made { IfOk result (λ s. s ≡ record {
@@ -285,7 +285,7 @@ fn session_before<A: Allocator + Copy>(
     ensures refused { IfErr result (λ fault. fault ≡ StoreFault.NoMemory) }
 {
     match Desk::new(alloc, store, LIMITS) {
-        Ok(desk) => Ok(Session { desk, accepted }),
+        Ok(desk) => Ok(ScriptDesk { desk, accepted }),
         Err(_) => Err(StoreFault::NoMemory),
     }
 }

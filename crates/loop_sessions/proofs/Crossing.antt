@@ -17,7 +17,7 @@ use Rattle.loop_sessions.specs.contracts.entry.Entry as Entry
 use Rattle.loop_sessions.specs.contracts.entry.Noted as Noted
 use Rattle.loop_sessions.specs.contracts.entry.Pass as Pass
 use Rattle.loop_sessions.specs.contracts.entry.Receipt as Receipt
-use Rattle.loop_sessions.specs.contracts.entry.Stamp as Stamp
+use Rattle.loop_sessions.specs.contracts.entry.FrameInfo as FrameInfo
 use Rattle.loop_sessions.specs.contracts.port.Port as Port
 use Rattle.loop_sessions.specs.contracts.port.QueueLock as QueueLock
 use Rattle.loop_sessions.specs.contracts.recorder.Recorder as Recorder
@@ -25,7 +25,7 @@ use Rattle.loop_sessions.specs.contracts.session.Session as Session
 
 -- ---- entries and receipts
 
-stamp_in_send : IsSend Stamp.the_field.row
+stamp_in_send : IsSend FrameInfo.the_field.row
 stamp_in_send = search sendable depth 40
 
 noted_in_send : IsSend Noted.the_field.row
@@ -50,7 +50,7 @@ pass_in_send = let a = Vec-send _ receipt_send in let b = Vec-send _ receipt_in_
 pub pass_send : IsSend (Pass.the_row heap.the_row ghosts)
 pass_send = let a = pass_in_send in search sendable depth 20
 
-stamp_in_sync : IsSync Stamp.the_field.row
+stamp_in_sync : IsSync FrameInfo.the_field.row
 stamp_in_sync = search sendable depth 40
 
 noted_in_sync : IsSync Noted.the_field.row

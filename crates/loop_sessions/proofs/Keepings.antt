@@ -15,7 +15,7 @@ use Rattle.loop_desk.specs.Bare.{bare_call}
 use Rattle.loop_desk.specs.Desk.{runs_told}
 use Rattle.loop_desk.specs.Keeps.{clip_span, with_tag}
 use Rattle.loop_desk.specs.Seen.{DeskGoes, SeenDesk}
-use Rattle.loop_desk.proofs.Locking.{clip_made, locked-all, locked-more, locked-until}
+use Rattle.loop_desk.proofs.KeepParts.{clip_made, locked-all, locked-more, locked-until}
 use Rattle.loop_sessions.specs.declared.entry.Entry.{Entry}
 use Rattle.loop_sessions.specs.declared.entry.Noted.{Noted}
 use Rattle.loop_sessions.specs.declared.entry.Noted.TheVariants as noted
@@ -26,7 +26,7 @@ use Rattle.loop_sessions.specs.declared.keep.Kept.{Kept}
 use Rattle.loop_sessions.specs.Histories.{noted_call}
 use Rattle.loop_sessions.specs.Keeps.{Enters, KeepsHeld, Locks, Notes, lock_noted, refused_lock, runs_noted}
 use Rattle.loop_sessions.specs.Receipts.{lock_note}
-use Rattle.loop_sessions.proofs.Noting.{enters-joined, notes-joined, notes-none}
+use Rattle.loop_sessions.proofs.NoteRuns.{enters-joined, notes-joined, notes-none}
 
 -- ---- the runs of a time
 

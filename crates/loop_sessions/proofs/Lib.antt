@@ -1,10 +1,10 @@
-pub mod Keeping
-pub mod Placing
-pub mod Opening
-pub mod Linking
+pub mod HistorySteps
+pub mod ReceiptPlaces
+pub mod OutlineSteps
+pub mod QueueLinks
 pub mod Crossing
 pub mod Apart
 pub mod Ends
-pub mod Noting
+pub mod NoteRuns
 pub mod Keepings
 pub mod Whole

@@ -5,8 +5,8 @@ use Rattle.loop_record.specs.declared.clip.Span.{Span}
 use Rattle.loop_record.specs.declared.times.Times.{Times}
 use Rattle.loop_desk.specs.Desk.{AreTold, DeskCall, IsDeskTold, desk_after, run_told, runs_told}
 use Rattle.loop_desk.proofs.Frames.{each-parts}
-use Rattle.loop_desk.proofs.Locking.{locked-numbers}
-use Rattle.loop_desk.proofs.Sought.{told-all}
+use Rattle.loop_desk.proofs.KeepParts.{locked-numbers}
+use Rattle.loop_desk.proofs.TimeRuns.{told-all}
 use Rattle.loop_sessions.specs.declared.entry.Noted.{Noted}
 use Rattle.loop_sessions.specs.declared.keep.Kept.{Kept}
 use Rattle.loop_sessions.specs.Histories.{noted_call}

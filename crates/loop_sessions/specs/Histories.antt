@@ -11,10 +11,10 @@ use Rattle.loop_desk.specs.Seen.{SeenDesk, StandsAt, rules_of}
 use Rattle.loop_sessions.specs.declared.entry.Entry.{Entry}
 use Rattle.loop_sessions.specs.declared.entry.Noted.{Noted}
 use Rattle.loop_sessions.specs.declared.entry.Noted.TheVariants as noted
-use Rattle.loop_sessions.specs.declared.entry.Stamp.{Stamp}
+use Rattle.loop_sessions.specs.declared.entry.FrameInfo.{FrameInfo}
 
 -- a frame of this stamp, without pixels
-abbrev pub bare_picture : Stamp → Picture
+abbrev pub bare_picture : FrameInfo → Picture
 bare_picture s = record { sequence = s.sequence; flags = s.flags; timestamp = s.timestamp; bytes = [] }
 
 -- a head without its pixels

@@ -16,7 +16,7 @@ use Rattle.loop_sessions.specs.declared.entry.Noted.{Noted}
 use Rattle.loop_sessions.specs.declared.entry.Noted.TheVariants as noted
 use Rattle.loop_sessions.specs.declared.entry.Pass.{Pass}
 use Rattle.loop_sessions.specs.declared.entry.Receipt.{Receipt}
-use Rattle.loop_sessions.specs.declared.entry.Stamp.{Stamp}
+use Rattle.loop_sessions.specs.declared.entry.FrameInfo.{FrameInfo}
 use Rattle.loop_sessions.specs.declared.fault.SessionFault.{SessionFault}
 use Rattle.loop_sessions.specs.declared.fault.SessionFault.TheVariants.{Desk}
 use Rattle.loop_sessions.specs.Sessions.{SeenSession, TellsNow}
@@ -36,7 +36,7 @@ abbrev pub heard_back : {T X : Type 0} → Result T (SessionFault × X) → Opti
 heard_back (Ok x) = Some (Ok x)
 heard_back (Err refused) = option_map Err (desk_fault refused.0)
 
-abbrev pub stamp_of : {A : Type 0} → Frame A → Stamp
+abbrev pub stamp_of : {A : Type 0} → Frame A → FrameInfo
 stamp_of f = record { sequence = f.sequence; flags = f.flags; timestamp = f.timestamp }
 
 -- what a read answers, without pixels

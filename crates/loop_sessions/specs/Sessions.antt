@@ -5,7 +5,7 @@ use Rattle.loop_record.specs.Recording.{plain, ring_of}
 use Rattle.loop_store.specs.declared.command.ReadFrame.{ReadFrame}
 use Rattle.loop_store.specs.Calls.{StoreState}
 use Rattle.loop_store.specs.Goes.{Stands}
-use Rattle.loop_store.specs.Steps.{EachNow, HoldsSome}
+use Rattle.loop_store.specs.Steps.{HoldsFrom}
 use Rattle.loop_store.specs.Runs.{read_of}
 use Rattle.loop_store.specs.Seen.{StandsFor}
 use Rattle.loop_desk.specs.declared.limits.Outline.{Outline}
@@ -45,8 +45,9 @@ pub record Survives {D : Type 0} (medium : D → Medium) (opening : SeenDesk D) 
     (desk : SeenDesk D) (s : StoreState) : Type 0 where
   pub stands : StandsFor medium desk.store
       (plain (ring_of opening.store.geometry) s.recording (steps_made opening s calls))
-  pub images : EachNow (medium desk.store.disk) (HoldsSome opening.store.geometry
-      (plain (ring_of opening.store.geometry) s.recording (steps_made opening s calls)) (steps_begun opening s calls))
+  pub images : (image : List ℕ) → (medium desk.store.disk).may_leave image → HoldsFrom opening.store.geometry
+      (plain (ring_of opening.store.geometry) s.recording (steps_made opening s calls)) 0
+      (steps_begun opening s calls) image
   pub none_begun : desk.store.must_reopen ≡ false → steps_begun opening s calls ≡ []
 
 -- from each state that the opening stood for, where the disk is honest

@@ -10,7 +10,7 @@ use std::alloc::{Allocator, Global};
 
 /// A frame without its number and its bytes.
 #[derive(Clone, Copy, Debug, PartialEq, Eq)]
-pub struct Stamp {
+pub struct FrameInfo {
     /// The place in the camera's count of frames.
     pub sequence: u32,
     /// The buffer flags of the V4L2 userspace API.
@@ -23,7 +23,7 @@ pub struct Stamp {
 #[derive(Clone, Copy, Debug, PartialEq, Eq)]
 pub enum Noted {
     /// A frame, the count of its bytes, and the number that it will have.
-    Submit(Stamp, u64, Result<u64, StoreFault>),
+    Submit(FrameInfo, u64, Result<u64, StoreFault>),
     /// What was stored.
     Flush(Result<Flushed, StoreFault>),
     /// The numbers and the tag of a clip, and its id.

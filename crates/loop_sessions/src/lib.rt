@@ -26,7 +26,7 @@ mod same;
 mod session;
 
 pub use ended::EndedCamera;
-pub use entry::{Entry, Noted, Pass, Receipt, Stamp};
+pub use entry::{Entry, FrameInfo, Noted, Pass, Receipt};
 pub use fault::{NewRefused, SessionFault};
 pub use keep::Kept;
 pub use loop_record::Times;

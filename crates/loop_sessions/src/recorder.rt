@@ -393,11 +393,11 @@ impl<D: Disk + Drop, P: PlaneMemory, A: Allocator + Copy> Recorder<D, P, A> {
         self.sessions[camera as usize].lock(rt).spare_memory()
     }
 
-    /// Keeps memory for a later frame of a camera (`Desk::keep_memory`). It isn't noted.
-    pub fn keep_memory<R: Wait>(&self, rt: &R, camera: u32, bytes: Vec<u8, A>)
+    /// Keeps memory for a later frame of a camera (`Desk::return_memory`). It isn't noted.
+    pub fn return_memory<R: Wait>(&self, rt: &R, camera: u32, bytes: Vec<u8, A>)
         requires { camera < length self.now.outlines }
     {
-        self.sessions[camera as usize].lock(rt).keep_memory(bytes);
+        self.sessions[camera as usize].lock(rt).return_memory(bytes);
     }
 
     /// Opens the locks, and compares the passes' receipts with the histories: `PassesMissing`, then `TieBroken`. It

@@ -3,7 +3,7 @@
 ghost use Rattle.std.specs.Prelude.{◌≡◌, ◌↔◌, IsTrue};
 ghost use Rattle.loop_sessions.specs.Endings.{SameOutline};
 
-use crate::{Noted, Stamp};
+use crate::{FrameInfo, Noted};
 use loop_desk::{Flushed, Outline, Status};
 use loop_record::{Damage, FrameHead, Span, Times};
 use loop_store::{Clip, StoreFault};
@@ -27,7 +27,7 @@ fn same_fault(one: StoreFault, other: StoreFault) -> bool
 }
 
 /// Whether two stamps are the same.
-fn same_stamp(one: Stamp, other: Stamp) -> bool
+fn same_stamp(one: FrameInfo, other: FrameInfo) -> bool
     ensures { IsTrue result ↔ one ≡ other }
 {
     one == other

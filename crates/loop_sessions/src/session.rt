@@ -10,7 +10,7 @@ ghost use Rattle.loop_sessions.specs.Sessions.{AnswersRead, IsFaithful};
 
 use crate::ended::EndedCamera;
 use crate::keep::{Kept, keep_at};
-use crate::{Entry, Noted, Pace, Pass, Receipt, SessionFault, Stamp, Step};
+use crate::{Entry, FrameInfo, Noted, Pace, Pass, Receipt, SessionFault, Step};
 use loop_desk::{Desk, Flushed, Outline, Status};
 use loop_disk::Disk;
 use loop_record::{Frame, FrameHead, Geometry, Span, Times};
@@ -113,10 +113,10 @@ pub(crate) fn note<A: Allocator>(
 }
 
 /// A frame's stamp.
-fn stamp_of<A: Allocator>(frame: &Frame<A>) -> Stamp
+fn stamp_of<A: Allocator>(frame: &Frame<A>) -> FrameInfo
     ensures { result ≡ stamp_of frame.now }
 {
-    Stamp {
+    FrameInfo {
         sequence: frame.sequence,
         flags: frame.flags,
         timestamp: frame.timestamp,
@@ -343,11 +343,11 @@ impl<D: Disk + Drop, A: Allocator + Copy> Session<D, A> {
         self.desk.spare_memory()
     }
 
-    /// As `Desk::keep_memory`. It is no call of the history.
-    pub fn keep_memory(&mut self, bytes: Vec<u8, A>)
+    /// As `Desk::return_memory`. It is no call of the history.
+    pub fn return_memory(&mut self, bytes: Vec<u8, A>)
         ensures { self.new ≡ self.old }
     {
-        self.desk.keep_memory(bytes);
+        self.desk.return_memory(bytes);
     }
 
     /// How the desk stands, which is noted, and then what it holds: `SessionFull`, then `NoMemory`, then as

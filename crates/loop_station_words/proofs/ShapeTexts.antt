@@ -7,10 +7,10 @@ use Rattle.loop_record.specs.declared.geometry.Geometry.{Geometry}
 use Rattle.loop_record.specs.declared.geometry.PixelFormat.{PixelFormat}
 use Rattle.loop_script.specs.Script.{geometry_of, rate_said, small_number}
 use Rattle.loop_station_words.specs.Shapes.{shape_in, shape_from}
-use Rattle.loop_station_words.specs.declared.shape.Shape.{Shape}
+use Rattle.loop_station_words.specs.declared.shape.FrameShape.{FrameShape}
 
 -- the shape of a geometry's frames
-abbrev pub frames_of : Geometry → Shape
+abbrev pub frames_of : Geometry → FrameShape
 frames_of g = record {
   width = g.width;
   height = g.height;
@@ -20,7 +20,7 @@ frames_of g = record {
 }
 
 -- the shape of the parts of a geometry, which has the least ring
-abbrev shape_by : Option Geometry → Option Shape
+abbrev shape_by : Option Geometry → Option FrameShape
 shape_by None = None
 shape_by (Some g) = cond (is_good g) (Some (frames_of g)) None
 

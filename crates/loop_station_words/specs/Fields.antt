@@ -8,9 +8,9 @@ use Rattle.toml.specs.Data.{Data, string, integer, float, boolean}
 use Rattle.loop_script.specs.Script.{number}
 use Rattle.loop_station_words.specs.declared.config.Memory.{Memory}
 use Rattle.loop_station_words.specs.declared.config.Memory.TheVariants.{Bytes, Seconds}
-use Rattle.loop_station_words.specs.declared.config.Room.{Room}
-use Rattle.loop_station_words.specs.declared.config.Room.TheVariants.{Bytes as RoomBytes, Seconds as RoomSeconds}
-use Rattle.loop_station_words.specs.declared.shape.Shape.{Shape}
+use Rattle.loop_station_words.specs.declared.config.StoreSize.{StoreSize}
+use Rattle.loop_station_words.specs.declared.config.StoreSize.TheVariants.{Bytes as RoomBytes, Seconds as RoomSeconds}
+use Rattle.loop_station_words.specs.declared.shape.FrameShape.{FrameShape}
 use Rattle.loop_station_words.specs.Cuts.{cut}
 use Rattle.loop_station_words.specs.Shapes.{shape_said}
 
@@ -75,7 +75,7 @@ minutes_of (float x) = part_seconds x
 minutes_of _ = None
 
 -- the room of a store, by what stands at `minutes` and at `bytes`: one of them alone
-abbrev pub room_of : Option Data → Option Data → Option Room
+abbrev pub room_of : Option Data → Option Data → Option StoreSize
 room_of (Some minutes) None = option_map RoomSeconds (minutes_of minutes)
 room_of None (Some bytes) = option_map RoomBytes (bytes_of bytes)
 room_of _ _ = None
@@ -87,10 +87,10 @@ shape_text (Some (string text)) = Some text
 shape_text _ = None
 
 -- the shape of the pattern
-abbrev pub pattern_of : Option Data → Option Shape
+abbrev pub pattern_of : Option Data → Option FrameShape
 pattern_of pattern = option_and_then shape_said (shape_text pattern)
 
 -- the shape beside a source, of which only private contracts speak: of the pattern, or none beside a path
-abbrev pub SaysShape : List ℕ → Option Data → Option Shape → Type 0
+abbrev pub SaysShape : List ℕ → Option Data → Option FrameShape → Type 0
 SaysShape source pattern (Some shape) = (source ≡ codes "pattern") × (pattern_of pattern ≡ Some shape)
 SaysShape source pattern None = (source ≢ codes "pattern") × (pattern ≡ None)

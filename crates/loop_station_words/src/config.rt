@@ -14,7 +14,7 @@ use crate::fields::{
     truth_at, value_at,
 };
 use crate::name::is_name;
-use crate::shape::Shape;
+use crate::shape::FrameShape;
 use std::alloc::{AllocError, Global};
 use toml::{Table, Value};
 
@@ -49,7 +49,7 @@ pub struct CameraConfig {
     /// The file of its store.
     pub store: String,
     /// How large that is, where it is made anew.
-    pub room: Room,
+    pub room: StoreSize,
     /// How many seconds `keep` locks.
     pub seconds: u32,
     /// The tag that `keep` gives.
@@ -68,14 +68,14 @@ pub struct CameraConfig {
 #[derive(Drop)]
 pub enum Source {
     /// The pattern, of this shape.
-    Pattern(Shape),
+    Pattern(FrameShape),
     /// The YUV4MPEG2 file or pipe of this path.
     Path(String),
 }
 
 /// How large a store is.
 #[derive(Clone, Copy, Debug, PartialEq, Eq)]
-pub enum Room {
+pub enum StoreSize {
     /// For so many seconds.
     Seconds(u64),
     /// Of at most so many bytes.
@@ -250,7 +250,7 @@ fn camera_of(alloc: Global, table: &Value) -> Result<CameraConfig, CameraFault>
         source: source_of(alloc, table)?,
         store: String::from_str(alloc, store)?,
         room: room_at(table)?,
-        seconds: small_at(table, "keep", 60).ok_or(CameraFault::BadKeep)?,
+        seconds: small_at(table, "keep", 60).ok_or(CameraFault::BadSeconds)?,
         tag: number_at(table, "tag", 0, u64::MAX).ok_or(CameraFault::BadTag)?,
         buffers: buffers_at(table).ok_or(CameraFault::BadBuffers)?,
         memory: memory_at(table).ok_or(CameraFault::BadMemory)?,

@@ -85,7 +85,7 @@ pub enum CameraFault {
     BadBytes,
     /// `keep` is no whole number of 32 bits.
     #[error("keep is a whole number of seconds")]
-    BadKeep,
+    BadSeconds,
     /// `tag` is no whole number, or a negative one.
     #[error("tag is a whole number, not negative")]
     BadTag,

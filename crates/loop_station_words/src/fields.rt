@@ -6,10 +6,10 @@ ghost use Rattle.loop_station_words.specs.Config.{HasBuffers};
 ghost use Rattle.loop_station_words.specs.Cuts.{cut};
 ghost use Rattle.loop_station_words.specs.Fields.{SaysShape, bytes_of, memory_of, minutes_of, number_or, part_seconds, path_of, positive, room_of, seconds_cut, shape_text, text_of, truth_of};
 
-use crate::config::{Memory, Room};
+use crate::config::{Memory, StoreSize};
 use crate::cut::cut;
 use crate::fault::CameraFault;
-use crate::shape::{Shape, read_shape};
+use crate::shape::{FrameShape, read_shape};
 use loop_script::number::number;
 use std::num::saturating_f64_to_u64;
 use toml::{Table, Value};
@@ -115,7 +115,7 @@ fn shape_text<'a>(table: &'a Table) -> Option<&'a str>
 }
 
 // The pattern's shape, where that is the source.
-pub(crate) fn shape_at(table: &Table, source: &str) -> Result<Option<Shape>, CameraFault>
+pub(crate) fn shape_at(table: &Table, source: &str) -> Result<Option<FrameShape>, CameraFault>
     ensures { IfOk result (SaysShape source.now (get_member (codes "pattern") (table_view table.now))) }
 {
     let text = match shape_text(table) {
@@ -135,7 +135,7 @@ pub(crate) fn shape_at(table: &Table, source: &str) -> Result<Option<Shape>, Cam
 }
 
 // How large the store is: by minutes or by bytes, and just one of them.
-pub(crate) fn room_at(table: &Table) -> Result<Room, CameraFault>
+pub(crate) fn room_at(table: &Table) -> Result<StoreSize, CameraFault>
     ensures { IfOk result (λ room. room_of (get_member (codes "minutes") (table_view table.now))
         (get_member (codes "bytes") (table_view table.now)) ≡ Some room) }
 {
@@ -143,11 +143,11 @@ pub(crate) fn room_at(table: &Table) -> Result<Room, CameraFault>
         (None, None) => Err(CameraFault::NoRoom),
         (Some(_), Some(_)) => Err(CameraFault::TwoRooms),
         (Some(minutes), None) => match seconds_of(minutes) {
-            Some(seconds) => Ok(Room::Seconds(seconds)),
+            Some(seconds) => Ok(StoreSize::Seconds(seconds)),
             None => Err(CameraFault::BadMinutes),
         },
         (None, Some(bytes)) => match bytes_of(bytes) {
-            Some(bytes) => Ok(Room::Bytes(bytes)),
+            Some(bytes) => Ok(StoreSize::Bytes(bytes)),
             None => Err(CameraFault::BadBytes),
         },
     }

@@ -10,7 +10,7 @@ ghost use Rattle.loop_station_words.specs.Times.{time_said};
 ghost use Rattle.loop_station_words.specs.declared.order.Order.{Order};
 
 use crate::ring::RingSize;
-use crate::shape::Shape;
+use crate::shape::FrameShape;
 
 /// Each order has a line.
 #[tactic(auto, unfolding(crate::specs::Cuts::cut, crate::specs::Orders::timed_said, crate::specs::Orders::times_kept, crate::specs::Orders::from_said))]
@@ -53,7 +53,7 @@ pub fn texts_are_times()
 {}
 
 /// The bytes by which a ring is chosen are those of the store's disk.
-pub fn file_size_is_disk_size(shape: &Shape, ring: RingSize)
+pub fn file_size_is_disk_size(shape: &FrameShape, ring: RingSize)
     ensures { file_size (frame_bytes (shape_geometry shape.now ring)) ring
         ≡ disk_size (shape_geometry shape.now ring) }
 {}

@@ -35,10 +35,10 @@ pub use answers::{
     print_store_open, print_too_many_saves,
 };
 pub use calendar::{Moment, moment_of};
-pub use config::{CameraConfig, Config, MAX_CAMERAS, Memory, Room, Source, read_config};
+pub use config::{CameraConfig, Config, MAX_CAMERAS, Memory, Source, StoreSize, read_config};
 pub use fault::{CameraFault, ConfigFault};
 pub use name::{Name, is_name};
 pub use order::{Order, label_of, read_order};
 pub use ring::{RingSize, frames_in, ring_for, ring_within};
-pub use shape::{Shape, read_shape};
+pub use shape::{FrameShape, read_shape};
 pub use time::read_time;

@@ -9,7 +9,7 @@ use loop_script::geometry_in;
 
 /// What frames look like, and how fast they come.
 #[derive(Clone, Copy, Debug, PartialEq, Eq)]
-pub struct Shape {
+pub struct FrameShape {
     /// Luma samples in a row.
     pub width: u32,
     /// Rows of luma.
@@ -22,7 +22,7 @@ pub struct Shape {
     pub rate_den: u32,
 }
 
-impl Shape {
+impl FrameShape {
     /// The geometry of a store for such frames.
     pub fn geometry(&self, ring: RingSize) -> Geometry
         ensures { result ≡ shape_geometry self.now ring }
@@ -41,7 +41,7 @@ impl Shape {
 
 /// The shape that a text names, `WxH FORMAT N:D`, as `640x480 YM12 25:1`; `None` where it can't be read, or no store
 /// may have such frames.
-pub fn read_shape(text: &str) -> Option<Shape>
+pub fn read_shape(text: &str) -> Option<FrameShape>
     ensures shape { IfSome result IsShape }
     ensures said { result ≡ shape_said text.now }
 {
@@ -52,7 +52,7 @@ pub fn read_shape(text: &str) -> Option<Shape>
 }
 
 // The shape that four words name.
-fn shape_in(width: &str, height: &str, format: &str, rate: &str) -> Option<Shape>
+fn shape_in(width: &str, height: &str, format: &str, rate: &str) -> Option<FrameShape>
     ensures shape { IfSome result IsShape }
     ensures said { result ≡ shape_in width.now height.now format.now rate.now }
 {
@@ -60,7 +60,7 @@ fn shape_in(width: &str, height: &str, format: &str, rate: &str) -> Option<Shape
     if geometry.check().is_err() {
         return None;
     }
-    Some(Shape {
+    Some(FrameShape {
         width: geometry.width,
         height: geometry.height,
         format: geometry.format,

@@ -1,2 +1,2 @@
-pub mod Saving
-pub mod Storing
+pub mod SaveFrames
+pub mod FlushRuns

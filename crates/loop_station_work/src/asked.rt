@@ -3,18 +3,18 @@
 use crate::absent::Absent;
 use crate::size::size_of;
 use loop_record::Geometry;
-use loop_station_words::{RingSize, Room, frames_in, ring_for, ring_within};
+use loop_station_words::{RingSize, StoreSize, frames_in, ring_for, ring_within};
 
 /// How many frames any ring holds for certain.
 const MOST_FRAMES: u128 = 16_129;
 
 /// The ring for as much as is to be kept of frames like these.
-pub fn asked_ring(frames: &Geometry, room: &Room) -> Result<RingSize, Absent> {
+pub fn asked_ring(frames: &Geometry, room: &StoreSize) -> Result<RingSize, Absent> {
     match room {
-        Room::Seconds(seconds) => {
+        StoreSize::Seconds(seconds) => {
             ring_for(frames_of(frames, *seconds)).ok_or(Absent::TooManyFrames(most_minutes(frames)))
         }
-        Room::Bytes(bytes) => match size_of(frames) {
+        StoreSize::Bytes(bytes) => match size_of(frames) {
             Some(size) => ring_within(size, *bytes).ok_or(Absent::TooFewBytes),
             None => Err(Absent::NoGeometry),
         },
@@ -34,11 +34,11 @@ fn most_minutes(frames: &Geometry) -> u64 {
 }
 
 /// How many microseconds a store holds for certain, and how many the file asks for, where that is more.
-pub fn held_of_asked(store: &Geometry, room: &Room) -> Option<(u64, u64)> {
+pub fn held_of_asked(store: &Geometry, room: &StoreSize) -> Option<(u64, u64)> {
     let held = held_frames(store.segments, store.slots);
     let asked = match room {
-        Room::Seconds(seconds) => frames_of(store, *seconds),
-        Room::Bytes(_) => match asked_ring(store, room) {
+        StoreSize::Seconds(seconds) => frames_of(store, *seconds),
+        StoreSize::Bytes(_) => match asked_ring(store, room) {
             Ok(ring) => held_frames(ring.segments, ring.slots),
             Err(_) => 0,
         },
@@ -48,8 +48,8 @@ pub fn held_of_asked(store: &Geometry, room: &Room) -> Option<(u64, u64)> {
     }
     let least = micros_of(store, held);
     match room {
-        Room::Seconds(seconds) => Some((least, seconds.saturating_mul(1_000_000))),
-        Room::Bytes(_) => Some((least, micros_of(store, asked))),
+        StoreSize::Seconds(seconds) => Some((least, seconds.saturating_mul(1_000_000))),
+        StoreSize::Bytes(_) => Some((least, micros_of(store, asked))),
     }
 }
 

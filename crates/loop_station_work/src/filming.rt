@@ -14,7 +14,7 @@ use loop_pipeline::{Camera, Ended, Unfilmed, film_camera, heap_start, new_queue,
 use loop_plane::HeapPlane;
 use loop_record::Geometry;
 use loop_script::LIMITS;
-use loop_station_words::{RingSize, Room, print_not_a_store};
+use loop_station_words::{RingSize, StoreSize, print_not_a_store};
 use loop_store::{OpenRefused, Store, StoreFault};
 use std::alloc::{AllocGlobal, Global};
 use std::io::Write;
@@ -134,7 +134,7 @@ fn wait_header<R: Wait + Clock>(rt: &R, state: &CameraState) -> Option<Geometry>
 }
 
 /// The geometry of a store for a header, with room for as much as is to be kept.
-fn geometry_for(header: &Geometry, room: &Room) -> Result<Geometry, Absent> {
+fn geometry_for(header: &Geometry, room: &StoreSize) -> Result<Geometry, Absent> {
     let RingSize { segments, slots } = asked_ring(header, room)?;
     let geometry = Geometry {
         segments,

@@ -5,7 +5,7 @@ use std::time::{Clock, Duration};
 
 /// What stands between who asks and who answers: one question at a time, and its answer.
 #[derive(Drop)]
-struct Desk<Q: Drop, A: Drop, N: Drop + Copy> {
+struct Exchange<Q: Drop, A: Drop, N: Drop + Copy> {
     /// Someone has asked, and hasn't taken the answer.
     busy: bool,
     question: Option<Q>,
@@ -19,7 +19,7 @@ struct Desk<Q: Drop, A: Drop, N: Drop + Copy> {
 /// One thread asks and waits, another answers. Where nobody does, that is the answer, as an `N` that says why.
 #[derive(Drop)]
 pub struct Inbox<Q: Drop, A: Drop, N: Drop + Copy> {
-    desk: Mutex<Desk<Q, A, N>>,
+    desk: Mutex<Exchange<Q, A, N>>,
     changed: Condvar,
 }
 
@@ -27,7 +27,7 @@ impl<Q: Drop, A: Drop, N: Drop + Copy> Inbox<Q, A, N> {
     /// One at which nobody answers yet: a question waits for who comes.
     pub fn new() -> Self {
         Inbox {
-            desk: Mutex::new(Desk {
+            desk: Mutex::new(Exchange {
                 busy: false,
                 question: None,
                 answer: None,

@@ -55,20 +55,18 @@ pub fn run_station<
         events,
         cameras,
     } = config;
-    let Ok(timeline) = Timeline::new(rt) else {
-        return Err(NotBegun::NoClock);
-    };
+    let timeline = timeline_of(rt)?;
     let states = states_of(alloc, cameras, timeline)?;
     let tap = tap_of(rt, answers)?;
     let ours = match &tap {
         Some(tap) => Some(Arc::try_clone(tap)?),
         None => None,
     };
-    let clock = if times { Some(timeline) } else { None };
+    let outlet = Outlet::new(alloc, out, times.then_some(timeline), ours);
     let station = Station {
         alloc,
         cameras: states,
-        outlet: shared(alloc, Outlet::new(alloc, out, clock, ours))?,
+        outlet: shared(alloc, outlet)?,
         saves: shared(alloc, Saves::new(alloc, taken)?)?,
         events,
         last: Mutex::new(None),
@@ -79,8 +77,7 @@ pub fn run_station<
     let Ok(input) = BufReader::new(alloc, input) else {
         return Err(NotBegun::NoMemory);
     };
-    let handles = Vec::new(alloc);
-    if !run_behind(rt, &station, orders, input, line, handles, watched) {
+    if !run_behind(rt, &station, orders, input, line, Vec::new(alloc), watched) {
         return Err(NotBegun::NoMemory);
     }
     station.tell_end(rt);
@@ -88,6 +85,14 @@ pub fn run_station<
         tap.end(rt);
     }
     Ok(!station.outlet.has_failed())
+}
+
+// The clock, from now on.
+fn timeline_of<R: Clock>(rt: &R) -> Result<Timeline, NotBegun> {
+    match Timeline::new(rt) {
+        Ok(timeline) => Ok(timeline),
+        Err(_) => Err(NotBegun::NoClock),
+    }
 }
 
 // What the threads of each camera share.

@@ -4,14 +4,15 @@ use Rattle.std.specs.List.{find, range_with_len}
 use Rattle.loop_record.specs.declared.clip.Span.{Span}
 use Rattle.loop_record.specs.declared.geometry.Geometry.{Geometry}
 use Rattle.loop_record.specs.Layout.{has_tag_place}
-use Rattle.loop_record.specs.Recording.{Picture, Recording, Ring, Step, after_step, clip_of, first_free, free_id, lock, needs_recycling, plain, recycling_first, ring_of, store, unlock, victim}
+use Rattle.loop_record.specs.Recording.{Picture, Recording, Ring, Step, after_step, clip_of, first_free, lock, needs_recycling, plain, recycling_first, ring_of, store, unlock, victim}
 use Rattle.loop_record.proofs.Steps.{plain-append}
 use Rattle.loop_store.specs.declared.fault.StoreFault.{StoreFault}
 use Rattle.loop_store.specs.declared.fault.StoreFault.TheVariants.{ClipEmpty, ClipNotHeld, ClipTableFull, OldLayout}
 use Rattle.loop_store.specs.Calls.{due, first_of, missing, span_checks}
 use Rattle.loop_store.specs.Place.{RefusesPlace, steps_before}
-use Rattle.loop_store.specs.Steps.{steps_or_none}
 use Rattle.loop_store.proofs.Same.{IsSame, clips-same, holds-same, needs-same, recycled-same, stored-same, victim-same}
+use Rattle.loop_record.proofs.Names.{free_id}
+use Rattle.loop_store.proofs.Names.{steps_or_none}
 
 -- ---- a lock
 

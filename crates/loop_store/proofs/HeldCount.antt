@@ -6,13 +6,14 @@ use Rattle.std.specs.List.{range_with_len}
 use Rattle.loop_record.specs.declared.geometry.Geometry.{Geometry}
 use Rattle.loop_record.specs.declared.segment.SegmentHead.{SegmentHead}
 use Rattle.loop_record.specs.Layout.{Segment}
-use Rattle.loop_record.specs.Reading.{Holds, all_frames, by_block, frames_of, in_place, open_segments, parts_of}
+use Rattle.loop_record.specs.Reading.{Holds, by_block, frames_of, in_place, open_segments, parts_of}
 use Rattle.loop_record.specs.Recording.{Picture, Recording}
 use Rattle.loop_record.proofs.Readings.{length-range}
 use Rattle.loop_ring.specs.Heads.{heads_of}
 use Rattle.loop_ring.proofs.Heads.{head_of, heads-are}
-use Rattle.loop_ring.proofs.Held.{sorted}
+use Rattle.loop_ring.proofs.HeldBlocks.{sorted}
 use Rattle.loop_store.specs.Numbers.{numbers_under}
+use Rattle.loop_record.proofs.Names.{all_frames}
 
 -- the frames of segments, counted
 abbrev total : List Segment → ℕ

@@ -4,7 +4,7 @@ use Rattle.loop_disk.specs.Medium.{Medium, IsSound}
 use Rattle.loop_record.specs.declared.frame.FrameHead.{FrameHead}
 use Rattle.loop_record.specs.declared.segment.SegmentHead.{SegmentHead}
 use Rattle.loop_record.specs.Recording.{Recording, holds}
-use Rattle.loop_record.proofs.Decided.{clash}
+use Rattle.loop_record.proofs.TestFacts.{clash}
 use Rattle.loop_ring.specs.Heads.{has_number}
 use Rattle.loop_store.specs.declared.fault.StoreFault.{StoreFault}
 use Rattle.loop_store.specs.declared.fault.StoreFault.TheVariants.{NotHeld, NoMemory}
@@ -17,14 +17,14 @@ use Rattle.loop_store.specs.Look.{AnswersFrame, ReadsHeld}
 use Rattle.loop_store.specs.Seen.{seen_with}
 use Rattle.loop_store.specs.Store.{IsKept}
 use Rattle.loop_store.proofs.Looks.{alike-by, known-by, one-kept, there-alike, times-in, times-known}
-use Rattle.loop_store.proofs.Reading.{goes-looked, goes-unread, look-read, look-sought, read-answered, read-failed, read-late, read-missing}
+use Rattle.loop_store.proofs.FrameReads.{goes-looked, goes-unread, look-read, look-sought, read-answered, read-failed, read-late, read-missing}
 use Rattle.std.specs.List.{filter}
 use Rattle.loop_record.specs.declared.clip.Span.{Span}
 use Rattle.loop_record.specs.declared.times.Times.{Times}
 use Rattle.loop_record.specs.Times.{AreRuns, is_in}
-use Rattle.loop_store.proofs.Checked.{answer-given}
+use Rattle.loop_store.proofs.CheckAnswers.{answer-given}
 use Rattle.loop_store.proofs.Same.{holds-same}
-use Rattle.loop_store.proofs.Seeking.{sought-numbers}
+use Rattle.loop_store.proofs.TimeRuns.{sought-numbers}
 
 module _ {D A : Type 0} (medium : D → Medium) (disk : D) (index : Index A) (must : Bool)
     (kept : IsKept medium disk index must) (fine : must ≡ false)

@@ -9,7 +9,7 @@ use Rattle.std.proofs.lemmas.List.Folds.{list_any-append}
 use Rattle.loop_record.specs.declared.geometry.Geometry.{Geometry}
 use Rattle.loop_record.specs.declared.segment.SegmentHead.{SegmentHead}
 use Rattle.loop_record.specs.Recording.{numbers_end}
-use Rattle.loop_record.proofs.Decided.{at_most, at_most_test, both, untrue}
+use Rattle.loop_record.proofs.TestFacts.{at_most, at_most_test, both, untrue}
 use Rattle.loop_ring.specs.Heads.{has_number}
 use Rattle.loop_ring.proofs.Heads.{any-index}
 use Rattle.loop_store.specs.Numbers.{IsLeastFrom}

@@ -7,8 +7,9 @@ use Rattle.loop_disk.proofs.Moments.{started, goes_on}
 use Rattle.loop_record.specs.declared.geometry.Geometry.{Geometry}
 use Rattle.loop_record.specs.Reading.{Holds}
 use Rattle.loop_record.specs.Recording.{Recording, Step, plain, ring_of}
-use Rattle.loop_store.specs.Steps.{HoldsFrom, HoldsSome, LeavesSteps}
-use Rattle.loop_store.proofs.Grown.{held-some, later-steps, steps-joined}
+use Rattle.loop_store.specs.Steps.{HoldsFrom, LeavesSteps}
+use Rattle.loop_store.proofs.BlockImages.{held-some, later-steps, steps-joined}
+use Rattle.loop_store.proofs.Names.{HoldsSome}
 
 -- a call that only looked, on a disk that holds the recording
 pub leaves-looked : (g : Geometry) (r : Recording) (old new : Medium) → IsSound old → IsSettled old

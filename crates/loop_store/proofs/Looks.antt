@@ -1,6 +1,8 @@
 -- A call that only looks leaves the store as it was.
-use Rattle.std.proofs.Common.{◌≡◌, ℕ, ◌<◌, ◌≤◌, Bool, true, false, is_some, cond, eqb, Option, None, List, [], ◌∷◌, get_or, length, map, refl, sym, ap, ◌∙◌, subst}
-use Rattle.std.specs.List.{All, list_any}
+use Rattle.std.proofs.Common.{◌≡◌, ℕ, ◌<◌, ◌≤◌, Bool, true, false, is_some, cond, eqb, Option, Some, None, List, [], ◌∷◌, get_or, length, map, refl, sym, ap, ◌∙◌, subst}
+use Rattle.std.specs.Prelude.{◌==◌}
+use Rattle.std.specs.List.{All, find, list_any, zip}
+use Rattle.std.specs.Option.{option_map_or}
 use Rattle.loop_disk.specs.Calls.{Stays}
 use Rattle.loop_disk.specs.Medium.{Medium, IsSettled}
 use Rattle.loop_record.specs.declared.geometry.Geometry.{Geometry}
@@ -9,10 +11,10 @@ use Rattle.loop_record.specs.Layout.{version_in}
 use Rattle.loop_record.specs.Reading.{Holds}
 use Rattle.loop_record.specs.Recording.{Picture, Recording, holds}
 use Rattle.loop_record.proofs.Bounds.{limits}
-use Rattle.loop_record.proofs.Decided.{clash, equal}
+use Rattle.loop_record.proofs.TestFacts.{clash, equal}
 use Rattle.loop_record.proofs.Form.{reading-well_formed}
 use Rattle.loop_ring.specs.Heads.{has_number, heads_of}
-use Rattle.loop_ring.proofs.Held.{held-number}
+use Rattle.loop_ring.proofs.HeldBlocks.{held-number}
 pub use Rattle.loop_ring.proofs.SlotReads.{stays_on}
 use Rattle.loop_store.specs.Drawn.{drawn_image}
 use Rattle.loop_store.specs.Grow.{HasNoneStray}
@@ -26,11 +28,11 @@ use Rattle.loop_store.specs.Times.{AreTimes, IsTimed, time_told, time_under}
 use Rattle.loop_store.specs.Store.{IsKept, IsPresent}
 use Rattle.loop_store.specs.Seen.{Seen, StandsFor, Tells, seen_with}
 use Rattle.loop_store.proofs.HeldCount.{count-held}
-use Rattle.loop_store.proofs.Looked.{held-slot}
+use Rattle.loop_store.proofs.SlotLooks.{held-slot}
 use Rattle.loop_store.proofs.Numbers.{among-under}
 use Rattle.loop_store.proofs.Room.{one-recording}
 use Rattle.loop_store.proofs.Same.{IsSame, count-same, formed-same, held-same, holds-same, itself, then}
-use Rattle.loop_store.proofs.Timed.{retimed, retimed-same, retimed-times}
+use Rattle.loop_store.proofs.TimeNotes.{retimed, retimed-same, retimed-times}
 
 pub stays-settled : (old new : Medium) → Stays old new → IsSettled old → IsSettled new
 stays-settled old new stays settled = λ c left. settled c (stays.images c left) ∙ sym stays.bytes
@@ -95,7 +97,7 @@ time-beside f [] n e = absurd cc
 time-beside f (m ∷ ms) n e = go (eqb m n) refl (λ r. time-beside f ms n r) e
   where
     go : (b : Bool) → eqb m n ≡ b → (is_among ms n ≡ true → time_told ms (map f ms) n ≡ f n) → (b || is_among ms n) ≡ true
-        → cond b (f m) (time_told ms (map f ms) n) ≡ f n
+        → option_map_or (λ beside. beside.1) (cond b (Some (m, f m)) (find (λ beside. beside.0 == n) (zip ms (map f ms)))) 0 ≡ f n
     go true same ih e = ap f (equal m n same)
     go false same ih e = ih e
 

@@ -16,11 +16,11 @@ use Rattle.loop_record.specs.Layout.{IsVersion, header_at, open_gates, super_byt
 use Rattle.loop_record.specs.Reading.{Holds, IsFreshImage}
 use Rattle.loop_record.specs.Recording.{Picture, Recording, empty, frame_under, ring_of}
 use Rattle.loop_record.proofs.Fresh.{reading-fresh}
-use Rattle.loop_record.proofs.Written.{length-super_bytes}
-use Rattle.loop_record.proofs.WellFormed.{empty-well_formed}
+use Rattle.loop_record.proofs.ReadBack.{length-super_bytes}
+use Rattle.loop_record.proofs.LegalSteps.{empty-well_formed}
 use Rattle.loop_ring.specs.Heads.{clip_counts, heads_of}
 use Rattle.loop_ring.proofs.Bytes.{closed_none}
-use Rattle.loop_ring.proofs.Counted.{counts-closed}
+use Rattle.loop_ring.proofs.ClipCounts.{counts-closed}
 use Rattle.loop_store.specs.declared.index.Index.{Index}
 use Rattle.loop_store.specs.Drawn.{drawn_image, drawn_super}
 use Rattle.loop_store.specs.Grow.{HasNoneStray}
@@ -31,12 +31,12 @@ use Rattle.loop_store.specs.Index.{IsIndexOf}
 use Rattle.loop_store.specs.declared.fault.StoreFault.{StoreFault}
 use Rattle.loop_store.specs.declared.fault.StoreFault.TheVariants.{BadGeometry, NoMemory}
 use Rattle.loop_store.specs.Faults.{failed_by}
-use Rattle.loop_store.specs.Make.{Formats, WasOrEmpty}
+use Rattle.loop_store.specs.Make.{Formats, WasOr, NoneOrEmpty}
 use Rattle.loop_store.specs.Store.{IsKept}
 use Rattle.loop_store.specs.Seen.{StandsFor, Tells, seen_with}
 use Rattle.loop_record.specs.declared.segment.SegmentHead.{SegmentHead}
-use Rattle.loop_store.proofs.Drawn.{closed-entry, closed-header, drawn-length}
-use Rattle.loop_store.proofs.Regrown.{known-drawn}
+use Rattle.loop_store.proofs.IndexImages.{closed-entry, closed-header, drawn-length}
+use Rattle.loop_store.proofs.AppendImages.{known-drawn}
 use Rattle.loop_store.proofs.Room.{one-recording}
 
 all-none : {X : Type 0} (f : ℕ → Option X) (lo n : ℕ) → ((j : ℕ) → j < lo + n → f j ≡ None)
@@ -172,7 +172,7 @@ refused-formats medium h disk fault bad is none sound = record {
   untouched = λ early. refl;
   formatted = tt;
   stands = tt;
-  moments = λ now. started (medium disk) (WasOrEmpty h (medium disk)) (sound now) (λ c left. inl left);
+  moments = λ now. started (medium disk) (WasOr (medium disk) (NoneOrEmpty h)) (sound now) (λ c left. inl left);
   called = subst (λ (f : Option DiskFault). Called (medium disk) (medium disk) f) (sym none)
       (record { size = refl; honest = (λ honest. honest, λ honest. honest); failures = refl });
 }

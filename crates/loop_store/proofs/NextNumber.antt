@@ -3,14 +3,15 @@ use Rattle.std.proofs.Common.{◌≡◌, ◌≢◌, ℕ, ◌+◌, Bool, true, fa
 use Rattle.std.specs.Prelude.{◌==◌}
 use Rattle.loop_disk.specs.Medium.{Medium}
 use Rattle.loop_record.specs.declared.geometry.Geometry.{Geometry}
-use Rattle.loop_record.specs.Recording.{Picture, Recording, Ring, after_step as stepped, last_number, needs_recycling, plain, recycle, recycling_first, ring_of, steps, store, stores_after, victim}
+use Rattle.loop_record.specs.Recording.{Picture, Recording, Ring, after_step as stepped, last_number, needs_recycling, plain, recycle, recycling_first, ring_of, steps, store, victim}
 use Rattle.loop_record.proofs.Steps.{plain-stores}
 use Rattle.loop_store.specs.Calls.{Call, IsAnswered, StoreState, after_store_call, appended, locked, unlocked, upgraded, was_read, was_read_part, sought}
 use Rattle.loop_store.specs.Goes.{Goes}
 use Rattle.loop_store.specs.Seen.{Seen}
-use Rattle.loop_store.specs.Steps.{steps_or_none}
-use Rattle.loop_store.proofs.Gone.{state-of, state-told}
-use Rattle.loop_store.proofs.Putting.{answered-some}
+use Rattle.loop_store.proofs.CallRuns.{state-of, state-told}
+use Rattle.loop_store.proofs.AppendAnswers.{answered-some}
+use Rattle.loop_record.proofs.Names.{stores_after}
+use Rattle.loop_store.proofs.Names.{steps_or_none}
 
 -- how many frames were stored
 abbrev pub count_stored : Call → ℕ

@@ -13,15 +13,16 @@ use Rattle.loop_record.specs.declared.segment.SegmentHead.{SegmentHead}
 use Rattle.loop_record.specs.Geometry.{frame_bytes, slot_at}
 use Rattle.loop_record.specs.Layout.{Segment, slot_in}
 use Rattle.loop_record.specs.Plain.{AreIn, IsIn, segment_of, segments_of}
-use Rattle.loop_record.specs.Reading.{Holds, all_frames, by_block, frames_of, open_segments, parts_of}
+use Rattle.loop_record.specs.Reading.{Holds, by_block, frames_of, open_segments, parts_of}
 use Rattle.loop_record.specs.Recording.{Picture, Recording}
-use Rattle.loop_record.proofs.Decided.{at_most, at_most_test, both, equal, equal_test}
+use Rattle.loop_record.proofs.TestFacts.{at_most, at_most_test, both, equal, equal_test}
 use Rattle.loop_record.proofs.Gates.{range_append}
 use Rattle.loop_record.proofs.Readings.{length-range}
 use Rattle.loop_ring.specs.Heads.{has_number}
-use Rattle.loop_ring.proofs.Held.{sorted}
+use Rattle.loop_ring.proofs.HeldBlocks.{sorted}
 use Rattle.loop_store.specs.Numbers.{is_among, numbers_in, numbers_under}
 use Rattle.loop_store.specs.Found.{IsHeadIn}
+use Rattle.loop_record.proofs.Names.{all_frames}
 
 enumerated : (n : ℕ) (ps : List Picture) → map (λ f. f.0) (enumerate_from n ps) ≡ range_with_len n (length ps)
 enumerated n [] = refl

@@ -9,17 +9,18 @@ use Rattle.loop_disk.proofs.Moments.{each_now}
 use Rattle.loop_record.specs.declared.geometry.Geometry.{Geometry}
 use Rattle.loop_record.specs.Reading.{Holds}
 use Rattle.loop_record.specs.Recording.{Recording, Step, plain, ring_of}
-use Rattle.loop_record.proofs.Decided.{clash}
-use Rattle.loop_store.specs.Calls.{AnswersOtherwise, Call, IsAnswered, StoreState, begun_by, checks, failed_for, fault_answered, first_of, has_failed, is_look, made_by, version_after, was_refused}
+use Rattle.loop_record.proofs.TestFacts.{clash}
+use Rattle.loop_store.specs.Calls.{AnswersOtherwise, Call, IsAnswered, StoreState, begun_by, checks, failed_for, fault_answered, first_of, is_look, made_by, version_after, was_refused}
 use Rattle.loop_store.specs.Goes.{Goes, Stands, TellsState}
-use Rattle.loop_store.specs.Steps.{HoldsFrom, HoldsSome, LeavesSteps}
+use Rattle.loop_store.specs.Steps.{HoldsFrom, LeavesSteps}
 use Rattle.loop_store.specs.Reopen.{TellsOne}
 use Rattle.loop_store.specs.Seen.{HasFailed, Seen, StandsFor, Tells}
 use Rattle.loop_store.specs.declared.fault.StoreFault.TheVariants.{MustReopen}
-use Rattle.loop_store.proofs.Asked.{failed-stands, failed-told, holds-all}
-use Rattle.loop_store.proofs.Checked.{must-first, refused}
-use Rattle.loop_store.proofs.Gone.{goes-once, stays-still}
+use Rattle.loop_store.proofs.AfterCalls.{failed-stands, failed-told, holds-all}
+use Rattle.loop_store.proofs.CheckAnswers.{must-first, refused}
+use Rattle.loop_store.proofs.CallRuns.{goes-once, stays-still}
 use Rattle.loop_store.proofs.Leaves.{leaves-none, leaves-same}
+use Rattle.loop_store.proofs.Names.{has_failed, HoldsSome}
 
 or-false : (b : Bool) → (b || false) ≡ b
 or-false true = refl

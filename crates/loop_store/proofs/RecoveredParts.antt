@@ -1,5 +1,5 @@
 -- What a read of each part of a disk says of its image.
-use Rattle.std.proofs.Common.{◌≡◌, ℕ, ◌+◌, ◌-◌, ◌*◌, ◌<◌, ◌≤◌, Bool, true, false, cond, IsTrue, IsErrAnd, Option, Some, None, Result, Ok, Err, List, [], ◌∷◌, ◌++◌, length, take, drop, get_or, map, refl, sym, ap, ◌∙◌, subst, arith}
+use Rattle.std.proofs.Common.{◌≡◌, ℕ, ◌+◌, ◌-◌, ◌*◌, ◌<◌, ◌≤◌, Bool, true, false, cond, IsTrue, IsErrAnd, Option, Some, None, Result, Ok, Err, List, [], ◌∷◌, ◌++◌, length, take, drop, map, refl, sym, ap, ◌∙◌, subst, arith}
 use Rattle.std.specs.List.{list_any, range_with_len}
 use Rattle.loop_disk.specs.Calls.{Called, Stays}
 use Rattle.loop_disk.specs.Medium.{MayBe, Medium, piece}
@@ -13,27 +13,25 @@ use Rattle.loop_record.specs.declared.image.Found.{Found}
 use Rattle.loop_record.specs.declared.segment.SegmentHead.{SegmentHead}
 use Rattle.loop_record.specs.declared.superblock.SuperHead.{SuperHead}
 use Rattle.loop_record.specs.Geometry.{frame_bytes, is_good, segment_at, slot_at}
-use Rattle.loop_record.specs.Layout.{entry_at, Segment, Slot, open_gates, checked_header, super_in, version_in, header_at, is_open, is_slot_of, is_too_high, segment_in, slot_head, slot_in, whole_frames}
-use Rattle.loop_record.specs.Plain.{AreIn, IsSomeHigh, found_of, lacks_number, segment_of, segments_of, table_clips, with_segment}
-use Rattle.loop_record.specs.Reading.{by_block, hold_from, is_bad_slot, is_high, open_segments, parts_of, reading}
+use Rattle.loop_record.specs.Layout.{entry_at, Slot, open_gates, checked_header, super_in, version_in, header_at, is_open, is_slot_of, is_too_high, segment_in, slot_head, slot_in}
+use Rattle.loop_record.specs.Plain.{AreIn, IsSomeHigh, lacks_number, segment_of, table_clips}
+use Rattle.loop_record.specs.Reading.{is_bad_slot, reading}
 use Rattle.std.proofs.lemmas.List.{length-map, map-append}
 use Rattle.loop_record.proofs.Gates.{range_append}
 use Rattle.loop_record.proofs.Bounds.{limits}
-use Rattle.loop_record.proofs.Framing.{prefix_range-le}
+use Rattle.loop_record.proofs.OwnBytes.{prefix_range-le}
 use Rattle.loop_record.proofs.Parts.{super-fault}
 use Rattle.loop_record.proofs.Fresh.{super_in-slice, header_at-slice}
-use Rattle.loop_record.proofs.FoundSegments.{found-high, opened-more, read_slots, reading-no_geometry, slots-bad, slots-hold}
+use Rattle.loop_record.proofs.FoundSegments.{found-high, read_slots, reading-no_geometry, slots-bad, slots-hold}
 use Rattle.loop_record.proofs.HeldNumbers.{bad-lacks, clips-table}
-use Rattle.loop_record.proofs.Readings.{get_or-map_range}
 use Rattle.loop_record.specs.Recording.{head}
 use Rattle.byteorder.specs.Endian.{little_from}
-use Rattle.loop_ring.proofs.Held.{length-in_place}
 use Rattle.loop_ring.proofs.SlotReads.{head_read, stays_on}
 use Rattle.loop_record.proofs.Readings.{length-range}
 use Rattle.loop_store.specs.declared.fault.StoreFault.{StoreFault}
 use Rattle.loop_store.specs.Faults.{failed_by}
-use Rattle.loop_store.specs.Found.{Finds, IsHeadIn, Recovers, clips_of, refusal, segment_said, some_bad_clip}
-use Rattle.loop_ring.specs.Heads.{heads_of}
+use Rattle.loop_store.specs.Found.{Finds, IsHeadIn, Recovers, clips_of, refusal, some_bad_clip}
+use Rattle.loop_record.proofs.Names.{hold_from}
 
 -- ---- refusals
 
@@ -193,7 +191,7 @@ pub head-high : (g : Geometry) (image : List ℕ) (j : ℕ) (d : Damage)
     → (let r : Result (Option SegmentHead) Damage = Err d in r) ≡ checked_header g (header_at g image (segment_at g j))
     → (LayoutFault.Damaged d ≡ LayoutFault.Damaged Damage.BlockTooHigh) × IsSomeHigh g (segment_in g image j)
 head-high g image j d e =
-    let k = found-high g image j d (ap (found_of j) e) in
+    let k = found-high g image j d e in
     (ap (λ (x : Damage). LayoutFault.Damaged x) k.0, k.1)
 
 -- one more header that was read
@@ -207,21 +205,6 @@ heads-more g image n said heads new is so_far pushed =
     pushed ∙ (λ i. so_far i ++ is i ∷ [])
     ∙ sym (ap (map f) (range_append 0 n 1) ∙ map-append f (range_with_len 0 n) (range_with_len (0 + n) 1)
     ∙ ap (λ (k : ℕ). map f (range_with_len 0 n) ++ f k ∷ []) at)
-
--- an open segment is what its header says, and its slots
-pub segment-said : (g : Geometry) (image : List ℕ) (j : ℕ) → segment_in g image j ≡ segment_said g image j
-    (header_at g image (segment_at g j))
-segment-said g image j = go (is_open image (segment_at g j))
-  where
-    there : SegmentHead
-    there = record { block = little_from (segment_at g j + 8) 8 image; frames = whole_frames g image j }
-
-    these : Segment
-    these = segment_of g image (record { segment = j; block = there.block; frames = there.frames })
-
-    go : (t : Bool) → cond t (Some these) None ≡ segment_said g image j (cond t (Some there) None)
-    go true = refl
-    go false = refl
 
 -- ---- slots
 
@@ -243,39 +226,6 @@ slot-right n number s h e = go (is_slot_of n number s) refl e
     go false is e = absurd cc
 
 -- ---- loops
-
--- one more segment in its place
-pub order-more : (g : Geometry) (image : List ℕ) (heads : List (Option SegmentHead)) (done : ℕ)
-    (head d : Option SegmentHead) (old new : List Found) → heads ≡ heads_of g image → done < g.segments
-    → head ≡ get_or heads (g.segments - 1 - done) d
-    → segments_of g image new ≡ with_segment (segment_said g image (g.segments - 1 - done) head) (segments_of g image old)
-    → segments_of g image old ≡ by_block (open_segments (map (segment_in g image) (range_with_len (g.segments - done) done)))
-    → segments_of g image new ≡ by_block (open_segments (map (segment_in g image) (range_with_len (g.segments - (done + 1)) (done + 1))))
-order-more g image heads done head d old new are l is placed so_far =
-    let j = g.segments - 1 - done in
-    let at : 0 + j ≡ j = omega arith in
-    let f = λ (k : ℕ). header_at g image (segment_at g k) in
-    let said : head ≡ f j = is ∙ ap (λ (hs : List (Option SegmentHead)). get_or hs j d) are
-    ∙ get_or-map_range f 0 g.segments j d (omega (arith, l)) ∙ ap f at in
-    let there : segment_said g image j head ≡ segment_in g image j = ap (segment_said g image j) said ∙ sym (segment-said g image j) in
-    placed ∙ (λ i. with_segment (there i) (so_far i)) ∙ sym (opened-more g image done l)
-
--- at most one more than before
-pub order-count : (g : Geometry) (image : List ℕ) (o : Option Segment) (old new : List Found) (done : ℕ)
-    → segments_of g image new ≡ with_segment o (segments_of g image old) → length old ≤ done → length new ≤ done + 1
-order-count g image o old new done placed few =
-    omega (
-      arith,
-      length-map new (segment_of g image),
-      length-map old (segment_of g image),
-      ap (λ (ss : List Segment). length ss) placed,
-      go o,
-      few,
-    )
-  where
-    go : (o : Option Segment) → length (with_segment o (segments_of g image old)) ≤ length (segments_of g image old) + 1
-    go None = omega arith
-    go (Some s) = omega (arith, length-in_place s (segments_of g image old))
 
 -- a slot that was refused
 pub slots-wrong : (g : Geometry) (image : List ℕ) (f : Found) (i number : ℕ) → number ≡ f.block * g.slots + i

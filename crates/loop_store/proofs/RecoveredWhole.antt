@@ -10,27 +10,32 @@ use Rattle.loop_record.specs.declared.segment.SegmentHead.{SegmentHead}
 use Rattle.loop_record.specs.Geometry.{disk_size}
 use Rattle.loop_record.specs.Layout.{geometry_in}
 use Rattle.loop_record.specs.Plain.{AreIn, segments_of}
-use Rattle.loop_record.specs.Reading.{Holds, all_frames, by_block, is_bad_slot, is_high, lacks_frame, next_after, open_segments, parts_of, reading, repeats}
+use Rattle.loop_record.specs.Reading.{Holds, by_block, is_bad_slot, is_high, lacks_frame, next_after, open_segments, parts_of, reading, repeats}
 use Rattle.loop_record.specs.Recording.{Recording, last_number, ring_of}
 use Rattle.loop_record.proofs.FoundSegments.{AreFull, IsFoundIn, fault-of, found-low, found-read, read-all, read-bad_clip, reading-bad_slot, reading-high}
-use Rattle.loop_ring.specs.Heads.{clip_counts, heads_of}
+use Rattle.loop_ring.specs.Heads.{clip_counts, heads_of, in_order}
+use Rattle.loop_store.proofs.SegmentOrder.{order-read}
 use Rattle.loop_store.specs.declared.index.Index.{Index}
 use Rattle.loop_store.specs.Index.{IsFitting, IsOf, IsRecovered}
 use Rattle.loop_store.specs.Found.{IsHeadIn, clips_of, some_bad_clip}
+use Rattle.loop_record.proofs.Names.{all_frames}
 
 -- the segments that were found, in the order of their blocks
-pub found-by : (g : Geometry) (image : List ℕ) (fs xs : List Found) (heads : List (Option SegmentHead))
-    → geometry_in image ≡ Ok g → length image ≡ disk_size g
-    → ((c : List ℕ) → heads ≡ heads_of g c → segments_of g c fs ≡ by_block (open_segments (parts_of g c).segments))
-    → heads ≡ heads_of g image → AreIn g fs → xs ≡ fs → IsFoundIn g image fs xs
-found-by g image fs xs heads geometry size order are within same =
-    record { geometry = geometry; size = size; are = order image are; within = within; same = same }
+pub found-by : (g : Geometry) (image : List ℕ) (fs : List Found) (heads : List (Option SegmentHead))
+    → geometry_in image ≡ Ok g → length image ≡ disk_size g → heads ≡ heads_of g image → AreIn g fs → fs ≡ in_order 0 heads
+    → IsFoundIn g image fs
+found-by g image fs heads geometry size are within is = record {
+  geometry = geometry;
+  size = size;
+  are = ap (λ (xs : List Found). segments_of g image xs) is ∙ order-read g image heads are;
+  within = within;
+}
 
 -- the segments that were found, once none repeats a block and none but the last lacks a frame
-pub full : (g : Geometry) (image : List ℕ) (fs xs : List Found) (twice lacks : Bool) → IsFoundIn g image fs xs
-    → twice ≡ repeats (segments_of g image xs) → twice ≡ false → lacks ≡ lacks_frame g (segments_of g image xs)
-    → lacks ≡ false → AreFull g image fs xs
-full g image fs xs twice lacks found is single is' whole = record { found = found; single = sym is ∙ single; full = sym is' ∙ whole }
+pub full : (g : Geometry) (image : List ℕ) (fs : List Found) (twice lacks : Bool) → IsFoundIn g image fs
+    → twice ≡ repeats (segments_of g image fs) → twice ≡ false → lacks ≡ lacks_frame g (segments_of g image fs)
+    → lacks ≡ false → AreFull g image fs
+full g image fs twice lacks found is single is' whole = record { found = found; single = sym is ∙ single; full = sym is' ∙ whole }
 
 -- a header's refusal
 pub refused-head : (g : Geometry) (image : List ℕ) (fault : LayoutFault) → geometry_in image ≡ Ok g
@@ -39,34 +44,34 @@ pub refused-head : (g : Geometry) (image : List ℕ) (fault : LayoutFault) → g
 refused-head g image fault geometry size q = reading-high g image geometry size q.1 ∙ fault-of (sym q.0)
 
 -- a slot's refusal
-pub refused-slot : (g : Geometry) (image : List ℕ) (fs xs : List Found) (fault : LayoutFault)
-    → AreFull g image fs xs → (fault ≡ LayoutFault.Damaged Damage.SlotHead)
-    × (list_any (is_bad_slot g) (segments_of g image xs) ≡ true) → reading image ≡ Err fault
-refused-slot g image fs xs fault a q =
-    reading-bad_slot g image (segments_of g image xs) (found-read g image fs xs a.found)
-    (found-low g image fs xs a.found) a.single a.full q.1 ∙ fault-of (sym q.0)
+pub refused-slot : (g : Geometry) (image : List ℕ) (fs : List Found) (fault : LayoutFault)
+    → AreFull g image fs → (fault ≡ LayoutFault.Damaged Damage.SlotHead)
+    × (list_any (is_bad_slot g) (segments_of g image fs) ≡ true) → reading image ≡ Err fault
+refused-slot g image fs fault a q =
+    reading-bad_slot g image (segments_of g image fs) (found-read g image fs a.found)
+    (found-low g image fs a.found) a.single a.full q.1 ∙ fault-of (sym q.0)
 
 -- a clip's refusal
-pub refused-clip : (g : Geometry) (image : List ℕ) (fs xs : List Found) (fault : LayoutFault)
-    → AreFull g image fs xs → list_any (is_bad_slot g) (segments_of g image xs) ≡ false
-    → (fault ≡ LayoutFault.Damaged Damage.ClipRange) × (some_bad_clip g image xs ≡ true) → reading image ≡ Err fault
-refused-clip g image fs xs fault a right q =
-    read-bad_clip g image fs xs (all_frames g (segments_of g image xs)) Damage.ClipRange a right refl refl q.1 ∙ fault-of (sym q.0)
+pub refused-clip : (g : Geometry) (image : List ℕ) (fs : List Found) (fault : LayoutFault)
+    → AreFull g image fs → list_any (is_bad_slot g) (segments_of g image fs) ≡ false
+    → (fault ≡ LayoutFault.Damaged Damage.ClipRange) × (some_bad_clip g image fs ≡ true) → reading image ≡ Err fault
+refused-clip g image fs fault a right q =
+    read-bad_clip g image fs (all_frames g (segments_of g image fs)) Damage.ClipRange a right refl refl q.1 ∙ fault-of (sym q.0)
 
 -- nothing is refused
-pub recovered : {A : Type 0} (index : Index A) (g : Geometry) (image : List ℕ) (fs xs : List Found)
+pub recovered : {A : Type 0} (index : Index A) (g : Geometry) (image : List ℕ) (fs : List Found)
     (heads : List (Option SegmentHead)) (clips : List (Option Span)) (next : ℕ) → IsOf index g heads clips next
-    → AreFull g image fs xs → list_any (is_bad_slot g) (segments_of g image xs) ≡ false → (clips ≡ clips_of image)
-    × (some_bad_clip g image xs ≡ false) → next ≡ next_after g (segments_of g image xs) → heads ≡ heads_of g image
+    → AreFull g image fs → list_any (is_bad_slot g) (segments_of g image fs) ≡ false → (clips ≡ clips_of image)
+    × (some_bad_clip g image fs ≡ false) → next ≡ next_after g (segments_of g image fs) → heads ≡ heads_of g image
     → IsRecovered index image
-recovered index g image fs xs heads clips next is a right q after are =
-    let frames = all_frames g (segments_of g image xs) in
+recovered index g image fs heads clips next is a right q after are =
+    let frames = all_frames g (segments_of g image fs) in
     let r : Recording = record { next = next; frames = frames; clips = clips } in
     record {
       recording = r;
       known = record {
         held = subst (λ (h : Geometry). Holds h r image) (sym is.geometry)
-            (read-all g image fs xs next frames clips a right refl after q.0 q.1);
+            (read-all g image fs next frames clips a right refl after q.0 q.1);
         next_is = is.next_is;
         heads_are = is.heads_are ∙ are ∙ ap (λ (h : Geometry). heads_of h image) (sym is.geometry);
         clips_are = is.clips_are;

@@ -12,8 +12,8 @@ use Rattle.loop_record.specs.Geometry.{gate_at, segment_at, segment_size}
 use Rattle.loop_record.specs.Layout.{Segment, segment_in, version_in}
 use Rattle.loop_record.specs.Reading.{Contents, Holds, empty_segment, open_segments, parts_of}
 use Rattle.loop_record.specs.Recording.{Picture, Recording, after_step, needs_recycling, plain, recycle, recycling_first, ring_of, victim}
-use Rattle.loop_record.proofs.Decided.{neither}
-use Rattle.loop_record.proofs.Framing.{SameWithin, same_open, same_segment, same_whole_frames}
+use Rattle.loop_record.proofs.TestFacts.{neither}
+use Rattle.loop_record.proofs.OwnBytes.{SameWithin, same_open, same_segment, same_whole_frames}
 use Rattle.loop_record.proofs.Parts.{apart, parts-shows, these, version-outside, within_before, within_behind}
 use Rattle.loop_record.proofs.Readings.{reading-retire, reading-same}
 use Rattle.loop_ring.specs.Heads.{heads_of}
@@ -22,8 +22,8 @@ use Rattle.loop_ring.proofs.Heads.{heads-committed, heads-length, heads-shown}
 use Rattle.loop_store.specs.declared.place.Place.{Place}
 use Rattle.loop_store.specs.declared.place.Place.TheVariants.{Newest, Closed, Victim}
 use Rattle.loop_store.specs.Grow.{HasNoneStray, IsFreeFor, IsNewestSegment}
-use Rattle.loop_store.specs.Steps.{HoldsSome, steps_or_none}
 use Rattle.loop_store.specs.Place.{IsBegunAt, IsGrownAt, IsKnown, IsOldFor, IsPlaceAt, head_at, place_segment, steps_before}
+use Rattle.loop_store.proofs.Names.{HoldsSome, steps_or_none}
 
 -- ---- one image holds one recording
 

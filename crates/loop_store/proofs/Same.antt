@@ -4,9 +4,11 @@ use Rattle.std.proofs.lemmas.List.{map-append, length-map}
 use Rattle.std.specs.Prelude.{Contains}
 use Rattle.std.specs.List.{enumerate_from, filter, find, range_with_len}
 use Rattle.loop_record.specs.declared.clip.Span.{Span}
-use Rattle.loop_record.specs.Recording.{IsWellFormed, Picture, Recording, RiseBetween, Ring, after_step, block, blocks_of, frame_under, held_blocks, holds, is_locked, needs_recycling, plain, recycle, store, victim, with_block}
-use Rattle.loop_record.proofs.Rising.{Among, among-held, among-range, held-among, numbers_of}
+use Rattle.loop_record.specs.Recording.{IsWellFormed, Picture, Recording, RiseBetween, Ring, after_step, block, frame_under, held_blocks, holds, is_locked, needs_recycling, plain, recycle, store, victim}
+use Rattle.loop_record.proofs.Blocks.{blocks-made}
+use Rattle.loop_record.proofs.NumberOrder.{Among, among-held, among-range, held-among, numbers_of}
 use Rattle.loop_record.proofs.Steps.{plain-stores}
+use Rattle.loop_record.proofs.Names.{blocks_of, with_block}
 
 -- the numbers of two recordings, their next numbers and their clips are the same
 pub record IsSame (r t : Recording) : Type 0 where
@@ -54,7 +56,9 @@ blocks-numbers ring [] = refl
 blocks-numbers ring (f ∷ fs) = ap (with_block (block ring f.0)) (blocks-numbers ring fs)
 
 pub blocks-same : (ring : Ring) (r t : Recording) → IsSame r t → held_blocks ring r ≡ held_blocks ring t
-blocks-same ring r t same = blocks-numbers ring r.frames ∙ ap (blocks_in ring) same.numbers ∙ sym (blocks-numbers ring t.frames)
+blocks-same ring r t same =
+    blocks-made ring r.frames ∙ blocks-numbers ring r.frames ∙ ap (blocks_in ring) same.numbers
+    ∙ sym (blocks-numbers ring t.frames) ∙ sym (blocks-made ring t.frames)
 
 pub victim-same : (ring : Ring) (keep : ℕ) (r t : Recording) → IsSame r t → victim ring keep r ≡ victim ring keep t
 victim-same ring keep r t same =
@@ -95,7 +99,7 @@ formed-same r t same w = record {
   rising = subst (λ (n : ℕ). RiseBetween 0 n t.frames) same.next (rise-same 0 r.next r.frames t.frames same.numbers w.rising);
   clips = λ s stands.
       let was = w.clips s (subst (λ (cs : List (Option Span)). Contains cs (Some s)) (sym same.clips) stands) in
-      record { some = was.some; each = λ n low high. sym (holds-same r t n same) ∙ was.each n low high };
+      (was.0, λ n low high. sym (holds-same r t n same) ∙ was.1 n low high);
   ids = ap length (sym same.clips) ∙ w.ids;
 }
 

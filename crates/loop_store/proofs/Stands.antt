@@ -5,8 +5,8 @@ use Rattle.loop_disk.proofs.Moments.{started, weaker}
 use Rattle.loop_record.specs.declared.geometry.Geometry.{Geometry}
 use Rattle.loop_record.specs.Reading.{Holds}
 use Rattle.loop_record.specs.Recording.{Recording, Step}
-use Rattle.loop_store.specs.Steps.{HoldsSome}
-use Rattle.loop_store.proofs.Grown.{held-some}
+use Rattle.loop_store.proofs.BlockImages.{held-some}
+use Rattle.loop_store.proofs.Names.{HoldsSome}
 
 -- nothing was called
 pub unmoved : (m : Medium) (g : Geometry) (r : Recording) → IsSound m → IsSettled m → Holds g r m.bytes

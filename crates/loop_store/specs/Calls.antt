@@ -1,6 +1,7 @@
 -- The calls of a store with their answers, and what they make of a recording: the model of the store.
-use Rattle.std.specs.Prelude.{◌≡◌, ◌⊎◌, ℕ, ◌+◌, ◌-◌, Bool, true, false, not, ◌&&◌, ◌||◌, ◌==◌, nat_lt, is_some, option_map, Option, Some, None, Result, Ok, Err, List, [], ◌∷◌, length}
+use Rattle.std.specs.Prelude.{◌≡◌, ◌⊎◌, ℕ, ◌+◌, ◌-◌, Bool, true, false, not, ◌&&◌, ◌||◌, ◌==◌, nat_lt, if◌then◌else◌, is_some, option_map, unwrap_or, Option, Some, None, Result, Ok, Err, List, [], ◌∷◌, length}
 use Rattle.std.specs.List.{find, range_with_len}
+use Rattle.std.specs.Result.{result_err}
 use Rattle.loop_disk.specs.declared.fault.DiskFault.{DiskFault}
 use Rattle.loop_disk.specs.Medium.{piece}
 use Rattle.loop_record.specs.declared.clip.Span.{Span}
@@ -9,12 +10,11 @@ use Rattle.loop_record.specs.declared.frame.FrameHead.{FrameHead}
 use Rattle.loop_record.specs.declared.times.Times.{Times}
 use Rattle.loop_record.specs.Times.{AreRuns, numbers_in_time}
 use Rattle.loop_record.specs.Layout.{has_tag_place}
-use Rattle.loop_record.specs.Recording.{Picture, Recording, Ring, Step, clip_of, frame_under, free_id, head, holds, last_number, lock, needs_recycling, plain, steps, unlock, victim}
+use Rattle.loop_record.specs.Recording.{Picture, Recording, Ring, Step, clip_of, first_free, frame_under, head, holds, last_number, lock, needs_recycling, plain, steps, unlock, victim}
 use Rattle.loop_record.specs.Turns.{after_all, told_in, EachIn}
 use Rattle.loop_store.specs.declared.fault.StoreFault.{StoreFault}
 use Rattle.loop_store.specs.declared.fault.StoreFault.TheVariants.{AllLocked, ClipEmpty, ClipNotHeld, ClipTableFull, Damaged, NoMemory, NoSuchClip, MustReopen, NotHeld, NumbersSpent, OldLayout}
-use Rattle.loop_store.specs.Faults.{disk_failed, failed_as, fault_in, is_disk, is_early, is_write_fault}
-use Rattle.loop_store.specs.Steps.{if_answered, if_failed, steps_or_none}
+use Rattle.loop_store.specs.Faults.{disk_failed, failed_as, is_disk, is_early, is_write_fault}
 
 -- a call and its answer: an append of a group, a lock of a span with the clip's id, an unlock of an id, a read of a
 -- number with the head and the bytes that it gave, a read of a part of a number's frame, from a byte on, with the
@@ -56,13 +56,13 @@ pub record StoreState : Type 0 where
 
 -- the refusal in an answer
 abbrev pub fault_answered : Call → Option StoreFault
-fault_answered (appended group result) = fault_in result
-fault_answered (locked span result) = fault_in result
-fault_answered (unlocked id result) = fault_in result
-fault_answered (was_read number result) = fault_in result
-fault_answered (was_read_part number at result) = fault_in result
-fault_answered (sought times result) = fault_in result
-fault_answered (upgraded result) = fault_in result
+fault_answered (appended group result) = result_err result
+fault_answered (locked span result) = result_err result
+fault_answered (unlocked id result) = result_err result
+fault_answered (was_read number result) = result_err result
+fault_answered (was_read_part number at result) = result_err result
+fault_answered (sought times result) = result_err result
+fault_answered (upgraded result) = result_err result
 
 -- it writes nothing
 abbrev pub is_look : Call → Bool
@@ -71,32 +71,24 @@ is_look (was_read_part number at result) = true
 is_look (sought times result) = true
 is_look _ = false
 
--- the steps that an append is asked for
-abbrev pub steps_asked : Ring → ℕ → Recording → List Picture → List Step
-steps_asked ring keep r group = steps_or_none (steps ring keep r group)
-
--- the steps that a call is asked for
+-- the steps that a call is asked for; of an append none, where there are none that it could make
 abbrev pub steps_of : Ring → StoreState → Call → List Step
-steps_of ring s (appended group result) = steps_asked ring s.keep s.recording group
+steps_of ring s (appended group result) = unwrap_or (steps ring s.keep s.recording group) []
 steps_of ring s (locked span result) = lock span ∷ []
 steps_of ring s (unlocked id result) = unlock id ∷ []
 steps_of ring s _ = []
 
--- the steps that a call made, as it answered
+-- the steps that a call made: all, where nothing was refused
 abbrev pub made_by : Ring → StoreState → Call → List Step
-made_by ring s call = if_answered (fault_answered call) (steps_of ring s call)
+made_by ring s call = if is_some (fault_answered call) then [] else steps_of ring s call
 
--- the steps that it began, and of which a beginning may stand
+-- the steps that it began, and of which a beginning may stand: all, where the disk failed
 abbrev pub begun_by : Ring → StoreState → Call → List Step
-begun_by ring s call = if_failed (fault_answered call) (steps_of ring s call)
+begun_by ring s call = if disk_failed (fault_answered call) then steps_of ring s call else []
 
 -- the call of the disk that failed, if the answer says that one did
 abbrev pub failed_for : Call → Option DiskFault
 failed_for call = failed_as (fault_answered call)
-
--- the disk failed in a call that writes
-abbrev pub has_failed : Call → Bool
-has_failed call = not (is_look call) && disk_failed (fault_answered call)
 
 -- it was refused before the disk was called
 abbrev pub was_refused : Call → Bool
@@ -107,12 +99,13 @@ abbrev pub version_after : ℕ → Call → ℕ
 version_after version (upgraded (Ok true)) = 2
 version_after version _ = version
 
+-- after a failed call of the disk within a call that writes the store must be reopened
 abbrev pub after_store_call : Ring → StoreState → Call → StoreState
 after_store_call ring s call = record {
   recording = plain ring s.recording (made_by ring s call);
   version = version_after s.version call;
   keep = s.keep;
-  must_reopen = s.must_reopen || has_failed call;
+  must_reopen = s.must_reopen || (not (is_look call) && disk_failed (fault_answered call));
 }
 
 -- ---- the answers
@@ -121,14 +114,9 @@ after_store_call ring s call = record {
 abbrev pub missing : Recording → Span → Option ℕ
 missing r s = find (λ n. not (holds r n)) (range_with_len s.from (s.to + 1 - s.from))
 
--- a block has to go first and none may
-abbrev pub lacks_victim : Ring → ℕ → Recording → Bool
-lacks_victim ring keep r = needs_recycling ring r && not (is_some (victim ring keep r))
-
 -- a refusal that is due where a check fails
 abbrev pub due : Bool → StoreFault → Option StoreFault
-due true fault = Some fault
-due false fault = None
+due fails fault = if fails then Some fault else None
 
 -- the first that is due
 abbrev pub first_of : List (Option StoreFault) → Option StoreFault
@@ -141,7 +129,7 @@ abbrev pub span_checks : ℕ → Recording → Span → List (Option StoreFault)
 span_checks version r span =
     due (nat_lt span.to span.from) ClipEmpty
     ∷ option_map ClipNotHeld (missing r span)
-    ∷ due (free_id r == 64) ClipTableFull
+    ∷ due (first_free r.clips == 64) ClipTableFull
     ∷ due (not (has_tag_place version span)) OldLayout
     ∷ []
 
@@ -149,14 +137,13 @@ span_checks version r span =
 abbrev pub checks_on : Ring → StoreState → Call → List (Option StoreFault)
 checks_on ring s (appended group result) =
     due (s.recording.next == last_number ring) NumbersSpent
-    ∷ due (lacks_victim ring s.keep s.recording) AllLocked
+    ∷ due (needs_recycling ring s.recording && not (is_some (victim ring s.keep s.recording))) AllLocked
     ∷ []
 checks_on ring s (locked span result) = span_checks s.version s.recording span
 checks_on ring s (unlocked id result) = due (not (is_some (clip_of s.recording id))) NoSuchClip ∷ []
 checks_on ring s (was_read number result) = due (not (holds s.recording number)) NotHeld ∷ []
 checks_on ring s (was_read_part number at result) = due (not (holds s.recording number)) NotHeld ∷ []
-checks_on ring s (sought times result) = []
-checks_on ring s (upgraded result) = []
+checks_on ring s _ = []
 
 -- the checks of a call, in their order
 abbrev pub checks : Ring → StoreState → Call → List (Option StoreFault)
@@ -185,7 +172,7 @@ ReadFails Honest fault = (is_disk fault ≡ true) ⊎ ((fault ≡ Damaged SlotHe
 -- gives is known of honest disks alone.
 abbrev pub AnswersOtherwise : Type 0 → StoreState → Call → Type 0
 AnswersOtherwise Honest s (appended group (Ok number)) = number ≡ s.recording.next
-AnswersOtherwise Honest s (locked span (Ok id)) = id ≡ free_id s.recording
+AnswersOtherwise Honest s (locked span (Ok id)) = id ≡ first_free s.recording.clips
 AnswersOtherwise Honest s (unlocked id (Ok x)) = Unit {0}
 AnswersOtherwise Honest s (was_read number (Ok x)) = Honest → IsHeldFrame s.recording number x.0 x.1
 AnswersOtherwise Honest s (was_read_part number at (Ok bytes)) = Honest → IsPart s.recording number at bytes

@@ -1,5 +1,7 @@
 -- Refusals: their numbers, and what each says of the disk.
-use Rattle.std.specs.Prelude.{ℕ, Bool, true, false, not, ◌&&◌, Option, None, Some, Result, Ok, Err, List, codes}
+use Rattle.std.specs.Prelude.{ℕ, Bool, true, false, not, ◌&&◌, Option, None, Some, Result, List, codes}
+use Rattle.std.specs.Option.{option_map_or}
+use Rattle.std.specs.Result.{result_err}
 use Rattle.loop_disk.specs.declared.fault.DiskFault.{DiskFault}
 use Rattle.loop_disk.specs.Calls.{is_write_or_sync}
 use Rattle.loop_ring.specs.declared.fault.SlotFault.{SlotFault}
@@ -61,18 +63,12 @@ abbrev pub is_write_fault : StoreFault → Bool
 is_write_fault (Disk fault) = is_write_or_sync fault
 is_write_fault _ = false
 
--- the refusal in an answer
-abbrev pub fault_in : {T : Type 0} → Result T StoreFault → Option StoreFault
-fault_in (Ok x) = None
-fault_in (Err fault) = Some fault
-
--- it is that a call of the disk has failed
+-- there is a refusal, and it is that a call of the disk has failed
 abbrev pub disk_failed : Option StoreFault → Bool
-disk_failed None = false
-disk_failed (Some fault) = is_disk fault
+disk_failed fault = option_map_or is_disk fault false
 
 abbrev pub answers_disk : {T : Type 0} → Result T StoreFault → Bool
-answers_disk result = disk_failed (fault_in result)
+answers_disk result = disk_failed (result_err result)
 
 -- the call of the disk that failed, if a refusal says that one did
 abbrev pub failed_by : StoreFault → Option DiskFault
@@ -85,7 +81,7 @@ failed_as (Some fault) = failed_by fault
 
 -- and if an answer does
 abbrev pub failed_in : {T : Type 0} → Result T StoreFault → Option DiskFault
-failed_in result = failed_as (fault_in result)
+failed_in result = failed_as (result_err result)
 
 -- the disk isn't honest
 abbrev pub is_damage : StoreFault → Bool
@@ -94,8 +90,7 @@ is_damage _ = false
 
 -- it came before the disk was called
 abbrev pub is_early : Option StoreFault → Bool
-is_early None = false
-is_early (Some fault) = not (is_disk fault) && not (is_damage fault)
+is_early fault = option_map_or (λ f. not (is_disk f) && not (is_damage f)) fault false
 
 -- the refusal of a slot as a store's
 abbrev pub slot_refusal : SlotFault → StoreFault

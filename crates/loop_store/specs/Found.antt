@@ -1,6 +1,6 @@
 -- What is read of a disk again, part by part, and how damage is answered. Only the store's own code looks at this.
 use Rattle.std.specs.Prelude.{◌≡◌, ℕ, ◌≤◌, Bool, false, Option, Some, None, Result, Ok, Err, List, map}
-use Rattle.std.specs.List.{list_any, range_with_len}
+use Rattle.std.specs.List.{flat_map, list_any, range_with_len}
 use Rattle.loop_disk.specs.Calls.{Called, Stays}
 use Rattle.loop_disk.specs.Medium.{MayBe, Medium}
 use Rattle.loop_record.specs.declared.clip.Span.{Span}
@@ -8,9 +8,9 @@ use Rattle.loop_record.specs.declared.damage.LayoutFault.{LayoutFault}
 use Rattle.loop_record.specs.declared.geometry.Geometry.{Geometry}
 use Rattle.loop_record.specs.declared.image.Found.{Found}
 use Rattle.loop_record.specs.declared.segment.SegmentHead.{SegmentHead}
-use Rattle.loop_record.specs.Layout.{Segment, clip_in, is_too_high}
-use Rattle.loop_record.specs.Plain.{segment_of, segments_of}
-use Rattle.loop_record.specs.Reading.{all_frames, is_bad_clip}
+use Rattle.loop_record.specs.Layout.{clip_in, is_too_high}
+use Rattle.loop_record.specs.Plain.{segments_of}
+use Rattle.loop_record.specs.Reading.{frames_of, is_bad_clip}
 use Rattle.loop_record.specs.Recording.{empty}
 use Rattle.loop_store.specs.declared.fault.StoreFault.{StoreFault}
 use Rattle.loop_store.specs.Faults.{failed_in}
@@ -44,11 +44,6 @@ abbrev pub IsHeadIn : Geometry → Option SegmentHead → Type 0
 IsHeadIn g None = Unit {0}
 IsHeadIn g (Some h) = (h.frames ≤ g.slots) × (is_too_high g h.block ≡ false)
 
--- segment j, where its header says so
-abbrev pub segment_said : Geometry → List ℕ → ℕ → Option SegmentHead → Option Segment
-segment_said g image j None = None
-segment_said g image j (Some h) = Some (segment_of g image (record { segment = j; block = h.block; frames = h.frames }))
-
 -- the clip of each id
 abbrev pub clips_of : List ℕ → List (Option Span)
 clips_of image = map (clip_in image) (range_with_len 0 64)
@@ -56,4 +51,4 @@ clips_of image = map (clip_in image) (range_with_len 0 64)
 -- some clip of the image is empty or has a number of which the segments have no frame
 abbrev pub some_bad_clip : Geometry → List ℕ → List Found → Bool
 some_bad_clip g image fs =
-    list_any (is_bad_clip (record empty { frames = all_frames g (segments_of g image fs) })) (clips_of image)
+    list_any (is_bad_clip (record empty { frames = flat_map (frames_of g) (segments_of g image fs) })) (clips_of image)

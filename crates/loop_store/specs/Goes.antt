@@ -1,19 +1,20 @@
 -- What calls, one after the other, make of a store and leave on its disk.
-use Rattle.std.specs.Prelude.{◌≡◌, ◌↔◌, true, false, Option, List, [], ◌∷◌, map}
+use Rattle.std.specs.Prelude.{◌≡◌, ◌↔◌, true, false, Option, List, map}
 use Rattle.std.specs.List.{list_all}
 use Rattle.loop_disk.specs.declared.fault.DiskFault.{DiskFault}
 use Rattle.loop_disk.specs.declared.fault.Failures.{Failures}
 use Rattle.loop_disk.specs.Calls.{Stays, with_failed}
 use Rattle.loop_disk.specs.Medium.{Medium}
+use Rattle.loop_record.specs.Recording.{ring_of}
+use Rattle.loop_record.specs.Turns.{after_all}
 use Rattle.loop_store.specs.Calls.{AreAnswered, Call, StoreState, after_calls, begun_in, failed_for, is_look, made_in, was_refused}
 use Rattle.loop_store.specs.Reopen.{TellsOne}
-use Rattle.loop_store.specs.Seen.{Seen, StandsFor, Tells, ring_in}
+use Rattle.loop_store.specs.Seen.{Seen, StandsFor, Tells}
 use Rattle.loop_store.specs.Steps.{LeavesSteps}
 
 -- the failures with each of these
 abbrev pub with_each : List (Option DiskFault) → Failures → Failures
-with_each [] failures = failures
-with_each (failed ∷ more) failures = with_each more (with_failed failed failures)
+with_each failed failures = after_all (λ before one. with_failed one before) failures failed
 
 -- what a run of calls keeps of a disk, where these failed
 pub record CalledEach (old new : Medium) (failed : List (Option DiskFault)) : Type 0 where
@@ -41,16 +42,16 @@ pub record Goes {D : Type 0} (medium : D → Medium) (old new : Seen D) (calls :
   pub one : TellsOne old
   -- each answer is the model's, and what a read gives too, where the store stood for the state and the disk is honest
   pub answers : (s : StoreState) → TellsState old s
-      → AreAnswered ((medium old.disk).honest × Stands medium old s) (ring_in old) s calls
+      → AreAnswered ((medium old.disk).honest × Stands medium old s) (ring_of old.geometry) s calls
   -- the store tells of the state after them
-  pub tells : (s : StoreState) → TellsState old s → TellsState new (after_calls (ring_in old) s calls)
+  pub tells : (s : StoreState) → TellsState old s → TellsState new (after_calls (ring_of old.geometry) s calls)
   -- and stands for it where it stood for the first
-  pub stands : (s : StoreState) → Stands medium old s → Stands medium new (after_calls (ring_in old) s calls)
+  pub stands : (s : StoreState) → Stands medium old s → Stands medium new (after_calls (ring_of old.geometry) s calls)
   -- whatever the moment of a crash, the image reads as the recording after a beginning of the steps, and at the
   -- end after all that were made
   pub leaves : (s : StoreState) → Stands medium old s → (medium old.disk).honest → s.must_reopen ≡ false
-      → LeavesSteps old.geometry s.recording (made_in (ring_in old) s calls) (begun_in (ring_in old) s calls)
-      (medium old.disk) (medium new.disk)
+      → LeavesSteps old.geometry s.recording (made_in (ring_of old.geometry) s calls)
+      (begun_in (ring_of old.geometry) s calls) (medium old.disk) (medium new.disk)
   -- calls that write nothing leave the disk as it was, and what it may leave
   pub looks : list_all is_look calls ≡ true → (medium old.disk).honest → Stays (medium old.disk) (medium new.disk)
   -- where each was refused before the disk was called, or there is none, nothing is moved

@@ -9,7 +9,7 @@ use Rattle.loop_record.specs.Recording.{Recording, Step, ring_of, plain}
 use Rattle.loop_record.specs.Layout.{Segment, is_too_high, segment_in, whole_frames}
 use Rattle.loop_record.specs.Reading.{Holds, open_segments, parts_of}
 use Rattle.loop_ring.specs.Writes.{HasNoStray}
-use Rattle.loop_store.specs.Steps.{HoldsSome}
+use Rattle.loop_store.specs.Steps.{HoldsFrom}
 
 -- segment j has the block of the next number, the frames before it, and no frame gate open behind them
 pub record IsNewestSegment (g : Geometry) (next j : ℕ) (image : List ℕ) : Type 0 where
@@ -47,7 +47,7 @@ pub record Brings {T : Type 0} (IsLeft : List ℕ → Type 0) (IsSuch : Medium �
 pub record Makes {T : Type 0} (g : Geometry) (IsOne : Recording → Type 0) (steps : Recording → List Step)
     (IsSuch : List ℕ → Type 0) (old new : Medium) (result : Result T DiskFault) : Type 0 where
   pub moments : (r : Recording) → IsOne r → old.honest → Holds g r old.bytes
-      → LeavesOnly old new (HoldsSome g r (steps r))
+      → LeavesOnly old new (HoldsFrom g r 0 (steps r))
   pub held : (r : Recording) → IsOne r → old.honest → Holds g r old.bytes
       → OnOk result (Holds g (plain (ring_of g) r (steps r)) new.bytes)
   pub such : old.honest → OnOk result (IsSuch new.bytes)

@@ -3,7 +3,7 @@ use Rattle.std.specs.Prelude.{◌≡◌, ◌⊎◌, ℕ, ◌+◌, ◌*◌, ◌<�
 use Rattle.loop_record.specs.declared.clip.Span.{Span}
 use Rattle.loop_record.specs.declared.geometry.Geometry.{Geometry}
 use Rattle.loop_record.specs.Layout.{has_tag_place, version_in}
-use Rattle.loop_record.specs.Recording.{Recording, Ring, block, first_free, free_id, holds, may_lock}
+use Rattle.loop_record.specs.Recording.{Recording, Ring, block, first_free, holds, may_lock}
 use Rattle.loop_ring.specs.Heads.{heads_of}
 use Rattle.loop_store.specs.declared.fault.StoreFault.{StoreFault}
 use Rattle.loop_store.specs.declared.fault.StoreFault.TheVariants.{ClipEmpty, ClipNotHeld, ClipTableFull, OldLayout}
@@ -34,14 +34,14 @@ CanRefuseSpan version span clips fault =
 
 -- the answer to whether a clip of a span may be added in this version of the layout, and under which id
 abbrev pub AnswersSpan : ℕ → Recording → Span → Result ℕ StoreFault → Type 0
-AnswersSpan version r span (Ok id) = (first_of (span_checks version r span) ≡ None) × (id ≡ free_id r)
+AnswersSpan version r span (Ok id) = (first_of (span_checks version r span) ≡ None) × (id ≡ first_free r.clips)
 AnswersSpan version r span (Err fault) = first_of (span_checks version r span) ≡ Some fault
 
 -- a recording of which a clip of this span may be added in this version of the layout, under this id
 pub record CanTake (version : ℕ) (g : Geometry) (span : Span) (id : ℕ) (r : Recording) : Type 0 where
   pub fits : first_of (span_checks version r span) ≡ None
   pub legal : IsTrue (may_lock r span)
-  pub id_is : id ≡ free_id r
+  pub id_is : id ≡ first_free r.clips
 
 -- the segments' headers and the layout's version are those of the old image, and no stray gate is there
 pub record KeepsSegments (g : Geometry) (old new : List ℕ) : Type 0 where

@@ -17,9 +17,9 @@ use Rattle.loop_store.specs.Seen.{Seen, StandsFor, Tells}
 abbrev pub NoneOrEmpty : SuperHead → List ℕ → Type 0
 NoneOrEmpty h c = (reading c ≡ Err NotFormatted) ⊎ HoldsIn h empty c
 
--- an image that a crash might have left before, or one of these
-abbrev pub WasOrEmpty : SuperHead → Medium → List ℕ → Type 0
-WasOrEmpty h m c = m.may_leave c ⊎ NoneOrEmpty h c
+-- an image that a crash might have left before, or one that has P
+abbrev pub WasOr : Medium → (List ℕ → Type 0) → List ℕ → Type 0
+WasOr m P c = m.may_leave c ⊎ P c
 
 -- a limit of the geometry is broken, or the disk's size isn't the geometry's
 abbrev pub IsBadGeometry : {D : Type 0} → Result (Seen D) (OpenRefused D) → Type 0
@@ -59,5 +59,5 @@ pub record Formats {D : Type 0} (medium : D → Medium) (h : SuperHead) (disk : 
   pub formatted : IfOk result (IsFormatted h)
   pub stands : IfOk result (λ store. StandsFor medium store empty)
   pub moments : (medium disk).honest
-      → LeavesOnly (medium disk) (medium (disk_after result)) (WasOrEmpty h (medium disk))
+      → LeavesOnly (medium disk) (medium (disk_after result)) (WasOr (medium disk) (NoneOrEmpty h))
   pub called : Called (medium disk) (medium (disk_after result)) (failed_opening result)

@@ -1,5 +1,5 @@
 -- Where an append goes. Only the store's own code looks at this.
-use Rattle.std.specs.Prelude.{◌≡◌, ◌≢◌, ◌⊎◌, ℕ, ◌/◌, ◌%◌, ◌==◌, false, true, Result, Ok, Err, Option, Some, None, List, slice_index_or, slice_set}
+use Rattle.std.specs.Prelude.{◌≡◌, ◌≢◌, ◌⊎◌, ℕ, ◌/◌, ◌%◌, ◌==◌, false, true, Result, Ok, Err, Option, Some, None, List, slice_index_or, slice_set, [], unwrap_or}
 use Rattle.std.specs.List.{list_any}
 use Rattle.loop_record.specs.declared.geometry.Geometry.{Geometry}
 use Rattle.loop_record.specs.declared.segment.SegmentHead.{SegmentHead}
@@ -13,7 +13,6 @@ use Rattle.loop_store.specs.declared.place.Place.{Place}
 use Rattle.loop_store.specs.declared.place.Place.TheVariants.{Newest, Closed, Victim}
 use Rattle.loop_store.specs.Grow.{HasNoneStray, IsFreeFor}
 use Rattle.loop_store.specs.Index.{head_after}
-use Rattle.loop_store.specs.Steps.{steps_or_none}
 
 -- the segment of a place
 abbrev pub place_segment : Place → ℕ
@@ -62,7 +61,7 @@ pub record IsKnown (g : Geometry) (keep next : ℕ) (place : Place) (image : Lis
 
 -- the steps before the stores of an append: a recycling, or none
 abbrev pub steps_before : Geometry → ℕ → Recording → List Step
-steps_before g keep r = steps_or_none (recycling_first (needs_recycling (ring_of g) r) (victim (ring_of g) keep r))
+steps_before g keep r = unwrap_or (recycling_first (needs_recycling (ring_of g) r) (victim (ring_of g) keep r)) []
 
 -- the header of the segment at a place, before the frames are stored
 abbrev pub head_at : Geometry → ℕ → SegmentHead

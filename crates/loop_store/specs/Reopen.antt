@@ -1,5 +1,5 @@
 -- What opening finds on a disk, and what it leaves of it.
-use Rattle.std.specs.Prelude.{◌≡◌, ◌⊎◌, ◌||◌, ◌==◌, ◌-◌, nat_lt, ℕ, Bool, true, false, IfErr, IfOk, Result, Ok, Err, List}
+use Rattle.std.specs.Prelude.{◌≡◌, ◌||◌, ◌==◌, ◌-◌, nat_lt, ℕ, Bool, true, false, IfErr, IfOk, Result, Ok, Err, List}
 use Rattle.loop_disk.specs.Calls.{Called, Stays}
 use Rattle.loop_disk.specs.Medium.{LeavesOnly, MayBe, Medium}
 use Rattle.loop_record.specs.declared.damage.LayoutFault.{LayoutFault}
@@ -9,16 +9,12 @@ use Rattle.loop_record.specs.Recording.{Recording}
 use Rattle.loop_store.specs.declared.fault.OpenRefused.{OpenRefused}
 use Rattle.loop_store.specs.declared.fault.StoreFault.{StoreFault}
 use Rattle.loop_store.specs.Faults.{is_disk}
-use Rattle.loop_store.specs.Make.{disk_after, failed_opening}
+use Rattle.loop_store.specs.Make.{WasOr, disk_after, failed_opening}
 use Rattle.loop_store.specs.Seen.{Seen, StandsFor, Tells}
 
 -- the second image reads as the first does, in the same version of the layout
 abbrev pub ReadsAlike : List ℕ → List ℕ → Type 0
 ReadsAlike old new = (reading new ≡ reading old) × (version_in new ≡ version_in old)
-
--- an image that a crash might have left before, or one that reads as the present bytes do
-abbrev pub WasOrReadsAlike : Medium → List ℕ → Type 0
-WasOrReadsAlike m c = m.may_leave c ⊎ ReadsAlike m.bytes c
 
 -- what a store tells is what some recording says
 abbrev pub TellsOne : {D : Type 0} → Seen D → Type 0
@@ -66,5 +62,5 @@ pub record OpensKeeping {D : Type 0} (medium : D → Medium) (keep : ℕ) (disk 
   pub stays : (medium disk).honest
       → IfErr result (λ refused. is_disk refused.fault ≡ false → Stays (medium disk) (medium refused.disk))
   pub moments : (medium disk).honest
-      → LeavesOnly (medium disk) (medium (disk_after result)) (WasOrReadsAlike (medium disk))
+      → LeavesOnly (medium disk) (medium (disk_after result)) (WasOr (medium disk) (ReadsAlike (medium disk).bytes))
   pub called : Called (medium disk) (medium (disk_after result)) (failed_opening result)

@@ -1,9 +1,7 @@
--- What a store keeps of its disk, its index and its group. Only the store's own code looks at this.
-use Rattle.std.specs.Prelude.{◌≡◌, Bool, false, min}
+-- What a store keeps of its disk and its index. Only the store's own code looks at this.
+use Rattle.std.specs.Prelude.{◌≡◌, Bool, false}
 use Rattle.loop_disk.specs.Medium.{Medium, IsSettled}
-use Rattle.loop_record.specs.Geometry.{frame_bytes}
 use Rattle.loop_record.specs.Layout.{version_in}
-use Rattle.loop_ring.specs.Groups.{Grouped}
 use Rattle.loop_store.specs.declared.index.Index.{Index}
 use Rattle.loop_store.specs.Grow.{HasNoneStray}
 use Rattle.loop_store.specs.Index.{IsFitting, IsRecovered, SaysRecording}
@@ -24,8 +22,3 @@ pub record IsKept {D A : Type 0} (medium : D → Medium) (disk : D) (index : Ind
   pub fits : IsFitting index (medium disk).size
   pub known : SaysRecording index
   pub present : must_reopen ≡ false → (medium disk).honest → IsPresent index (medium disk)
-
--- the group is for frames of the index's geometry, with memory for as many as may be stored at once
-pub record IsGroupFor {A : Type 0} (index : Index A) (group : Grouped) : Type 0 where
-  pub size_is : group.size ≡ frame_bytes index.ring.geometry
-  pub limit_is : group.limit ≡ min 8 index.ring.geometry.slots

@@ -1,6 +1,7 @@
 -- The times of held frames, and where an index has them: slot by slot.
 use Rattle.std.specs.Prelude.{◌≡◌, ◌⊎◌, ◌==◌, if◌then◌else◌, ℕ, ◌+◌, ◌*◌, ◌/◌, ◌%◌, ◌<◌, ◌≤◌, Option, Some, None, List, [], ◌∷◌, length, slice_index, slice_index_or}
-use Rattle.std.specs.List.{position}
+use Rattle.std.specs.List.{find, position, zip}
+use Rattle.std.specs.Option.{option_map_or}
 use Rattle.loop_record.specs.declared.clip.Span.{Span}
 use Rattle.loop_record.specs.declared.geometry.Geometry.{Geometry}
 use Rattle.loop_record.specs.declared.image.Found.{Found}
@@ -15,11 +16,9 @@ use Rattle.loop_ring.specs.Heads.{is_of}
 abbrev pub AreTimes : (ℕ → ℕ) → Recording → Type 0
 AreTimes times r = (n : ℕ) (p : Picture) → frame_under r.frames n ≡ Some p → times n ≡ p.timestamp
 
--- the time of a number, where as many times stand beside numbers
+-- the time that stands beside a number, or 0
 abbrev pub time_told : List ℕ → List ℕ → ℕ → ℕ
-time_told [] times n = 0
-time_told (m ∷ ms) [] n = 0
-time_told (m ∷ ms) (time ∷ times) n = if m == n then time else time_told ms times n
+time_told numbers times n = option_map_or (λ beside. beside.1) (find (λ beside. beside.0 == n) (zip numbers times)) 0
 
 -- the time at the slot of a number in a segment
 abbrev pub time_in : ℕ → List ℕ → ℕ → Option ℕ → ℕ
@@ -53,20 +52,6 @@ KeepsStamps g image old new =
 abbrev pub AllStamped : Geometry → List ℕ → List ℕ → List Found → Type 0
 AllStamped g image times [] = Unit {0}
 AllStamped g image times (f ∷ fs) = AreStamped g image times f.segment f.frames × AllStamped g image times fs
-
--- segment j as it was found, by its header
-abbrev pub found_at : ℕ → SegmentHead → Found
-found_at j h = record { segment = j; block = h.block; frames = h.frames }
-
--- it is one of those found
-abbrev pub IsAmong : Found → List Found → Type 0
-IsAmong f [] = ⊥
-IsAmong f (g ∷ fs) = (g ≡ f) ⊎ IsAmong f fs
-
--- so is each open segment from `low` on
-abbrev pub HasEach : ℕ → List (Option SegmentHead) → List Found → Type 0
-HasEach low heads fs =
-    (j : ℕ) (h : SegmentHead) → low ≤ j → slice_index_or heads j None ≡ Some h → IsAmong (found_at j h) fs
 
 -- the times of all that an image holds are known
 pub record IsTimed (g : Geometry) (heads : List (Option SegmentHead)) (times image : List ℕ) : Type 0 where

@@ -1,10 +1,10 @@
 //! Calls of a store in a row, across a crash: what these promise follows from the calls' own contracts alone.
 
-ghost use Rattle.std.specs.Prelude.{◌≡◌, ◌≤◌, All, IfOk, false, length, true};
+ghost use Rattle.std.specs.Prelude.{◌≡◌, ◌≤◌, All, IfOk, [], false, length, true, unwrap_or};
 ghost use Rattle.loop_record.specs.Geometry.{frame_bytes};
 ghost use Rattle.loop_record.specs.Plain.{pictures};
-ghost use Rattle.loop_record.specs.Recording.{empty, holds, plain, ring_of};
-ghost use Rattle.loop_store.specs.Calls.{StoreState, steps_asked};
+ghost use Rattle.loop_record.specs.Recording.{empty, holds, plain, ring_of, steps};
+ghost use Rattle.loop_store.specs.Calls.{StoreState};
 ghost use Rattle.loop_store.specs.Goes.{Stands};
 ghost use Rattle.loop_store.specs.Chain.{ReadsFrame};
 
@@ -25,7 +25,8 @@ pub fn format_and_append<D: Disk + Drop, A: Allocator + Copy>(
     requires room { length frames.now ≤ geometry.slots }
     requires sizes { All (λ frame. length frame.bytes.items ≡ frame_bytes geometry) frames.now }
     ensures { IfOk result (λ store. Stands D.medium store (record {
-      recording = plain (ring_of geometry) empty (steps_asked (ring_of geometry) 1 empty (pictures frames.now));
+      recording = let ring = ring_of geometry in
+          plain ring empty (unwrap_or (steps ring 1 empty (pictures frames.now)) []);
       version = 2;
       keep = 1;
       must_reopen = false;

@@ -3,7 +3,7 @@
 //!
 //! Each call reads and never writes; after a refusal the disk is as it was.
 
-ghost use Rattle.std.specs.Prelude.{◌≡◌, ◌+◌, ◌*◌, ◌<◌, ◌≤◌, ℕ, List, Ok, Err, IfOk, IfSome, None, OnOk, All, true, false, length, slice_index_or};
+ghost use Rattle.std.specs.Prelude.{◌≡◌, ◌+◌, ◌*◌, ◌<◌, ◌≤◌, ℕ, List, Ok, Err, IfOk, None, All, true, false, length, slice_index_or};
 ghost use Rattle.std.specs.List.{list_any};
 ghost use Rattle.loop_record.specs.declared.damage.Damage.{Damage};
 ghost use Rattle.loop_record.specs.declared.damage.LayoutFault.{LayoutFault};
@@ -11,20 +11,20 @@ ghost use Rattle.loop_record.specs.declared.geometry.Geometry.{Geometry};
 ghost use Rattle.loop_record.specs.declared.image.Found.{Found};
 ghost use Rattle.loop_record.specs.Geometry.{frame_bytes, segment_at, slot_at};
 ghost use Rattle.loop_record.specs.Layout.{header_at, is_slot_of, is_too_high, segment_in, slot_in, super_in, version_in};
-ghost use Rattle.loop_record.specs.Plain.{AreIn, IsSomeHigh, IsTagFit, lacks_number, segment_of, segments_of, with_segment};
+ghost use Rattle.loop_record.specs.Plain.{AreIn, IsSomeHigh, IsTagFit, lacks_number, segment_of, segments_of};
 ghost use Rattle.loop_record.specs.Reading.{by_block, is_bad_slot, is_high, open_segments, parts_of, reading};
 ghost use Rattle.loop_ring.specs.Heads.{heads_of};
 ghost use Rattle.loop_store.specs.Fresh.{FitsDisk};
-ghost use Rattle.loop_store.specs.Found.{Finds, IsHeadIn, clips_of, refusal, segment_said, some_bad_clip};
-ghost use Rattle.loop_store.specs.Times.{AllStamped, AreStamped, HasEach, IsAmong, KeepsStamps, found_at};
+ghost use Rattle.loop_store.specs.Found.{Finds, IsHeadIn, clips_of, refusal, some_bad_clip};
+ghost use Rattle.loop_store.specs.Times.{AllStamped, AreStamped, KeepsStamps};
 
 use crate::StoreFault;
 use loop_disk::Disk;
 use loop_record::{
     Damage, Found, Geometry, HEAD_SIZE, HEADER_SIZE, LayoutFault, SUPER_SIZE, SegmentHead, Span,
-    SuperHead, TABLE_SIZE, decode_head, decode_header, decode_super, put_in_place, read_clips,
+    SuperHead, TABLE_SIZE, decode_head, decode_header, decode_super, read_clips,
 };
-use std::alloc::{AllocError, Allocator};
+use std::alloc::Allocator;
 
 impl From<LayoutFault> for StoreFault {
     ghost from_gives = { λ fault made. made ≡ refusal fault };
@@ -98,56 +98,6 @@ pub(crate) fn read_heads<D: Disk, A: Allocator>(
         heads.push_reserved(head);
     }
     Ok(heads)
-}
-
-/// Puts a segment in its place among those whose blocks don't fall, if it is open.
-fn add_head<A: Allocator>(
-    segment: u32,
-    head: Option<SegmentHead>,
-    open: &mut Vec<Found, A>,
-) -> Result<(), AllocError>
-    ensures within { OnOk result ((g : Geometry) → IsHeadIn g head → segment < g.segments
-        → AreIn g open.old.items → AreIn g open.new.items) }
-    ensures placed { OnOk result ((g : Geometry) (image : List ℕ)
-        → segments_of g image open.new.items
-        ≡ with_segment (segment_said g image segment head) (segments_of g image open.old.items)) }
-    ensures has { OnOk result (IfSome head (λ h. IsAmong (found_at segment h) open.new.items)) }
-    ensures keeps { OnOk result ((f : Found) → IsAmong f open.old.items → IsAmong f open.new.items) }
-{
-    if let Some(SegmentHead { block, frames }) = head {
-        put_in_place(
-            open,
-            Found {
-                segment,
-                block,
-                frames,
-            },
-        )?;
-    }
-    Ok(())
-}
-
-/// The open segments in the order of their blocks. Its memory is taken at once.
-pub(crate) fn in_order<A: Allocator>(
-    alloc: A,
-    geometry: &Geometry,
-    heads: &[Option<SegmentHead>],
-) -> Result<Vec<Found, A>, AllocError>
-    requires count { length heads.now ≡ geometry.now.segments }
-    requires within { All (IsHeadIn geometry.now) heads.now }
-    ensures count { IfOk result (λ found. length found.items ≤ geometry.now.segments) }
-    ensures within { IfOk result (λ found. AreIn geometry.now found.items) }
-    ensures order { (image : List ℕ) → heads.now ≡ heads_of geometry.now image
-        → IfOk result (λ found.
-        segments_of geometry.now image found.items ≡ by_block (open_segments (parts_of geometry.now image).segments)) }
-    ensures each { IfOk result (λ found. HasEach 0 heads.now found.items) }
-{
-    let mut open = Vec::with_capacity(alloc, geometry.segments as usize)?;
-    for done in 0..geometry.segments {
-        let segment = geometry.segments - 1 - done;
-        add_head(segment, heads[segment as usize], &mut open)?;
-    }
-    Ok(open)
 }
 
 /// The time of frame `number`, where a slot holds it, or `SlotHead`: one read of its first `HEAD_SIZE` bytes.

@@ -5,7 +5,7 @@ ghost use Rattle.loop_disk.specs.Medium.{IsSettled};
 ghost use Rattle.loop_record.specs.Geometry.{is_good};
 ghost use Rattle.loop_record.specs.Layout.{IsVersion, super_bytes};
 ghost use Rattle.loop_store.specs.Fresh.{FitsDisk, HoldsFresh, IsClosed, IsLaid, IsLaidClosed, LeavesClosed, WasOrClosed};
-ghost use Rattle.loop_store.specs.Make.{NoneOrEmpty, WasOrEmpty};
+ghost use Rattle.loop_store.specs.Make.{NoneOrEmpty, WasOr};
 ghost use Rattle.loop_store.specs.Grow.{Brings};
 
 use loop_disk::{Disk, DiskFault, store};
@@ -118,7 +118,7 @@ pub(crate) fn lay_out<D: Disk>(disk: &mut D, head: &SuperHead) -> Result<(), Dis
     requires fits { FitsDisk head.now.geometry (D.medium disk.old).size }
     requires version { IsVersion head.now.version }
     ensures { let h = head.now in let old = D.medium disk.old in
-        Brings (WasOrEmpty h old) (HoldsFresh h) old (D.medium disk.new) result }
+        Brings (WasOr old (NoneOrEmpty h)) (HoldsFresh h) old (D.medium disk.new) result }
 {
     unformat(disk)?;
     write_front(disk, head)?;

@@ -34,11 +34,11 @@ fn begin<D: Disk>(disk: &mut D, ring: &Ring, segment: u32, next: u64) -> Result<
 }
 
 /// Stores a group of frames in the block that has begun, behind its others.
-fn store_group<D: Disk, A: Allocator>(
+fn store_group<D: Disk>(
     disk: &mut D,
     ring: &Ring,
     segment: u32,
-    group: &Group<A>,
+    group: &Group<'_>,
 ) -> Result<(), DiskFault>
     requires extent { (D.medium disk.old).size ≡ disk_size ring.now.geometry }
     requires segment { segment < ring.now.geometry.segments }
@@ -108,7 +108,7 @@ pub(crate) fn append_group<D: Disk, A: Allocator>(
     disk: &mut D,
     index: &Index<A>,
     place: Place,
-    group: &Group<A>,
+    group: &Group<'_>,
 ) -> Result<(), DiskFault>
     requires extent { (D.medium disk.old).size ≡ disk_size index.now.ring.geometry }
     requires segment { place_segment place < index.now.ring.geometry.segments }

@@ -56,31 +56,31 @@ fn has_frame_of(head: Option<SegmentHead>, block: u64) -> bool
     head.is_some_and(|head| head.block == block && head.frames > 0)
 }
 
-/// The index of what was found on a disk. Its only error is want of memory; what is noted in it later takes none.
-pub(crate) fn index_of<A: Allocator + Copy>(
-    alloc: A,
+/// The index of what was found on a disk. It takes no memory, and what is noted in it later takes none.
+pub(crate) fn index_of<A: Allocator>(
     head: SuperHead,
-    heads: Vec<Option<SegmentHead>, A>,
+    table: SegmentIndex<A>,
     clips: [Option<Span>; 64],
     next: u64,
     times: Vec<u64, A>,
-) -> Result<Index<A>, AllocError>
+) -> Index<A>
     requires good { IsTrue (is_good head.geometry) }
-    requires count { length heads.items ≡ head.geometry.segments }
-    ensures of { IfOk result (λ index. IsOf index head.geometry heads.items clips next) }
-    ensures version { IfOk result (λ index. index.version ≡ head.version) }
-    ensures times { IfOk result (λ index. index.times ≡ times) }
+    requires keep { table.keep ≡ 1 }
+    ensures of { IsOf result head.geometry table.heads clips next }
+    ensures version { result.version ≡ head.version }
+    ensures times { result.times ≡ times }
 {
+    let mut table = table;
     let clips = ClipTable::of(clips);
-    let table = SegmentIndex::of(alloc, &head.geometry, heads, clips.as_slice())?;
-    Ok(Index {
+    table.count_clips(&head.geometry, clips.as_slice());
+    Index {
         ring: Ring::new(head.geometry),
         version: head.version,
         table,
         clips,
         next,
         times,
-    })
+    }
 }
 
 impl<A: Allocator> Index<A> {
@@ -161,7 +161,7 @@ impl<A: Allocator> Index<A> {
     }
 
     /// Notes that a segment has the block of the next number, the frames before it and those of a group from it on.
-    pub(crate) fn note(&mut self, segment: u32, group: &Group<A>)
+    pub(crate) fn note(&mut self, segment: u32, group: &Group<'_>)
         requires index { IsIndex self.old }
         requires segment { segment < length self.old.table.heads }
         requires some { 1 ≤ length group.now.frames }
@@ -204,7 +204,7 @@ impl<A: Allocator> Index<A> {
 }
 
 /// Puts the times of a group's frames among others, from a place on.
-fn put_times<A: Allocator>(times: &mut [u64], at: usize, group: &Group<A>)
+fn put_times(times: &mut [u64], at: usize, group: &Group<'_>)
     requires { at + length group.now.frames ≤ length times.old }
     ensures { HasTimes times.old times.new at group.now.frames }
 {

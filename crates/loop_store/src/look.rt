@@ -1,6 +1,6 @@
 //! What a read of a frame looks at.
 
-ghost use Rattle.std.specs.Prelude.{◌≡◌, ◌∷◌, [], ◌<◌, ◌≤◌, ◌+◌, ◌*◌, ◌++◌, ◌||◌, Bool, ℕ, List, IfNone, IfOk, IfSome, IsTrue, None, false, length, slice_index_or, true, vec_capacity};
+ghost use Rattle.std.specs.Prelude.{◌≡◌, ◌∷◌, [], ◌<◌, ◌≤◌, ◌+◌, ◌*◌, ◌++◌, ◌||◌, Bool, ℕ, List, IfNone, IfOk, IfSome, IsTrue, None, false, length, map, slice_index_or, true, vec_capacity};
 ghost use Rattle.std.specs.List.{list_any, range_with_len};
 ghost use Rattle.loop_record.specs.Geometry.{disk_size, frame_bytes, is_good};
 ghost use Rattle.loop_record.specs.Layout.{is_too_high};
@@ -187,4 +187,16 @@ pub(crate) fn numbers_of<A: Allocator>(
         add_numbers(geometry, *found, &mut numbers);
     }
     Ok(numbers)
+}
+
+/// The numbers of the held frames, which rise. Its memory is taken at once.
+pub(crate) fn held_numbers<A: Allocator, B: Allocator>(
+    alloc: B,
+    index: &Index<A>,
+) -> Result<Vec<u64, B>, AllocError>
+    requires { IsIndex index.now }
+    ensures { (r : Recording) (image : List ℕ) → IsIndexOf index.now r image
+        → IfOk result (λ numbers. numbers.items ≡ map (λ f. f.0) r.frames) }
+{
+    numbers_of(alloc, &index.ring.geometry, index.table.in_order())
 }

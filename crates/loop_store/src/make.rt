@@ -11,7 +11,7 @@ use crate::{OpenRefused, Store, StoreFault};
 use loop_clips::ClipTable;
 use loop_disk::Disk;
 use loop_record::{Geometry, SuperHead, TAGGED};
-use loop_ring::{Group, Ring, SegmentIndex};
+use loop_ring::{Ring, SegmentIndex};
 use std::alloc::Allocator;
 
 /// Whether a geometry is good, and a disk has its size.
@@ -46,12 +46,6 @@ fn format_as<D: Disk + Drop, A: Allocator + Copy>(
             disk,
         });
     };
-    let Ok(group) = Group::new(alloc, &head.geometry) else {
-        return Err(OpenRefused {
-            fault: StoreFault::NoMemory,
-            disk,
-        });
-    };
     let Ok(times) = times_for(alloc, &head.geometry) else {
         return Err(OpenRefused {
             fault: StoreFault::NoMemory,
@@ -69,7 +63,6 @@ fn format_as<D: Disk + Drop, A: Allocator + Copy>(
                 next: 0,
                 times,
             },
-            group,
             must_reopen: false,
         }),
         Err(fault) => Err(OpenRefused {

@@ -23,7 +23,7 @@ pub(crate) fn put<D: Disk, A: Allocator>(
     disk: &mut D,
     index: &mut Index<A>,
     must_reopen: &mut bool,
-    group: &Group<A>,
+    group: &Group<'_>,
 ) -> Result<u64, StoreFault>
     requires kept { IsKept D.medium disk.old index.old must_reopen.old }
     requires some { 1 ≤ length group.now.frames }

@@ -8,10 +8,11 @@ ghost use Rattle.loop_store.specs.Found.{Finds};
 ghost use Rattle.loop_store.specs.Index.{IsFitting, IsRecoveredIn, SaysRecording};
 
 use crate::StoreFault;
-use crate::found::{check_slots, in_order, read_heads, read_super, read_table};
+use crate::found::{check_slots, read_heads, read_super, read_table};
 use crate::index::{Index, index_of, times_for};
 use loop_disk::Disk;
 use loop_record::{Damage, SuperHead, lacks_frame, next_after, repeats};
+use loop_ring::SegmentIndex;
 use std::alloc::Allocator;
 
 /// The index of what the image of a disk with this superblock reads as.
@@ -28,8 +29,8 @@ fn recover_parts<D: Disk, A: Allocator + Copy>(
 {
     let geometry = head.geometry;
     let heads = read_heads(alloc, disk, &geometry)?;
-    let segments = in_order(alloc, &geometry, heads.as_slice())?;
-    let open = segments.as_slice();
+    let table = SegmentIndex::of(alloc, heads)?;
+    let open = table.in_order();
     if repeats(open) {
         return Err(StoreFault::Damaged(Damage::RepeatedBlock));
     }
@@ -40,15 +41,15 @@ fn recover_parts<D: Disk, A: Allocator + Copy>(
     check_slots(disk, &geometry, open, times.as_mut_slice())?;
     let clips = read_table(disk, &geometry, head.version, open)?;
     let next = next_after(&geometry, open);
-    Ok(index_of(alloc, head, heads, clips, next, times)?)
+    Ok(index_of(head, table, clips, next, times))
 }
 
 /// The index of what a disk's image reads as: the geometry, the header of each segment, the clips and the
 /// number that comes next.
 ///
 /// It reads the superblock, each header, the first `HEAD_SIZE` bytes of each slot before the first closed gate
-/// of an open segment, and the clip table. It writes nothing. Memory is taken four times: a list of the
-/// headers, one of the open segments, one for the times, and one for the index.
+/// of an open segment, and the clip table. It writes nothing. Memory is taken four times: for the headers, for the
+/// counts of clips, for the open segments by block, which are sorted once, and for the times.
 ///
 /// `NotFormatted` where the disk has no open superblock; `Damaged` with the first damage in the layout's order;
 /// `Disk` where a read failed; `NoMemory`. After each of these the disk is as it was.

@@ -5,18 +5,18 @@ ghost use Rattle.loop_disk.specs.Calls.{Called, Stays};
 ghost use Rattle.loop_disk.specs.Medium.{IsSettled, LeavesOnly, MayBe};
 ghost use Rattle.loop_record.specs.Reading.{reading};
 ghost use Rattle.loop_store.specs.Faults.{is_disk, failed_in};
-ghost use Rattle.loop_store.specs.Reopen.{IsRefusedOpen, ReadsAlike, OpensKeeping, WasOrReadsAlike, is_bad_keep};
+ghost use Rattle.loop_store.specs.Make.{WasOr};
+ghost use Rattle.loop_store.specs.Reopen.{IsRefusedOpen, ReadsAlike, OpensKeeping, is_bad_keep};
 ghost use Rattle.loop_store.specs.Grow.{Brings};
 ghost use Rattle.loop_store.specs.Found.{Finds};
 ghost use Rattle.loop_store.specs.Index.{IsFitting, IsRecoveredIn, SaysRecording, keeping};
-ghost use Rattle.loop_store.specs.Store.{IsGroupFor, IsPresent};
+ghost use Rattle.loop_store.specs.Store.{IsPresent};
 
 use crate::index::Index;
 use crate::recover::recover;
 use crate::{OpenRefused, Store, StoreFault};
 use loop_disk::{Disk, DiskFault};
 use loop_record::Geometry;
-use loop_ring::Group;
 use std::alloc::Allocator;
 
 /// Syncs, so that a stop leaves what a read gives, and finds what the disk's image reads as.
@@ -96,24 +96,23 @@ fn reopen<D: Disk, A: Allocator + Copy>(
     alloc: A,
     disk: &mut D,
     keep: u32,
-) -> Result<(Index<A>, Group<A>), StoreFault>
-    ensures known { IfOk result (λ found. (IsFitting found.0 (D.medium disk.new).size × SaysRecording found.0)
-        × IsGroupFor found.0 found.1) }
-    ensures kept { IfOk result (λ found. (found.0.table.keep ≡ keep)
-        × (is_bad_keep found.0.ring.geometry.segments keep ≡ false)) }
-    ensures present { (D.medium disk.old).honest → IfOk result (λ found. IsPresent found.0 (D.medium disk.new)) }
+) -> Result<Index<A>, StoreFault>
+    ensures known { IfOk result (λ found. IsFitting found (D.medium disk.new).size × SaysRecording found) }
+    ensures kept { IfOk result (λ found. (found.table.keep ≡ keep)
+        × (is_bad_keep found.ring.geometry.segments keep ≡ false)) }
+    ensures present { (D.medium disk.old).honest → IfOk result (λ found. IsPresent found (D.medium disk.new)) }
     ensures refused { (image : List ℕ) → MayBe (D.medium disk.new) image → IfErr result (IsRefusedOpen keep image) }
     ensures moments { (D.medium disk.old).honest
-        → LeavesOnly (D.medium disk.old) (D.medium disk.new) (WasOrReadsAlike (D.medium disk.old)) }
+        → LeavesOnly (D.medium disk.old) (D.medium disk.new)
+        (WasOr (D.medium disk.old) (ReadsAlike (D.medium disk.old).bytes)) }
     ensures alike { (D.medium disk.old).honest → ReadsAlike (D.medium disk.old).bytes (D.medium disk.new).bytes }
     ensures stays { (D.medium disk.old).honest
         → IfErr result (λ fault. is_disk fault ≡ false → Stays (D.medium disk.old) (D.medium disk.new)) }
     ensures called { Called (D.medium disk.old) (D.medium disk.new) (failed_in result) }
 {
     let index = find(alloc, disk, keep)?;
-    let group = Group::new(alloc, &index.ring.geometry)?;
     clear_newest(disk, &index)?;
-    Ok((index, group))
+    Ok(index)
 }
 
 impl<D: Disk + Drop, A: Allocator + Copy> Store<D, A> {
@@ -121,9 +120,9 @@ impl<D: Disk + Drop, A: Allocator + Copy> Store<D, A> {
     ///
     /// First it syncs, so that a stop leaves what a read gives. Then it reads the superblock, each header, the
     /// first `HEAD_SIZE` bytes of each slot before the first closed gate of an open segment, and the clip
-    /// table. Then it takes the memory of a group; lists of the headers and of the open segments are taken
-    /// before. Last it closes the frame gates that a stop left open behind the first closed one of the newest
-    /// segment: one read where there is a gate behind it, and where one is open a write and a sync.
+    /// table. All memory is taken on the way. Last it closes the frame gates that a stop left open behind the first
+    /// closed one of the newest segment: one read where there is a gate behind it, and where one is open a write and
+    /// a sync.
     ///
     /// `NotFormatted` where the disk has no open superblock; `Damaged` with the first damage in the layout's
     /// order; `NoMemory`, before the first write; `Disk` where a call failed. Each hands the disk back, and its
@@ -145,10 +144,9 @@ impl<D: Disk + Drop, A: Allocator + Copy> Store<D, A> {
     {
         let mut disk = disk;
         match reopen(alloc, &mut disk, keep) {
-            Ok((index, group)) => Ok(Store {
+            Ok(index) => Ok(Store {
                 disk,
                 index,
-                group,
                 must_reopen: false,
             }),
             Err(fault) => Err(OpenRefused { fault, disk }),

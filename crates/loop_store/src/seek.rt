@@ -7,9 +7,8 @@ ghost use Rattle.loop_record.specs.Times.{AreRuns, is_in};
 ghost use Rattle.loop_store.specs.Index.{IsIndex, IsIndexOf};
 ghost use Rattle.loop_store.specs.Times.{Rise, added, time_under};
 
-use crate::found::in_order;
 use crate::index::Index;
-use crate::look::numbers_of;
+use crate::look::held_numbers;
 use loop_record::{Span, Times};
 use std::alloc::{AllocError, Allocator};
 
@@ -96,8 +95,6 @@ pub(crate) fn seek<A: Allocator, B: Allocator + Copy>(
         (time_under index.now.ring.geometry.slots index.now.table.heads index.now.times.items n))
         (map (λ f. f.0) r.frames)) runs.items) }
 {
-    let geometry = &index.ring.geometry;
-    let segments = in_order(alloc, geometry, index.table.heads())?;
-    let numbers = numbers_of(alloc, geometry, segments.as_slice())?;
+    let numbers = held_numbers(alloc, index)?;
     runs_of(alloc, index, numbers.as_slice(), times)
 }

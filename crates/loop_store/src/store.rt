@@ -9,15 +9,14 @@ ghost use Rattle.loop_record.specs.Recording.{Recording, last_number, picture, r
 ghost use Rattle.loop_store.specs.Calls.{appended, locked, read_with, runs_with, sought, unlocked, upgraded, was_read, part_with, was_read_part};
 ghost use Rattle.loop_store.specs.Goes.{Goes};
 ghost use Rattle.loop_store.specs.Numbers.{IsLeastFrom, is_among};
-ghost use Rattle.loop_store.specs.Store.{IsGroupFor, IsKept};
+ghost use Rattle.loop_store.specs.Store.{IsKept};
 ghost use Rattle.loop_store.specs.Seen.{Refused, Seen, StandsFor, seen_with, ring_in};
 
 use crate::StoreFault;
-use crate::found::in_order;
 use crate::index::{Index, last_number};
 use crate::lock::{lock_clip, unlock_clip};
 use crate::look::{
-    count_held, next_held, numbers_of, read_held, read_held_head, read_held_part, segment_with,
+    count_held, held_numbers, next_held, read_held, read_held_head, read_held_part, segment_with,
 };
 use crate::put::put;
 use crate::seek::seek;
@@ -34,7 +33,6 @@ use std::marker::Model;
 pub struct Store<D: Disk + Drop, A: Allocator = Global> {
     pub(crate) disk: D,
     pub(crate) index: Index<A>,
-    pub(crate) group: Group<A>,
     pub(crate) must_reopen: bool,
 }
 
@@ -43,7 +41,7 @@ impl<D: Disk + Drop, A: Allocator> Model for Store<D, A> {
 
     ghost view = { λ s. seen_with s.disk s.index s.must_reopen };
 
-    ghost invariant = { λ s. IsKept D.medium s.disk s.index s.must_reopen × IsGroupFor s.index s.group };
+    ghost invariant = { λ s. IsKept D.medium s.disk s.index s.must_reopen };
 }
 
 impl<D: Disk + Drop, A: Allocator> Store<D, A> {
@@ -146,7 +144,6 @@ impl<D: Disk + Drop, A: Allocator> Store<D, A> {
         let Store {
             disk,
             index: _,
-            group: _,
             must_reopen: _,
         } = self;
         disk
@@ -174,13 +171,13 @@ impl<D: Disk + Drop, A: Allocator> Store<D, A> {
         ensures goes { Goes D.medium self.old self.new (appended (pictures frames.now) result ∷ []) }
         ensures refused { Refused self.old self.new result }
     {
-        self.group.begin(self.index.next);
-        self.group.push_all(frames);
+        let mut group = Group::new(&self.index.ring.geometry, self.index.next);
+        group.push_all(frames);
         put(
             &mut self.disk,
             &mut self.index,
             &mut self.must_reopen,
-            &self.group,
+            &group,
         )
     }
 
@@ -189,13 +186,13 @@ impl<D: Disk + Drop, A: Allocator> Store<D, A> {
         requires { length frame.now.bytes.items ≡ frame_bytes self.old.geometry }
         ensures { Goes D.medium self.old self.new (appended (picture frame.now ∷ []) result ∷ []) }
     {
-        self.group.begin(self.index.next);
-        self.group.push(frame);
+        let mut group = Group::new(&self.index.ring.geometry, self.index.next);
+        group.push(frame);
         put(
             &mut self.disk,
             &mut self.index,
             &mut self.must_reopen,
-            &self.group,
+            &group,
         )
     }
 }
@@ -331,10 +328,7 @@ impl<D: Disk + Drop, A: Allocator> Store<D, A> {
         if self.must_reopen {
             return Err(StoreFault::MustReopen);
         }
-        let geometry = &self.index.ring.geometry;
-        let segments = in_order(alloc, geometry, self.index.table.heads())?;
-        let numbers = numbers_of(alloc, geometry, segments.as_slice())?;
-        Ok(numbers)
+        Ok(held_numbers(alloc, &self.index)?)
     }
 
     /// The held frames whose times are among these, from memory, as runs of their numbers: they rise, have no tag, and

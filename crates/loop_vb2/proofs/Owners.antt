@@ -5,19 +5,21 @@ use Rattle.loop_plane.specs.Plane.{Plane}
 use Rattle.loop_vb2.specs.declared.state.BufferState.{BufferState}
 use Rattle.loop_vb2.specs.declared.state.BufferState.TheVariants.{Dequeued, Prepared, Queued, Active, Done, Error}
 use Rattle.loop_vb2.specs.Owner.{Application, Device, owner, is_idle, is_dequeued, is_active, is_queued, is_ended, activate}
-use Rattle.loop_vb2.specs.Buffers.{state_at, used_at, prepared_with, queued_with, completed_with, failed_with, dequeued_from, mapped_as, without_planes, wake_buffer, stop_buffer}
-use Rattle.loop_vb2.specs.Checks.{queue_refusal, prepare_refusal, end_refusal, take_refusal, take_checks, copy_refusal, copy_checks}
+use Rattle.loop_vb2.specs.Buffers.{state_at, used_at, prepared_with, queued_with, failed_with, dequeued_from, wake_buffer, stop_buffer}
+use Rattle.loop_vb2.proofs.Short.{completed_with, mapped_as, without_planes, in_step}
+use Rattle.loop_vb2.specs.Checks.{take_checks, copy_checks}
+use Rattle.loop_vb2.specs.Refusals.{queue_refusal, prepare_refusal, end_refusal, take_refusal, copy_refusal}
 use Rattle.loop_vb2.specs.Effects.{device_runs, awake, settle_device, with_buffer, body_streaming, first_ended}
 use Rattle.loop_vb2.specs.Requests.{grants_or_none}
-use Rattle.loop_vb2.specs.State.{Body, QueueState, InStep, in_step}
+use Rattle.loop_vb2.specs.State.{Body, QueueState, InStep}
 use Rattle.loop_vb2.specs.Events.{Event, MayHappen, after_event, reqbufs, prepare_buf, qbuf, dqbuf, streamon, streamoff, querybuf, mmap, munmap, take_planes, copy_plane, complete, fail, fatal, take_fresh}
 use Rattle.loop_vb2.specs.Laws.{HandedOverByOwners, ActsForOwner, run_on, turned_to}
 use Rattle.loop_vb2.proofs.InStep.{not_yet}
-use Rattle.loop_vb2.proofs.Kept.{queued_state, prepared_state}
+use Rattle.loop_vb2.proofs.StepEvents.{queued_state, prepared_state}
 use Rattle.loop_vb2.proofs.Lines.{least_found}
-use Rattle.loop_vb2.proofs.Ordered.{not_refused}
-use Rattle.loop_vb2.proofs.Passing.{Passed, all_passed, true_of}
-use Rattle.loop_vb2.proofs.Requested.{new_state}
+use Rattle.loop_vb2.proofs.FrameOrder.{not_refused}
+use Rattle.loop_vb2.proofs.PassedChecks.{Passed, all_passed, true_of}
+use Rattle.loop_vb2.proofs.ListTests.{new_state}
 use Rattle.loop_vb2.proofs.States.{state_at-changed, state_at-kept, state_at-map}
 use Rattle.loop_vb2.proofs.Steps.{queue_within, queue_idle, prepare_within, prepare_dequeued, end_within, end_active}
 

@@ -8,15 +8,16 @@ use Rattle.loop_plane.specs.declared.memory.Memory.TheVariants.{Mmap, UserPtr, D
 use Rattle.loop_vb2.specs.declared.buffer.Buffer.{Buffer}
 use Rattle.loop_vb2.specs.declared.planes.PlaneSet.{PlaneSet}
 use Rattle.loop_vb2.specs.declared.planes.Shape.{Shape}
-use Rattle.loop_vb2.specs.Buffers.{change_at, holds_at, kept, handed_over, prepared_with, queued_with, completed_with, failed_with, dequeued_from, mapped_as, without_planes, wake_buffer, stop_buffer}
-use Rattle.loop_vb2.specs.Checks.{queue_refusal, prepare_refusal}
+use Rattle.loop_vb2.specs.Buffers.{change_at, holds_at, handed_over, prepared_with, queued_with, failed_with, dequeued_from, wake_buffer, stop_buffer}
+use Rattle.loop_vb2.proofs.Short.{completed_with, mapped_as, kept, without_planes}
+use Rattle.loop_vb2.specs.Refusals.{queue_refusal, prepare_refusal}
 use Rattle.loop_vb2.specs.Effects.{device_runs, awake, settle_device, with_buffer, body_streaming}
 use Rattle.loop_vb2.specs.Planes.{same_memory, set_filled}
 use Rattle.loop_vb2.specs.Requests.{grants_or_none, held_sets, left_in, new_buffer, new_buffers}
 use Rattle.loop_vb2.specs.State.{Body, QueueState}
 use Rattle.loop_vb2.specs.Events.{Event, MayHappen, after_event, reqbufs, prepare_buf, qbuf, dqbuf, streamon, streamoff, querybuf, mmap, munmap, take_planes, copy_plane, complete, fail, fatal, take_fresh}
 use Rattle.loop_vb2.specs.Laws.{IsBlindTo, LeavesNone, SetsAreInOnePlace, brought_by, handed_by, dropped_by}
-use Rattle.loop_vb2.proofs.Ordered.{not_refused}
+use Rattle.loop_vb2.proofs.FrameOrder.{not_refused}
 use Rattle.loop_vb2.proofs.Steps.{queue_within, queue_empty, prepare_within, prepare_empty, take_within, held_there}
 use Rattle.loop_vb2.proofs.Owners.{first_is_ended}
 
@@ -206,7 +207,7 @@ module _ (test : PlaneSet Plane → Bool) (s : QueueState) where
       last (in_buffers test (change_at (dequeued_from s.body.kind) d.index bs)) (in_buffer test d.planes) 0 (in_buffers test bs)
       (at_place test (dequeued_from s.body.kind) bs d.index (in_buffer test d.planes) 0 (first_is_ended s d.index a.1).1
       (λ x e. ap (λ p. in_buffer test (kept s.body.kind x.planes) + in_buffer test p)
-      (a.2.2.planes ∙ ap (handed_over s.body.kind) (one_buffer bs d.index x a.2.0 e a.2.1))
+      (ap (λ x. x.planes) a.2.2 ∙ ap (handed_over s.body.kind) (one_buffer bs d.index x a.2.0 e a.2.1))
       ∙ shared test s.body.kind x.planes))
   places (dqbuf (Err e)) a blind = still _ _ refl
   places (streamon None) a blind = still _ _ (ap (count_by test) (streaming_held s.body))
@@ -234,7 +235,7 @@ module _ (test : PlaneSet Plane → Bool) (s : QueueState) where
 
 leaves_none : (s : QueueState) (event : Event) → MayHappen s event → LeavesNone (after_event s event).body.buffers event
 leaves_none s (dqbuf (Ok d)) a = λ (set : PlaneSet Plane) (e : d.planes ≡ Some set).
-    emptied_at (dequeued_from s.body.kind) s.body.buffers d.index (λ b. handed_whole s.body.kind a.2.0.planes b.planes set (sym a.2.2.planes ∙ e))
+    emptied_at (dequeued_from s.body.kind) s.body.buffers d.index (λ b. handed_whole s.body.kind a.2.0.planes b.planes set (sym (ap (λ x. x.planes) a.2.2) ∙ e))
 leaves_none s (dqbuf (Err e)) a = tt
 leaves_none s (take_planes index (Ok set)) a = emptied_at without_planes s.body.buffers index (λ b. refl)
 leaves_none s (take_planes index (Err e)) a = tt

@@ -6,7 +6,8 @@ use Rattle.loop_vb2.specs.declared.buffer.Buffer.{Buffer}
 use Rattle.loop_vb2.specs.declared.planes.PlaneSet.{PlaneSet}
 use Rattle.loop_vb2.specs.Buffers.{queued_with}
 use Rattle.loop_vb2.specs.State.{Body, Lined, with_lines, read_body, read_lined}
-use Rattle.loop_vb2.specs.Effects.{awake, device_runs, settle_device, with_buffer, body_queued, body_streaming, body_stopped}
+use Rattle.loop_vb2.specs.Effects.{awake, device_runs, settle_device, with_buffer, body_streaming, body_stopped}
+use Rattle.loop_vb2.proofs.Short.{body_queued}
 use Rattle.loop_vb2.specs.Requests.{body_requested}
 
 module _ {P : Type 0} where

@@ -10,7 +10,7 @@ use Rattle.std.proofs.lemmas.Fmt.{decimal_nonempty, digits_decimal, digits_value
 use Rattle.std.proofs.lemmas.Str.Parse.{IsNumeralModel, numerals_by_value, tells_all_ascii_digits}
 use Rattle.loop_y4m.proofs.Places.{Lacks, behind}
 use Rattle.loop_y4m.specs.Header.{is_colon, number_at_most, rate, side}
-use Rattle.loop_record.proofs.Decided.{both}
+use Rattle.loop_record.proofs.TestFacts.{both}
 use Rattle.std.proofs.lemmas.List.{take_at, drop_at}
 
 -- ---- digits

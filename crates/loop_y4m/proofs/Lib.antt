@@ -5,10 +5,10 @@ pub mod Lines
 pub mod Pixels
 mod Rows
 pub mod Retry
-pub mod Writing
+pub mod PartWrites
 pub mod Frames
-pub mod Opening
+pub mod HeaderStart
 pub mod Digits
-pub mod Written
+pub mod ReadBack
 pub mod Ranges
-pub mod Moving
+pub mod ExportPieces

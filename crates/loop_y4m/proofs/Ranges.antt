@@ -11,15 +11,15 @@ use Rattle.std.specs.List.{All, filter}
 use Rattle.loop_disk.specs.Medium.{piece}
 use Rattle.loop_record.specs.declared.geometry.Geometry.{Geometry}
 use Rattle.loop_record.specs.Recording.{Picture, Recording, RiseBetween, frame_under, holds, ring_of}
-use Rattle.loop_record.proofs.Decided.{clash, equal, equal_test}
-use Rattle.loop_record.proofs.Rising.{among-range, held-among}
+use Rattle.loop_record.proofs.TestFacts.{clash, equal, equal_test}
+use Rattle.loop_record.proofs.NumberOrder.{among-range, held-among}
 use Rattle.loop_store.specs.declared.fault.StoreFault.{StoreFault}
 use Rattle.loop_store.specs.declared.fault.StoreFault.TheVariants as store
 use Rattle.loop_store.specs.Calls.{IsAnswered, IsPart, ReadFails, StoreState, checks, first_of, was_read_part}
 use Rattle.loop_store.specs.Faults.{is_disk}
 use Rattle.loop_store.specs.Numbers.{IsLeastFrom}
 use Rattle.loop_store.specs.declared.fault.StoreFault.TheVariants.{NotHeld}
-use Rattle.loop_store.proofs.Checked.{due-none, due-some, passed}
+use Rattle.loop_store.proofs.CheckAnswers.{due-none, due-some, passed}
 use Rattle.loop_y4m.specs.declared.fault.ExportFault.{ExportFault}
 use Rattle.loop_y4m.specs.declared.fault.ExportFault.TheVariants.{Store, Write}
 use Rattle.loop_y4m.specs.Export.{Stopped, frames_between}

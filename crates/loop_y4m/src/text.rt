@@ -70,7 +70,7 @@ pub fn write_frame<W: Write>(bytes: &[u8], out: &mut W) -> Result<()>
 
 /// Writes all of these bytes. A write that was interrupted is made again, as `write_all` does, which doesn't
 /// say how much was written before a fault.
-#[tactic(auto, using(crate::proofs::Writing::writing))]
+#[tactic(auto, using(crate::proofs::PartWrites::writing))]
 fn put<W: Write>(bytes: &[u8], out: &mut W) -> Result<()>
     ensures { Wrote (W.contents out.old) (W.contents out.new) result bytes.now }
 {

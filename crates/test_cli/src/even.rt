@@ -1,7 +1,7 @@
 //! A text that is gathered and written at even places.
 
+use crate::asserts::{holds, same};
 use crate::ends::Noted;
-use crate::told::{holds, same};
 use loop_commands::EvenWriter;
 use std::alloc::Global;
 use std::cell::Cell;

@@ -1,7 +1,7 @@
 //! Commands on stores in files.
 
+use crate::asserts::same;
 use crate::ran::{comes_to, run, run_unprinted};
-use crate::told::same;
 use loop_file::FileDisk;
 use std::alloc::AllocGlobal;
 use std::fs;

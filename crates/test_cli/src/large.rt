@@ -1,6 +1,6 @@
 //! Recordings of frames of two million bytes, through buffers of the application's memory.
 
-use crate::told::{holds, same};
+use crate::asserts::{holds, same};
 use loop_capture::{Device, Pattern};
 use loop_desk::Desk;
 use loop_disk::MemDisk;

@@ -1,6 +1,6 @@
 //! Tests of what loop_cli does, beside its stored run (`crates/loop_cli/stdin`, `stdout`), which is the first look.
 //!
-//! - `told` has assertions that are cheap to prove; `ends`: inputs and outputs that fail, or that note what they are
+//! - `asserts` has assertions that are cheap to prove; `ends`: inputs and outputs that fail, or that note what they are
 //!   asked for; `ran`: a run of a script or of words, and what came of it;
 //! - `scripts`: scripts that end by a line that can't be read, or begin before a store is formatted; and those of
 //!   `whole`, a ring's, a desk's and a clip table's;
@@ -12,6 +12,8 @@
 //! - `station`: lines and configurations of loop_station.
 #![tactic(auto)]
 
+#[cfg(test)]
+mod asserts;
 #[cfg(test)]
 mod ends;
 #[cfg(test)]
@@ -34,8 +36,6 @@ mod scripts;
 mod station;
 #[cfg(test)]
 mod targets;
-#[cfg(test)]
-mod told;
 #[cfg(test)]
 mod waits;
 #[cfg(test)]

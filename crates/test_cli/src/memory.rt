@@ -1,10 +1,10 @@
 //! Scripts and sessions where memory is refused.
 
+use crate::asserts::{holds, same};
 use crate::ran::{Ran, comes_to, run_script};
-use crate::told::{holds, same};
 use loop_desk::{Flushed, Outline};
 use loop_record::{Geometry, PixelFormat};
-use loop_script::Session;
+use loop_script::ScriptDesk;
 use loop_store::{ReadFrame, StoreFault};
 use std::alloc::{Allocator, Global};
 use std::process::Abort;
@@ -122,7 +122,7 @@ type Step = (u64, Call);
 fn submits<A: Allocator + Copy>(
     rt: &impl Abort,
     alloc: A,
-    session: &mut Session<A>,
+    session: &mut ScriptDesk<A>,
     want: &Result<u64, StoreFault>,
 ) {
     same!(rt; session.submit_next(alloc), *want);
@@ -132,7 +132,7 @@ fn submits<A: Allocator + Copy>(
 fn stores<A: Allocator + Copy>(
     rt: &impl Abort,
     alloc: A,
-    session: &mut Session<A>,
+    session: &mut ScriptDesk<A>,
     want: &Result<Flushed, StoreFault>,
 ) {
     same!(rt; session.store_next(alloc), *want);
@@ -150,7 +150,7 @@ fn sequence_of<A: Allocator>(read: Result<ReadFrame<A>, StoreFault>) -> Result<u
 fn reads<A: Allocator + Copy>(
     rt: &impl Abort,
     alloc: A,
-    session: &mut Session<A>,
+    session: &mut ScriptDesk<A>,
     (number, want): (u64, &Result<u32, StoreFault>),
 ) {
     same!(rt; sequence_of(session.read(alloc, number)), *want, number);
@@ -168,14 +168,14 @@ fn pending_of<A: Allocator>(told: Result<Outline<A>, StoreFault>) -> Result<u32,
 fn tells<A: Allocator + Copy>(
     rt: &impl Abort,
     alloc: A,
-    session: &Session<A>,
+    session: &ScriptDesk<A>,
     want: &Result<u32, StoreFault>,
 ) {
     same!(rt; pending_of(session.outline(alloc)), *want);
 }
 
 // Makes a call.
-fn does<A: Allocator + Copy>(rt: &impl Abort, alloc: A, session: &mut Session<A>, call: &Call) {
+fn does<A: Allocator + Copy>(rt: &impl Abort, alloc: A, session: &mut ScriptDesk<A>, call: &Call) {
     match call {
         Call::Submit(want) => submits(rt, alloc, session, want),
         Call::Store(want) => stores(rt, alloc, session, want),
@@ -193,7 +193,7 @@ fn does<A: Allocator + Copy>(rt: &impl Abort, alloc: A, session: &mut Session<A>
 fn plays<A: Allocator + Copy>(
     rt: &impl Abort,
     (budget, alloc): (&Budget, A),
-    session: &mut Session<A>,
+    session: &mut ScriptDesk<A>,
     steps: &[Step],
 ) {
     for (blocks, call) in steps {
@@ -240,13 +240,17 @@ static FRESH: [Step; 12] = [
 static OPENED: [Step; 2] = [(1000, Call::Submit(Ok(1000))), (1000, Call::Tell(Ok(1)))];
 
 // Opens the store of a session again.
-fn reopened<A: Allocator + Copy>(rt: &impl Abort, alloc: A, session: Session<A>) -> Session<A> {
+fn reopened<A: Allocator + Copy>(
+    rt: &impl Abort,
+    alloc: A,
+    session: ScriptDesk<A>,
+) -> ScriptDesk<A> {
     assert!(rt; session.can_keep(1));
     session.reopen(alloc, 1).expect(rt, "memory for a session")
 }
 
 // No frame waits behind those that are stored.
-fn has_none_waiting<A: Allocator + Copy>(rt: &impl Abort, session: &mut Session<A>, next: u64) {
+fn has_none_waiting<A: Allocator + Copy>(rt: &impl Abort, session: &mut ScriptDesk<A>, next: u64) {
     same!(rt; session.next(), next);
     same!(rt; session.flush(), Ok(stored(next, 0)));
 }
@@ -259,7 +263,7 @@ fn is_tried<A: Allocator + Copy>(
     opened: &[Step],
 ) {
     budget.allow(1000);
-    let mut session = Session::format(alloc, SMALL).expect(rt, "memory for a session");
+    let mut session = ScriptDesk::format(alloc, SMALL).expect(rt, "memory for a session");
     plays(rt, (budget, alloc), &mut session, fresh);
     budget.allow(1000);
     let mut session = reopened(rt, alloc, session);

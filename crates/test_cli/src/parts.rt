@@ -1,13 +1,13 @@
 //! Lines, numbers, refusals and frames of the pattern, each alone.
 
+use crate::asserts::{holds, same};
 use crate::ends::Broken;
 use crate::ran::text;
-use crate::told::{holds, same};
 use loop_disk::DiskFault;
 use loop_record::{Damage, Span, fill_pattern};
 use loop_script::{
-    BadLine, Command, next_line, pattern_sequence, pattern_timestamp, print_refusal, read_command,
-    small_number,
+    BadLine, ScriptCommand, next_line, pattern_sequence, pattern_timestamp, print_refusal,
+    read_command, small_number,
 };
 use loop_store::StoreFault;
 use std::alloc::Global;
@@ -110,10 +110,10 @@ fn a_refusal_is_printed_with_its_number_its_name_and_its_argument(rt: HostRuntim
 }
 
 // Lines, and what they ask for.
-static COMMANDS: [(&str, Option<Command>); 3] = [
+static COMMANDS: [(&str, Option<ScriptCommand>); 3] = [
     (
         "lock 2 18446744073709551615",
-        Some(Command::Lock(Span {
+        Some(ScriptCommand::Lock(Span {
             from: 2,
             to: u64::MAX,
             tag: 0,
@@ -121,7 +121,7 @@ static COMMANDS: [(&str, Option<Command>); 3] = [
     ),
     (
         "lock 2 18446744073709551615 9",
-        Some(Command::Lock(Span {
+        Some(ScriptCommand::Lock(Span {
             from: 2,
             to: u64::MAX,
             tag: 9,
@@ -131,7 +131,7 @@ static COMMANDS: [(&str, Option<Command>); 3] = [
 ];
 
 // Reads each line.
-fn each_is_asked(rt: &impl Abort, rows: &[(&str, Option<Command>)]) {
+fn each_is_asked(rt: &impl Abort, rows: &[(&str, Option<ScriptCommand>)]) {
     for (line, command) in rows {
         same!(rt; read_command(line), *command, line);
     }

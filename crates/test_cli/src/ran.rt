@@ -1,7 +1,7 @@
 //! Runs of scripts and of words, and what came of them.
 
+use crate::asserts::same;
 use crate::ends::Broken;
-use crate::told::same;
 use loop_commands::{run_words, simulate};
 use std::alloc::{AllocGlobal, Allocator, Global};
 use std::fmt::Debug;

@@ -1,11 +1,11 @@
 //! Recordings from a pattern and from footage into stores in files.
 
+use crate::asserts::{holds, same};
 use crate::files::{
     Step, each_does, each_does_in_use, each_does_on_ring, has, is_unprinted, remove_files, ring,
     words_of, write_file,
 };
 use crate::ran::{run, text};
-use crate::told::{holds, same};
 use loop_file::FileDisk;
 use loop_store::Store;
 use std::alloc::AllocGlobal;

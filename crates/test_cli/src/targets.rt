@@ -1,8 +1,8 @@
 //! Exports into a target whose calls fail, and exports and lists where memory is refused.
 
+use crate::asserts::same;
 use crate::files::ring;
 use crate::ran::text;
-use crate::told::same;
 use loop_commands::{Beneath, NotExported, Target, export_along, export_apart, export_text, list};
 use loop_disk::MemDisk;
 use loop_store::{Store, StoreFault};
@@ -286,11 +286,10 @@ fn no_line_stands_after_a_text_whose_file_cannot_be_synced(rt: HostRuntime) {
 }
 
 // How many blocks are granted to a list, all of which are needed. Then why there is none, and what is printed.
-static LISTED: [(u64, Option<StoreFault>, &str); 4] = [
+static LISTED: [(u64, Option<StoreFault>, &str); 3] = [
     (0, Some(StoreFault::NoMemory), ""),
     (1, Some(StoreFault::NoMemory), ""),
-    (2, Some(StoreFault::NoMemory), ""),
-    (3, None, "next 7\nframes 2..6\n"),
+    (2, None, "next 7\nframes 2..6\n"),
 ];
 
 // Lists as each row says.

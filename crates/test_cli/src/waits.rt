@@ -1,8 +1,8 @@
 //! What is printed before the next line is awaited, and inputs and outputs that fail.
 
+use crate::asserts::same;
 use crate::ends::{Broken, Halting, Idle, Lists, Parts, Screen};
 use crate::ran::text;
-use crate::told::same;
 use loop_commands::simulate;
 use std::alloc::Global;
 use std::cell::Cell;

@@ -1,8 +1,8 @@
 //! Words behind the program's name that can't be read.
 
+use crate::asserts::same;
 use crate::files::words_of;
 use crate::ran::{run, run_unprinted, text};
-use crate::told::same;
 use loop_commands::words_refused;
 use std::alloc::{AllocGlobal, Global};
 use std::fs::File;

@@ -2,7 +2,7 @@
 
 ghost use Rattle.std.specs.Prelude.{◌≡◌, length};
 
-use crate::told::same;
+use crate::asserts::same;
 use loop_desk::{Desk, DeskLimits, Hand, Lane, LaneEvent, LaneFault, LaneReply, lane_run};
 use loop_disk::{Disk, MemDisk};
 use loop_ioctl::{BufferMemory, BufferType, Ioctl, IoctlReply, QueueEvent, QueueReply};

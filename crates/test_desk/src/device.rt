@@ -2,10 +2,10 @@
 
 ghost use Rattle.std.specs.Prelude.{[], ⊤};
 
+use crate::asserts::{holds, same};
 use crate::common::Call::*;
 use crate::common::Told::{Count, Done, Fault, Flushed, Index, Number};
 use crate::common::*;
-use crate::told::{holds, same};
 use loop_capture::Tick::{Completed, Failed, Idle, Missed};
 use loop_capture::{Device, FrameSource, Next, Pattern, Tick};
 use loop_desk::Lane;

@@ -1,9 +1,9 @@
 //! Each growth is refused in turn.
 
+use crate::asserts::{holds, same};
 use crate::common::Call::*;
 use crate::common::Told::{Count, Done, Fault, Flushed, Frame, Index, Number, Refused};
 use crate::common::*;
-use crate::told::{holds, same};
 use loop_desk::{Desk, Lane, LaneEvent, lane_run};
 use loop_disk::Disk;
 use loop_plane::{MmapPlane, PlaneMemory};
@@ -196,18 +196,18 @@ fn holds_one<D: Disk + Drop, A: Allocator + Copy>(
     same!(rt; desk.status().held, 1);
 }
 
-// What a desk holds needs three growths.
+// What a desk holds needs two growths.
 fn outlines_within<D: Disk + Drop, A: Allocator + Copy>(
     rt: &impl Abort,
     (memory, alloc): (&Budget, A),
     desk: &Desk<D, A>,
 ) {
-    for allowed in 0..3 {
+    for allowed in 0..2 {
         memory.allow(allowed);
         same!(rt; outline_fault(alloc, desk), Some(StoreFault::NoMemory), allowed);
         same!(rt; memory.left(), 0, allowed);
     }
-    memory.allow(3);
+    memory.allow(2);
     same!(rt; outline_fault(alloc, desk), None);
 }
 
@@ -234,14 +234,13 @@ const FIRST: Span = Span {
     tag: 0,
 };
 
-// So many growths, a moment, and the first run of its frames. A run needs the third growth; where there is none, two
-// do.
-const SOUGHT: [(u64, u64, Result<Option<Span>, StoreFault>); 5] = [
+// So many growths, a moment, and the first run of its frames. A run needs the second growth; where there is none, one
+// does.
+const SOUGHT: [(u64, u64, Result<Option<Span>, StoreFault>); 4] = [
     (0, 0, Err(StoreFault::NoMemory)),
     (1, 0, Err(StoreFault::NoMemory)),
-    (2, 0, Err(StoreFault::NoMemory)),
-    (3, 0, Ok(Some(FIRST))),
-    (2, 1, Ok(None)),
+    (2, 0, Ok(Some(FIRST))),
+    (1, 1, Ok(None)),
 ];
 
 // The held frames of a time, where each growth is refused in turn.

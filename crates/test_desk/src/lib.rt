@@ -5,9 +5,11 @@
 //! - `growths`: each growth is refused in turn;
 //! - `stops`: what a power loss within a lane's run leaves is opened; `text`: what a lane recorded becomes a text;
 //! - `device`: what a device's ticks become, through queue, lane and store, as a text;
-//! - `told`: assertions that are cheap to prove.
+//! - `asserts`: assertions that are cheap to prove.
 #![tactic(auto)]
 
+#[cfg(test)]
+mod asserts;
 #[cfg(test)]
 mod common;
 #[cfg(test)]
@@ -18,5 +20,3 @@ mod growths;
 mod stops;
 #[cfg(test)]
 mod text;
-#[cfg(test)]
-mod told;

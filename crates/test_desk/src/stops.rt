@@ -1,8 +1,8 @@
 //! What a power loss within a lane's run leaves, and what is opened of it.
 
+use crate::asserts::same;
 use crate::common::*;
 use crate::text::FIFTEEN;
-use crate::told::same;
 use loop_desk::{Lane, LaneEvent};
 use loop_disk::{CrashDisk, Disk, Spoil};
 use loop_lane_text::run_and_reopen;

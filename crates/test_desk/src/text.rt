@@ -1,9 +1,9 @@
 //! What a lane recorded becomes a text.
 
+use crate::asserts::holds;
 use crate::common::Call::*;
 use crate::common::Told::{Count, Done, Fault, Flushed, Index, Number};
 use crate::common::*;
-use crate::told::holds;
 use loop_desk::{Lane, LaneEvent};
 use loop_disk::{Disk, MemDisk};
 use loop_lane_text::record_and_export;

@@ -1,7 +1,7 @@
 // The disk that reads ahead, where memory is refused.
 
-use crate::calls::{read_at, write_at};
-use crate::told::{holds, same};
+use crate::asserts::{holds, same};
+use crate::calls::{Call, plays, read_at, write_at};
 use loop_ahead::AheadDisk;
 use loop_disk::{Disk, MemDisk};
 use std::alloc::Allocator;
@@ -38,10 +38,22 @@ fn comes_back<A: Allocator + Copy>(rt: &impl Abort, memory: A, disk: MemDisk) ->
     }
 }
 
+// What is written is read, though what was read ahead is another.
+static OVER: [Call; 5] = [
+    Call::Read(40, &[40, 41], Ok(())),
+    Call::Rows(42, &[1], &[2, 3], &[4], Ok(())),
+    Call::Read(41, &[41, 1, 2, 3, 4, 46], Ok(())),
+    Call::Write(47, &[5], Ok(())),
+    Call::Read(46, &[46, 5], Ok(())),
+];
+
 // With memory for a window the disk is read through it.
 fn is_read_ahead<A: Allocator + Copy>(rt: &impl Abort, memory: A, disk: MemDisk) {
     match AheadDisk::new(memory, disk, 16) {
-        Ok(mut ahead) => shows_numbers(rt, &mut ahead),
+        Ok(mut ahead) => {
+            shows_numbers(rt, &mut ahead);
+            plays(rt, &mut ahead, &OVER);
+        }
         Err(_) => holds!(*rt; false, "memory for a window"),
     }
 }

@@ -1,6 +1,6 @@
 // Calls of a disk with their answers, as rows of tables. They see to its size first, so that no test has to. Out
 // of the disk is answered as a failed sync, which no read and no write answers.
-use crate::told::{holds, same};
+use crate::asserts::{holds, same};
 use loop_disk::{Disk, DiskFault};
 use std::process::Abort;
 use test_alloc::Budget;
@@ -12,6 +12,8 @@ pub(crate) enum Call<'a> {
     Size(u64),
     /// A write of these bytes from a place on.
     Write(u64, &'a [u8], Result<(), DiskFault>),
+    /// A write of these rows from a place on, one behind the other.
+    Rows(u64, &'a [u8], &'a [u8], &'a [u8], Result<(), DiskFault>),
     /// A read from a place on that gives these bytes, or fails at so many.
     Read(u64, &'a [u8], Result<(), DiskFault>),
     /// A sync.
@@ -29,6 +31,25 @@ pub(crate) fn write_at<D: Disk>(disk: &mut D, at: u64, bytes: &[u8]) -> Result<(
         return Err(DiskFault::Sync);
     }
     disk.write_at(at, bytes)
+}
+
+/// A write of rows, if it is within the disk.
+pub(crate) fn write_rows<D: Disk>(
+    disk: &mut D,
+    at: u64,
+    first: &[u8],
+    second: &[u8],
+    third: &[u8],
+) -> Result<(), DiskFault> {
+    let size = disk.size();
+    let end = at
+        .checked_add(first.len() as u64)
+        .and_then(|end| end.checked_add(second.len() as u64))
+        .and_then(|end| end.checked_add(third.len() as u64));
+    match end {
+        Some(end) if end <= size => disk.write_rows(at, &[first, second, third]),
+        _ => Err(DiskFault::Sync),
+    }
 }
 
 /// A read, if it is within the disk.
@@ -73,6 +94,9 @@ pub(crate) fn does<D: Disk>(rt: &impl Abort, disk: &mut D, call: &Call) {
     match call {
         Call::Size(size) => same!(*rt; disk.size(), *size),
         Call::Write(at, bytes, answer) => same!(*rt; write_at(disk, *at, bytes), *answer, at),
+        Call::Rows(at, first, second, third, answer) => {
+            same!(*rt; write_rows(disk, *at, first, second, third), *answer, at)
+        }
         Call::Read(at, want, answer) => reads(rt, disk, *at, want, *answer),
         Call::Sync(answer) => same!(*rt; disk.sync(), *answer),
     }

@@ -1,6 +1,6 @@
 // The disk that remembers its calls, where memory is refused.
+use crate::asserts::{holds, same};
 use crate::calls::{Call, does, plays_within};
-use crate::told::{holds, same};
 use loop_disk::{CrashDisk, DiskFault, Spoil};
 use std::alloc::{AllocError, Allocator};
 use std::process::Abort;
@@ -14,7 +14,7 @@ fn crashes<A: Allocator + Copy>(disk: &CrashDisk<A>, calls: usize) -> bool {
 
 // The blocks that are granted, and the call. With four calls remembered, the list of calls needs a new block for the
 // next.
-static FULL: [(u64, Call); 8] = [
+static FULL: [(u64, Call); 10] = [
     (u64::MAX, Call::Write(0, &[9], Ok(()))),
     (u64::MAX, Call::Write(1, &[9], Ok(()))),
     (u64::MAX, Call::Write(2, &[9], Ok(()))),
@@ -22,6 +22,8 @@ static FULL: [(u64, Call); 8] = [
     (0, Call::Read(0, &[9], Err(DiskFault::Read))),
     (0, Call::Write(8, &[7], Err(DiskFault::Write))),
     (0, Call::Sync(Err(DiskFault::Sync))),
+    (0, Call::Rows(8, &[7], &[8], &[9], Err(DiskFault::Write))),
+    (1, Call::Rows(8, &[7], &[8], &[9], Err(DiskFault::Write))),
     (1, Call::Write(8, &[7], Err(DiskFault::Write))),
 ];
 

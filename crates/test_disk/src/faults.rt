@@ -1,7 +1,7 @@
 // A file each of whose calls fails, is short or is interrupted, and what a stop leaves of one that is made anew.
+use crate::asserts::{holds, same};
 use crate::calls::{Call, does};
 use crate::faulty::{Faulty, Medium};
-use crate::told::{holds, same};
 use loop_disk::DiskFault;
 use loop_file::{FileDisk, FileFault};
 use std::io::ErrorKind;
@@ -95,7 +95,7 @@ fn a_folder_that_cannot_be_synced_changes_nothing(rt: HostRuntime) {
 
 // Which calls of the file fail and how, of which the first, the second or none comes through; the call of a disk of six
 // bytes, with what it answers. A write or a read is two calls of a file that moves three bytes at once, a sync is one.
-static FAULTS: [((u32, u32, ErrorKind), Call); 16] = [
+static FAULTS: [((u32, u32, ErrorKind), Call); 18] = [
     ((0, 0, ErrorKind::Other), Call::Write(1, b"rames", Ok(()))),
     (
         (0, 1, ErrorKind::Interrupted),
@@ -116,6 +116,14 @@ static FAULTS: [((u32, u32, ErrorKind), Call); 16] = [
     (
         (1, 9, ErrorKind::WriteZero),
         Call::Write(1, b"rames", Err(DiskFault::Write)),
+    ),
+    (
+        (1, 1, ErrorKind::Interrupted),
+        Call::Rows(1, b"ra", b"", b"mes", Ok(())),
+    ),
+    (
+        (1, 1, ErrorKind::StorageFull),
+        Call::Rows(1, b"ra", b"", b"mes", Err(DiskFault::Write)),
     ),
     ((0, 0, ErrorKind::Other), Call::Read(1, b"ooter", Ok(()))),
     (
@@ -156,8 +164,10 @@ fn answers(rt: &impl Abort, (first, count, kind): (u32, u32, ErrorKind), call: &
     };
     file.fails.set((first.saturating_add(1), count, kind));
     does(rt, &mut disk, call);
-    if let Call::Write(_, _, Ok(())) = call {
-        holds!(*rt; file.has(b"frames"), (first, count));
+    match call {
+        Call::Write(_, _, Ok(())) => holds!(*rt; file.has(b"frames"), (first, count)),
+        Call::Rows(_, _, _, _, Ok(())) => holds!(*rt; file.has(b"frames"), (first, count)),
+        _ => (),
     }
 }
 

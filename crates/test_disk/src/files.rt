@@ -1,10 +1,10 @@
 // The disk over a file.
-use crate::calls::{Call, does, plays};
+use crate::asserts::{holds, same};
+use crate::calls::{Call, does, plays, read_at, write_at, write_rows};
 use crate::paths::{creates, has, is_done, opens, removes, writes};
-use crate::told::same;
-use loop_disk::{Disk, DiskFault};
+use loop_disk::{Disk, DiskFault, MemDisk};
 use loop_file::{FileDisk, FileFault};
-use std::alloc::AllocGlobal;
+use std::alloc::{AllocError, AllocGlobal};
 use std::cell::Cell;
 use std::fs::{File, Metadata, OpenFile, OpenOptions, Permissions};
 use std::io::ErrorKind;
@@ -65,7 +65,7 @@ fn is_read_back(rt: &(impl Abort + Files<File = File>), path: &str) {
 static WRITTEN: [Call; 5] = [
     Call::Size(4096),
     Call::Read(4094, &[0, 0], Ok(())),
-    Call::Write(100, b"footage", Ok(())),
+    Call::Rows(100, b"foo", b"", b"tage", Ok(())),
     Call::Write(4095, b"z", Ok(())),
     Call::Sync(Ok(())),
 ];
@@ -80,6 +80,77 @@ fn a_file_is_written_and_read_back(rt: HostRuntime) {
     opens(&rt, path, Ok(50));
     plays_at(&rt, path, 200, &[Call::Read(0, &[0; 200], Ok(()))]);
     removes(&rt, path);
+}
+
+// How many bytes the rows of the next test have.
+const LONG: usize = 100_000;
+
+// The place of rows, and how many bytes the first and the second have: short ones, one that ends at a page or beside
+// it, long ones behind a head, and none.
+static ROWS: [(u64, usize, usize); 14] = [
+    (0, 32, 90_000),
+    (0, 32, 4_064),
+    (0, 32, 4_065),
+    (1, 32, 99_000),
+    (4_064, 32, 50_000),
+    (4_095, 1, 40_000),
+    (4_096, 50_000, 32),
+    (4_097, 4_095, 40_960),
+    (7, 12_288, 32),
+    (7, 12_289, 32),
+    (7, 6_144, 6_144),
+    (7, 6_144, 6_145),
+    (9, 0, 0),
+    (9, 100_000, 0),
+];
+
+// Writes bytes as three rows, and reads the disk.
+fn shows_rows<D: Disk>(
+    rt: &impl Abort,
+    disk: &mut D,
+    bytes: &[u8],
+    seen: &mut [u8],
+    (at, first, second): (u64, usize, usize),
+) {
+    let (one, rest) = bytes.split_at(first.min(bytes.len()));
+    let (two, three) = rest.split_at(second.min(rest.len()));
+    same!(*rt; write_rows(disk, at, one, two, three), Ok(()), at);
+    same!(*rt; read_at(disk, 0, seen), Ok(()), at);
+}
+
+// A file shows what a disk in memory shows, of which each call is proved.
+fn shows_alike(
+    rt: &(impl Abort + AllocGlobal + Files<File = File>),
+    file: &mut FileDisk,
+    row: (u64, usize, usize),
+) -> Result<(), AllocError> {
+    let mut bytes = vec![in rt.alloc(); 0u8; LONG]?;
+    for (place, byte) in bytes.iter_mut().enumerate() {
+        *byte = (place % 251) as u8;
+    }
+    let mut here = vec![in rt.alloc(); 0u8; LONG + 10_000]?;
+    let mut there = vec![in rt.alloc(); 0u8; LONG + 10_000]?;
+    let mut memory = MemDisk::new(rt.alloc(), 110_000)?;
+    let zeros = [0; 4_096];
+    for page in 0..26u64 {
+        same!(*rt; write_at(file, page * 4_096, &zeros), Ok(()));
+    }
+    shows_rows(rt, file, &bytes, &mut here, row);
+    shows_rows(rt, &mut memory, &bytes, &mut there, row);
+    holds!(*rt; here == there, row);
+    Ok(())
+}
+
+#[test]
+fn rows_in_a_file_stand_one_behind_the_other(rt: HostRuntime) -> Result<(), Fail> {
+    let path = "rows.img";
+    let mut file = FileDisk::create(&rt, path, 110_000).expect(&rt, "a file");
+    for row in ROWS {
+        shows_alike(&rt, &mut file, row)?;
+    }
+    drop(file);
+    removes(&rt, path);
+    Ok(())
 }
 
 // The gate runs tests as nobody, who may not open it. A superuser may, as under `rt try`: then nothing is shown here,

@@ -6,12 +6,14 @@
 //!   it is refused, over a system whose calls fail;
 //! - `crashing` and `ahead` refuse memory to the disk that remembers its calls and to the one that reads ahead;
 //! - `overlay` has the disk over another that is never written to;
-//! - `calls` has the calls of a disk with their answers, `paths` what is done at a path, `told` assertions that are
+//! - `calls` has the calls of a disk with their answers, `paths` what is done at a path, `asserts` assertions that are
 //!   cheap to prove.
 #![tactic(auto)]
 
 #[cfg(test)]
 mod ahead;
+#[cfg(test)]
+mod asserts;
 #[cfg(test)]
 mod calls;
 #[cfg(test)]
@@ -30,5 +32,3 @@ mod overlay;
 mod paths;
 #[cfg(test)]
 mod places;
-#[cfg(test)]
-mod told;

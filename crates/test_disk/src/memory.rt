@@ -4,8 +4,8 @@ ghost use Rattle.loop_disk.specs.Medium.{IsSettled, LeavesOnly, with_bytes_at};
 ghost use Rattle.loop_disk.specs.Calls.{Called, failed_call};
 ghost use Rattle.test_disk.specs.InTurn.{TornOfThree};
 
+use crate::asserts::{holds, same};
 use crate::calls::{Call, plays, write_at};
-use crate::told::{holds, same};
 use loop_disk::{Disk, DiskFault, FuseDisk, MemDisk, store, store_in_turn};
 use std::alloc::{AllocError, Allocator};
 use std::process::Abort;
@@ -65,11 +65,11 @@ fn is_kept<A: Allocator + Copy>(
         &mut disk,
         &[
             Call::Size(6),
-            Call::Write(5, b"z", Ok(())),
-            Call::Read(5, b"z", Ok(())),
+            Call::Rows(3, b"x", b"", b"yz", Ok(())),
+            Call::Read(3, b"xyz", Ok(())),
         ],
     );
-    same!(*rt; disk.bytes(), b"\0cbc\0z".as_slice());
+    same!(*rt; disk.bytes(), b"\0cbxyz".as_slice());
     holds!(*rt; MemDisk::new(alloc, 1).is_err());
     Ok(())
 }

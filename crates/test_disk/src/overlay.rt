@@ -1,8 +1,8 @@
 // The disk over another that is never written to.
 
+use crate::asserts::same;
 use crate::calls::{Call, does, plays};
 use crate::paths::{creates, removes};
-use crate::told::same;
 use loop_disk::{Disk, DiskFault, MemDisk};
 use loop_file::FileDisk;
 use loop_overlay::OverlayDisk;
@@ -27,7 +27,7 @@ static OVERLAPPING: [Call; 26] = [
     // across the beginning of one, and over others whole
     Call::Write(1, b"_-", Ok(())),
     Call::Read(0, b"a_-345678jkl", Ok(())),
-    Call::Write(2, b".......", Ok(())),
+    Call::Rows(2, b"...", b"", b"....", Ok(())),
     Call::Read(0, b"a_.......jkl", Ok(())),
     // none, at both ends of the disk
     Call::Write(4, b"", Ok(())),
@@ -64,6 +64,11 @@ fn has_no_room<A: Allocator + Copy>(
     (written, shown): (usize, &[u8]),
 ) {
     does(rt, disk, &Call::Write(4, b"EFG", Err(DiskFault::Write)));
+    does(
+        rt,
+        disk,
+        &Call::Rows(4, b"E", b"F", b"G", Err(DiskFault::Write)),
+    );
     same!(*rt; disk.written(), written);
     does(rt, disk, &Call::Read(2, shown, Ok(())));
 }

@@ -1,5 +1,5 @@
 // What tests do at a path. Each of these fails the test unless it is done, or answered, as it is to be.
-use crate::told::same;
+use crate::asserts::same;
 use loop_disk::Disk;
 use loop_file::{FileDisk, FileFault};
 use std::alloc::AllocGlobal;

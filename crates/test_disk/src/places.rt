@@ -1,7 +1,7 @@
 // Where a file is made, and what a refusal leaves there, over a system whose calls fail or come late.
+use crate::asserts::{holds, same};
 use crate::calls::{Call, does};
 use crate::paths::{creates, has, is_done, links, removes, writes};
-use crate::told::{holds, same};
 use loop_file::{FileDisk, FileFault, FilePlace, TextFile};
 use std::alloc::{AllocGlobal, Allocator};
 use std::cell::Cell;

@@ -28,7 +28,7 @@ const SMALL: Geometry = Geometry {
 
 /// What lines share.
 #[derive(Drop)]
-struct Session {
+struct CaseSession {
     image: Vec<u8>,
     case: Option<Case<MemDisk>>,
     queue: Option<(QueueCase, QueueList)>,
@@ -36,10 +36,10 @@ struct Session {
     steps: Vec<Step>,
 }
 
-impl Session {
+impl CaseSession {
     // Nothing is under way.
-    fn new(alloc: Global) -> Session {
-        Session {
+    fn new(alloc: Global) -> CaseSession {
+        CaseSession {
             image: Vec::new(alloc),
             case: None,
             queue: None,
@@ -62,7 +62,7 @@ impl Session {
 // What was formatted is an image.
 fn formats(
     alloc: Global,
-    session: &mut Session,
+    session: &mut CaseSession,
     formatted: Result<Store<MemDisk>, OpenRefused<MemDisk>>,
     out: &mut Vec<u8>,
 ) -> Result<()> {
@@ -78,7 +78,7 @@ fn formats(
 }
 
 // A case is under way, which has done nothing yet.
-fn set_case(alloc: Global, session: &mut Session, case: Case<MemDisk>, list: List) {
+fn set_case(alloc: Global, session: &mut CaseSession, case: Case<MemDisk>, list: List) {
     session.case = Some(case);
     session.queue = None;
     session.list = list;
@@ -86,7 +86,7 @@ fn set_case(alloc: Global, session: &mut Session, case: Case<MemDisk>, list: Lis
 }
 
 // A lane or a desk begins over the image.
-fn begins(alloc: Global, session: &mut Session, call: &Call, out: &mut Vec<u8>) -> Result<()> {
+fn begins(alloc: Global, session: &mut CaseSession, call: &Call, out: &mut Vec<u8>) -> Result<()> {
     out.write_all(b"begins")?;
     let opening = opening_of(call);
     let list = List {
@@ -102,7 +102,7 @@ fn begins(alloc: Global, session: &mut Session, call: &Call, out: &mut Vec<u8>) 
 }
 
 // A queue is under way.
-fn set_queue(session: &mut Session, queue: (QueueCase, QueueList)) {
+fn set_queue(session: &mut CaseSession, queue: (QueueCase, QueueList)) {
     session.queue = Some(queue);
     session.case = None;
 }
@@ -110,7 +110,7 @@ fn set_queue(session: &mut Session, queue: (QueueCase, QueueList)) {
 // A queue begins.
 fn begins_queue(
     alloc: Global,
-    session: &mut Session,
+    session: &mut CaseSession,
     call: &Call,
     out: &mut Vec<u8>,
 ) -> Result<()> {
@@ -121,7 +121,7 @@ fn begins_queue(
 }
 
 // The case ends: what its disk shows.
-fn closes(alloc: Global, session: &mut Session, out: &mut Vec<u8>) -> Result<()> {
+fn closes(alloc: Global, session: &mut CaseSession, out: &mut Vec<u8>) -> Result<()> {
     session.queue = None;
     match session.case.take() {
         Some(case) => {
@@ -152,7 +152,7 @@ fn pokes(image: &mut [u8], at: u64, number: u64) -> bool {
 // Notes what may be shown once the disk had so many calls.
 fn notes(
     alloc: Global,
-    session: &mut Session,
+    session: &mut CaseSession,
     call: &Call,
     shown: &str,
     out: &mut Vec<u8>,
@@ -186,7 +186,7 @@ fn case_calls(
 }
 
 // A call of what is under way.
-fn calls(alloc: Global, session: &mut Session, call: Call, out: &mut Vec<u8>) -> Result<()> {
+fn calls(alloc: Global, session: &mut CaseSession, call: Call, out: &mut Vec<u8>) -> Result<()> {
     if let Some(case) = &mut session.case {
         return case_calls(alloc, case, &mut session.list, call, out);
     }
@@ -198,20 +198,20 @@ fn calls(alloc: Global, session: &mut Session, call: Call, out: &mut Vec<u8>) ->
 }
 
 // Puts a number into the closed image.
-fn pokes_image(session: &mut Session, call: &Call, out: &mut Vec<u8>) -> Result<()> {
+fn pokes_image(session: &mut CaseSession, call: &Call, out: &mut Vec<u8>) -> Result<()> {
     let within = pokes(&mut session.image, call.number(0), call.number(1));
     out.write_all(if within { b"put" } else { b"bad line" })?;
     Ok(())
 }
 
 // The text of frames of the closed image.
-fn exports(alloc: Global, session: &Session, call: &Call, out: &mut Vec<u8>) -> Result<()> {
+fn exports(alloc: Global, session: &CaseSession, call: &Call, out: &mut Vec<u8>) -> Result<()> {
     let disk = MemDisk::of(session.image.as_slice().to_vec(alloc)?);
     shown::text_of_disk(alloc, disk, call, out)
 }
 
 // Does the list again that a queue has done, or else the one of the closed case.
-fn repeats(alloc: Global, session: &Session, out: &mut Vec<u8>) -> Result<()> {
+fn repeats(alloc: Global, session: &CaseSession, out: &mut Vec<u8>) -> Result<()> {
     match &session.queue {
         Some((_, list)) => queue::again(alloc, list, out),
         None => again(alloc, &session.list, &session.image, out),
@@ -221,7 +221,7 @@ fn repeats(alloc: Global, session: &Session, out: &mut Vec<u8>) -> Result<()> {
 // What a line answers.
 fn does(
     alloc: Global,
-    session: &mut Session,
+    session: &mut CaseSession,
     call: Call,
     shown: &str,
     out: &mut Vec<u8>,
@@ -257,7 +257,7 @@ fn before<'a>(line: &'a str, sign: &str) -> (&'a str, &'a str) {
 }
 
 // What a line tells: what stands before the sign.
-fn tells(alloc: Global, session: &mut Session, text: &str) -> Result<Vec<u8>> {
+fn tells(alloc: Global, session: &mut CaseSession, text: &str) -> Result<Vec<u8>> {
     let (asked, shown) = before(text, "shows");
     let mut told = Vec::new(alloc);
     if let Some(list) = asked.strip_prefix("list ") {
@@ -281,7 +281,12 @@ fn read<R: BufRead + Drop>(alloc: Global, input: R) -> Result<Vec<String>> {
 }
 
 // Answers a line.
-fn answer<W: Write>(alloc: Global, session: &mut Session, line: &str, out: &mut W) -> Result<()> {
+fn answer<W: Write>(
+    alloc: Global,
+    session: &mut CaseSession,
+    line: &str,
+    out: &mut W,
+) -> Result<()> {
     if line.is_empty() || line.starts_with('#') {
         out.write_all(line.as_bytes())?;
     } else {
@@ -298,7 +303,7 @@ fn answer<W: Write>(alloc: Global, session: &mut Session, line: &str, out: &mut 
 // Answers these lines.
 fn answer_all<W: Write>(
     alloc: Global,
-    session: &mut Session,
+    session: &mut CaseSession,
     lines: &[String],
     out: &mut W,
 ) -> Result<()> {
@@ -315,6 +320,6 @@ pub(crate) fn answers<R: BufRead + Drop, W: Write>(
     out: &mut W,
 ) -> Result<()> {
     let lines: Vec<String> = read(alloc, input)?;
-    let mut session = Session::new(alloc);
+    let mut session = CaseSession::new(alloc);
     answer_all(alloc, &mut session, &lines, out)
 }

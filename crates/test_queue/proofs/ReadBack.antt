@@ -10,13 +10,14 @@ use Rattle.loop_vb2.specs.declared.buffer.Stamp.{Stamp}
 use Rattle.loop_vb2.specs.declared.planes.PlaneSet.{PlaneSet}
 use Rattle.loop_vb2.specs.declared.planes.Shape.{Shape}
 use Rattle.loop_vb2.specs.Planes.{number_at, bytes_in, plane_in, set_filled, slot_filled}
-use Rattle.loop_vb2.specs.Buffers.{change_at, completed_with, dequeued_from, kept, has_plane_at, used_at, bytes_at}
+use Rattle.loop_vb2.specs.Buffers.{change_at, dequeued_from, used_at, bytes_at}
+use Rattle.loop_vb2.proofs.Short.{completed_with, has_plane_at, kept}
 use Rattle.loop_vb2.specs.Checks.{copy_checks}
 use Rattle.loop_vb2.specs.State.{QueueState, Lined, StandsQueue}
 use Rattle.loop_vb2.specs.Answers.{read_answer}
 use Rattle.loop_vb2.specs.Events.{Happens, complete, dqbuf, copy_plane}
-use Rattle.loop_vb2.specs.Effects.{after_complete, after_dequeue}
-use Rattle.loop_vb2.proofs.Passing.{Passed, all_passed, true_of}
+use Rattle.loop_vb2.specs.Effects.{change_buffer, end_buffer}
+use Rattle.loop_vb2.proofs.PassedChecks.{Passed, all_passed, true_of}
 
 place_kept : (o : Option Plane) (part : List ℕ) → is_some (slot_filled o part) ≡ true
     → bytes_in (slot_filled o part) ≡ part
@@ -47,13 +48,14 @@ module _ {P : Type 0} (m : P → Plane) where
       → Happens m third last (copy_plane index 0 0 (length old) (Ok out)) → (s : QueueState) → StandsQueue m first s
       → out ≡ take (length old) (take (number_at s.body.shape.sizes 0) bytes)
   part_is_read index stamp bytes old out d first second third last f g same c = λ s h.
-      let t : QueueState = after_dequeue d.index (after_complete index stamp bytes s) in
-      let z = c t (g (after_complete index stamp bytes s) (f s h).1).1 in
-      let after : t ≡ after_dequeue index (after_complete index stamp bytes s) = ap (λ i. after_dequeue i (after_complete index stamp bytes s)) same in
+      let done : QueueState = end_buffer (completed_with s.body.shape stamp bytes) index s in
+      let t : QueueState = change_buffer (dequeued_from done.body.kind) d.index done in
+      let z = c t (g done (f s h).1).1 in
+      let after : t ≡ change_buffer (dequeued_from done.body.kind) index done = ap (λ i. change_buffer (dequeued_from done.body.kind) i done) same in
       let passed : Passed (copy_checks index 0 0 (length old) (used_at t.body.buffers index 0) t.body) =
       all_passed (copy_checks index 0 0 (length old) (used_at t.body.buffers index 0) t.body) z.0.0 in
       let some : has_plane_at t.body.buffers index 0 ≡ true = true_of (has_plane_at t.body.buffers index 0) passed.1.0 in
-      let there : has_plane_at (after_dequeue index (after_complete index stamp bytes s)).body.buffers index 0 ≡
+      let there : has_plane_at (change_buffer (dequeued_from done.body.kind) index done).body.buffers index 0 ≡
       true = sym (ap (λ (t : QueueState). has_plane_at t.body.buffers index 0) after) ∙ some in
       let part : bytes_at t.body.buffers index 0 ≡ take (number_at s.body.shape.sizes 0) bytes =
       ap (λ (t : QueueState). bytes_at t.body.buffers index 0) after ∙ part_kept s.body.kind s.body.shape stamp bytes s.body.buffers index there in

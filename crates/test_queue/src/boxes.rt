@@ -33,9 +33,9 @@ pub fn read_back(queue: &mut Queue, index: u32, stamp: Stamp, bytes: &[u8], out:
 }
 
 #[cfg(test)]
-use crate::common::{one, page};
+use crate::asserts::holds;
 #[cfg(test)]
-use crate::told::holds;
+use crate::common::{one, page};
 #[cfg(test)]
 use loop_pages::PageLedger;
 #[cfg(test)]

@@ -1,6 +1,6 @@
 //! What a budget grants.
 
-use crate::told::{holds, same};
+use crate::asserts::{holds, same};
 use linked_list_allocator::LocalHeap;
 use std::alloc::AllocError;
 use std::process::Abort;

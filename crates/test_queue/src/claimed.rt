@@ -4,7 +4,7 @@ ghost use Rattle.std.specs.Prelude.{◌≡◌, length};
 ghost use Rattle.std.specs.Arc.{arc_value};
 ghost use Rattle.loop_pages.specs.Place.{IsIdle};
 
-use crate::told::same;
+use crate::asserts::same;
 use loop_pages::{PageFault, PageHold, PageLedger, PageSeat};
 use std::alloc::Allocator;
 use std::process::Abort;

@@ -4,7 +4,7 @@ ghost use Rattle.std.specs.Prelude.{◌≡◌, ◌≤◌, length};
 ghost use Rattle.std.specs.Arc.{arc_value};
 ghost use Rattle.loop_pages.specs.Place.{IsIdle};
 
-use crate::told::same;
+use crate::asserts::same;
 use bitflags::Flags;
 use loop_pages::{PageHold, PageLedger, PageSeat};
 use loop_plane::{Memory, MmapPlane, PlaneMemory};

@@ -10,9 +10,11 @@
 //! - `boxes`: a frame on its way through a queue of boxes, with a contract as a crate above the queue writes it;
 //! - `listed`: a source that answers by a list; `ticks`: what a device's ticks do to a queue, with the pattern, with
 //!   that source, and with an input that is cut; `sources`: what sources give;
-//! - `told`: assertions that are cheap to prove.
+//! - `asserts`: assertions that are cheap to prove.
 #![tactic(auto)]
 
+#[cfg(test)]
+mod asserts;
 pub mod boxes;
 #[cfg(test)]
 mod budget;
@@ -40,5 +42,3 @@ mod supplies;
 mod threads;
 #[cfg(test)]
 mod ticks;
-#[cfg(test)]
-mod told;

@@ -1,7 +1,7 @@
 //! A list of events where memory is refused.
 
+use crate::asserts::same;
 use crate::common::{facts, supplied_many};
-use crate::told::same;
 use loop_ioctl::{BufferType, Ioctl, IoctlReply, QueueEvent, QueueReply, are_whole, run_events};
 use loop_pages::PageLedger;
 use loop_plane::{FdTable, Memory, MmapPlane};

@@ -4,8 +4,8 @@ ghost use Rattle.std.specs.Prelude.{◌≡◌, IfOk};
 ghost use Rattle.std.specs.Arc.{arc_value};
 ghost use Rattle.loop_pages.specs.Place.{IsIdle};
 
+use crate::asserts::{holds, same};
 use crate::claimed::{claimed, refused};
-use crate::told::{holds, same};
 use loop_pages::{PageFault, PageHold, PageLedger, PageSeat};
 use std::alloc::{Allocator, Global};
 use std::process::Abort;

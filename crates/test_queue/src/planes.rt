@@ -4,8 +4,8 @@ ghost use Rattle.std.specs.Prelude.{◌≡◌, ◌≤◌, length};
 ghost use Rattle.std.specs.Arc.{arc_value};
 ghost use Rattle.loop_pages.specs.Place.{IsIdle};
 
+use crate::asserts::{holds, same};
 use crate::claimed::{claimed, refused};
-use crate::told::{holds, same};
 use loop_pages::{PageFault, PageHold, PageLedger, PageSeat};
 use loop_plane::{
     DmabufPlane, DmabufTable, FdFault, FdTable, Memory, MmapPlane, PlaneMemory, UserPlane,

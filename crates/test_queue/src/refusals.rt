@@ -1,7 +1,7 @@
 //! What a refused request hands back, and which pages are free again.
 
+use crate::asserts::{holds, same};
 use crate::common::{facts, supplied_many};
-use crate::told::{holds, same};
 use loop_pages::PageLedger;
 use loop_plane::{Memory, MmapPlane, PlaneMemory};
 use loop_record::PixelFormat;

@@ -1,6 +1,6 @@
 //! What a source answers by itself, and what becomes of it where memory is refused.
 
-use crate::told::{holds, same};
+use crate::asserts::{holds, same};
 use loop_capture::{Device, FrameSource, Next, Pattern, Y4mSource};
 use loop_y4m::Y4mReader;
 use std::test::Fail;

@@ -1,7 +1,7 @@
 //! The pages of a queue's buffers, by ioctls.
 
+use crate::asserts::{holds, same};
 use crate::common::supplied_many;
-use crate::told::{holds, same};
 use loop_ioctl::{BufferMemory, BufferType, Ioctl, IoctlReply, apply};
 use loop_pages::PageLedger;
 use loop_plane::{FdTable, Memory, MmapPlane};

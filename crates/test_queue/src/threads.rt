@@ -5,8 +5,8 @@ ghost use Rattle.std.specs.Arc.{arc_value};
 ghost use Rattle.std.specs.Thread.{IsSync};
 ghost use Rattle.loop_pages.specs.Place.{IsIdle};
 
+use crate::asserts::holds;
 use crate::claimed::claimed;
-use crate::told::holds;
 use loop_pages::{PageHold, PageLedger, PageSeat};
 use std::alloc::Global;
 use std::sync::Arc;

@@ -5,9 +5,9 @@ ghost use Rattle.std.specs.Arc.{arc_value};
 ghost use Rattle.loop_pages.specs.Place.{IsIdle};
 
 use self::Step::{Starts, Stops, Takes, Ticks};
+use crate::asserts::{holds, same};
 use crate::common::one;
 use crate::listed::{Frame, Lender, Listed, round};
-use crate::told::{holds, same};
 use loop_capture::{Device, FrameSource, Next, Pattern, Tick, Y4mSource};
 use loop_pages::{PageLedger, PageSeat};
 use loop_plane::{Memory, MmapPlane};

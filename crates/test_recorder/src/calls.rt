@@ -2,14 +2,14 @@
 
 ghost use Rattle.std.specs.Prelude.{◌<◌, length};
 
+use crate::asserts::{holds, same};
 use crate::common::{AtOnce, are_of, frame};
-use crate::told::{holds, same};
 use loop_desk::{Flushed, Status};
 use loop_disk::Disk;
 use loop_plane::PlaneMemory;
 use loop_record::{FrameHead, Span};
 use loop_recorder::{
-    EndRefused, Ended, Entry, Noted, Pace, Pass, Receipt, Recorder, SessionFault, Stamp,
+    EndRefused, Ended, Entry, FrameInfo, Noted, Pace, Pass, Receipt, Recorder, SessionFault,
 };
 use loop_store::StoreFault;
 use std::alloc::{Allocator, Global};
@@ -20,14 +20,14 @@ use std::sync::Wait;
 pub(crate) const SIZE: u64 = 12;
 
 /// The stamp of a frame of the tests.
-pub(crate) const SEVEN: Stamp = Stamp {
+pub(crate) const SEVEN: FrameInfo = FrameInfo {
     sequence: 7,
     flags: 0x2000,
     timestamp: 280_000,
 };
 
 /// Another.
-pub(crate) const NINE: Stamp = Stamp {
+pub(crate) const NINE: FrameInfo = FrameInfo {
     sequence: 9,
     flags: 0x2000,
     timestamp: 360_000,
@@ -72,7 +72,7 @@ fn submits<R: Wait + Abort, D: Disk + Drop, P: PlaneMemory, A: Allocator + Copy>
     recorder: &Recorder<D, P, A>,
     camera: u32,
     pass: &mut Pass<A>,
-    stamp: Stamp,
+    stamp: FrameInfo,
     size: u64,
 ) -> Result<Noted, SessionFault>
     requires { camera < length recorder.now.outlines }

@@ -3,14 +3,14 @@
 
 ghost use Rattle.std.specs.Prelude.{◌<◌, length};
 
+use crate::asserts::{holds, same};
 use crate::calls::*;
 use crate::common::*;
 use crate::plain::{Deed, Plain, done};
-use crate::told::{holds, same};
 use loop_disk::{CrashDisk, Disk, MemDisk, Spoil};
 use loop_plane::{MmapPlane, PlaneMemory};
 use loop_record::Span;
-use loop_recorder::{Camera, EndedCamera, Noted, Pass, Recorder, Stamp};
+use loop_recorder::{Camera, EndedCamera, FrameInfo, Noted, Pass, Recorder};
 use loop_store::{Store, StoreFault};
 use std::alloc::Global;
 use std::process::Abort;
@@ -51,9 +51,9 @@ struct Caller {
 
 impl Caller {
     // The stamp of a new frame; none is like another of this caller or of the others.
-    fn stamp(&mut self) -> Stamp {
+    fn stamp(&mut self) -> FrameInfo {
         self.frames = self.frames.wrapping_add(8);
-        Stamp {
+        FrameInfo {
             sequence: self.frames,
             flags: 0x2000,
             timestamp: 40,

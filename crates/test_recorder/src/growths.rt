@@ -3,9 +3,9 @@
 ghost use Rattle.std.specs.Prelude.{◌≡◌, ◌<◌, All, false, length, vec_len};
 ghost use Rattle.loop_sessions.specs.Opened.{IsReady};
 
+use crate::asserts::same;
 use crate::calls::*;
 use crate::common::*;
-use crate::told::same;
 use loop_desk::{Flushed, Status};
 use loop_disk::MemDisk;
 use loop_plane::{MmapPlane, PlaneMemory};
@@ -27,9 +27,9 @@ type Thrifty<'a, P> = Recorder<MemDisk, P, &'a Budget>;
 type Passes<'a> = Vec<Pass<&'a Budget>, &'a Budget>;
 
 /// The growths of a new recorder of two cameras, each with a frame and a clip: two lists of locks, the lists for the
-/// end and for what is given up, the passes, and twice a list of outlines, each of which takes two growths for its
-/// frames and one for its clips.
-const NEW: u64 = 19;
+/// end and for what is given up, the passes, and twice a list of outlines, each of which takes a growth for its frames
+/// and one for its clips.
+const NEW: u64 = 15;
 
 // Within so many growths no recorder is made, and the cameras come back as they were.
 fn is_refused<'a, P: PlaneMemory>(

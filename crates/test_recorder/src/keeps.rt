@@ -2,13 +2,13 @@
 
 ghost use Rattle.std.specs.Prelude.{◌<◌, length};
 
+use crate::asserts::{holds, same};
 use crate::calls::{SIZE, ends, last};
 use crate::common::{AtOnce, Rec, frame, limits, recorder};
-use crate::told::{holds, same};
 use loop_desk::Status;
 use loop_record::Span;
 use loop_recorder::laws::keeps_are_whole;
-use loop_recorder::{Noted, Pass, SessionFault, Stamp, Times};
+use loop_recorder::{FrameInfo, Noted, Pass, SessionFault, Times};
 use loop_store::{Clip, StoreFault};
 use std::alloc::Global;
 use std::process::Abort;
@@ -138,7 +138,7 @@ fn stores<R: Wait + Abort>(
 )
     requires { 0 < length recorder.now.outlines }
 {
-    let stamp = Stamp {
+    let stamp = FrameInfo {
         sequence,
         flags: 0x2000,
         timestamp,

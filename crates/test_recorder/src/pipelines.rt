@@ -6,8 +6,8 @@ ghost use Rattle.loop_desk.specs.declared.hand.Hand.TheVariants.{Empty};
 ghost use Rattle.loop_pipeline.specs.Fronts.{IsOpen};
 ghost use Rattle.loop_plane.specs.Kinds.{heap_plane};
 
+use crate::asserts::{holds, same};
 use crate::common::*;
-use crate::told::{holds, same};
 use loop_capture::{Device, Pattern, Tick};
 use loop_desk::{Desk, Hand, LaneFault};
 use loop_disk::{Disk, FuseDisk, MemDisk};
@@ -17,7 +17,7 @@ use loop_pipeline::{
 };
 use loop_plane::{FdTable, HeapPlane, PlaneMemory};
 use loop_record::Times;
-use loop_recorder::Stamp;
+use loop_recorder::FrameInfo;
 use loop_store::{Clip, Store, StoreFault};
 use loop_vb2::Queue;
 use rtrb::RingBuffer;
@@ -358,7 +358,7 @@ fn back_of_four(rt: &impl Abort, alloc: Global) -> TestBack {
     };
     let mut back = Back::new(desk, from);
     for number in 0..4u32 {
-        let stamp = Stamp {
+        let stamp = FrameInfo {
             sequence: number,
             flags: 0,
             timestamp: u64::from(number) * 10,

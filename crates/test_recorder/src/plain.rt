@@ -5,7 +5,7 @@ use crate::calls::SIZE;
 use crate::common::are_of;
 use loop_disk::MemDisk;
 use loop_record::{FrameHead, Span};
-use loop_recorder::{Noted, Stamp};
+use loop_recorder::{FrameInfo, Noted};
 use loop_store::{Clip, Store};
 use std::alloc::{AllocError, Global};
 
@@ -83,7 +83,7 @@ impl Plain {
     }
 
     // A frame is stored.
-    fn store(&mut self, stamp: Stamp) -> Result<(), AllocError> {
+    fn store(&mut self, stamp: FrameInfo) -> Result<(), AllocError> {
         self.frames.push(FrameHead {
             number: self.next,
             sequence: stamp.sequence,
@@ -199,7 +199,7 @@ impl Deed {
     }
 
     // Frames are stored as one group: four calls, and four more for the first of a block.
-    fn store(&mut self, alloc: Global, group: &[Stamp]) -> Result<(), AllocError> {
+    fn store(&mut self, alloc: Global, group: &[FrameInfo]) -> Result<(), AllocError> {
         self.recycle(alloc)?;
         let begins = self.last(alloc)?.next % SLOTS == 0;
         self.calls = self.calls.saturating_add(if begins { 8 } else { 4 });
@@ -232,7 +232,7 @@ impl Deed {
 pub(crate) fn done(
     alloc: Global,
     plain: Plain,
-    waiting: &mut Vec<Stamp>,
+    waiting: &mut Vec<FrameInfo>,
     call: Noted,
 ) -> Result<Deed, AllocError> {
     let mut deed = Deed::none(alloc, plain)?;
@@ -251,7 +251,11 @@ pub(crate) fn done(
 }
 
 // The first frames that wait, taken out.
-fn taken(alloc: Global, waiting: &mut Vec<Stamp>, count: u32) -> Result<Vec<Stamp>, AllocError> {
+fn taken(
+    alloc: Global,
+    waiting: &mut Vec<FrameInfo>,
+    count: u32,
+) -> Result<Vec<FrameInfo>, AllocError> {
     let mut group = Vec::new(alloc);
     for _ in 0..count {
         if !waiting.is_empty() {

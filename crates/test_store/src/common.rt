@@ -2,7 +2,7 @@
 
 ghost use Rattle.std.specs.Prelude.{◌≡◌, All, IsTrue, length};
 
-use crate::told::{holds as so, same};
+use crate::asserts::{holds as so, same};
 use loop_disk::{Disk, MemDisk};
 use loop_record::{Frame, FrameHead, Geometry, PixelFormat, SuperHead, TAGGED, encode_super};
 use loop_store::{Store, StoreFault};

@@ -3,9 +3,9 @@
 
 ghost use Rattle.std.specs.Prelude.{◌≡◌, All, IsTrue, length};
 
+use crate::asserts::{holds, same};
 use crate::fakes::{Gutter, reads, tell};
 use crate::reading::{PIXELS, TWO};
-use crate::told::{holds, same};
 use loop_disk::{Disk, DiskFault, FuseDisk, MemDisk, OnceDisk};
 use loop_record::{Frame, Geometry, OPEN, PixelFormat};
 use loop_store::{Store, StoreFault, format};

@@ -1,6 +1,6 @@
 //! Inputs and outputs that give or take one byte a call, and what a whole input is read as.
 
-use crate::told::same;
+use crate::asserts::same;
 use loop_record::PixelFormat;
 use loop_y4m::{Y4mFault, Y4mReader};
 use std::alloc::Global;

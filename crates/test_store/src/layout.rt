@@ -1,12 +1,11 @@
 //! Sizes, and what stands in each part of a disk.
 
-use crate::told::{holds, same};
+use crate::asserts::{holds, same};
 use loop_record::{
     CLIP_SIZE, Damage, Found, Frame, FrameHead, Geometry, HEAD_SIZE, LayoutFault, OPEN,
     PixelFormat, SegmentHead, Span, SuperHead, TABLE_SIZE, VERSION_GATE, decode_clip, decode_head,
     decode_header, decode_slot, decode_super, encode_clip, encode_head, encode_slot, encode_super,
-    is_locked, lacks_frame, next_after, put_in_place, put_u32, put_u64, read_clips, repeats,
-    u32_at, u64_at,
+    is_locked, lacks_frame, next_after, put_u32, put_u64, read_clips, repeats, u32_at, u64_at,
 };
 use std::process::Abort;
 use std::test::Fail;
@@ -222,24 +221,12 @@ fn found(segment: u32, block: u64, frames: u32) -> Found {
     }
 }
 
-// These are the segments, in this order.
-fn stand(rt: &impl Abort, open: &[Found], segments: &[u32]) {
-    for (place, segment) in segments.iter().enumerate() {
-        same!(rt; open.get(place).map(|found| found.segment), Some(*segment), place);
-    }
-}
-
 #[test]
-fn found_segments_stand_in_the_order_of_their_blocks(rt: HostRuntime) -> Result<(), Fail> {
-    let mut open = Vec::new(rt.alloc());
-    put_in_place(&mut open, found(0, 5, 2))?;
-    put_in_place(&mut open, found(1, 3, 2))?;
+fn a_block_stands_once_and_only_the_newest_may_lack_a_frame(rt: HostRuntime) {
+    let open = [found(1, 3, 2), found(0, 5, 1)];
     holds!(rt; !repeats(&open) && !lacks_frame(&SMALL, &open));
-    // The newest may lack a frame, and no other.
-    put_in_place(&mut open, found(2, 5, 1))?;
-    stand(&rt, &open, &[1, 2, 0]);
+    let open = [found(1, 3, 2), found(2, 5, 1), found(0, 5, 2)];
     holds!(rt; repeats(&open) && lacks_frame(&SMALL, &open));
-    Ok(())
 }
 
 // A table whose last clip goes from 7 to this number is read so.

@@ -13,9 +13,11 @@
 //! - YUV4MPEG2: `reading` and `writing` have the worked rows of the format, with inputs and outputs that are cut,
 //!   interrupted or fail (`fakes`); `exporting`: what is exported of a store, read back; `real`: streams that ffmpeg and
 //!   mjpegtools wrote;
-//! - `told`: assertions that are cheap to prove.
+//! - `asserts`: assertions that are cheap to prove.
 #![tactic(auto)]
 
+#[cfg(test)]
+mod asserts;
 #[cfg(test)]
 mod common;
 #[cfg(test)]
@@ -38,8 +40,6 @@ mod real;
 mod ring;
 #[cfg(test)]
 mod tables;
-#[cfg(test)]
-mod told;
 #[cfg(test)]
 mod upgrade;
 #[cfg(test)]

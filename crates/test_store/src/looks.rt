@@ -1,7 +1,7 @@
 //! A store that is looked at: heads that are read alone, and an opening over a disk that is never written to.
 
+use crate::asserts::{holds as so, same};
 use crate::common::*;
-use crate::told::{holds as so, same};
 use loop_disk::{Disk, DiskFault, FuseDisk, MemDisk};
 use loop_overlay::OverlayDisk;
 use loop_record::FrameHead;

@@ -4,8 +4,8 @@ ghost use Rattle.std.specs.Prelude.{All, IsTrue};
 ghost use Rattle.loop_record.specs.Geometry.{is_good};
 ghost use Rattle.loop_store.specs.Runs.{IsOfSize};
 
+use crate::asserts::{holds as so, same};
 use crate::common::*;
-use crate::told::{holds as so, same};
 use loop_disk::{Disk, FuseDisk, MemDisk};
 use loop_record::{Geometry, Span, Times};
 use loop_store::{Command, Reply, Store, StoreFault, format, format_v1};
@@ -115,7 +115,7 @@ fn grows_in_open<'a>(
     }
 }
 
-// Opens an image with as many of the newest blocks kept as there are segments. The memory of a group isn't asked for.
+// Opens an image with as many of the newest blocks kept as there are segments.
 fn refuses_to_keep(rt: &impl Abort, alloc: Global, memory: &Budget, image: &[u8], growths: u64) {
     for allowed in 0..growths {
         memory.allow(allowed);
@@ -127,7 +127,7 @@ fn refuses_to_keep(rt: &impl Abort, alloc: Global, memory: &Budget, image: &[u8]
 
 // Upgrades a store of version 1 where no memory is granted, and then again.
 fn upgrades_without_growth(rt: &impl Abort, alloc: Global, memory: &Budget) {
-    memory.allow(5);
+    memory.allow(4);
     let Ok(mut store) = format_v1(memory, zeros(rt, alloc), SMALL) else {
         panic!(rt; "these growths are enough")
     };
@@ -150,13 +150,13 @@ fn stores_without_growth<'a>(
     same!(rt; append(rt, store, &frames), Ok(number));
 }
 
-// The list of the numbers, where each growth is refused in turn.
+// The list of the numbers, where its one growth is refused, and then granted.
 fn grows_in_frames<'a>(
     rt: &impl Abort,
     memory: &'a Budget,
     store: &mut Store<MemDisk, &'a Budget>,
 ) {
-    for (allowed, count) in &[(0, None), (1, None), (2, Some(5usize))] {
+    for (allowed, count) in &[(0, None), (1, Some(5usize))] {
         memory.allow(*allowed);
         same!(rt; store.frames(memory).ok().map(|numbers| numbers.len()), *count);
         same!(rt; memory.left(), 0);
@@ -178,7 +178,7 @@ fn grows_in_sought<'a>(
         to: 7,
         tag: 0,
     };
-    for (allowed, first) in &[(0, None), (1, None), (2, None), (3, Some(run))] {
+    for (allowed, first) in &[(0, None), (1, None), (2, Some(run))] {
         memory.allow(*allowed);
         let runs = store.sought(memory, times).ok();
         same!(rt; runs.and_then(|runs| runs.first().copied()), *first);
@@ -263,11 +263,11 @@ fn grows_on<'a>(
 fn each_growth_is_refused_in_turn(rt: HostRuntime) -> Result<(), Fail> {
     let alloc = rt.alloc();
     let memory = Budget::new(alloc);
-    grows_in_format(&rt, alloc, &memory, 5);
+    grows_in_format(&rt, alloc, &memory, 4);
     upgrades_without_growth(&rt, alloc, &memory);
     let seven = image_of(&rt, alloc, 7);
-    refuses_to_keep(&rt, alloc, &memory, &seven, 5);
-    let mut store = grows_in_open(&rt, alloc, &memory, &seven, (2, 6));
+    refuses_to_keep(&rt, alloc, &memory, &seven, 4);
+    let mut store = grows_in_open(&rt, alloc, &memory, &seven, (2, 4));
     same!(rt; store.keep(), 2);
     Ok(grows_on(&rt, alloc, &memory, &mut store)?)
 }

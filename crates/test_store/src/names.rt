@@ -1,6 +1,6 @@
 //! The names, the numbers and the sentences of the refusals.
 
-use crate::told::same;
+use crate::asserts::same;
 use loop_disk::DiskFault;
 use loop_record::Damage;
 use loop_store::{OpenRefused, StoreFault};

@@ -1,7 +1,7 @@
 //! The rows of the format, as they are read.
 
+use crate::asserts::same;
 use crate::fakes::{Drip, Shape, Want, reads, tell};
-use crate::told::same;
 use loop_record::{Geometry, PixelFormat};
 use loop_y4m::{GeometryFault, Y4mFault, Y4mReader};
 use std::alloc::Global;

@@ -5,7 +5,7 @@ ghost use Rattle.loop_disk.specs.declared.fault.DiskFault.TheVariants.{Read, Wri
 ghost use Rattle.loop_disk.specs.Medium.{piece};
 ghost use Rattle.loop_disk.specs.Calls.{Called, Stays, Writes, Syncs, failed_call};
 
-use crate::told::{holds, same};
+use crate::asserts::{holds, same};
 use loop_disk::{Disk, DiskFault, FuseDisk, MemDisk, OnceDisk};
 use loop_record::{Damage, FrameHead, Geometry, OPEN, PixelFormat};
 use loop_ring::{Ring, SlotFault};
@@ -46,6 +46,10 @@ impl<D: Disk> Disk for Bare<D> {
 
     fn write_at(&mut self, at: u64, bytes: &[u8]) -> Result<(), DiskFault> {
         self.0.write_at(at, bytes)
+    }
+
+    fn write_rows(&mut self, at: u64, rows: &[&[u8]]) -> Result<(), DiskFault> {
+        self.0.write_rows(at, rows)
     }
 
     fn sync(&mut self) -> Result<(), DiskFault> {

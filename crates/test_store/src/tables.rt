@@ -2,8 +2,8 @@
 
 ghost use Rattle.std.specs.Prelude.{◌≡◌, ◌<◌, All, IfOk, length};
 
+use crate::asserts::{holds, same};
 use crate::common::SMALL;
-use crate::told::{holds, same};
 use loop_clips::{CLIPS, Clip, ClipTable};
 use loop_record::{SegmentHead, Span};
 use loop_ring::{SegmentIndex, clips_on};
@@ -76,6 +76,25 @@ fn segments_are_found_by_what_they_hold(rt: HostRuntime) -> Result<(), Fail> {
     Ok(())
 }
 
+// The open segments of an index are these, in this order: a segment, its block and its frames.
+fn stand<A: Allocator>(rt: &impl Abort, index: &SegmentIndex<A>, rows: &[(u32, u64, u32)]) {
+    same!(rt; index.in_order().len(), rows.len());
+    for (found, row) in index.in_order().iter().zip(rows) {
+        same!(rt; (found.segment, found.block, found.frames), *row);
+    }
+}
+
+#[test]
+fn open_segments_stand_in_the_order_of_their_blocks(rt: HostRuntime) -> Result<(), Fail> {
+    let mut index = index(rt.alloc(), [open(5, 2), None, open(5, 1)])?;
+    stand(&rt, &index, &[(0, 5, 2), (2, 5, 1)]);
+    index.set(1, open(3, 2), 0);
+    stand(&rt, &index, &[(1, 3, 2), (0, 5, 2), (2, 5, 1)]);
+    index.set(0, None, 0);
+    stand(&rt, &index, &[(1, 3, 2), (2, 5, 1)]);
+    Ok(())
+}
+
 // The block of a segment, where 64 of them lie in a mixed order: each third block from 10 on.
 fn mixed_block(segment: u32) -> u64 {
     u64::from(segment) * 37 % 64 * 3 + 10
@@ -90,7 +109,7 @@ fn mixed(memory: &Budget<Global>) -> Result<SegmentIndex<&Budget<Global>>, Alloc
         *head = open(mixed_block(segment as u32), 1);
     }
     let heads = Vec::from_slice(memory, &heads)?;
-    SegmentIndex::of(memory, &SMALL, heads, &[])
+    SegmentIndex::of(memory, heads)
 }
 
 // What is found of some blocks, each by at most seven looks.
@@ -164,7 +183,8 @@ type Row = (
 // The block that goes, and its segment.
 fn goes(rt: &impl Abort, alloc: Global, row: &Row) -> Result<(), AllocError> {
     let heads = Vec::from_slice(alloc, &row.0)?;
-    let index = SegmentIndex::of(alloc, &SMALL, heads, &row.1)?;
+    let mut index = SegmentIndex::of(alloc, heads)?;
+    index.count_clips(&SMALL, &row.1);
     let block = index.victim();
     let segment = block.and_then(|block| index.find(block).0);
     same!(rt; block.zip(segment), row.2, row.0);
@@ -223,6 +243,7 @@ fn the_victim_follows_locks_and_appends(rt: HostRuntime) -> Result<(), Fail> {
     same!(rt; (index.victim(), index.held_blocks()), (Some(4), 3));
     index.grow(0, 2);
     same!(rt; (index.get(0), index.victim()), (open(5, 2), Some(4)));
+    stand(&rt, &index, &[(1, 1, 2), (2, 4, 1), (0, 5, 2)]);
     index.unlock_clip(&SMALL, span(2));
     same!(rt; index.victim(), Some(1));
     Ok(())
@@ -244,7 +265,8 @@ type KeptRow = (
 // The block that goes with each count.
 fn goes_keeping(rt: &impl Abort, alloc: Global, row: &KeptRow) -> Result<(), AllocError> {
     let heads = Vec::from_slice(alloc, &row.0)?;
-    let mut index = SegmentIndex::of(alloc, &SMALL, heads, &row.1)?;
+    let mut index = SegmentIndex::of(alloc, heads)?;
+    index.count_clips(&SMALL, &row.1);
     let mut keep = 1u32;
     for victim in row.2.as_slice() {
         index.keep_newest(keep);

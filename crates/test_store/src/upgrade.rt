@@ -2,8 +2,8 @@
 
 ghost use Rattle.std.specs.Prelude.{◌≤◌};
 
+use crate::asserts::{holds, same};
 use crate::ring::Bare;
-use crate::told::{holds, same};
 use loop_clips::{CLIPS, ClipTable};
 use loop_disk::{Disk, DiskFault, FuseDisk, MemDisk, OnceDisk};
 use loop_record::{OPEN, Span};

@@ -1,8 +1,8 @@
 //! The text that is written, and that it is read back.
 
+use crate::asserts::{holds, same};
 use crate::fakes::{Gutter, reads};
 use crate::reading::{PIXELS, TWO};
-use crate::told::{holds, same};
 use loop_record::{Geometry, PixelFormat};
 use loop_y4m::{write_frame, write_header};
 use std::alloc::Global;

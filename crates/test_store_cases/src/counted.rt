@@ -43,6 +43,11 @@ impl<'a, D: Disk> Disk for Counted<'a, D> {
         self.inner.write_at(at, bytes)
     }
 
+    fn write_rows(&mut self, at: u64, rows: &[&[u8]]) -> Result<(), DiskFault> {
+        self.count();
+        self.inner.write_rows(at, rows)
+    }
+
     fn sync(&mut self) -> Result<(), DiskFault> {
         self.count();
         self.inner.sync()

@@ -1,6 +1,6 @@
 use Rattle.std.proofs.Common.{sym, ap, ◌∙◌, subst}
-use Rattle.loop_desk.proofs.Gone.{store-goes}
-use Rattle.loop_lane_text.proofs.Recorded.{exported}
+use Rattle.loop_desk.proofs.CallRuns.{store-goes}
+use Rattle.loop_lane_text.proofs.RecordTexts.{exported}
 use Rattle.loop_lane_text.proofs.record_and_export.Goals as goal
 
 pub returns-in-Ok-export : goal.returns-in-Ok-export

@@ -1,5 +1,5 @@
-use Rattle.loop_store.proofs.Reopened.{refused-honest}
-use Rattle.loop_lane_text.proofs.Stopped.{for-want, reopened}
+use Rattle.loop_store.proofs.Openings.{refused-honest}
+use Rattle.loop_lane_text.proofs.StopImages.{for-want, reopened}
 use Rattle.loop_lane_text.proofs.run_and_reopen.Goals as goal
 
 pub returns-in-Ok-open : goal.returns-in-Ok-open

@@ -1,9 +1,10 @@
 //! Configurations: what is read of them, and why they are refused.
 
-use crate::told::{holds, same};
+use crate::asserts::{holds, same};
 use loop_record::PixelFormat;
 use loop_station_words::{
-    CameraConfig, CameraFault, Config, ConfigFault, Memory, Room, Shape, Source, read_config,
+    CameraConfig, CameraFault, Config, ConfigFault, FrameShape, Memory, Source, StoreSize,
+    read_config,
 };
 use std::alloc::Global;
 use std::process::Abort;
@@ -72,7 +73,7 @@ const ROWS: [(&str, Option<ConfigFault>); 48] = [
     ),
     (
         "[[camera]]\nname='a'\nsource='p'\nstore='s'\nminutes=1\nkeep=4294967296\n",
-        Some(ConfigFault::Camera(1, CameraFault::BadKeep)),
+        Some(ConfigFault::Camera(1, CameraFault::BadSeconds)),
     ),
     (
         "[[camera]]\nname='a'\nsource='p'\nstore='s'\nminutes=1\ntag=-1\n",
@@ -221,8 +222,8 @@ fn seconds_of(alloc: Global, text: &str) -> Option<u64> {
     match read_config(alloc, text) {
         Ok(config) => match config.cameras.first() {
             Some(camera) => match camera.room {
-                Room::Seconds(seconds) => Some(seconds),
-                Room::Bytes(_) => None,
+                StoreSize::Seconds(seconds) => Some(seconds),
+                StoreSize::Bytes(_) => None,
             },
             None => None,
         },
@@ -254,7 +255,7 @@ buffers=13\nmemory=14\nsave_to='clips'\nrelease=true\n\
 [[camera]]\nname='right'\nsource='r.y4m'\nstore='r.loop'\nbytes=15\nkeep=16\ntag=17\nbuffers=18\nmemory='19 s'\nsave_to='more'\n";
 
 // The pattern of the first camera.
-const SHAPE: Shape = Shape {
+const SHAPE: FrameShape = FrameShape {
     width: 4,
     height: 2,
     format: PixelFormat::Grey,
@@ -281,7 +282,7 @@ fn is_left(camera: &CameraConfig) -> bool {
     camera.name.as_str() == "left"
         && matches!(&camera.source, Source::Pattern(shape) if *shape == SHAPE)
         && camera.store.as_str() == "l.loop"
-        && camera.room == Room::Seconds(180)
+        && camera.room == StoreSize::Seconds(180)
         && (camera.seconds, camera.tag, camera.buffers) == (11, 12, 13)
         && camera.memory == Some(Memory::Bytes(14))
         && camera.save_to.as_deref() == Some("clips")
@@ -292,7 +293,7 @@ fn is_right(camera: &CameraConfig) -> bool {
     camera.name.as_str() == "right"
         && matches!(&camera.source, Source::Path(path) if path.as_str() == "r.y4m")
         && camera.store.as_str() == "r.loop"
-        && camera.room == Room::Bytes(15)
+        && camera.room == StoreSize::Bytes(15)
         && (camera.seconds, camera.tag, camera.buffers) == (16, 17, 18)
         && camera.memory == Some(Memory::Seconds(19))
         && camera.save_to.as_deref() == Some("more")
@@ -311,7 +312,7 @@ fn says_least(config: &Config) -> bool {
                 && camera.memory.is_none()
                 && camera.save_to.is_none()
                 && !camera.release
-                && camera.room == Room::Bytes(77)
+                && camera.room == StoreSize::Bytes(77)
         }
         _ => false,
     }

@@ -1,6 +1,6 @@
 //! What is printed, and how large a store is.
 
-use crate::told::{holds, same};
+use crate::asserts::{holds, same};
 use loop_record::{Geometry, PixelFormat};
 use loop_script::{Likeness, compare_frames, print_other_geometry, print_other_rate};
 use loop_station_words::{

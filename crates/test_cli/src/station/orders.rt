@@ -1,6 +1,6 @@
 //! Lines, and what they ask for.
 
-use crate::told::same;
+use crate::asserts::same;
 use loop_station_words::{Name, Order, label_of, read_order};
 use std::alloc::{AllocError, Global};
 use std::process::Abort;

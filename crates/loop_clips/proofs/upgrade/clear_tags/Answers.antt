@@ -2,7 +2,7 @@ use Rattle.std.proofs.Common.{◌≡◌, ◌≤◌, ◌+◌, ℕ, ◌∙◌, sym
 use Rattle.std.proofs.lemmas.Result.{err_from_is_err_and}
 use Rattle.loop_disk.proofs.Moments.{called_on}
 use Rattle.loop_record.specs.Change.{HasNoTags}
-use Rattle.loop_clips.proofs.Upgrading.{IsCleared, cleared-none, cleared-more, cleared-past, clearing, known-open}
+use Rattle.loop_clips.proofs.UpgradeWrites.{IsCleared, cleared-none, cleared-more, cleared-past, clearing, known-open}
 use Rattle.loop_clips.proofs.upgrade.clear_tags.Goals.{then-is_some+in_ok-clear_tag, else-is_some}
 use Rattle.loop_clips.proofs.upgrade.clear_tags.Goals as goal
 

@@ -1,4 +1,4 @@
-use Rattle.loop_clips.proofs.Upgrading.{IsCleared}
+use Rattle.loop_clips.proofs.UpgradeWrites.{IsCleared}
 use Rattle.loop_clips.proofs.upgrade.clear_tags.Given as goal
 
 abbrev pub invariant-loop-id : goal.invariant-loop-id

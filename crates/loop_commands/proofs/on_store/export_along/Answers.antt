@@ -2,7 +2,7 @@ use Rattle.std.specs.Prelude.{codes}
 use Rattle.loop_y4m.specs.Export.{frames_between}
 use Rattle.loop_y4m.specs.Text.{text}
 use Rattle.loop_commands.specs.Told.{line_of}
-use Rattle.loop_commands.proofs.Written.{behind}
+use Rattle.loop_commands.proofs.OutputBytes.{behind}
 use Rattle.loop_commands.proofs.on_store.export_along.Goals as goal
 
 pub returns-else-is_err-clause-text : goal.returns-else-is_err-clause-text

@@ -1,6 +1,6 @@
 use Rattle.loop_y4m.specs.Export.{frames_between}
 use Rattle.loop_y4m.specs.Text.{text}
-use Rattle.loop_commands.proofs.Written.{kept_first, kept_last}
+use Rattle.loop_commands.proofs.OutputBytes.{kept_first, kept_last}
 use Rattle.loop_commands.proofs.on_store.export_into.Goals as goal
 
 pub returns-in-Some-settled-clause-text : goal.returns-in-Some-settled-clause-text

@@ -1,6 +1,6 @@
 use Rattle.loop_y4m.specs.Export.{frames_between}
 use Rattle.loop_y4m.specs.Text.{text}
-use Rattle.loop_commands.proofs.Written.{through}
+use Rattle.loop_commands.proofs.OutputBytes.{through}
 use Rattle.loop_commands.proofs.on_store.export_text.Goals as goal
 
 pub returns-clause-text : goal.returns-clause-text

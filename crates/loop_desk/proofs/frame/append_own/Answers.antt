@@ -1,5 +1,5 @@
 use Rattle.std.proofs.Common.{◌≡◌, ◌+◌, ◌-◌, take, drop, arith}
-use Rattle.loop_desk.proofs.Framed.{nothing_copied, mid_long}
+use Rattle.loop_desk.proofs.FrameBytes.{nothing_copied, mid_long}
 use Rattle.loop_desk.proofs.frame.append_own.Goals as goal
 
 pub returns-in-Err-clause-appends : goal.returns-in-Err-clause-appends

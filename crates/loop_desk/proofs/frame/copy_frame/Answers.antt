@@ -1,6 +1,6 @@
 use Rattle.std.proofs.Common.{sym, subst}
 use Rattle.loop_desk.specs.Parts.{CopiesFrame}
-use Rattle.loop_desk.proofs.Framed.{frame_given, frame_own}
+use Rattle.loop_desk.proofs.FrameBytes.{frame_given, frame_own}
 use Rattle.loop_desk.proofs.frame.copy_frame.Goals as goal
 
 pub returns-in-Some : goal.returns-in-Some

@@ -1,6 +1,6 @@
 use Rattle.std.proofs.Common.{sym, subst, Ok, refl}
 use Rattle.loop_desk.specs.Front.{dequeued, TurnsBeside}
-use Rattle.loop_desk.proofs.Turning.{took}
+use Rattle.loop_desk.proofs.FrontTurns.{took}
 use Rattle.loop_desk.proofs.front.dequeue.Goals as goal
 
 pub returns-in-Ok-dequeue-clause-turn : goal.returns-in-Ok-dequeue-clause-turn

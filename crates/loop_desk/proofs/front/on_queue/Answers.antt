@@ -1,7 +1,7 @@
 use Rattle.std.proofs.Common.{◌≡◌, true, false, rules}
 use Rattle.loop_ioctl.specs.Events.{is_whole}
 use Rattle.loop_desk.specs.Front.{hand_state, index_in, forbids}
-use Rattle.loop_desk.proofs.Turning.{told}
+use Rattle.loop_desk.proofs.FrontTurns.{told}
 use Rattle.loop_desk.proofs.front.on_queue.Goals as goal
 
 pub returns-clause-turn : goal.returns-clause-turn

@@ -2,7 +2,7 @@ use Rattle.std.proofs.Common.{◌≡◌, sym, subst, Ok, Err, ◌∙◌}
 use Rattle.loop_desk.specs.declared.hand.LaneFault.TheVariants.{Queue}
 use Rattle.loop_desk.specs.declared.hand.Hand.TheVariants as hand
 use Rattle.loop_desk.specs.Front.{requeued, TurnsBeside}
-use Rattle.loop_desk.proofs.Turning.{put_in_queue, put_none}
+use Rattle.loop_desk.proofs.FrontTurns.{put_in_queue, put_none}
 use Rattle.loop_desk.proofs.front.requeue.Goals as goal
 
 pub returns-in-Ok-clause-turn : goal.returns-in-Ok-clause-turn

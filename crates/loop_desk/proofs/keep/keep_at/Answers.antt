@@ -1,6 +1,6 @@
 use Rattle.std.proofs.Common.{None, Some, Ok, Err, length, refl, ap, arith}
 use Rattle.loop_store.specs.declared.fault.StoreFault.TheVariants.{NoMemory}
-use Rattle.loop_desk.proofs.Locking.{keeps-crammed, keeps-none, keeps-runs, not-none}
+use Rattle.loop_desk.proofs.KeepParts.{keeps-crammed, keeps-none, keeps-runs, not-none}
 use Rattle.loop_desk.proofs.keep.keep_at.Goals as goal
 
 pub returns-in-Err : goal.returns-in-Err

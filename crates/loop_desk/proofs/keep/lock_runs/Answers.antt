@@ -1,6 +1,6 @@
 use Rattle.std.proofs.Common.{arith}
 use Rattle.std.proofs.lemmas.Result.{err_from_is_err_and}
-use Rattle.loop_desk.proofs.Locking.{lock-more, lock-none, lock-refused}
+use Rattle.loop_desk.proofs.KeepParts.{lock-more, lock-none, lock-refused}
 use Rattle.loop_desk.proofs.keep.lock_runs.Goals as goal
 
 pub loop-run-init : goal.loop-run-init

@@ -1,6 +1,6 @@
 use Rattle.std.proofs.Common.{◌≡◌, ◌≤◌, length, vec_len}
 use Rattle.std.specs.Vec.{vec_capacity}
-use Rattle.loop_desk.proofs.Locking.{LocksFirst}
+use Rattle.loop_desk.proofs.KeepParts.{LocksFirst}
 use Rattle.loop_desk.proofs.keep.lock_runs.Given as goal
 
 abbrev pub invariant-loop-run : goal.invariant-loop-run

@@ -4,7 +4,7 @@ use Rattle.loop_desk.specs.declared.event.LaneEvent.{LaneEvent}
 use Rattle.loop_desk.specs.declared.event.LaneReply.TheVariants as reply
 use Rattle.loop_desk.specs.declared.lane.Lane.{Lane}
 use Rattle.loop_desk.specs.Lane.{LaneRan, is_dequeue}
-use Rattle.loop_desk.proofs.Told.{told-dequeue, told-dqbuf, told-flush, told-lock, told-queue, told-read, told-requeue, told-submit, told-unlock}
+use Rattle.loop_desk.proofs.EventReplies.{told-dequeue, told-dqbuf, told-flush, told-lock, told-queue, told-read, told-requeue, told-submit, told-unlock}
 use Rattle.loop_desk.proofs.lane.answer.Goals as goal
 
 pub returns-then-is_dequeue : goal.returns-then-is_dequeue

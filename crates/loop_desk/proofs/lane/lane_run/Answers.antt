@@ -5,7 +5,7 @@ use Rattle.loop_desk.specs.declared.event.LaneEvent.{LaneEvent}
 use Rattle.loop_desk.specs.declared.event.LaneReply.{LaneReply}
 use Rattle.loop_desk.specs.Lane.{LaneRan}
 use Rattle.loop_desk.proofs.Order.{keeps}
-use Rattle.loop_desk.proofs.Ran.{all-items, ran-joined, ran-none, same-count}
+use Rattle.loop_desk.proofs.LaneRuns.{all-items, ran-joined, ran-none, same-count}
 use Rattle.loop_desk.proofs.lane.lane_run.Given.{Over}
 use Rattle.loop_desk.proofs.lane.lane_run.Goals as goal
 

@@ -4,7 +4,7 @@ use Rattle.loop_desk.specs.declared.hand.Hand.{Hand}
 use Rattle.loop_desk.specs.Front.{hand_state}
 use Rattle.loop_desk.specs.Lane.{submit_calls}
 use Rattle.loop_desk.specs.Seen.{DeskGoes}
-use Rattle.loop_desk.proofs.Gone.{desk-none}
+use Rattle.loop_desk.proofs.CallRuns.{desk-none}
 use Rattle.loop_desk.proofs.lane.submit.Goals as goal
 
 pub returns-in-Spent-clause-goes : goal.returns-in-Spent-clause-goes

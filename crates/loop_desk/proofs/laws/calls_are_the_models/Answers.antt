@@ -1,4 +1,4 @@
-use Rattle.loop_desk.proofs.Modelling.{answers-are}
+use Rattle.loop_desk.proofs.DeskModel.{answers-are}
 use Rattle.loop_desk.proofs.laws.calls_are_the_models.Goals as goal
 
 pub returns : goal.returns

@@ -1,4 +1,4 @@
-use Rattle.loop_desk.proofs.Gone.{desk-joined}
+use Rattle.loop_desk.proofs.CallRuns.{desk-joined}
 use Rattle.loop_desk.proofs.laws.calls_join.Goals as goal
 
 pub returns : goal.returns

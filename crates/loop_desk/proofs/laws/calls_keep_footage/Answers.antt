@@ -1,4 +1,4 @@
-use Rattle.loop_desk.proofs.Lasting.{keeps-footage}
+use Rattle.loop_desk.proofs.FootageRuns.{keeps-footage}
 use Rattle.loop_desk.proofs.laws.calls_keep_footage.Goals as goal
 
 pub returns : goal.returns

@@ -1,4 +1,4 @@
-use Rattle.loop_desk.proofs.Keeping.{frames-are-kept}
+use Rattle.loop_desk.proofs.QueueFrames.{frames-are-kept}
 use Rattle.loop_desk.proofs.laws.frames_are_kept.Goals as goal
 
 pub returns : goal.returns

@@ -1,4 +1,4 @@
-use Rattle.loop_desk.proofs.Turning.{new_fronts_stand}
+use Rattle.loop_desk.proofs.FrontTurns.{new_fronts_stand}
 use Rattle.loop_desk.proofs.laws.new_fronts_stand.Goals as goal
 
 pub returns : goal.returns

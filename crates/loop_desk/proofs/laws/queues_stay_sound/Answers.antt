@@ -1,4 +1,4 @@
-use Rattle.loop_desk.proofs.Keeping.{queues-stay-sound}
+use Rattle.loop_desk.proofs.QueueFrames.{queues-stay-sound}
 use Rattle.loop_desk.proofs.laws.queues_stay_sound.Goals as goal
 
 pub returns : goal.returns

@@ -1,5 +1,5 @@
 use Rattle.loop_desk.proofs.Order.{keeps}
-use Rattle.loop_desk.proofs.Ran.{ran-joined}
+use Rattle.loop_desk.proofs.LaneRuns.{ran-joined}
 use Rattle.loop_desk.proofs.laws.runs_join.Goals as goal
 
 pub returns : goal.returns

@@ -1,4 +1,4 @@
-use Rattle.loop_desk.proofs.Queued.{lane-turns-are-events}
+use Rattle.loop_desk.proofs.QueueTurns.{lane-turns-are-events}
 use Rattle.loop_desk.proofs.laws.turns_are_events.Goals as goal
 
 pub returns : goal.returns

@@ -1,4 +1,4 @@
-use Rattle.loop_desk.proofs.Completed.{whole_taken}
+use Rattle.loop_desk.proofs.CompleteFrames.{whole_taken}
 use Rattle.loop_desk.proofs.laws.whole_frames_are_taken.Goals as goal
 
 pub returns : goal.returns

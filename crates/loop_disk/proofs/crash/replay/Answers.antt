@@ -2,7 +2,7 @@ use Rattle.std.proofs.Common.{◌∙◌, map, take, subst}
 use Rattle.loop_disk.specs.History.{Moment}
 use Rattle.loop_disk.specs.Crashing.{call_of, moment_after}
 use Rattle.loop_disk.specs.Replay.{IsReplayed}
-use Rattle.loop_disk.proofs.Crashing.{within-at, turned}
+use Rattle.loop_disk.proofs.CrashCalls.{within-at, turned}
 use Rattle.loop_disk.proofs.crash.replay.Goals as goal
 
 pub replay_call-requires-clause-within : goal.replay_call-requires-clause-within

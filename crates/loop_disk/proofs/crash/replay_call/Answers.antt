@@ -1,4 +1,4 @@
-use Rattle.loop_disk.proofs.Crashing.{replay-wrote}
+use Rattle.loop_disk.proofs.CrashCalls.{replay-wrote}
 use Rattle.loop_disk.proofs.crash.replay_call.Goals as goal
 
 pub returns-in-Write-clause-replayed : goal.returns-in-Write-clause-replayed

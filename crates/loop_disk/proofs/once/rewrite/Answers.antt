@@ -2,7 +2,7 @@ use Rattle.std.proofs.Common.{◌≡◌, ℕ, ◌+◌, ◌-◌, ◌≤◌, lengt
 use Rattle.std.proofs.lemmas.List.{length-take}
 use Rattle.loop_disk.specs.Medium.{LeavesEachTorn}
 use Rattle.loop_disk.proofs.Moments.{called_on}
-use Rattle.loop_disk.proofs.Tearing.{tears_same, tears_then, tears_within, tears_failed, torn_joined}
+use Rattle.loop_disk.proofs.TornWrites.{tears_same, tears_then, tears_within, tears_failed, torn_joined}
 use Rattle.loop_disk.proofs.once.rewrite.Goals as goal
 
 pub returns-in_err-rewrite_chunk-clause-disk : goal.returns-in_err-rewrite_chunk-clause-disk

@@ -2,7 +2,7 @@ use Rattle.std.proofs.Common.{◌≡◌, ℕ, ◌-◌, ◌≤◌, length, take, 
 use Rattle.std.proofs.lemmas.List.{length-take}
 use Rattle.std.proofs.lemmas.Result.{on_ok_weaker}
 use Rattle.loop_disk.specs.Medium.{LeavesEachTorn}
-use Rattle.loop_disk.proofs.Tearing.{kept_and_rewritten, torn_joined}
+use Rattle.loop_disk.proofs.TornWrites.{kept_and_rewritten, torn_joined}
 use Rattle.loop_disk.proofs.once.tear.Goals as goal
 
 pub returns-clause-disk : goal.returns-clause-disk

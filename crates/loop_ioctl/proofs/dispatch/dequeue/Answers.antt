@@ -1,5 +1,5 @@
 use Rattle.std.proofs.Common.{ap}
-use Rattle.loop_ioctl.proofs.Out.{lets_one_out, lets_none_out}
+use Rattle.loop_ioctl.proofs.LeavingPlanes.{lets_one_out, lets_none_out}
 use Rattle.loop_ioctl.proofs.dispatch.dequeue.Goals as goal
 
 pub returns-in-Ok-clause-step : goal.returns-in-Ok-clause-step

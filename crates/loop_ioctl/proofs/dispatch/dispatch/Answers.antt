@@ -2,7 +2,7 @@ use Rattle.std.proofs.Common.{Ok, Err, sym, subst}
 use Rattle.loop_vb2.specs.Events.{Happens, streamon, mmap, munmap}
 use Rattle.loop_ioctl.specs.declared.call.IoctlReply.TheVariants.{Info, Done}
 use Rattle.loop_ioctl.specs.Parts.{AppliesTyped}
-use Rattle.loop_ioctl.proofs.Applied.{stream_on_applies, stream_off_applies, map_applies, unmap_applies, query_applies, query_refused, where_refused}
+use Rattle.loop_ioctl.proofs.IoctlSteps.{stream_on_applies, stream_off_applies, map_applies, unmap_applies, query_applies, query_refused, where_refused}
 use Rattle.loop_ioctl.proofs.dispatch.dispatch.Goals as goal
 
 pub returns-in-StreamOn-clause-step : goal.returns-in-StreamOn-clause-step

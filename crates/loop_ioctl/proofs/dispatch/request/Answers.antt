@@ -1,5 +1,5 @@
 use Rattle.std.proofs.Common.{ap, refl, None}
-use Rattle.loop_ioctl.proofs.Out.{replaces, replaces_not}
+use Rattle.loop_ioctl.proofs.LeavingPlanes.{replaces, replaces_not}
 use Rattle.loop_ioctl.proofs.dispatch.request.Goals as goal
 
 pub returns-in-Ok-clause-step : goal.returns-in-Ok-clause-step

@@ -1,5 +1,6 @@
 use Rattle.std.proofs.Common.{sym, ap, subst, ◌∙◌, length}
-use Rattle.loop_vb2.specs.Events.{Happens, refusal_of, complete}
+use Rattle.std.specs.Result.{result_err}
+use Rattle.loop_vb2.specs.Events.{Happens, complete}
 use Rattle.loop_ioctl.specs.declared.events.QueueReply.TheVariants as answer
 use Rattle.loop_ioctl.specs.Events.{Reacts}
 use Rattle.loop_ioctl.proofs.Device.{complete_reacts, fail_reacts, whole_bytes}
@@ -18,7 +19,7 @@ returns-in-Complete-clause-step g c =
     (complete_reacts g.row.A.Denot m c.in-Complete.index c.in-Complete.stamp c.in-Complete.bytes c.complete.result
     c.args.queue.now c.complete.new.self c.args.table.now
     (subst (λ l. Happens m c.args.queue.now c.complete.new.self
-    (complete c.in-Complete.index c.in-Complete.stamp l (refusal_of c.complete.result))) c.deref.ensures.value
+    (complete c.in-Complete.index c.in-Complete.stamp l (result_err c.complete.result))) c.deref.ensures.value
     c.complete.ensures.step))
 
 pub returns-in-Fail-clause-step : goal.returns-in-Fail-clause-step

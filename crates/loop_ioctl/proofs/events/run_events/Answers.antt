@@ -1,8 +1,8 @@
 use Rattle.std.proofs.Common.{◌≡◌, true, [], ◌∷◌, length, refl, sym, ap, subst, ◌∙◌, append_assoc, append-nil, arith}
 use Rattle.std.specs.Vec.Iter.{into_iter_items}
 use Rattle.loop_ioctl.specs.Events.{Runs, is_whole, are_whole}
-use Rattle.loop_ioctl.proofs.Ran.{first_true, second_true, nothing_left, runs_none, runs_more}
-use Rattle.loop_ioctl.proofs.Modelled.{runs_are_in_order}
+use Rattle.loop_ioctl.proofs.EventRuns.{first_true, second_true, nothing_left, runs_none, runs_more}
+use Rattle.loop_ioctl.proofs.ModelTurns.{runs_are_in_order}
 use Rattle.loop_ioctl.proofs.events.run_events.Goals as goal
 
 pub loop-event-init : goal.loop-event-init

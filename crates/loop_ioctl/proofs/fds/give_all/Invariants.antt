@@ -1,6 +1,7 @@
 use Rattle.std.proofs.Common.{◌≡◌}
 use Rattle.std.specs.Prelude.{vec_len}
-use Rattle.loop_ioctl.specs.Names.{values_of, names_in, AreAway, given_back}
+use Rattle.loop_ioctl.specs.Names.{names_in, AreAway, given_back}
+use Rattle.loop_ioctl.proofs.Short.{values_of}
 use Rattle.loop_ioctl.proofs.fds.give_all.Given as goal
 
 -- what is left decides

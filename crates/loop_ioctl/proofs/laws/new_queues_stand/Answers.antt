@@ -1,4 +1,4 @@
-use Rattle.loop_ioctl.proofs.Aside.{new_queues_stand}
+use Rattle.loop_ioctl.proofs.OutsidePlanes.{new_queues_stand}
 use Rattle.loop_ioctl.proofs.laws.new_queues_stand.Goals as goal
 
 pub returns : goal.returns

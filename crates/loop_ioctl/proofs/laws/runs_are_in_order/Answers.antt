@@ -1,4 +1,4 @@
-use Rattle.loop_ioctl.proofs.Modelled.{runs_are_in_order}
+use Rattle.loop_ioctl.proofs.ModelTurns.{runs_are_in_order}
 use Rattle.loop_ioctl.proofs.laws.runs_are_in_order.Goals as goal
 
 pub returns : goal.returns

@@ -1,4 +1,4 @@
-use Rattle.loop_ioctl.proofs.Ran.{runs_join}
+use Rattle.loop_ioctl.proofs.EventRuns.{runs_join}
 use Rattle.loop_ioctl.proofs.laws.runs_join.Goals as goal
 
 pub returns : goal.returns

@@ -1,4 +1,4 @@
-use Rattle.loop_ioctl.proofs.Modelled.{turns_are_events}
+use Rattle.loop_ioctl.proofs.ModelTurns.{turns_are_events}
 use Rattle.loop_ioctl.proofs.laws.turns_are_events.Goals as goal
 
 pub returns : goal.returns

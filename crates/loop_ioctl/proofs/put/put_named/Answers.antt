@@ -1,5 +1,5 @@
 use Rattle.std.proofs.Common.{sym, ◌∙◌}
-use Rattle.loop_ioctl.proofs.Putting.{named_early, named_fails, named_uses, named_still}
+use Rattle.loop_ioctl.proofs.QueueSteps.{named_early, named_fails, named_uses, named_still}
 use Rattle.loop_ioctl.proofs.put.put_named.Goals as goal
 
 pub returns-in-Some-clause-step : goal.returns-in-Some-clause-step

@@ -1,7 +1,7 @@
 use Rattle.std.proofs.Common.{sym, ap, subst, ◌∙◌}
 use Rattle.loop_ioctl.specs.declared.call.BufferMemory.TheVariants as memory
 use Rattle.loop_ioctl.specs.Parts.{use_call, AppliesOfAny}
-use Rattle.loop_ioctl.proofs.Putting.{uses_mmap, uses_user, uses_held}
+use Rattle.loop_ioctl.proofs.QueueSteps.{uses_mmap, uses_user, uses_held}
 use Rattle.loop_ioctl.proofs.put.use_buffer.Goals as goal
 
 pub returns-in-Mmap-clause-step : goal.returns-in-Mmap-clause-step

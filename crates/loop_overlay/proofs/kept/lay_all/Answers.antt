@@ -2,7 +2,7 @@ use Rattle.std.proofs.Common.{rules, ℕ, List, subst, sym}
 use Rattle.std.proofs.lemmas.List.{take_all}
 use Rattle.loop_overlay.specs.Layers.{KeptWrite, laid}
 use Rattle.loop_overlay.specs.Parts.{IsBufferOf}
-use Rattle.loop_overlay.proofs.Overlaid.{laid_next}
+use Rattle.loop_overlay.proofs.OverlayImages.{laid_next}
 use Rattle.loop_overlay.proofs.kept.lay_all.Goals as goal
 
 pub loop-kept-preserved : goal.loop-kept-preserved

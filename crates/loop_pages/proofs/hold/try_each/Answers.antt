@@ -1,6 +1,6 @@
 use Rattle.std.proofs.Common.{◌∙◌, ap, sym, length, arith, vec_len, vec_capacity}
 use Rattle.loop_pages.specs.Place.{Place}
-use Rattle.loop_pages.proofs.Tried.{got_next, missed_next, got_last, short_of}
+use Rattle.loop_pages.proofs.ClaimTries.{got_next, missed_next, got_last, short_of}
 use Rattle.loop_pages.proofs.hold.try_each.Goals as goal
 use Rattle.loop_pages.proofs.hold.try_each.Goals.{then-take_page+else-len-count, else-take_page}
 

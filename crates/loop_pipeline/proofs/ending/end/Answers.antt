@@ -1,7 +1,7 @@
 use Rattle.std.proofs.Common.{◌+◌, subst, sym}
 use Rattle.loop_pipeline.specs.Cameras.{CameraKeeps}
 use Rattle.loop_pipeline.specs.Fronts.{made_of}
-use Rattle.loop_pipeline.proofs.Joining.{ends}
+use Rattle.loop_pipeline.proofs.RingEnds.{ends}
 use Rattle.loop_pipeline.proofs.ending.end.Goals as goal
 
 pub returns-clause-keeps : goal.returns-clause-keeps

@@ -1,4 +1,4 @@
-use Rattle.loop_pipeline.proofs.Starting.{stays-open, turned-on}
+use Rattle.loop_pipeline.proofs.EmptyQueue.{stays-open, turned-on}
 use Rattle.loop_pipeline.proofs.start.ask.Goals as goal
 
 pub returns-in-Ok-clause-ready : goal.returns-in-Ok-clause-ready

@@ -1,4 +1,4 @@
-use Rattle.loop_record.proofs.WellFormed.{steps-legal}
+use Rattle.loop_record.proofs.LegalSteps.{steps-legal}
 use Rattle.loop_record.proofs.laws.appends_are_legal.Goals as goal
 
 pub returns : goal.returns

@@ -1,4 +1,4 @@
-use Rattle.loop_record.proofs.Upgraded.{reading-kept}
+use Rattle.loop_record.proofs.UpgradeImages.{reading-kept}
 use Rattle.loop_record.proofs.laws.kept_clips_read_the_same.Goals as goal
 
 pub returns : goal.returns

@@ -1,6 +1,6 @@
 use Rattle.std.proofs.Common.{sym, ◌∙◌}
 use Rattle.loop_record.specs.Recording.{ring_of}
-use Rattle.loop_ring.proofs.Counted.{counts-empty}
+use Rattle.loop_ring.proofs.ClipCounts.{counts-empty}
 use Rattle.loop_ring.proofs.count.clips_on.Goals as goal
 
 pub returns-then-not-some_stands : goal.returns-then-not-some_stands

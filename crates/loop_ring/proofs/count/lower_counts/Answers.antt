@@ -1,7 +1,7 @@
 use Rattle.std.proofs.Common.{List, ℕ, ◌+◌, arith, sym, subst, ◌∙◌, get_or, None}
 use Rattle.loop_record.specs.Recording.{ring_of}
 use Rattle.loop_ring.specs.Heads.{without_one}
-use Rattle.loop_ring.proofs.Counted.{IsMapped, less-met, less-same, mapped-all, mapped-none, mapped-same, mapped-set}
+use Rattle.loop_ring.proofs.ClipCounts.{IsMapped, less-met, less-same, mapped-all, mapped-none, mapped-same, mapped-set}
 use Rattle.loop_ring.proofs.count.lower_counts.Goals as goal
 use Rattle.loop_ring.proofs.count.lower_counts.Goals.{then-meets_head, else-meets_head}
 

@@ -1,6 +1,6 @@
 use Rattle.loop_record.specs.Recording.{ring_of}
 use Rattle.loop_ring.specs.Heads.{without_one}
-use Rattle.loop_ring.proofs.Counted.{IsMapped}
+use Rattle.loop_ring.proofs.ClipCounts.{IsMapped}
 use Rattle.loop_ring.proofs.count.lower_counts.Given as goal
 
 -- the counts of the segments so far are changed

@@ -1,7 +1,7 @@
 use Rattle.std.proofs.Common.{List, ℕ, ◌+◌, arith, sym, subst, get_or, None}
 use Rattle.loop_record.specs.Recording.{ring_of}
 use Rattle.loop_ring.specs.Heads.{with_one}
-use Rattle.loop_ring.proofs.Counted.{IsMapped, more-met, more-same, mapped-all, mapped-none, mapped-same, mapped-set}
+use Rattle.loop_ring.proofs.ClipCounts.{IsMapped, more-met, more-same, mapped-all, mapped-none, mapped-same, mapped-set}
 use Rattle.loop_ring.proofs.count.raise_counts.Goals as goal
 use Rattle.loop_ring.proofs.count.raise_counts.Goals.{then-meets_head, else-meets_head}
 

@@ -1,5 +1,5 @@
 use Rattle.std.proofs.Common.{false, true, arith, sym, subst, ◌∙◌, length}
-use Rattle.loop_ring.proofs.Indexed.{IsOpen, there-entry}
+use Rattle.loop_ring.proofs.IndexOrder.{IsOpen, there-entry}
 use Rattle.loop_ring.proofs.Oldest.{IsLast, above-one, fewer, floor-found, floor-missing, left-last, left-less, one-less}
 use Rattle.loop_ring.proofs.victim.floor_block.Goals as goal
 

@@ -1,12 +1,12 @@
 use Rattle.std.proofs.Common.{sym, get_or, arith, ◌∙◌}
 use Rattle.std.proofs.lemmas.List.{get_or_default}
-use Rattle.loop_ring.specs.declared.entry.Entry.{Entry}
-use Rattle.loop_ring.proofs.Indexed.{there-entry}
+use Rattle.loop_record.specs.declared.image.Found.{Found}
+use Rattle.loop_ring.proofs.IndexOrder.{there-entry}
 use Rattle.loop_ring.proofs.Oldest.{free-picked, is_free_at, least-first, least-none, none-more}
 use Rattle.loop_ring.proofs.victim.oldest_free.Goals as goal
 
-abbrev nothing : Entry
-nothing = record { block = 0; segment = 0 }
+abbrev nothing : Found
+nothing = record { segment = 0; block = 0; frames = 0 }
 
 pub bounds-heads-segment : goal.bounds-heads-segment
 bounds-heads-segment c = (there-entry c.args.heads.now c.args.entries.now _ c.loop-entry.entry-index nothing c.requires.order c.loop-entry-test.true).within

@@ -4,7 +4,7 @@ use Rattle.std.proofs.lemmas.Bool.{eq-eqb, false≢true, ne_eqb}
 use Rattle.loop_record.specs.Turns.{EachIn}
 use Rattle.loop_sessions.specs.declared.entry.Receipt.{Receipt}
 use Rattle.loop_sessions.specs.Endings.{IsPlaced, floor_after}
-use Rattle.loop_sessions.proofs.Placing.{elsewhere, floor-no, floor-yes, placed-more, too-early}
+use Rattle.loop_sessions.proofs.ReceiptPlaces.{elsewhere, floor-no, floor-yes, placed-more, too-early}
 use Rattle.loop_sessions.proofs.ended.count_placed.Goals as goal
 
 pub loop-receipt-preserved : goal.loop-receipt-preserved

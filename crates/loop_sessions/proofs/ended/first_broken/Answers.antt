@@ -3,7 +3,7 @@ use Rattle.std.specs.Prelude.{Some, slice_get}
 use Rattle.std.proofs.lemmas.Bool.{false≢true}
 use Rattle.std.proofs.lemmas.Option.{slice_get_read}
 use Rattle.loop_sessions.specs.Endings.{EndsTied}
-use Rattle.loop_sessions.proofs.Placing.{ends-here, untied-here}
+use Rattle.loop_sessions.proofs.ReceiptPlaces.{ends-here, untied-here}
 use Rattle.loop_sessions.proofs.ended.first_broken.Goals as goal
 
 pub loop-camera-preserved : goal.loop-camera-preserved

@@ -1,6 +1,6 @@
 use Rattle.std.proofs.Common.{inr, arith}
-use Rattle.loop_store.proofs.Looked.{if-none}
-use Rattle.loop_sessions.proofs.Placing.{some-both}
+use Rattle.loop_store.proofs.SlotLooks.{if-none}
+use Rattle.loop_sessions.proofs.ReceiptPlaces.{some-both}
 use Rattle.loop_sessions.proofs.ended.least_broken.Goals as goal
 
 pub returns-in-None-clause-tied : goal.returns-in-None-clause-tied

@@ -1,5 +1,5 @@
 use Rattle.std.proofs.lemmas.Result.{err_from_is_err_and}
-use Rattle.loop_sessions.proofs.Noting.{notes-none}
+use Rattle.loop_sessions.proofs.NoteRuns.{notes-none}
 use Rattle.loop_sessions.proofs.keep.lock.Goals as goal
 
 pub returns-in_err-reserve : goal.returns-in_err-reserve

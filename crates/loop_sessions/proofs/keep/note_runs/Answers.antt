@@ -1,6 +1,6 @@
 use Rattle.std.proofs.Common.{arith, refl}
 use Rattle.loop_sessions.proofs.Keepings.{left-all, left-next, left-none}
-use Rattle.loop_sessions.proofs.Noting.{enters-one}
+use Rattle.loop_sessions.proofs.NoteRuns.{enters-one}
 use Rattle.loop_sessions.proofs.keep.note_runs.Goals as goal
 
 pub loop-run-init : goal.loop-run-init

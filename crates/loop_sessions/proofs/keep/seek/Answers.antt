@@ -2,7 +2,7 @@ use Rattle.std.proofs.Common.{[], refl, subst}
 use Rattle.std.proofs.lemmas.Result.{err_from_is_err_and}
 use Rattle.loop_sessions.specs.Keeps.{Enters, runs_noted}
 use Rattle.loop_sessions.proofs.Keepings.{seeks}
-use Rattle.loop_sessions.proofs.Noting.{enters-joined, enters-none, notes-none}
+use Rattle.loop_sessions.proofs.NoteRuns.{enters-joined, enters-none, notes-none}
 use Rattle.loop_sessions.proofs.keep.seek.Goals as goal
 
 pub returns-in-Err-clause-none : goal.returns-in-Err-clause-none

@@ -3,7 +3,7 @@ use Rattle.std.proofs.lemmas.List.Elements.{All-head, All-tail}
 use Rattle.loop_desk.specs.declared.limits.Outline.{Outline}
 use Rattle.loop_sessions.specs.Opened.{AreNumbered, CameraOf, IsReady, TellEach, desks_of}
 use Rattle.loop_desk.proofs.Always.{none-of}
-use Rattle.loop_sessions.proofs.Opening.{numbered-more, tell-count, tell-first}
+use Rattle.loop_sessions.proofs.OutlineSteps.{numbered-more, tell-count, tell-first}
 use Rattle.loop_sessions.proofs.opened.lock_all.Goals as goal
 
 pub loop-camera-init : goal.loop-camera-init

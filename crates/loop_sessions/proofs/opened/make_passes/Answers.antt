@@ -1,7 +1,7 @@
 use Rattle.std.proofs.Common.{ap, ◌++◌, ◌∷◌, [], ◌∙◌, sym, arith, map}
 use Rattle.std.proofs.lemmas.List.{map-append}
 use Rattle.loop_sessions.specs.Receipts.{pass_number}
-use Rattle.loop_sessions.proofs.Opening.{numbers-more}
+use Rattle.loop_sessions.proofs.OutlineSteps.{numbers-more}
 use Rattle.loop_sessions.proofs.opened.make_passes.Goals as goal
 
 pub loop-number-preserved : goal.loop-number-preserved

@@ -2,7 +2,7 @@ use Rattle.std.proofs.Common.{List, arith, subst}
 use Rattle.std.proofs.lemmas.List.{take_all}
 use Rattle.loop_desk.specs.Seen.{TellsOutline}
 use Rattle.loop_sessions.specs.Opened.{CameraOf, TellEach, desks_of}
-use Rattle.loop_sessions.proofs.Opening.{tell-next}
+use Rattle.loop_sessions.proofs.OutlineSteps.{tell-next}
 use Rattle.loop_sessions.proofs.opened.outline_all.Goals as goal
 
 pub loop-camera-preserved : goal.loop-camera-preserved

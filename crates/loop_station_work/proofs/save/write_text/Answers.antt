@@ -1,5 +1,5 @@
 use Rattle.std.proofs.Common.{◌++◌, [], ◌∷◌, refl}
-use Rattle.loop_station_work.proofs.Saving.{begun, counted, more}
+use Rattle.loop_station_work.proofs.SaveFrames.{begun, counted, more}
 use Rattle.loop_station_work.proofs.save.write_text.Goals as goal
 
 pub frames-init : goal.frames-init

@@ -2,9 +2,9 @@ use Rattle.std.proofs.Common.{false, subst}
 use Rattle.loop_record.specs.declared.geometry.Geometry.{Geometry}
 use Rattle.loop_record.specs.Plain.{pictures}
 use Rattle.loop_record.specs.Recording.{empty, plain, ring_of}
-use Rattle.loop_store.specs.Calls.{steps_asked}
 use Rattle.loop_store.specs.Goes.{Stands}
 use Rattle.loop_store.proofs.chain.format_and_append.Goals as goal
+use Rattle.loop_store.proofs.Names.{steps_asked}
 
 pub returns : goal.returns
 returns g c =

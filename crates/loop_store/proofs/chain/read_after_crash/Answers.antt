@@ -1,9 +1,9 @@
 use Rattle.std.proofs.Common.{List, ℕ, sym, ap, subst, ◌∙◌}
 use Rattle.loop_record.specs.Geometry.{frame_bytes}
 use Rattle.loop_record.specs.Reading.{Holds}
-use Rattle.loop_store.proofs.Crashed.{opened-same, read-held}
-use Rattle.loop_store.proofs.Gone.{told-of}
-use Rattle.loop_store.proofs.Reopened.{refused-held, refused-honest}
+use Rattle.loop_store.proofs.CrashOpenings.{opened-same, read-held}
+use Rattle.loop_store.proofs.CallRuns.{told-of}
+use Rattle.loop_store.proofs.Openings.{refused-held, refused-honest}
 use Rattle.loop_store.proofs.chain.read_after_crash.Goals as goal
 
 pub returns-in-Err : goal.returns-in-Err

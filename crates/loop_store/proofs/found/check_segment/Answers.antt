@@ -1,15 +1,15 @@
-use Rattle.std.proofs.Common.{◌≡◌, None, ℕ, ◌*◌, ◌+◌, ◌<◌, ◌∙◌, List, length, ap, not, refl, subst, sym, arith}
+use Rattle.std.proofs.Common.{◌≡◌, None, ℕ, ◌*◌, ◌+◌, ◌<◌, ◌∙◌, length, ap, not, refl, subst, sym, arith}
 use Rattle.std.proofs.lemmas.List.{length-set}
 use Rattle.loop_disk.proofs.Moments.{called_on}
 use Rattle.loop_ring.proofs.SlotReads.{stays_on}
 use Rattle.loop_store.proofs.RecoveredParts.{finds-on, slots-wrong, slots-right}
 use Rattle.loop_record.specs.Geometry.{frame_bytes}
-use Rattle.loop_record.specs.Reading.{hold_from}
 use Rattle.loop_record.proofs.FoundSegments.{read_slots}
 use Rattle.loop_store.specs.Times.{AreStamped}
-use Rattle.loop_store.proofs.Timing.{keeps-on, keeps-stamped, place-within, stamped-more}
+use Rattle.loop_store.proofs.TimeReads.{keeps-on, keeps-stamped, place-within, stamped-more}
 use Rattle.loop_store.proofs.found.check_segment.Given.{Over}
 use Rattle.loop_store.proofs.found.check_segment.Goals as goal
+use Rattle.loop_record.proofs.Names.{hold_from}
 
 pub returns-in_err-time-clause-finds : goal.returns-in_err-time-clause-finds
 returns-in_err-time-clause-finds g c =

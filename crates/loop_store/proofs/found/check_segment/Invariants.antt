@@ -2,10 +2,10 @@ use Rattle.std.proofs.Common.{◌≡◌, ℕ, List, None, ◌*◌, length, true}
 use Rattle.loop_disk.specs.Calls.{Called, Stays}
 use Rattle.loop_disk.specs.Medium.{MayBe}
 use Rattle.loop_record.specs.Geometry.{frame_bytes}
-use Rattle.loop_record.specs.Reading.{hold_from}
 use Rattle.loop_record.proofs.FoundSegments.{read_slots}
 use Rattle.loop_store.specs.Times.{AreStamped, KeepsStamps}
 use Rattle.loop_store.proofs.found.check_segment.Given as goal
+use Rattle.loop_record.proofs.Names.{hold_from}
 
 abbrev pub invariant-loop-slot : goal.invariant-loop-slot
 invariant-loop-slot g l = record {

@@ -2,7 +2,7 @@ use Rattle.loop_record.specs.Geometry.{frame_bytes, slot_at}
 use Rattle.loop_record.specs.Layout.{slot_in}
 use Rattle.loop_record.proofs.FoundSegments.{slot-wrong}
 use Rattle.loop_store.proofs.RecoveredParts.{finds-err, slot-read, slot-right}
-use Rattle.loop_store.proofs.Timing.{slot-time}
+use Rattle.loop_store.proofs.TimeReads.{slot-time}
 use Rattle.loop_store.specs.declared.fault.StoreFault.{StoreFault}
 use Rattle.loop_store.proofs.found.check_slot.Goals as goal
 

@@ -1,6 +1,6 @@
 use Rattle.std.proofs.lemmas.Result.{err_from_is_err_and}
 use Rattle.loop_disk.proofs.Moments.{called_on, joined}
-use Rattle.loop_store.proofs.Formatted.{sync-none}
+use Rattle.loop_store.proofs.FormatReads.{sync-none}
 use Rattle.loop_store.proofs.fresh.finish.Goals as goal
 
 pub returns-in_err-sync : goal.returns-in_err-sync

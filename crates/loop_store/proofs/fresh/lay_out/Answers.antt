@@ -1,6 +1,6 @@
 use Rattle.std.proofs.lemmas.Result.{err_from_is_err_and}
 use Rattle.loop_disk.proofs.Moments.{called_on}
-use Rattle.loop_store.proofs.Formatted.{closed-on, closed-or_empty, empty-on}
+use Rattle.loop_store.proofs.FormatReads.{closed-on, closed-or_empty, empty-on}
 use Rattle.loop_store.proofs.fresh.lay_out.Goals as goal
 
 pub returns-in_err-unformat : goal.returns-in_err-unformat

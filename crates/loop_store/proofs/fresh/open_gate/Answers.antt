@@ -1,5 +1,5 @@
-use Rattle.loop_store.proofs.Answered.{both_ok}
-use Rattle.loop_store.proofs.Formatted.{opening-moments, opening-fresh}
+use Rattle.loop_store.proofs.AnswerPairs.{both_ok}
+use Rattle.loop_store.proofs.FormatReads.{opening-moments, opening-fresh}
 use Rattle.loop_store.proofs.fresh.open_gate.Goals as goal
 
 pub returns : goal.returns

@@ -1,5 +1,5 @@
 use Rattle.std.proofs.Common.{arith}
-use Rattle.loop_store.proofs.Formatting.{brings-laid, writing-closed, front-laid}
+use Rattle.loop_store.proofs.FormatWrites.{brings-laid, writing-closed, front-laid}
 use Rattle.loop_store.proofs.fresh.write_front.Goals as goal
 
 pub returns : goal.returns

@@ -1,6 +1,6 @@
 use Rattle.std.proofs.Common.{arith}
 use Rattle.loop_record.proofs.Parts.{apart}
-use Rattle.loop_store.proofs.Formatting.{brings-laid, writing-closed, header-laid}
+use Rattle.loop_store.proofs.FormatWrites.{brings-laid, writing-closed, header-laid}
 use Rattle.loop_store.proofs.fresh.write_header.Goals as goal
 
 pub write_at-requires : goal.write_at-requires

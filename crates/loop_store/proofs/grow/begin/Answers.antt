@@ -5,7 +5,7 @@ use Rattle.loop_record.specs.declared.geometry.Geometry.{Geometry}
 use Rattle.loop_record.specs.Change.{ShowsSegment}
 use Rattle.loop_record.specs.Reading.{empty_segment}
 use Rattle.loop_ring.specs.Writes.{ShowsOrNot}
-use Rattle.loop_store.proofs.Grown.{begun-held, begun-held_or, begun-newest, held-some}
+use Rattle.loop_store.proofs.BlockImages.{begun-held, begun-held_or, begun-newest, held-some}
 use Rattle.loop_store.proofs.grow.begin.Goals as goal
 
 shows_slots : (g : Geometry) (j next slots : ℕ) (old new : List ℕ) → slots ≡ g.slots

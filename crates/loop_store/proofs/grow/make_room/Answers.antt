@@ -5,13 +5,13 @@ use Rattle.loop_record.specs.Reading.{Holds}
 use Rattle.loop_record.specs.Recording.{Step, plain, ring_of}
 use Rattle.loop_record.proofs.Bounds.{limits}
 use Rattle.loop_store.specs.declared.place.Place.{Place}
-use Rattle.loop_store.specs.Steps.{HoldsSome}
 use Rattle.loop_store.specs.Grow.{IsNewestSegment}
 use Rattle.loop_store.specs.Place.{place_segment}
-use Rattle.loop_store.proofs.Answered.{called-none}
+use Rattle.loop_store.proofs.AnswerPairs.{called-none}
 use Rattle.loop_store.proofs.Room.{closed-at, known-closed, known-newest}
 use Rattle.loop_store.proofs.Stands.{unmoved-some}
 use Rattle.loop_store.proofs.grow.make_room.Goals as goal
+use Rattle.loop_store.proofs.Names.{HoldsSome}
 
 pub returns-in-Newest : goal.returns-in-Newest
 returns-in-Newest g c =

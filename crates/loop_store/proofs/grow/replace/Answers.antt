@@ -5,11 +5,11 @@ use Rattle.loop_disk.proofs.Moments.{called_on, weaker}
 use Rattle.loop_record.specs.Reading.{Holds}
 use Rattle.loop_record.specs.Recording.{Step, after_step, plain, recycle, ring_of}
 use Rattle.loop_record.proofs.Bounds.{limits}
-use Rattle.loop_store.specs.Steps.{HoldsSome}
 use Rattle.loop_store.specs.Grow.{IsFreeFor}
-use Rattle.loop_store.proofs.Grown.{steps-joined}
+use Rattle.loop_store.proofs.BlockImages.{steps-joined}
 use Rattle.loop_store.proofs.Room.{first-of, goes, replaced-begun, retired-free, retired-held, retired-held_or}
 use Rattle.loop_store.proofs.grow.replace.Goals as goal
+use Rattle.loop_store.proofs.Names.{HoldsSome}
 
 pub returns-in_err-retire : goal.returns-in_err-retire
 returns-in_err-retire g c =

@@ -1,6 +1,6 @@
 use Rattle.std.proofs.lemmas.Result.{on_ok_weaker}
 use Rattle.loop_disk.proofs.Moments.{weaker}
-use Rattle.loop_store.proofs.Grown.{frames-held, beginning-held}
+use Rattle.loop_store.proofs.BlockImages.{frames-held, beginning-held}
 use Rattle.loop_store.proofs.grow.store_group.Goals as goal
 
 pub returns : goal.returns

@@ -3,7 +3,7 @@ use Rattle.std.specs.List.{zip}
 use Rattle.loop_record.specs.declared.clip.Span.{Span}
 use Rattle.loop_record.specs.Recording.{ring_of}
 use Rattle.loop_ring.specs.Heads.{Segments, clip_counts, with_one}
-use Rattle.loop_ring.proofs.Counted.{counts-few, counts-locked}
+use Rattle.loop_ring.proofs.ClipCounts.{counts-few, counts-locked}
 use Rattle.loop_store.proofs.index.count_clip.Goals as goal
 
 pub lock_clip-requires-clause-few : goal.lock_clip-requires-clause-few

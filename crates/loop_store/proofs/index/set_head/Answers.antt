@@ -2,8 +2,8 @@ use Rattle.std.proofs.Common.{Option, Some, set, sym, ap, ◌∙◌}
 use Rattle.loop_record.specs.declared.segment.SegmentHead.{SegmentHead}
 use Rattle.loop_record.specs.Recording.{ring_of}
 use Rattle.loop_ring.specs.Heads.{Segments, clip_counts, grown}
-use Rattle.loop_ring.proofs.Counted.{counts-grown, counts-set}
-use Rattle.loop_store.proofs.Noted.{grown-head}
+use Rattle.loop_ring.proofs.ClipCounts.{counts-grown, counts-set}
+use Rattle.loop_store.proofs.IndexNotes.{grown-head}
 use Rattle.loop_store.proofs.index.set_head.Goals as goal
 
 pub returns-then-has_frame_of-clause-heads : goal.returns-then-has_frame_of-clause-heads

@@ -2,7 +2,7 @@ use Rattle.std.proofs.Common.{List, ℕ, map, ap, ◌∙◌, arith}
 use Rattle.std.specs.List.{zip}
 use Rattle.loop_record.specs.Recording.{ring_of}
 use Rattle.loop_ring.specs.Heads.{Segments, without_one}
-use Rattle.loop_ring.proofs.Counted.{counts-unlocked}
+use Rattle.loop_ring.proofs.ClipCounts.{counts-unlocked}
 use Rattle.loop_store.proofs.index.uncount_clip.Goals as goal
 
 pub returns-in-Some-clause-counted : goal.returns-in-Some-clause-counted

@@ -1,4 +1,4 @@
-use Rattle.loop_store.proofs.Gone.{goes-joined}
+use Rattle.loop_store.proofs.CallRuns.{goes-joined}
 use Rattle.loop_store.proofs.laws.calls_join.Goals as goal
 
 pub returns : goal.returns

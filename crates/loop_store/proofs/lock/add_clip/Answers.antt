@@ -1,7 +1,7 @@
 use Rattle.std.proofs.Common.{ℕ, IsTrue, sym, subst}
 use Rattle.loop_record.specs.Layout.{has_tag_place}
 use Rattle.loop_record.proofs.Bounds.{limits}
-use Rattle.loop_store.proofs.Locked.{entry-closed, lock-makes}
+use Rattle.loop_store.proofs.Locks.{entry-closed, lock-makes}
 use Rattle.loop_store.proofs.lock.add_clip.Goals as goal
 
 pub lock-written-requires-clause-closed : goal.lock-written-requires-clause-closed

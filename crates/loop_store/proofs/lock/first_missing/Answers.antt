@@ -2,7 +2,7 @@ use Rattle.std.proofs.Common.{◌≡◌, ◌⊎◌, inl, inr, ◌<◌, ◌≤◌
 use Rattle.std.proofs.lemmas.Bool.{cases_lt}
 use Rattle.loop_record.specs.Recording.{Recording, holds}
 use Rattle.loop_store.specs.Lock.{AreHeld}
-use Rattle.loop_store.proofs.Missing.{missing-is, missing-none}
+use Rattle.loop_store.proofs.UnheldNumbers.{missing-is, missing-none}
 use Rattle.loop_store.proofs.lock.first_missing.Goals as goal
 
 -- two runs, one behind the other

@@ -1,7 +1,7 @@
 use Rattle.std.proofs.Common.{inl, inr, refl, sym, ap, ◌∙◌, subst, arith}
 use Rattle.std.specs.Prelude.{◌<◌, ℕ}
 use Rattle.loop_record.specs.Recording.{first_free}
-use Rattle.loop_store.proofs.Missing.{first-fits, first-full, first-missing, first-old}
+use Rattle.loop_store.proofs.UnheldNumbers.{first-fits, first-full, first-missing, first-old}
 use Rattle.loop_store.proofs.lock.id_for.Goals as goal
 
 pub returns-in-Some-clause-refusals : goal.returns-in-Some-clause-refusals

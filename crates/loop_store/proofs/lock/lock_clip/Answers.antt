@@ -2,20 +2,21 @@ use Rattle.std.proofs.Common.{◌≡◌, ◌<◌, ℕ, Ok, Err, None, Some, set,
 use Rattle.std.proofs.lemmas.Result.{err_from_is_err_and}
 use Rattle.loop_record.specs.declared.clip.Span.{Span}
 use Rattle.loop_record.specs.declared.geometry.Geometry.{Geometry}
-use Rattle.loop_record.specs.Recording.{Recording, free_id, lock, ring_of}
+use Rattle.loop_record.specs.Recording.{Recording, lock, ring_of}
 use Rattle.loop_store.specs.declared.fault.StoreFault.TheVariants.{Disk, MustReopen}
 use Rattle.loop_store.specs.Calls.{first_of, locked, span_checks}
 use Rattle.loop_store.specs.Lock.{CanTake}
 use Rattle.loop_store.specs.declared.index.Index.{Index}
 use Rattle.loop_store.specs.Seen.{seen_with}
 use Rattle.loop_store.specs.Drawn.{drawn_image}
-use Rattle.loop_store.proofs.Checked.{answer-given}
-use Rattle.loop_store.proofs.Locked.{goes-noted, goes-unnoted, kept-noted, lock-redrawn, lock-refused}
+use Rattle.loop_store.proofs.CheckAnswers.{answer-given}
+use Rattle.loop_store.proofs.Locks.{goes-noted, goes-unnoted, kept-noted, lock-redrawn, lock-refused}
 use Rattle.loop_store.proofs.Alike.{span-same}
 use Rattle.loop_store.proofs.Looks.{alike-by, failed-kept, one-kept}
 use Rattle.loop_store.proofs.Once.{goes-must}
-use Rattle.loop_store.proofs.Missing.{fits-legal}
+use Rattle.loop_store.proofs.UnheldNumbers.{fits-legal}
 use Rattle.loop_store.proofs.lock.lock_clip.Goals as goal
+use Rattle.loop_record.proofs.Names.{free_id}
 
 -- the recording takes a clip of the span under this id
 takes : (v : ℕ) (g : Geometry) (r : Recording) (span : Span) (id : ℕ) → id < 64

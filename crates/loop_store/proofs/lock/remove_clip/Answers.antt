@@ -1,5 +1,5 @@
 use Rattle.loop_record.proofs.Bounds.{limits}
-use Rattle.loop_store.proofs.Locked.{entry-open, unlock-makes}
+use Rattle.loop_store.proofs.Locks.{entry-open, unlock-makes}
 use Rattle.loop_store.proofs.lock.remove_clip.Goals as goal
 
 pub unlock-written-requires-clause-there : goal.unlock-written-requires-clause-there

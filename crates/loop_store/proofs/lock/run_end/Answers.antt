@@ -1,6 +1,6 @@
 use Rattle.std.proofs.Common.{inl, ◌+◌, ◌*◌, ◌<◌, ℕ, sym, ap, ◌∙◌, subst, arith}
 use Rattle.loop_record.proofs.Bounds.{limits}
-use Rattle.loop_store.proofs.Locked.{run-ends, run-from, run-held}
+use Rattle.loop_store.proofs.Locks.{run-ends, run-from, run-held}
 use Rattle.loop_store.proofs.lock.run_end.Goals as goal
 
 pub returns-in-Some-get-clause-held : goal.returns-in-Some-get-clause-held

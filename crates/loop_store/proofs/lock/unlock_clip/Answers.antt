@@ -5,7 +5,7 @@ use Rattle.loop_store.specs.declared.fault.StoreFault.TheVariants.{Disk, MustReo
 use Rattle.loop_store.specs.Calls.{unlocked}
 use Rattle.loop_store.specs.declared.index.Index.{Index}
 use Rattle.loop_store.specs.Seen.{seen_with}
-use Rattle.loop_store.proofs.Locked.{clip-known, goes-noted, goes-unnoted, kept-noted, unlock-answered, unlock-redrawn, unlock-refused}
+use Rattle.loop_store.proofs.Locks.{clip-known, goes-noted, goes-unnoted, kept-noted, unlock-answered, unlock-redrawn, unlock-refused}
 use Rattle.loop_store.proofs.Looks.{failed-kept, one-kept}
 use Rattle.loop_store.proofs.Once.{goes-must}
 use Rattle.loop_store.proofs.lock.unlock_clip.Goals as goal

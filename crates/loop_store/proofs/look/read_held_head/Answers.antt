@@ -1,6 +1,6 @@
 use Rattle.std.proofs.Common.{[]}
 use Rattle.std.proofs.lemmas.Result.{err_from_is_err_and}
-use Rattle.loop_store.proofs.Looked.{held-head, held-refused, held-slot_at, answers-err}
+use Rattle.loop_store.proofs.SlotLooks.{held-head, held-refused, held-slot_at, answers-err}
 use Rattle.loop_store.proofs.look.read_held_head.Goals as goal
 
 pub returns-in_err-read_head : goal.returns-in_err-read_head

@@ -1,5 +1,5 @@
 use Rattle.std.proofs.lemmas.Result.{err_from_is_err_and}
-use Rattle.loop_store.proofs.Looked.{held-refused, held-slot_at, part-ok, part-err}
+use Rattle.loop_store.proofs.SlotLooks.{held-refused, held-slot_at, part-ok, part-err}
 use Rattle.loop_store.proofs.look.read_held_part.Goals as goal
 
 pub returns-in_err-read_part : goal.returns-in_err-read_part

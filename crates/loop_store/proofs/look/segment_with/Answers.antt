@@ -1,6 +1,6 @@
 use Rattle.std.proofs.Common.{◌≡◌, ◌≤◌, ◌<◌, ◌%◌, ℕ, List, Option, Some, None, get_or, sym, ap, ◌∙◌, subst, arith}
 use Rattle.loop_record.specs.declared.segment.SegmentHead.{SegmentHead}
-use Rattle.loop_store.proofs.Looked.{found-at, if-none, missing-block, missing-head, missing-slot, there-is}
+use Rattle.loop_store.proofs.SlotLooks.{found-at, if-none, missing-block, missing-head, missing-slot, there-is}
 use Rattle.loop_store.proofs.look.segment_with.Goals as goal
 
 pub returns-in_err-segment-clause-missing : goal.returns-in_err-segment-clause-missing

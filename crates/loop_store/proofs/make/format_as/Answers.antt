@@ -1,9 +1,7 @@
-use Rattle.std.proofs.Common.{◌≡◌, ◌&&◌, true, inl, inr, eqb, min, refl, sym, ap, ◌∙◌}
-use Rattle.loop_record.specs.Geometry.{disk_size, frame_bytes, is_good}
-use Rattle.loop_record.specs.declared.geometry.Geometry.{Geometry}
-use Rattle.loop_ring.specs.Groups.{Grouped}
+use Rattle.std.proofs.Common.{◌≡◌, ◌&&◌, true, inl, inr, eqb, refl, sym, ap, ◌∙◌}
+use Rattle.loop_record.specs.Geometry.{disk_size, is_good}
 use Rattle.loop_ring.specs.Heads.{Segments}
-use Rattle.loop_record.proofs.Decided.{both, clash, equal}
+use Rattle.loop_record.proofs.TestFacts.{both, clash, equal}
 use Rattle.loop_store.specs.declared.fault.StoreFault.TheVariants.{BadGeometry, NoMemory}
 use Rattle.loop_store.specs.declared.index.Index.{Index}
 use Rattle.loop_store.proofs.NewStore.{IsNew, fresh-kept, fresh-stands, fresh-tells, refused-formats}
@@ -39,15 +37,10 @@ new g c = record {
 
 pub invariant_of-result : goal.invariant_of-result
 invariant_of-result g c =
-    let right = both _ _ (fits g c) in (
-      fresh-kept g.D.Disk.medium c.args.head c.lay_out.new.disk (index g c) (new g c) c.requires right.0
-          (c.lay_out.ensures.called.size ∙ equal _ _ right.1)
-          (λ now. c.in-Ok-lay_out.ensures.such (c.lay_out.ensures.called.honest.1 now)),
-      record {
-        size_is = ap (λ (x : Grouped). x.size) c.in-Ok-new.ensures ∙ ap frame_bytes (sym c.new-in-Ok-lay_out.ensures);
-        limit_is = ap (λ (x : Grouped). x.limit) c.in-Ok-new.ensures ∙ ap (λ (x : Geometry). min 8 x.slots) (sym c.new-in-Ok-lay_out.ensures);
-      },
-    )
+    let right = both _ _ (fits g c) in
+    fresh-kept g.D.Disk.medium c.args.head c.lay_out.new.disk (index g c) (new g c) c.requires right.0
+    (c.lay_out.ensures.called.size ∙ equal _ _ right.1)
+    (λ now. c.in-Ok-lay_out.ensures.such (c.lay_out.ensures.called.honest.1 now))
 
 pub returns-in-Ok-lay_out : goal.returns-in-Ok-lay_out
 returns-in-Ok-lay_out g c = record {
@@ -78,8 +71,8 @@ returns-in_default g c =
     (λ is. absurd cc, λ bad. absurd (clash _ (sym c.fits.ensures ∙ c.if-not-fits.false) bad)) (inr refl) refl
     (λ honest. g.met.D.Disk.sound c.args.disk honest)
 
-pub returns-in_default-new : goal.returns-in_default-new
-returns-in_default-new g c =
+pub returns-in_default-times_for : goal.returns-in_default-times_for
+returns-in_default-times_for g c =
     refused-formats g.D.Disk.medium c.args.head c.args.disk NoMemory
     (λ is. absurd cc, λ bad. absurd (clash _ (sym c.fits.ensures ∙ c.if-not-fits.false) bad)) (inr refl) refl
     (λ honest. g.met.D.Disk.sound c.args.disk honest)

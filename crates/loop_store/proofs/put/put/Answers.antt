@@ -8,16 +8,16 @@ use Rattle.loop_store.specs.declared.fault.StoreFault.{StoreFault}
 use Rattle.loop_store.specs.declared.fault.StoreFault.TheVariants.{MustReopen, NumbersSpent}
 use Rattle.loop_store.specs.Calls.{appended}
 use Rattle.loop_store.specs.declared.place.Place.{Place}
-use Rattle.loop_store.specs.Steps.{HoldsSome}
 use Rattle.loop_store.specs.Place.{IsKnown, place_segment}
 use Rattle.loop_store.specs.Seen.{seen_with}
 use Rattle.loop_store.specs.Drawn.{drawn_image}
 use Rattle.loop_store.proofs.Alike.{refuses-same}
-use Rattle.loop_store.proofs.Appended.{Grew, IsPlaced, kept-grown, noted-at, put-at, place-known, place-some, stands-grown, steps-are, told-grown}
+use Rattle.loop_store.proofs.Appends.{Grew, IsPlaced, kept-grown, noted-at, put-at, place-known, place-some, stands-grown, steps-are, told-grown}
 use Rattle.loop_store.proofs.Looks.{alike-by, failed-kept, known-by, one-kept}
 use Rattle.loop_store.proofs.Once.{goes-must}
-use Rattle.loop_store.proofs.Putting.{place-alike, place-refused, put-failed, put-stored}
+use Rattle.loop_store.proofs.AppendAnswers.{place-alike, place-refused, put-failed, put-stored}
 use Rattle.loop_store.proofs.put.put.Goals as goal
+use Rattle.loop_store.proofs.Names.{HoldsSome}
 
 not-refused : (place : Place) → let x : Result Place StoreFault = Ok place in let y : Result Place StoreFault = Err NumbersSpent in x ≡ y → ⊥
 not-refused place e = absurd cc

@@ -3,8 +3,8 @@ use Rattle.loop_disk.proofs.Moments.{started, weaker}
 use Rattle.loop_record.specs.Layout.{version_in}
 use Rattle.loop_record.specs.Reading.{reading}
 use Rattle.loop_store.specs.Reopen.{ReadsAlike}
-use Rattle.loop_store.proofs.Reopened.{found-alike, found-place, found-present, found-whole, unstray-missing}
-use Rattle.loop_store.proofs.Answered.{both_ok, called-none}
+use Rattle.loop_store.proofs.Openings.{found-alike, found-place, found-present, found-whole, unstray-missing}
+use Rattle.loop_store.proofs.AnswerPairs.{both_ok, called-none}
 use Rattle.loop_store.proofs.reopen.clear_newest.Goals as goal
 
 pub clear_stray-requires-clause-whole : goal.clear_stray-requires-clause-whole

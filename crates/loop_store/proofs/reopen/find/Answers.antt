@@ -3,7 +3,7 @@ use Rattle.std.proofs.lemmas.Result.{err_from_is_err_and}
 use Rattle.loop_store.specs.declared.index.Index.{Index}
 use Rattle.loop_store.specs.Index.{IsFitting, IsRecoveredIn, SaysRecording}
 use Rattle.loop_store.specs.Reopen.{IsRefusedOpen}
-use Rattle.loop_store.proofs.Reopened.{bad-kept, keeping-fits, keeping-recovered}
+use Rattle.loop_store.proofs.Openings.{bad-kept, keeping-fits, keeping-recovered}
 use Rattle.loop_store.proofs.reopen.find.Goals as goal
 
 pub returns-in_err-keep_newest-clause-refused : goal.returns-in_err-keep_newest-clause-refused

@@ -1,4 +1,4 @@
-use Rattle.loop_store.proofs.Reopened.{alike-on, moments-on, stays-moments}
+use Rattle.loop_store.proofs.Openings.{alike-on, moments-on, stays-moments}
 use Rattle.loop_store.proofs.reopen.reopen.Goals as goal
 
 pub clear_newest-requires-clause-told : goal.clear_newest-requires-clause-told
@@ -9,10 +9,6 @@ clear_newest-requires-clause-told g c = λ honest.
 
 pub returns-in_err-index-clause-moments : goal.returns-in_err-index-clause-moments
 returns-in_err-index-clause-moments g c = λ honest.
-    stays-moments _ _ (g.met.D.Disk.sound c.args.disk.now honest) (c.find.ensures.stays honest)
-
-pub returns-in_err-group-clause-moments : goal.returns-in_err-group-clause-moments
-returns-in_err-group-clause-moments g c = λ honest.
     stays-moments _ _ (g.met.D.Disk.sound c.args.disk.now honest) (c.find.ensures.stays honest)
 
 pub returns-in_err-clear_newest-clause-moments : goal.returns-in_err-clear_newest-clause-moments

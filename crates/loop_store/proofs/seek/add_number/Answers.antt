@@ -1,7 +1,7 @@
 use Rattle.std.proofs.Common.{[], ◌∷◌, ◌++◌, sym, ap, ◌∙◌}
 use Rattle.loop_record.specs.declared.clip.Span.{Span}
-use Rattle.loop_record.proofs.Decided.{differ, equal}
-use Rattle.loop_store.proofs.Seeking.{added-longer, added-new}
+use Rattle.loop_record.proofs.TestFacts.{differ, equal}
+use Rattle.loop_store.proofs.TimeRuns.{added-longer, added-new}
 use Rattle.loop_store.proofs.seek.add_number.Goals as goal
 
 pub returns-then-is_next : goal.returns-then-is_next

@@ -1,7 +1,7 @@
 use Rattle.std.proofs.Common.{ℕ, get_or, refl, subst, sym, ap, ◌∙◌}
 use Rattle.loop_record.specs.Times.{is_in}
 use Rattle.loop_store.specs.Times.{time_under}
-use Rattle.loop_store.proofs.Seeking.{RunsSoFar, runs-all, runs-more, runs-same}
+use Rattle.loop_store.proofs.TimeRuns.{RunsSoFar, runs-all, runs-more, runs-same}
 use Rattle.loop_store.proofs.seek.runs_of.Goals as goal
 use Rattle.loop_store.proofs.seek.runs_of.Goals.{then-has+in_ok-add_number, else-has}
 

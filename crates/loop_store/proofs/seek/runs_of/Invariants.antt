@@ -1,6 +1,6 @@
 use Rattle.loop_record.specs.Times.{is_in}
 use Rattle.loop_store.specs.Times.{Rise, time_under}
-use Rattle.loop_store.proofs.Seeking.{RunsSoFar}
+use Rattle.loop_store.proofs.TimeRuns.{RunsSoFar}
 use Rattle.loop_store.proofs.seek.runs_of.Given as goal
 
 -- the runs so far

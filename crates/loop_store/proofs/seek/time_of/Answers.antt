@@ -1,7 +1,7 @@
 use Rattle.std.proofs.Common.{None, Some, refl, ap, sym}
 use Rattle.loop_store.specs.Times.{time_in}
-use Rattle.loop_store.proofs.Looked.{found-at}
-use Rattle.loop_store.proofs.Seeking.{time-read}
+use Rattle.loop_store.proofs.SlotLooks.{found-at}
+use Rattle.loop_store.proofs.TimeRuns.{time-read}
 use Rattle.loop_store.proofs.seek.time_of.Goals as goal
 
 pub returns-in-Some : goal.returns-in-Some

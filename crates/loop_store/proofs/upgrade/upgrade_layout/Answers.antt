@@ -1,10 +1,10 @@
 use Rattle.std.proofs.Common.{Err, refl}
 use Rattle.loop_store.specs.declared.fault.StoreFault.TheVariants.{MustReopen}
 use Rattle.loop_store.specs.Calls.{upgraded}
-use Rattle.loop_store.proofs.Locked.{entry-is}
+use Rattle.loop_store.proofs.Locks.{entry-is}
 use Rattle.loop_store.proofs.Looks.{one-kept}
 use Rattle.loop_store.proofs.Once.{goes-must}
-use Rattle.loop_store.proofs.Upgraded.{goes-already, goes-not_upgraded, goes-upgraded, kept-upgraded}
+use Rattle.loop_store.proofs.Upgrades.{goes-already, goes-not_upgraded, goes-upgraded, kept-upgraded}
 use Rattle.loop_store.proofs.upgrade.upgrade_layout.Goals as goal
 
 pub returns-then-must_reopen-clause-goes : goal.returns-then-must_reopen-clause-goes

@@ -1,4 +1,4 @@
-use Rattle.loop_vb2.proofs.Ordered.{new_queues_are_still}
+use Rattle.loop_vb2.proofs.FrameOrder.{new_queues_are_still}
 use Rattle.loop_vb2.proofs.laws.new_queues_are_still.Goals as goal
 
 pub returns : goal.returns

@@ -5,7 +5,7 @@ use Rattle.loop_record.specs.declared.geometry.Geometry.{Geometry}
 use Rattle.loop_y4m.specs.Export.{frames_between}
 use Rattle.loop_y4m.specs.Steps.{IsFirstBetween, MovedAll}
 use Rattle.loop_y4m.specs.Text.{AppendsSome, header}
-use Rattle.loop_y4m.proofs.Moving.{headed, some_frames, unheaded, unwritten}
+use Rattle.loop_y4m.proofs.ExportPieces.{headed, some_frames, unheaded, unwritten}
 use Rattle.loop_y4m.proofs.exported.export.Goals as goal
 
 pub returns-in_err-piece-clause-exported : goal.returns-in_err-piece-clause-exported

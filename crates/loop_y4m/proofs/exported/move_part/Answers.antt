@@ -3,8 +3,8 @@ use Rattle.std.specs.Io.KnownBytes.{Appends}
 use Rattle.loop_disk.specs.Medium.{piece}
 use Rattle.loop_y4m.specs.declared.fault.ExportFault.TheVariants.{Store}
 use Rattle.loop_store.specs.Goes.{Stands}
-use Rattle.loop_store.proofs.Gone.{told-of}
-use Rattle.loop_y4m.proofs.Moving.{stopped_on}
+use Rattle.loop_store.proofs.CallRuns.{told-of}
+use Rattle.loop_y4m.proofs.ExportPieces.{stopped_on}
 use Rattle.loop_y4m.proofs.Ranges.{part_given, part_is, part_refused, running, writer_failed}
 use Rattle.loop_y4m.proofs.exported.move_part.Goals as goal
 

@@ -3,7 +3,7 @@ use Rattle.std.specs.Prelude.{IfSome, flat_map}
 use Rattle.loop_record.specs.Recording.{holds}
 use Rattle.loop_y4m.specs.Export.{frames_between}
 use Rattle.loop_y4m.specs.Text.{frame}
-use Rattle.loop_y4m.proofs.Moving.{only_joined, only_stands, stopped_later, stopped_on}
+use Rattle.loop_y4m.proofs.ExportPieces.{only_joined, only_stands, stopped_later, stopped_on}
 use Rattle.loop_y4m.proofs.Ranges.{Given, frame_there, given_more, given_rest, if_some, not_ok}
 use Rattle.loop_y4m.proofs.exported.write_frames.Goals as goal
 

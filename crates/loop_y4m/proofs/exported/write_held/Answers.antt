@@ -5,10 +5,10 @@ use Rattle.std.specs.Prelude.{codes}
 use Rattle.std.specs.Io.KnownBytes.{Appends}
 use Rattle.loop_record.specs.declared.geometry.Geometry.{Geometry}
 use Rattle.loop_record.proofs.Bounds.{limits}
-use Rattle.loop_store.proofs.Sized.{sized}
+use Rattle.loop_store.proofs.FrameSizes.{sized}
 use Rattle.loop_y4m.specs.declared.fault.ExportFault.TheVariants as export
 use Rattle.loop_y4m.specs.Text.{frame}
-use Rattle.loop_y4m.proofs.Moving.{frame_more, frame_rest, only_joined, only_stands, some_later, stopped_later, stopped_on}
+use Rattle.loop_y4m.proofs.ExportPieces.{frame_more, frame_rest, only_joined, only_stands, some_later, stopped_later, stopped_on}
 use Rattle.loop_y4m.proofs.exported.write_held.Goals as goal
 
 pub returns-in_err-write_frame_line-clause-moved : goal.returns-in_err-write_frame_line-clause-moved

@@ -2,10 +2,10 @@ use Rattle.std.proofs.Common.{◌≡◌, length}
 use Rattle.loop_record.specs.Geometry.{frame_bytes}
 use Rattle.loop_record.proofs.Bounds.{limits}
 use Rattle.loop_record.proofs.Form.{reading-well_formed}
-use Rattle.loop_store.proofs.Sized.{sized}
+use Rattle.loop_store.proofs.FrameSizes.{sized}
 use Rattle.loop_y4m.specs.Export.{frames_between}
 use Rattle.loop_y4m.proofs.Ranges.{each_between}
-use Rattle.loop_y4m.proofs.Written.{text_read}
+use Rattle.loop_y4m.proofs.ReadBack.{text_read}
 use Rattle.loop_y4m.proofs.laws.exported_text_is_read.Goals as goal
 
 pub returns : goal.returns

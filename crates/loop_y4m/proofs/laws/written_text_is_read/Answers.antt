@@ -1,4 +1,4 @@
-use Rattle.loop_y4m.proofs.Written.{text_read}
+use Rattle.loop_y4m.proofs.ReadBack.{text_read}
 use Rattle.loop_y4m.proofs.laws.written_text_is_read.Goals as goal
 
 pub returns : goal.returns

@@ -1,6 +1,6 @@
 use Rattle.std.proofs.Common.{◌∙◌, ap}
 use Rattle.loop_y4m.specs.Header.{header_of}
-use Rattle.loop_y4m.proofs.Opening.{behind_ten, header_known}
+use Rattle.loop_y4m.proofs.HeaderStart.{behind_ten, header_known}
 use Rattle.loop_y4m.proofs.reader.read_header.Goals as goal
 
 pub returns-clause-header : goal.returns-clause-header

@@ -1,5 +1,5 @@
 use Rattle.std.proofs.Common.{rules, arith, drop, length-take, ◌∙◌, sym}
-use Rattle.loop_y4m.proofs.Opening.{bare_known, another_known, not_so, so, spaced_known}
+use Rattle.loop_y4m.proofs.HeaderStart.{bare_known, another_known, not_so, so, spaced_known}
 use Rattle.loop_y4m.proofs.reader.read_header_line.Goals as goal
 
 pub returns-then-eq-clause-line : goal.returns-then-eq-clause-line

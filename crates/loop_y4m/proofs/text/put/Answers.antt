@@ -1,4 +1,4 @@
-use Rattle.loop_y4m.proofs.Writing.{goes_on, stands, beginning}
+use Rattle.loop_y4m.proofs.PartWrites.{goes_on, stands, beginning}
 use Rattle.loop_y4m.proofs.text.put.Goals as goal
 use Rattle.loop_y4m.proofs.text.put.Goals.{in-Ok, in-Err}
 

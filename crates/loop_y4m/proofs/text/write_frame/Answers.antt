@@ -1,6 +1,6 @@
 use Rattle.std.proofs.Common.{[], ◌∷◌, ◌++◌}
 use Rattle.std.specs.Prelude.{codes}
-use Rattle.loop_y4m.proofs.Writing.{both, first_failed}
+use Rattle.loop_y4m.proofs.PartWrites.{both, first_failed}
 use Rattle.loop_y4m.proofs.text.write_frame.Goals as goal
 
 pub returns-in_err-write_frame_line : goal.returns-in_err-write_frame_line

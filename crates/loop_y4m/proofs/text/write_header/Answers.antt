@@ -1,7 +1,7 @@
 use Rattle.std.proofs.Common.{[], ◌∷◌, ◌∙◌}
 use Rattle.std.specs.Prelude.{codes, decimal}
 use Rattle.loop_y4m.specs.Text.{colour_name, header}
-use Rattle.loop_y4m.proofs.Writing.{nested, written}
+use Rattle.loop_y4m.proofs.PartWrites.{nested, written}
 use Rattle.loop_y4m.proofs.text.write_header.Goals as goal
 
 pub returns : goal.returns

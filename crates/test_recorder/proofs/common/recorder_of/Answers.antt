@@ -1,5 +1,5 @@
 use Rattle.std.proofs.Common.{arith}
-use Rattle.loop_sessions.proofs.Opening.{tell-count}
+use Rattle.loop_sessions.proofs.OutlineSteps.{tell-count}
 use Rattle.test_recorder.proofs.common.recorder_of.Goals as goal
 
 pub returns : goal.returns

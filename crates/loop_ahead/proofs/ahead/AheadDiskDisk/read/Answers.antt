@@ -1,7 +1,6 @@
 use Rattle.std.proofs.Common.{◌≡◌, ◌≤◌, ◌+◌, ◌-◌, ◌++◌, ℕ, List, OnOk, length, take, drop, subst, sym, ap, arith}
 use Rattle.std.proofs.lemmas.Result.{on_ok_weaker}
 use Rattle.loop_disk.specs.Medium.{MayBe, piece}
-use Rattle.loop_disk.proofs.Moments.{of_bytes}
 use Rattle.loop_ahead.proofs.Copies.{read_on}
 use Rattle.loop_ahead.proofs.ahead.AheadDiskDisk.read.Given.{Over}
 use Rattle.loop_ahead.proofs.ahead.AheadDiskDisk.read.Goals as goal
@@ -32,18 +31,3 @@ returns-clause-gives g c = λ image may.
           (record { size = before.size; agrees = before.agrees }),
       got g c image beneath,
     )
-
-pub returns-clause-read : goal.returns-clause-read
-returns-clause-read g c =
-    let buf = c.give-known.new.buf in
-    let rest = c.read_by-outcome.new.buf in
-    let n = length c.args.buf.now in
-    let k = c.give-known.result in
-    let reads = c.read_by-outcome.ensures.reads in
-    subst (λ d. (g.D.Disk.medium d).honest
-    → OnOk c.note.result (take k buf ++ (rest ++ drop (length buf - k) (drop k buf)) ≡ piece c.args.at n
-    (g.D.Disk.medium d).bytes)) (ap (λ v. v.disk) c.self.view_is)
-    (λ honest.
-    of_bytes (g.D.Disk.medium c.self.inside.inner) (g.D.Disk.medium c.read_by-outcome.new.disk)
-    (λ image. OnOk c.note.result (take k buf ++ (rest ++ drop (length buf - k) (drop k buf)) ≡ piece c.args.at n image))
-    (g.met.D.Disk.sound c.read_by-outcome.new.disk (reads.honest.0 honest)) (reads.stays honest) (got g c))

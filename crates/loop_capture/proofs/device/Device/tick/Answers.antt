@@ -1,7 +1,7 @@
 use Rattle.std.proofs.Common.{◌≡◌, cond, true, List, length, rules, refl, sym, ◌∙◌, ap, subst}
 use Rattle.loop_capture.specs.Ticks.{SeenDevice, Ends, Ticks}
 use Rattle.loop_vb2.specs.Planes.{frame_size}
-use Rattle.loop_capture.proofs.Ticked.{took}
+use Rattle.loop_capture.proofs.SourceTick.{took}
 use Rattle.loop_capture.proofs.device.Device.tick.Goals.{then-take_fresh, else-take_fresh}
 use Rattle.loop_capture.proofs.device.Device.tick.Goals as goal
 

@@ -1,7 +1,7 @@
 use Rattle.std.proofs.Common.{ℕ, Option, List, length, not, is_some, sym, ap, ◌∙◌}
 use Rattle.std.specs.List.{position}
 use Rattle.loop_record.specs.declared.clip.Span.{Span}
-use Rattle.loop_clips.proofs.Locking.{place_free, place_none}
+use Rattle.loop_clips.proofs.TableLocks.{place_free, place_none}
 use Rattle.loop_clips.proofs.table.ClipTable.free_id.Goals as goal
 
 abbrev free : List (Option Span) → Option ℕ

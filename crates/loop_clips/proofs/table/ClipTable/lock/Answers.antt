@@ -1,7 +1,7 @@
 use Rattle.std.proofs.Common.{◌≡◌, ℕ, ◌+◌, ◌≤◌, ◌<◌, List, [], ◌∷◌, length, take, drop, ap, arith}
 use Rattle.loop_record.specs.Geometry.{clip_at}
 use Rattle.loop_record.specs.Layout.{version_in}
-use Rattle.loop_clips.proofs.Locking.{IsEntry, lock_moments, lock_ok}
+use Rattle.loop_clips.proofs.TableLocks.{IsEntry, lock_moments, lock_ok}
 use Rattle.loop_clips.proofs.table.ClipTable.lock.Goals as goal
 
 pub returns : goal.returns

@@ -1,6 +1,6 @@
 use Rattle.std.proofs.Common.{◌+◌, ◌≤◌, length, arith}
 use Rattle.loop_record.specs.Geometry.{clip_at}
-use Rattle.loop_clips.proofs.Locking.{unlock_moments, unlock_ok}
+use Rattle.loop_clips.proofs.TableLocks.{unlock_moments, unlock_ok}
 use Rattle.loop_clips.proofs.table.ClipTable.unlock.Goals as goal
 
 pub returns : goal.returns

@@ -1,7 +1,7 @@
 use Rattle.std.proofs.Common.{◌≤◌, arith}
 use Rattle.std.proofs.lemmas.Result.{err_from_is_err_and}
 use Rattle.loop_disk.proofs.Moments.{called_on}
-use Rattle.loop_clips.proofs.Upgrading.{cleared-kept, opened-moments, opened-ok}
+use Rattle.loop_clips.proofs.UpgradeWrites.{cleared-kept, opened-moments, opened-ok}
 use Rattle.loop_clips.proofs.table.ClipTable.upgrade.Goals as goal
 
 pub returns-in_err-settle_tags : goal.returns-in_err-settle_tags

@@ -13,7 +13,7 @@ use Rattle.loop_store.proofs.NextNumber.{next-one}
 use Rattle.loop_desk.specs.declared.limits.Flushed.{Flushed}
 use Rattle.loop_desk.specs.Desk.{flushed}
 use Rattle.loop_desk.specs.Seen.{DeskGoes, IsDesk, SeenDesk}
-use Rattle.loop_desk.proofs.Called.{IsGroup, flush-none, flush-refused, flush-stored}
+use Rattle.loop_desk.proofs.OneCall.{IsGroup, flush-none, flush-refused, flush-stored}
 use Rattle.loop_desk.proofs.Always.{kept-flushed, none-of, refused-as, stored-size}
 use Rattle.loop_desk.proofs.desk.Desk.flush.Goals as goal
 

@@ -1,4 +1,4 @@
-use Rattle.loop_desk.proofs.Locking.{keeps-whole}
+use Rattle.loop_desk.proofs.KeepParts.{keeps-whole}
 use Rattle.loop_desk.proofs.desk.Desk.keep_time.Goals as goal
 
 pub returns-clause-whole : goal.returns-clause-whole

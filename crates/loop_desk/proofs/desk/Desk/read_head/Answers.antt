@@ -3,7 +3,7 @@ use Rattle.loop_record.specs.Plain.{pictures}
 use Rattle.loop_store.specs.Calls.{read_with}
 use Rattle.loop_desk.specs.Desk.{frame_read}
 use Rattle.loop_desk.specs.Seen.{DeskGoes, SeenDesk}
-use Rattle.loop_desk.proofs.Called.{goes-read, with_store}
+use Rattle.loop_desk.proofs.OneCall.{goes-read, with_store}
 use Rattle.loop_desk.proofs.desk.Desk.read_head.Goals as goal
 
 pub returns-clause-goes : goal.returns-clause-goes

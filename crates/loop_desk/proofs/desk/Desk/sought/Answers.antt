@@ -3,7 +3,7 @@ use Rattle.std.specs.Prelude.{IfErr, IfOk}
 use Rattle.loop_record.specs.Plain.{pictures}
 use Rattle.loop_desk.specs.Desk.{runs_told}
 use Rattle.loop_desk.specs.Seen.{DeskGoes, OutlineRefuses, SeenDesk}
-use Rattle.loop_desk.proofs.Called.{goes-sought, sought-refused}
+use Rattle.loop_desk.proofs.OneCall.{goes-sought, sought-refused}
 use Rattle.loop_desk.proofs.desk.Desk.sought.Goals as goal
 
 pub returns-clause-goes : goal.returns-clause-goes

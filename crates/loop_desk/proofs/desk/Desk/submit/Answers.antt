@@ -8,7 +8,7 @@ use Rattle.loop_record.specs.Recording.{last_number, picture, ring_of}
 use Rattle.loop_desk.specs.Desk.{DeskState, submit_answer, submitted}
 use Rattle.loop_store.specs.Reopen.{TellsOne}
 use Rattle.loop_desk.specs.Seen.{DeskGoes, IsDesk, SeenDesk, TellsDesk, rules_of}
-use Rattle.loop_desk.proofs.Called.{goes-submit}
+use Rattle.loop_desk.proofs.OneCall.{goes-submit}
 use Rattle.loop_desk.proofs.Always.{below, keep-all, kept-pushed}
 use Rattle.loop_desk.proofs.desk.Desk.submit.Goals as goal
 

@@ -1,5 +1,5 @@
 use Rattle.std.proofs.Common.{◌∙◌, List, ℕ, length, ap}
-use Rattle.loop_disk.proofs.Crashing.{take-within, crashed, left-after}
+use Rattle.loop_disk.proofs.CrashCalls.{take-within, crashed, left-after}
 use Rattle.loop_disk.proofs.crash.CrashDisk.crash.Goals as goal
 
 pub replay-requires-clause-within : goal.replay-requires-clause-within

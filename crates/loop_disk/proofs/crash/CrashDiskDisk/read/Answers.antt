@@ -1,5 +1,5 @@
 use Rattle.loop_disk.specs.declared.crash.DeviceCall.TheVariants as call
-use Rattle.loop_disk.proofs.Crashing.{recorded-more, view-more, looked, looked-called}
+use Rattle.loop_disk.proofs.CrashCalls.{recorded-more, view-more, looked, looked-called}
 use Rattle.loop_disk.proofs.crash.CrashDiskDisk.read.Goals as goal
 
 pub invariant_of-self : goal.invariant_of-self

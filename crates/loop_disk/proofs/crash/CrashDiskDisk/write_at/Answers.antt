@@ -1,5 +1,5 @@
 use Rattle.loop_disk.specs.declared.crash.DeviceCall.TheVariants as call
-use Rattle.loop_disk.proofs.Crashing.{view-more, wrote, wrote-each, written-recorded}
+use Rattle.loop_disk.proofs.CrashCalls.{view-more, wrote, wrote-each, written-recorded}
 use Rattle.loop_disk.proofs.crash.CrashDiskDisk.write_at.Goals as goal
 
 pub invariant_of-self : goal.invariant_of-self

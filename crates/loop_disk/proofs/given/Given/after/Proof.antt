@@ -17,7 +17,7 @@ use Rattle.std.proofs.raw_atomic.Walks.{proved}
 use Rattle.loop_disk.specs.contracts.given.Gave as Gave
 use Rattle.loop_disk.specs.contracts.given.Given as Given
 use Rattle.loop_disk.specs.contracts.given.Given.after as f
-use Rattle.loop_disk.proofs.Nothing.{no_bytes, makes_nothing}
+use Rattle.loop_disk.proofs.GhostData.{no_bytes, makes_nothing}
 use Rattle.loop_disk.proofs.given.Given.after.Statement.{statement}
 use Rattle.loop_disk.proofs.given.Given.after.Code as code
 

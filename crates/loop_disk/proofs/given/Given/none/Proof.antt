@@ -13,7 +13,7 @@ use denote.Triple.Walked.{says, Stays, walk_of, ends_at}
 use Rattle.std.proofs.raw_atomic.Walks.{proved}
 use Rattle.loop_disk.specs.contracts.given.Given as Given
 use Rattle.loop_disk.specs.contracts.given.Given.none as f
-use Rattle.loop_disk.proofs.Nothing.{no_bytes, makes_nothing}
+use Rattle.loop_disk.proofs.GhostData.{no_bytes, makes_nothing}
 use Rattle.loop_disk.proofs.given.Given.none.Statement.{statement}
 use Rattle.loop_disk.proofs.given.Given.none.Code as code
 

@@ -18,7 +18,7 @@ use Rattle.loop_disk.specs.Behind.{behind_after}
 use Rattle.loop_disk.specs.contracts.past.Event as Event
 use Rattle.loop_disk.specs.contracts.past.Past as Past
 use Rattle.loop_disk.specs.contracts.past.Past.after as f
-use Rattle.loop_disk.proofs.Nothing.{no_bytes, makes_nothing}
+use Rattle.loop_disk.proofs.GhostData.{no_bytes, makes_nothing}
 use Rattle.loop_disk.proofs.past.Past.after.Statement.{statement}
 use Rattle.loop_disk.proofs.past.Past.after.Code as code
 

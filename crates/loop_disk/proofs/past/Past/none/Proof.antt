@@ -14,7 +14,7 @@ use Rattle.std.proofs.raw_atomic.Walks.{proved}
 use Rattle.loop_disk.specs.Behind.{nothing_yet}
 use Rattle.loop_disk.specs.contracts.past.Past as Past
 use Rattle.loop_disk.specs.contracts.past.Past.none as f
-use Rattle.loop_disk.proofs.Nothing.{no_bytes, makes_nothing}
+use Rattle.loop_disk.proofs.GhostData.{no_bytes, makes_nothing}
 use Rattle.loop_disk.proofs.past.Past.none.Statement.{statement}
 use Rattle.loop_disk.proofs.past.Past.none.Code as code
 

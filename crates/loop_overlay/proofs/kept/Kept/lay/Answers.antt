@@ -2,7 +2,7 @@ use Rattle.std.proofs.Common.{◌≡◌, ◌∙◌, ◌+◌, ◌-◌, ℕ, List,
 use Rattle.loop_disk.specs.Medium.{with_bytes_at}
 use Rattle.loop_overlay.specs.Layers.{KeptWrite, laid_on}
 use Rattle.loop_overlay.specs.Parts.{IsBufferOf}
-use Rattle.loop_overlay.proofs.Laying.{part_laid, part_outside}
+use Rattle.loop_overlay.proofs.WriteOver.{part_laid, part_outside}
 use Rattle.loop_overlay.proofs.kept.Kept.lay.Goals.{then-to-buf-via-then-to-buf, then-to-buf-via-else-to-buf+then-from-len}
 use Rattle.loop_overlay.proofs.kept.Kept.lay.Goals as goal
 

@@ -1,7 +1,7 @@
 use Rattle.std.proofs.Common.{List, Ok, ap, subst, sym, arith}
 use Rattle.loop_disk.specs.Calls.{Writes}
 use Rattle.loop_overlay.specs.Layers.{KeptWrite, overlaid}
-use Rattle.loop_overlay.proofs.Overlaid.{kept_write}
+use Rattle.loop_overlay.proofs.OverlayImages.{kept_write}
 use Rattle.loop_overlay.proofs.overlay.OverlayDiskDisk.write_at.Goals as goal
 
 pub returns-in-Ok-clause-disk : goal.returns-in-Ok-clause-disk
@@ -11,7 +11,7 @@ returns-in-Ok-clause-disk g c =
     let w : KeptWrite = record { at = c.args.at; bytes = c.args.bytes.now } in
     let size = ap (λ v. (g.D.Disk.medium v.disk).size) c.self.view_is in
     subst (λ v. (g.D.Disk.medium v.disk).honest → Writes {T = Unit {0}} c.args.at c.args.bytes.now
-    (overlaid (g.D.Disk.medium v.disk) v.writes v.failures) (overlaid m c.keep.new.writes.items inside.failures)
+    (overlaid (g.D.Disk.medium v.disk) v.writes v.failures) (overlaid m c.add_write.new.writes.items inside.failures)
     (Ok tt)) c.self.view_is
     (λ honest.
     subst (λ (ws : List KeptWrite). Writes {T = Unit {0}} c.args.at c.args.bytes.now

@@ -1,5 +1,5 @@
 use Rattle.std.proofs.Common.{Err}
-use Rattle.loop_pipeline.proofs.Bringing.{accepted, brought}
+use Rattle.loop_pipeline.proofs.BackRuns.{accepted, brought}
 use Rattle.loop_pipeline.proofs.back.Back.bring.Goals as goal
 
 pub invariant_of-self-in-Ok-submit : goal.invariant_of-self-in-Ok-submit
@@ -8,5 +8,5 @@ invariant_of-self-in-Ok-submit g c =
 
 pub invariant_of-self-in-Err : goal.invariant_of-self-in-Err
 invariant_of-self-in-Err g c =
-    rw c.keep_memory.ensures
+    rw c.return_memory.ensures
     (brought g.D.Disk.medium _ _ _ _ _ _ _ c.self.invariant c.in-Ok.frame (Err c.in-Err.fault) c.in-Ok.ensures.ring c.in-Ok.ensures.ok.0 c.in-Err.ensures.goes)

@@ -1,5 +1,5 @@
 use Rattle.std.proofs.Common.{refl}
-use Rattle.loop_pipeline.proofs.Bringing.{called}
+use Rattle.loop_pipeline.proofs.BackRuns.{called}
 use Rattle.loop_pipeline.proofs.back.Back.flush.Goals as goal
 
 pub invariant_of-self : goal.invariant_of-self

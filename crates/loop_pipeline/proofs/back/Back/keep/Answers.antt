@@ -2,8 +2,8 @@ use Rattle.std.proofs.Common.{ap, subst}
 use Rattle.loop_desk.specs.Keeps.{HaveTime}
 use Rattle.loop_desk.specs.Seen.{SeenDesk}
 use Rattle.loop_pipeline.specs.Backs.{SeenBack}
-use Rattle.loop_pipeline.proofs.Bringing.{called}
-use Rattle.loop_pipeline.proofs.Keeping.{none-submitted}
+use Rattle.loop_pipeline.proofs.BackRuns.{called}
+use Rattle.loop_pipeline.proofs.KeepCalls.{none-submitted}
 use Rattle.loop_pipeline.proofs.back.Back.keep.Goals as goal
 
 pub invariant_of-self : goal.invariant_of-self

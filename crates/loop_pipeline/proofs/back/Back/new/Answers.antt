@@ -1,4 +1,4 @@
-use Rattle.loop_pipeline.proofs.Bringing.{begun}
+use Rattle.loop_pipeline.proofs.BackRuns.{begun}
 use Rattle.loop_pipeline.proofs.back.Back.new.Goals as goal
 
 pub invariant_of-result : goal.invariant_of-result

@@ -1,6 +1,6 @@
 use Rattle.std.proofs.Common.{subst}
 use Rattle.loop_pipeline.specs.Fronts.{FrontKeeps}
-use Rattle.loop_pipeline.proofs.Moving.{again, kept}
+use Rattle.loop_pipeline.proofs.FrontRuns.{again, kept}
 use Rattle.loop_pipeline.proofs.front.Front.into_parts.Goals as goal
 
 pub returns : goal.returns

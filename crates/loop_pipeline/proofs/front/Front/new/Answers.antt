@@ -1,4 +1,4 @@
-use Rattle.loop_pipeline.proofs.Moving.{begun}
+use Rattle.loop_pipeline.proofs.FrontRuns.{begun}
 use Rattle.loop_pipeline.proofs.front.Front.new.Goals as goal
 
 pub invariant_of-result : goal.invariant_of-result

@@ -1,5 +1,5 @@
-use Rattle.loop_pipeline.proofs.Moving.{moved}
-use Rattle.loop_pipeline.proofs.Taking.{put-adds}
+use Rattle.loop_pipeline.proofs.FrontRuns.{moved}
+use Rattle.loop_pipeline.proofs.FrameSteps.{put-adds}
 use Rattle.loop_pipeline.proofs.front.Front.put_back.Goals as goal
 
 pub invariant_of-self : goal.invariant_of-self

@@ -1,5 +1,5 @@
-use Rattle.loop_pipeline.proofs.Moving.{moved}
-use Rattle.loop_pipeline.proofs.Taking.{refused-adds, take-adds}
+use Rattle.loop_pipeline.proofs.FrontRuns.{moved}
+use Rattle.loop_pipeline.proofs.FrameSteps.{refused-adds, take-adds}
 use Rattle.loop_pipeline.proofs.front.Front.take.Goals as goal
 
 pub invariant_of-self-in-Err : goal.invariant_of-self-in-Err

@@ -1,5 +1,5 @@
-use Rattle.loop_pipeline.proofs.Moving.{moved}
-use Rattle.loop_pipeline.proofs.Ticking.{tick-adds}
+use Rattle.loop_pipeline.proofs.FrontRuns.{moved}
+use Rattle.loop_pipeline.proofs.TickSteps.{tick-adds}
 use Rattle.loop_pipeline.proofs.front.Front.tick.Goals as goal
 
 pub invariant_of-self : goal.invariant_of-self

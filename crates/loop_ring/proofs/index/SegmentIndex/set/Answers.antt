@@ -3,7 +3,7 @@ use Rattle.std.proofs.lemmas.List.{get_or_default}
 use Rattle.std.specs.List.{count_by}
 use Rattle.loop_record.specs.declared.segment.SegmentHead.{SegmentHead}
 use Rattle.loop_ring.specs.Heads.{Segments, has_frame}
-use Rattle.loop_ring.proofs.Counted.{held-few}
+use Rattle.loop_ring.proofs.ClipCounts.{held-few}
 use Rattle.loop_ring.proofs.index.SegmentIndex.set.Goals as goal
 
 pub held_after-self-inside-requires-clause-few : goal.held_after-self-inside-requires-clause-few

@@ -1,6 +1,6 @@
 use Rattle.std.proofs.Common.{ap, ◌∙◌}
 use Rattle.loop_ring.specs.Heads.{going_free}
-use Rattle.loop_ring.proofs.Counted.{free-victim}
+use Rattle.loop_ring.proofs.ClipCounts.{free-victim}
 use Rattle.loop_ring.proofs.index.SegmentIndex.victim.Goals as goal
 
 pub returns-clause-victim : goal.returns-clause-victim

@@ -2,8 +2,8 @@ use Rattle.std.proofs.Common.{◌≡◌, ℕ, ◌+◌, ◌≤◌, List, [], ◌�
 use Rattle.loop_record.specs.Geometry.{segment_at}
 use Rattle.loop_record.proofs.Bounds.{limits, place-lt}
 use Rattle.loop_record.proofs.Parts.{apart}
-use Rattle.loop_ring.proofs.Answered.{both_ok}
-use Rattle.loop_ring.proofs.Beginning.{is_header, begin_moments, begin_ok, begin_stray_ok}
+use Rattle.loop_ring.proofs.AnswerPairs.{both_ok}
+use Rattle.loop_ring.proofs.BlockBeginnings.{is_header, begin_moments, begin_ok, begin_stray_ok}
 use Rattle.loop_ring.proofs.ring.Ring.begin_block.Goals as goal
 
 pub overflow_add-at : goal.overflow_add-at

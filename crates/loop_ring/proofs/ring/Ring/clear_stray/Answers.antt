@@ -7,7 +7,7 @@ use Rattle.loop_record.specs.Change.{ShowsSegment}
 use Rattle.loop_record.specs.Geometry.{is_good, gate_at}
 use Rattle.loop_record.specs.Layout.{segment_in, whole_frames}
 use Rattle.loop_record.proofs.Bounds.{limits}
-use Rattle.loop_ring.proofs.Clearing.{IsBehind, stray_torn, stray_closed, quiet_closed, none_behind, unchanged}
+use Rattle.loop_ring.proofs.StrayGates.{IsBehind, stray_torn, stray_closed, quiet_closed, none_behind, unchanged}
 use Rattle.loop_ring.proofs.ring.Ring.clear_stray.Goals as goal
 
 behind : (g : Geometry) (j k at : ℕ) (old : List ℕ) → IsTrue (is_good g) → at ≡ gate_at g j (k + 1) → k + 1 < g.slots

@@ -1,6 +1,7 @@
 use Rattle.std.proofs.Common.{sym, arith}
+use Rattle.loop_disk.proofs.Moments.{read_present}
 use Rattle.loop_record.proofs.Bounds.{place-lt}
-use Rattle.loop_record.proofs.Framing.{slot_within}
+use Rattle.loop_record.proofs.OwnBytes.{slot_within}
 use Rattle.loop_record.proofs.Parts.{apart}
 use Rattle.loop_ring.proofs.SlotReads.{stays_on, part_read}
 use Rattle.loop_ring.proofs.ring.Ring.read_part.Goals as goal
@@ -46,7 +47,8 @@ returns-clause-part g c = λ honest. (
   c.in_ok-head.ensures.head honest,
   part_read c.args.self.now.geometry c.args.segment c.args.slot _ _ c.args.at _ _ _ _ c.slot_at-place.ensures
       c.from.ensures c.requires.part (c.in_ok-head.ensures.disk honest).bytes (sym c.read.auto.buf)
-      (c.in_ok-read.ensures.read (c.in_ok-head.ensures.called.honest.0 honest)),
+      (read_present _ _ (g.met.D.Disk.sound c.read.new.self (c.in_ok-read.ensures.called.honest.0 (c.in_ok-head.ensures.called.honest.0 honest)))
+      (c.in_ok-read.ensures.disk (c.in_ok-head.ensures.called.honest.0 honest)) c.in_ok-read.ensures.gives),
 )
 
 pub returns-clause-disk : goal.returns-clause-disk

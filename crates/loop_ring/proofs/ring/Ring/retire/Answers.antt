@@ -2,7 +2,7 @@ use Rattle.std.proofs.Common.{◌+◌, ◌≤◌, length, arith}
 use Rattle.loop_record.specs.Geometry.{segment_at, segment_size}
 use Rattle.loop_record.proofs.Bounds.{limits}
 use Rattle.loop_record.proofs.Parts.{apart}
-use Rattle.loop_ring.proofs.Retiring.{retire_moments, retire_ok}
+use Rattle.loop_ring.proofs.Retirements.{retire_moments, retire_ok}
 use Rattle.loop_ring.proofs.ring.Ring.retire.Goals as goal
 
 pub returns : goal.returns

@@ -1,4 +1,4 @@
-use Rattle.loop_sessions.proofs.Linking.{port-ticked}
+use Rattle.loop_sessions.proofs.QueueLinks.{port-ticked}
 use Rattle.loop_sessions.proofs.port.Port.tick.Goals as goal
 
 pub invariant_of-self : goal.invariant_of-self

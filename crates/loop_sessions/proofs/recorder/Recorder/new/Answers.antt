@@ -1,6 +1,6 @@
 use Rattle.std.proofs.Common.{◌≡◌, ◌∙◌, ap, arith, length, replicate, subst, sym, vec_len}
 use Rattle.loop_sessions.specs.Opened.{AreNumbered}
-use Rattle.loop_sessions.proofs.Opening.{tell-count}
+use Rattle.loop_sessions.proofs.OutlineSteps.{tell-count}
 use Rattle.loop_sessions.proofs.recorder.Recorder.new.Goals as goal
 
 pub invariant_of-recorder : goal.invariant_of-recorder

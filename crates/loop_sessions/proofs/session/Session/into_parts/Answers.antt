@@ -1,4 +1,4 @@
-use Rattle.loop_sessions.proofs.Keeping.{kept-faithful}
+use Rattle.loop_sessions.proofs.HistorySteps.{kept-faithful}
 use Rattle.loop_sessions.proofs.session.Session.into_parts.Goals as goal
 
 pub returns-clause-faithful : goal.returns-clause-faithful

@@ -1,7 +1,7 @@
 use Rattle.std.proofs.Common.{ap, subst}
 use Rattle.loop_sessions.specs.Keeps.{KeepsNow}
 use Rattle.loop_sessions.specs.Sessions.{SeenSession}
-use Rattle.loop_sessions.proofs.Noting.{kept-all}
+use Rattle.loop_sessions.proofs.NoteRuns.{kept-all}
 use Rattle.loop_sessions.proofs.session.Session.keep.Goals as goal
 
 pub invariant_of-self : goal.invariant_of-self

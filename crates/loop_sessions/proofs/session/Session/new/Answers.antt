@@ -1,4 +1,4 @@
-use Rattle.loop_sessions.proofs.Keeping.{kept-new}
+use Rattle.loop_sessions.proofs.HistorySteps.{kept-new}
 use Rattle.loop_sessions.proofs.session.Session.new.Goals as goal
 
 pub invariant_of-result : goal.invariant_of-result

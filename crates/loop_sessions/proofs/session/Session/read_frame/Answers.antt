@@ -1,4 +1,4 @@
-use Rattle.loop_sessions.proofs.Keeping.{kept-answers, kept-read}
+use Rattle.loop_sessions.proofs.HistorySteps.{kept-answers, kept-read}
 use Rattle.loop_sessions.proofs.session.Session.read_frame.Goals as goal
 use Rattle.loop_sessions.proofs.session.Session.read_frame.Goals.{in-Ok, in-Err}
 

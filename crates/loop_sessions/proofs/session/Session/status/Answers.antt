@@ -1,4 +1,4 @@
-use Rattle.loop_sessions.proofs.Keeping.{kept-status}
+use Rattle.loop_sessions.proofs.HistorySteps.{kept-status}
 use Rattle.loop_sessions.proofs.session.Session.status.Goals as goal
 
 pub invariant_of-self-2 : goal.invariant_of-self-2

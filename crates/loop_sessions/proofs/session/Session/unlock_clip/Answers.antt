@@ -1,5 +1,5 @@
 use Rattle.std.proofs.Common.{refl}
-use Rattle.loop_sessions.proofs.Keeping.{kept-more}
+use Rattle.loop_sessions.proofs.HistorySteps.{kept-more}
 use Rattle.loop_sessions.proofs.session.Session.unlock_clip.Goals as goal
 
 pub invariant_of-self-2 : goal.invariant_of-self-2

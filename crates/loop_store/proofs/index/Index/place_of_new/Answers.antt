@@ -2,7 +2,7 @@ use Rattle.std.proofs.Common.{not, is_some, List, Option, sym, ap, ◌∙◌}
 use Rattle.std.specs.List.{count_by, position}
 use Rattle.loop_record.specs.declared.segment.SegmentHead.{SegmentHead}
 use Rattle.loop_ring.specs.Heads.{has_frame}
-use Rattle.loop_store.proofs.Placing.{closed-place, no-victim, some-closed, victim-place}
+use Rattle.loop_store.proofs.AppendPlaces.{closed-place, no-victim, some-closed, victim-place}
 use Rattle.loop_store.proofs.index.Index.place_of_new.Goals as goal
 
 pub returns-in-Some-clause-place : goal.returns-in-Some-clause-place

@@ -1,5 +1,5 @@
 use Rattle.std.proofs.Common.{Some, None, sym}
-use Rattle.loop_store.proofs.Placing.{found-of, newest-place}
+use Rattle.loop_store.proofs.AppendPlaces.{found-of, newest-place}
 use Rattle.loop_store.proofs.index.Index.place_of_next.Goals as goal
 
 pub returns-in-Some-clause-place : goal.returns-in-Some-clause-place

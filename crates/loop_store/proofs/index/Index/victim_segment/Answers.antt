@@ -1,7 +1,7 @@
 use Rattle.std.proofs.Common.{Option, ℕ, sym, ap, ◌∙◌, subst}
 use Rattle.loop_record.specs.Recording.{ring_of, victim}
 use Rattle.loop_ring.specs.Heads.{IsPlaceOf, clip_counts}
-use Rattle.loop_ring.proofs.Chosen.{victim-placed}
+use Rattle.loop_ring.proofs.VictimByHeads.{victim-placed}
 use Rattle.loop_store.proofs.index.Index.victim_segment.Goals as goal
 
 pub returns-in_err-block-clause-place : goal.returns-in_err-block-clause-place

@@ -10,4 +10,4 @@ returns g c =
     let i = c.self.inside.index in
     let h = i.ring.geometry in
     subst (λ (v : Seen g.row.D.Denot). c.holds.result ≡ is_among v.numbers c.args.number) c.self.view_is
-    (c.holds.ensures ∙ sym (among-under h c.args.number i.table.heads (limits h i.ring.good).slots.0 c.self.invariant.0.fits.whole.within))
+    (c.holds.ensures ∙ sym (among-under h c.args.number i.table.heads (limits h i.ring.good).slots.0 c.self.invariant.fits.whole.within))

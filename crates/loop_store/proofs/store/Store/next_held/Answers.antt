@@ -12,11 +12,11 @@ returns-clause-least g c =
     let h = i.ring.geometry in
     subst (λ (v : Seen g.row.D.Denot). IsLeastFrom (is_among v.numbers) c.args.number c.next_held.result) c.self.view_is
     (least-same _ _ c.args.number c.next_held.result
-    (λ n. sym (among-under h n i.table.heads (limits h i.ring.good).slots.0 c.self.invariant.0.fits.whole.within))
+    (λ n. sym (among-under h n i.table.heads (limits h i.ring.good).slots.0 c.self.invariant.fits.whole.within))
     c.next_held.ensures)
 
 pub returns-clause-low : goal.returns-clause-low
 returns-clause-low g c =
     let i = c.self.inside.index in
     let h = i.ring.geometry in
-    least-low h i.table.heads c.args.number c.next_held.result (limits h i.ring.good).slots.0 c.self.invariant.0.fits.whole.within c.next_held.ensures
+    least-low h i.table.heads c.args.number c.next_held.result (limits h i.ring.good).slots.0 c.self.invariant.fits.whole.within c.next_held.ensures

@@ -1,28 +1,25 @@
 use Rattle.std.proofs.Common.{false, refl}
 use Rattle.loop_record.proofs.Bounds.{limits}
-use Rattle.loop_store.proofs.Reopened.{present-opened}
+use Rattle.loop_store.proofs.Openings.{present-opened}
 use Rattle.loop_store.proofs.Looks.{drawn-of, tells-drawn}
 use Rattle.loop_store.proofs.store.Store.open_keeping.Goals as goal
 
 pub invariant_of-result : goal.invariant_of-result
-invariant_of-result g c = (
-  record {
-    fits = c.in-Ok.ensures.known.0.0;
-    known = c.in-Ok.ensures.known.0.1;
-    present = λ fine honest. c.in-Ok.ensures.present (c.reopen.ensures.called.honest.1 honest);
-  },
-  c.in-Ok.ensures.known.1,
-)
+invariant_of-result g c = record {
+  fits = c.in-Ok.ensures.known.0;
+  known = c.in-Ok.ensures.known.1;
+  present = λ fine honest. c.in-Ok.ensures.present (c.reopen.ensures.called.honest.1 honest);
+}
 
 pub returns-in-Ok : goal.returns-in-Ok
 returns-in-Ok g c =
     let index = c.in-Ok.index in
-    let known = c.in-Ok.ensures.known.0.1 in
+    let known = c.in-Ok.ensures.known.1 in
     record {
       opened = λ honest. present-opened g.D.Disk.medium c.reopen.new.disk index (g.D.Disk.medium c.args.disk).bytes
-          (limits index.ring.geometry index.ring.good).slots.0 c.in-Ok.ensures.known.0.0.whole.within
+          (limits index.ring.geometry index.ring.good).slots.0 c.in-Ok.ensures.known.0.whole.within
           (c.in-Ok.ensures.present honest) (c.reopen.ensures.alike honest);
-      tells = (drawn-of index known, tells-drawn c.reopen.new.disk index false known c.in-Ok.ensures.known.0.0.whole.within);
+      tells = (drawn-of index known, tells-drawn c.reopen.new.disk index false known c.in-Ok.ensures.known.0.whole.within);
       kept = c.in-Ok.ensures.kept;
       fine = refl;
       refused = tt;

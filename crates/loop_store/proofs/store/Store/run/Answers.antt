@@ -3,13 +3,13 @@ use Rattle.loop_record.specs.declared.geometry.Geometry.{Geometry}
 use Rattle.loop_store.specs.declared.command.Command.{Command}
 use Rattle.loop_store.specs.Runs.{IsOfSize}
 use Rattle.loop_store.proofs.Looks.{one-seen}
-use Rattle.loop_store.proofs.Ran.{ran-none, ran-more, ran-all}
+use Rattle.loop_store.proofs.CommandRuns.{ran-none, ran-more, ran-all}
 use Rattle.loop_store.proofs.store.Store.run.Goals as goal
 
 pub loop-command-init : goal.loop-command-init
 loop-command-init g c = record {
   ran = ran-none g.D.Disk.medium c.args.self.now c.in_ok-replies.replies.items c.in_ok-replies.ensures.items
-      (one-seen g.D.Disk.medium c.self.inside.disk c.self.inside.index c.self.inside.must_reopen c.self.invariant.0
+      (one-seen g.D.Disk.medium c.self.inside.disk c.self.inside.index c.self.inside.must_reopen c.self.invariant
       c.self.view_is) (λ honest. g.met.D.Disk.sound c.args.self.now.disk honest);
   geometry = refl;
   count = c.in_ok-replies.ensures.len;

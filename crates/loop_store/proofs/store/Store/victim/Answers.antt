@@ -14,9 +14,9 @@ returns g c =
     let medium = g.D.Disk.medium in
     subst (λ (v : Seen g.row.D.Denot). (r : Recording) → StandsFor medium v r → c.victim.result ≡ victim (ring_of v.geometry) v.keep r) c.self.view_is
     (λ r stands.
-    let at = c.self.invariant.0.known in
+    let at = c.self.invariant.known in
     let known = at.known in
     c.victim.ensures.victim i.ring.geometry at.recording (drawn_image i.ring.geometry i.table.heads i.clips)
-    known.held known.heads_are (c.self.invariant.0.fits.whole.counted
+    known.held known.heads_are (c.self.invariant.fits.whole.counted
     ∙ ap (λ cs. clip_counts (ring_of i.ring.geometry) cs i.table.heads) known.clips_are)
-    ∙ victim-same (ring_of i.ring.geometry) i.table.keep at.recording r (alike-by medium s.disk i s.must_reopen r c.self.invariant.0 stands.told))
+    ∙ victim-same (ring_of i.ring.geometry) i.table.keep at.recording r (alike-by medium s.disk i s.must_reopen r c.self.invariant stands.told))

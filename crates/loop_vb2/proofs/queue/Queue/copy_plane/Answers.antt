@@ -1,5 +1,5 @@
 use Rattle.std.proofs.Common.{slice_index_or, length, sym, ap, ◌∙◌}
-use Rattle.loop_vb2.proofs.Copied.{copy_done, copy_refused}
+use Rattle.loop_vb2.proofs.PlaneCopies.{copy_done, copy_refused}
 use Rattle.loop_vb2.proofs.queue.Queue.copy_plane.Goals as goal
 
 pub returns-in-Some-clause-step : goal.returns-in-Some-clause-step

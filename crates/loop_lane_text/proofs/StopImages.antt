@@ -1,0 +1,64 @@
+-- What a power loss left is opened as a recording after a beginning of the steps.
+use Rattle.std.proofs.Common.{◌≡◌, false, List, ◌++◌, take, ap, subst}
+use Rattle.loop_disk.specs.Medium.{Medium}
+use Rattle.loop_plane.specs.Plane.{Plane}
+use Rattle.loop_record.specs.Reading.{Holds}
+use Rattle.loop_record.specs.Recording.{Recording, plain, ring_of}
+use Rattle.loop_store.specs.declared.fault.StoreFault.{StoreFault}
+use Rattle.loop_store.specs.Calls.{StoreState}
+use Rattle.loop_store.specs.Goes.{Stands}
+use Rattle.loop_store.specs.Reopen.{IsOpened, IsRefusedOpen}
+use Rattle.loop_store.specs.Seen.{Seen, StandsFor}
+use Rattle.loop_store.proofs.Openings.{newest-kept}
+use Rattle.loop_desk.specs.declared.event.LaneEvent.{LaneEvent}
+use Rattle.loop_desk.specs.declared.event.LaneReply.{LaneReply}
+use Rattle.loop_desk.specs.declared.lane.Lane.{Lane}
+use Rattle.loop_desk.specs.Footage.{HoldsWhole, steps_begun, steps_made}
+use Rattle.loop_desk.specs.Lane.{LaneKeeps}
+use Rattle.loop_lane_text.proofs.RecordTexts.{one-reading}
+use Rattle.loop_lane_text.specs.declared.TextFault.TheVariants as fault
+use Rattle.loop_lane_text.specs.Reopened.{IsForWant, IsLeftBehind, Reopens}
+
+module _ {D E P A : Type 0} (meaning : P → Plane) (medium : D → Medium) (other : E → Medium) (old new : Lane D P A)
+    (events : List (LaneEvent P A)) (replies : List (LaneReply P A)) (s : StoreState) (left : E) where
+  -- what was left holds a beginning of the steps, each clip whole
+  left-whole : (keeps : LaneKeeps meaning medium old new events replies) → Stands medium old.desk.store s
+      → s.must_reopen ≡ false
+      → IsLeftBehind medium other old.desk new.desk left
+      → HoldsWhole old.desk.store.geometry s.recording (steps_made old.desk s keeps.ran.calls ++ steps_begun old.desk s keeps.ran.calls) (other left).bytes
+  left-whole keeps stands fine is = ((keeps.footage s stands is.honest).moments fine).each _ is.since
+
+  pub reopened : (keeps : LaneKeeps meaning medium old new events replies) (store : Seen E)
+      → Stands medium old.desk.store s → s.must_reopen ≡ false
+      → IsLeftBehind medium other old.desk new.desk left → IsOpened other (other left).bytes store
+      → Reopens meaning medium other old new events replies (other left).bytes s store
+  reopened keeps store stands fine is found =
+      let whole = left-whole keeps stands fine is in
+      let g = old.desk.store.geometry in
+      let after = plain (ring_of g) s.recording (take whole.held.count (steps_made old.desk s keeps.ran.calls ++ steps_begun old.desk s keeps.ran.calls)) in
+      let one = one-reading store.geometry g found.recording after (other left).bytes found.held whole.held.held in
+      record {
+        ran = keeps.ran;
+        left = whole;
+        geometry = ap (λ c. c.geometry) one;
+        stands = subst (λ (r : Recording). StandsFor other store r) (ap (λ c. c.recording) one) found.stands;
+        over = λ may.
+            let all = (keeps.footage s stands is.honest).now fine (other left).bytes may in
+            let last = plain (ring_of g) s.recording (take all.count (steps_made old.desk s keeps.ran.calls ++ steps_begun old.desk s keeps.ran.calls)) in
+            let same = one-reading store.geometry g found.recording last (other left).bytes found.held all.held in
+            (all, subst (λ (r : Recording). StandsFor other store r) (ap (λ c. c.recording) same) found.stands);
+      }
+
+  pub for-want : (keeps : LaneKeeps meaning medium old new events replies) (why : StoreFault)
+      → Stands medium old.desk.store s → s.must_reopen ≡ false
+      → IsLeftBehind medium other old.desk new.desk left → IsRefusedOpen 1 (other left).bytes why → IsForWant (fault.Open why)
+  for-want keeps why stands fine is refused = go why (left-whole keeps stands fine is).held.held refused
+    where
+      go : (why : StoreFault) {r : Recording} → Holds old.desk.store.geometry r (other left).bytes
+          → IsRefusedOpen 1 (other left).bytes why → IsForWant (fault.Open why)
+      go StoreFault.NoMemory held refused = tt
+      go (StoreFault.Disk failed) held refused = tt
+      go StoreFault.NotFormatted held refused = absurd cc
+      go (StoreFault.Damaged damage) held refused = absurd cc
+      go StoreFault.BadKeep held refused = absurd (newest-kept (other left).bytes refused)
+      go _ held refused = absurd refused

@@ -1,0 +1,83 @@
+-- A camera's front and back, on the two ends of one ring.
+use Rattle.std.proofs.Common.{◌≡◌, ◌++◌, ◌+◌, ℕ, List, [], ◌∷◌, length, map, refl, sym, ap, ◌∙◌}
+use Rattle.std.proofs.lemmas.Grind.{flat_map-append}
+use Rattle.std.proofs.lemmas.List.{append-nil, length-append, length-map, map-append}
+use Rattle.std.specs.List.{flat_map}
+use Rattle.rtrb.specs.declared.AnyItems.{AnyItems}
+use Rattle.rtrb.specs.declared.consumer.Consumer.{Consumer}
+use Rattle.rtrb.specs.declared.producer.Producer.{Producer}
+use Rattle.rtrb.specs.Ring.{ConsumerLooked, ProducerLooked, known_items, received, sent}
+use Rattle.loop_disk.specs.Medium.{Medium}
+use Rattle.loop_plane.specs.Plane.{Plane}
+use Rattle.loop_record.specs.declared.frame.Frame.{Frame}
+use Rattle.loop_record.specs.Recording.{Picture, picture}
+use Rattle.loop_vb2.specs.State.{Lined}
+use Rattle.loop_capture.specs.declared.source.Next.{Next}
+use Rattle.loop_capture.specs.Ticks.{SeenDevice}
+use Rattle.loop_desk.specs.Desk.{DeskCall}
+use Rattle.loop_desk.specs.Lane.{without_flags}
+use Rattle.loop_desk.specs.Waiting.{frames_waiting}
+use Rattle.loop_desk.proofs.FootageRuns.{keeps-footage}
+use Rattle.loop_pipeline.specs.Backs.{BackKeeps, Came, IsFed, SeenBack, calls_by, lost_by, picture_of, unasked}
+use Rattle.loop_pipeline.specs.Cameras.{CameraKeeps}
+use Rattle.loop_pipeline.specs.Fronts.{FrontKeeps, SeenFront}
+
+-- frames that nobody brought
+left-pictures : (ps : List Picture) → map picture_of (map unasked ps) ≡ ps
+left-pictures [] = refl
+left-pictures (p ∷ ps) = ap (λ l. p ∷ l) (left-pictures ps)
+
+left-calls : (ps : List Picture) → flat_map calls_by (map unasked ps) ≡ []
+left-calls [] = refl
+left-calls (p ∷ ps) = left-calls ps
+
+left-lost : (ps : List Picture) → flat_map lost_by (map unasked ps) ≡ ps
+left-lost [] = refl
+left-lost (p ∷ ps) = ap (λ l. p ∷ l) (left-lost ps)
+
+-- with these, all that came is what was sent
+fed-all : (got : List Picture) (calls : List DeskCall) (given_up : ℕ) (came : List Came) (left : List Picture)
+    → IsFed got calls given_up came → IsFed (got ++ left) calls (given_up + length left) (came ++ map unasked left)
+fed-all got calls given_up came left fed = record {
+  whole = map-append picture_of came (map unasked left)
+      ∙ ((λ i. fed.whole i ++ left-pictures left i));
+  submits = flat_map-append calls_by came (map unasked left)
+      ∙ (ap (λ l. flat_map calls_by came ++ l) (left-calls left)
+      ∙ (append-nil (flat_map calls_by came) ∙ fed.submits));
+  lost = ap length (flat_map-append lost_by came (map unasked left))
+      ∙ (length-append (flat_map lost_by came) (flat_map lost_by (map unasked left))
+      ∙ (λ i. fed.lost i + length (left-lost left i)));
+}
+
+module _ {S D P A : Type 0} (medium : D → Medium) (gives : S → Next → List ℕ → S → Type 0) (m : P → Plane) where
+  pub ends : (seen : SeenFront S P A) (back : SeenBack D A) (device : SeenDevice S) (queue : Lined P)
+      (to up : Producer (Frame A) A AnyItems) (from down : Consumer (Frame A) A AnyItems) (given_up left : ℕ)
+      → FrontKeeps gives m seen device queue to → BackKeeps medium back from given_up
+      → ProducerLooked to up → ConsumerLooked from down → received down ++ known_items down ≡ sent up
+      → left ≡ length (known_items down)
+      → CameraKeeps medium gives m (record { device = seen.device; queue = seen.queue; desk = back.began })
+      (record { device = device; queue = queue; desk = back.desk }) (given_up + left)
+  ends seen back device queue to up from down given_up left front keeps up_looked down_looked fifo count =
+      let items = map picture (known_items down) in
+      let fed = fed-all (map picture (received from)) keeps.calls given_up keeps.came items keeps.fed in
+      let all : map picture (received from) ++ items ≡ map picture (sent to) =
+      ap (λ l. map picture l ++ items) (sym down_looked.1)
+      ∙ (sym (map-append picture (received down) (known_items down)) ∙ ap (map picture) (fifo ∙ up_looked.1)) in
+      record {
+        given = front.given;
+        source = front.source;
+        completed = front.completed;
+        shows = front.shows;
+        first = front.first;
+        last = front.last;
+        stood = front.stood;
+        stands = front.stands;
+        came = keeps.came ++ map unasked items;
+        whole = front.whole ∙ ap (λ l. map without_flags l ++ map without_flags (frames_waiting queue front.last))
+            (sym (fed.whole ∙ all));
+        lost = fed.lost ∙ ap (λ n. given_up + n) (length-map (known_items down) picture ∙ sym count);
+        calls = keeps.calls;
+        submits = fed.submits;
+        goes = keeps.goes;
+        footage = λ s stands now. keeps-footage medium back.began back.desk keeps.calls s keeps.goes stands now;
+      }

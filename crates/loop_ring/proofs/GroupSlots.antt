@@ -1,0 +1,79 @@
+-- The slots of a group: heads, and the bytes that go with them where they are.
+use Rattle.std.proofs.Common.{◌≡◌, ℕ, ◌+◌, ◌*◌, ◌<◌, List, [], ◌∷◌, ◌++◌, length, take, get_or, set, sym, ap, ◌∙◌, arith}
+use Rattle.std.proofs.lemmas.List.{append-nil, append_assoc, length-set, length-take-le, take_more, take_more_set}
+use Rattle.std.proofs.lemmas.List.Concat.{flat_map-append}
+use Rattle.std.specs.Borrow.{Bor}
+use Rattle.loop_disk.specs.Rows.{joined}
+use Rattle.loop_record.specs.Laws.{FitsSlot}
+use Rattle.loop_record.specs.Layout.{slot_bytes}
+use Rattle.loop_record.specs.Recording.{Picture}
+use Rattle.loop_ring.specs.Groups.{IsGrouped, first_slots, slots_joined}
+use Rattle.loop_ring.proofs.SlotStages.{Gains}
+
+-- one slot more
+joined_more : (heads : List (List ℕ)) (bodies : List (Bor (List ℕ))) (head : List ℕ) (body : Bor (List ℕ))
+    → length heads ≡ length bodies
+    → slots_joined (heads ++ head ∷ []) (bodies ++ body ∷ []) ≡ slots_joined heads bodies ++ (head ++ body.now)
+joined_more [] [] head body same = append-nil (head ++ body.now)
+joined_more [] (b ∷ bodies) head body same = absurd (omega (arith, same))
+joined_more (h ∷ heads) [] head body same = absurd (omega (arith, same))
+joined_more (h ∷ heads) (b ∷ bodies) head body same =
+    ap (λ (l : List ℕ). h ++ b.now ++ l) (joined_more heads bodies head body (omega (arith, same)))
+    ∙ sym (append_assoc (h ++ b.now) (slots_joined heads bodies) (head ++ body.now))
+
+-- the slots with that of the next place
+pub slots_on : (count : ℕ) (heads : List (List ℕ)) (bodies : List (Bor (List ℕ))) (d : Bor (List ℕ)) → count < length heads
+    → count < length bodies
+    → first_slots (count + 1) heads bodies
+    ≡ first_slots count heads bodies ++ (get_or heads count [] ++ (get_or bodies count d).now)
+slots_on count heads bodies d l m =
+    (λ i. slots_joined (take_more heads count [] l i) (take_more bodies count d m i))
+    ∙ joined_more (take count heads) (take count bodies) (get_or heads count []) (get_or bodies count d)
+    (omega (arith, length-take-le count heads (omega (arith, l)), length-take-le count bodies (omega (arith, m))))
+
+-- the slots with one put into the next place
+pub slots_more : (count : ℕ) (heads : List (List ℕ)) (bodies : List (Bor (List ℕ))) (head : List ℕ) (body : Bor (List ℕ))
+    → count < length heads → count < length bodies
+    → first_slots (count + 1) (set heads count head) (set bodies count body)
+    ≡ first_slots count heads bodies ++ (head ++ body.now)
+slots_more count heads bodies head body l m =
+    (λ i. slots_joined (take_more_set heads count head l i) (take_more_set bodies count body m i))
+    ∙ joined_more (take count heads) (take count bodies) head body
+    (omega (arith, length-take-le count heads (omega (arith, l)), length-take-le count bodies (omega (arith, m))))
+
+-- the rows with those of the next slot
+pub rows_more : (p : ℕ) (rows : List (Bor (List ℕ))) (heads : List (List ℕ)) (bodies : List (Bor (List ℕ)))
+    (a d : Bor (List ℕ)) → p < 8 → length rows ≡ 16 → length heads ≡ 8 → length bodies ≡ 8 → a.now ≡ get_or heads p []
+    → joined (take (2 * p) rows) ≡ first_slots p heads bodies
+    → joined (take (2 * (p + 1)) (set (set rows (2 * p) a) (2 * p + 1) (get_or bodies p d)))
+    ≡ first_slots (p + 1) heads bodies
+rows_more p rows heads bodies a d low sixteen eight eight' is so_far =
+    let b = get_or bodies p d in
+    let one = set rows (2 * p) a in
+    let next : 2 * (p + 1) ≡ 2 * p + 1 + 1 = omega arith in
+    ap (λ (k : ℕ). joined (take k (set one (2 * p + 1) b))) next
+    ∙ ap joined (take_more_set one (2 * p + 1) b (omega (arith, length-set rows (2 * p) a, sixteen, low)))
+    ∙ flat_map-append (λ row. row.now) (take (2 * p + 1) one) (b ∷ [])
+    ∙ (λ i. joined (take_more_set rows (2 * p) a (omega (arith, sixteen, low)) i) ++ append-nil b.now i)
+    ∙ (λ i. flat_map-append (λ row. row.now) (take (2 * p) rows) (a ∷ []) i ++ b.now)
+    ∙ (λ i. so_far i ++ append-nil a.now i ++ b.now)
+    ∙ (λ i. first_slots p heads bodies ++ is i ++ b.now)
+    ∙ append_assoc (first_slots p heads bodies) (get_or heads p []) b.now
+    ∙ sym (slots_on p heads bodies d (omega (arith, eight, low)) (omega (arith, eight', low)))
+
+-- a group with one frame more
+pub gained : (n limit first count : ℕ) (heads : List (List ℕ)) (bodies : List (Bor (List ℕ))) (times : List ℕ)
+    (head : List ℕ) (body : Bor (List ℕ)) (p : Picture) → IsGrouped n limit first count heads bodies times
+    → count < limit → length heads ≡ 8 → length bodies ≡ 8 → FitsSlot (first + count) p → length p.bytes ≡ n
+    → head ++ body.now ≡ slot_bytes (first + count) p
+    → Gains n first count (first_slots count heads bodies)
+    (first_slots (count + 1) (set heads count head) (set bodies count body)) p
+gained n limit first count heads bodies times head body p kept l eight eight' fits size is = record {
+  fits = fits;
+  size = size;
+  long = kept.long;
+  slots = kept.slots;
+  behind =
+      slots_more count heads bodies head body (omega (arith, l, kept.most, eight)) (omega (arith, l, kept.most, eight'))
+      ∙ ap (λ (b : List ℕ). first_slots count heads bodies ++ b) is;
+}
