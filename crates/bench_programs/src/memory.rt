@@ -6,7 +6,7 @@ ghost use Rattle.loop_pages.specs.Place.{IsIdle};
 use anyhow::{Result, anyhow};
 use loop_pages::{PageHold, PageLedger, PageSeat};
 use loop_plane::MmapPlane;
-use loop_vb2::{PlaneSet, Planes};
+use loop_vb2::PlaneSet;
 use std::alloc::{AllocError, Global};
 use std::sync::Arc;
 
@@ -45,13 +45,5 @@ pub(crate) fn set_of(
 {
     let hold = claimed(alloc, ledger, seat, pages)?;
     let plane = MmapPlane::new(alloc, hold).map_err(|_| AllocError)?;
-    Ok(PlaneSet {
-        count: 1,
-        planes: Planes {
-            y: Some(plane),
-            cb: None,
-            cr: None,
-        },
-        fds: [0; 3],
-    })
+    Ok(PlaneSet::one(plane))
 }

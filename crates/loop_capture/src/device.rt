@@ -1,4 +1,4 @@
-// The device: a source's frames for a queue's buffers.
+// The device: a source's frames for a queue's buffers. docs/capture.md says why it is so.
 ghost use Rattle.std.specs.Prelude.{◌≡◌, IfErr, IfOk, length};
 ghost use Rattle.loop_capture.specs.declared.source.Next.TheVariants.{More};
 ghost use Rattle.loop_capture.specs.Ticks.{Ends, IsLongest, IsNew, SeenDevice, Ticks, sequence_after};

@@ -8,6 +8,8 @@
 //! - `source`: what a source is, and a box of one; `pattern`: frames that tell which they are; `footage`:
 //!   frames of a YUV4MPEG2 input;
 //! - `device`: the device, and its tick.
+//!
+//! docs/capture.md says why it is so.
 #![tactic(auto)]
 
 mod device;

@@ -1,4 +1,4 @@
-// The layout of a store becomes version 2, in which clips have tags.
+// The layout of a store becomes version 2, in which clips have tags. docs/layout.md says why it is so.
 ghost use Rattle.std.specs.Prelude.{◌≡◌, ◌+◌, ◌≤◌, ◌<◌, ℕ, IfErr, None, OnOk, length, replicate, slice_index_or, true};
 ghost use Rattle.loop_clips.specs.Upgrade.{AreOpen, IsUpgraded};
 ghost use Rattle.loop_disk.specs.Calls.{Called, Writes, failed_call, is_write_or_sync};

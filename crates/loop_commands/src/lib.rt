@@ -7,6 +7,8 @@
 //!
 //! What a line and the words mean is loop_script's, and proved there. What becomes of an open store and of the text of
 //! an export, and when that is told, is proved of `on_store`; all other lines that are printed are tested.
+//!
+//! docs/script.md says why it is so.
 #![tactic(auto)]
 
 mod cameras;

@@ -18,11 +18,6 @@ use Rattle.loop_desk.specs.Seen.{IsDesk}
 pub keep-all : {X : Type 0} (n : ℕ) (xs : List X) → length xs ≤ n → keep_last n xs ≡ xs
 keep-all n xs few = let none : length xs - n ≡ 0 = omega (arith, few) in ap (λ (k : ℕ). drop k xs) none
 
--- all but the first are the last
-pub keep-rest : {X : Type 0} (count n : ℕ) (xs : List X) → n ≡ length xs → count ≤ n
-    → keep_last (n - count) xs ≡ drop count xs
-keep-rest count n xs is few = let same : length xs - (n - count) ≡ count = omega (arith, is, few) in ap (λ (k : ℕ). drop k xs) same
-
 pub kept-pushed : {D A : Type 0} (store : Seen D) (limits : DeskLimits) (b : Buffer (Frame A)) (frame : Frame A)
     → IsDesk store limits b → length b.items < b.capacity → store.next + length b.items < last_number
     (ring_of store.geometry) → length frame.bytes.items ≡ frame_bytes store.geometry

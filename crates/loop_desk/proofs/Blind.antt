@@ -174,7 +174,8 @@ sought-bare times (f ∷ fs) = go (is_in times f.1.timestamp) (sought-bare times
   where
     go : (b : Bool) → map (λ f. f.0) (filter (λ f. is_in times f.1.timestamp) (map bare_frame fs))
         ≡ map (λ f. f.0) (filter (λ f. is_in times f.1.timestamp) fs)
-        → map (λ f. f.0) (if b then bare_frame f ∷ filter (λ f. is_in times f.1.timestamp) (map bare_frame fs) else filter (λ f. is_in times f.1.timestamp) (map bare_frame fs))
+        → map (λ f. f.0) (if b then bare_frame f ∷ filter (λ f. is_in times f.1.timestamp) (map bare_frame fs) else
+        filter (λ f. is_in times f.1.timestamp) (map bare_frame fs))
         ≡ map (λ f. f.0) (if b then f ∷ filter (λ f. is_in times f.1.timestamp) fs else filter (λ f. is_in times f.1.timestamp) fs)
     go true more = ap (λ (ns : List ℕ). f.0 ∷ ns) more
     go false more = more

@@ -356,7 +356,8 @@ module _ (format : PixelFormat) (width height : ℕ) where
 
   frames_next : (s : QueueState) (e : Event) (line : List ℕ) → Runs s line → (n : Next s e line)
       → IsHolding (shape_of format width height) s → stops e ≡ false → model.MayHappen s e → BringsWhole s e
-      → shots s.body.shape s.body.buffers line ++ completed_frame e ≡ map without_flags (dequeued_frame s e) ++ shots s.body.shape (model.after_event s e).body.buffers n.rest
+      → shots s.body.shape s.body.buffers line ++ completed_frame e ≡ map without_flags (dequeued_frame s e) ++ shots
+      s.body.shape (model.after_event s e).body.buffers n.rest
   frames_next s (model.reqbufs count kind sets (Ok g)) line r n c on a w =
       let new = new_buffers (grants_or_none s.body.min_queued count) sets in
       let none : n.rest ≡ [] = none_listed n.rest (λ i. n.runs.shows.done.listed i ∙ ap is_ended (new_state (grants_or_none s.body.min_queued count) sets i)) in

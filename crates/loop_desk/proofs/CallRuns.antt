@@ -13,7 +13,16 @@ use Rattle.loop_desk.proofs.Short.{desk_model}
 
 -- the state of a desk that tells of a recording
 abbrev pub state-of : {D : Type 0} (d : SeenDesk D) → TellsOne d.store → DeskState
-state-of d one = record { store = record { recording = one.0; version = d.store.version; keep = d.store.keep; must_reopen = d.store.must_reopen }; pending = d.pending }
+state-of d one =
+    record {
+      store = record {
+        recording = one.0;
+        version = d.store.version;
+        keep = d.store.keep;
+        must_reopen = d.store.must_reopen;
+      };
+      pending = d.pending;
+    }
 
 pub state-told : {D : Type 0} (d : SeenDesk D) (one : TellsOne d.store) → TellsDesk d (state-of d one)
 state-told d one = record { store = record { recording = one.1; version = refl; keep = refl; must_reopen = refl }; pending = refl }

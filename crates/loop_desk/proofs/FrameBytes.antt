@@ -81,9 +81,6 @@ below_first a b e = omega (arith, e)
 first_below : (a b : ℕ) → a ≤ b → min a b ≡ a
 first_below a b e = omega (arith, e)
 
-weak : (a b : ℕ) → a < b → a ≤ b
-weak a b e = omega (arith, e)
-
 shorter : (a b n : ℕ) → a < b → n ≡ min a b → n ≤ b
 shorter a b n e f = omega (arith, e, f)
 
@@ -144,9 +141,6 @@ same_at at = omega arith
 take_nothing : (n : ℕ) → take {A = ℕ} n [] ≡ []
 take_nothing zero = refl
 take_nothing (suc n) = refl
-
-mid_count : (a k n m p : ℕ) → a + k ≤ n → m ≡ k → p ≡ n - a - k → a + (m + p) ≡ n
-mid_count a k n m p e f g = omega (arith, e, f, g)
 
 mid_kept : (k n p : ℕ) → k ≤ n - p → min k (n - p) ≡ k
 mid_kept k n p e = omega (arith, e)

@@ -40,7 +40,7 @@ use Rattle.loop_desk.specs.declared.hand.LaneFault.TheVariants.{Store, Queue}
 use Rattle.loop_desk.specs.Front.{dequeued, empty, forbids, Front, FrontTurns, full, hand_given, hand_of, hand_state, HandState, index_in, IsDequeue, IsForbidden, IsOneEvent, IsRequeue, kind_of, on_queue, planes_held, requeue_event, requeued, spent, StandsFront, taken_frame, TurnsBeside, was_given_up, with_hand}
 use Rattle.loop_desk.proofs.Short.{hand_with}
 use Rattle.loop_desk.specs.FrontLaws.{NewFrontsStand}
-use Rattle.loop_desk.specs.Parts.{StaysIn, GetsBuffer, is_ioctl}
+use Rattle.loop_desk.specs.Parts.{StaysIn, GetsBuffer}
 
 -- ---- what an event of the queue leaves
 
@@ -117,13 +117,6 @@ module _ {P A : Type 0} (m : P → Plane) where
         subst (λ b. StandsFront m q' t' h (record f { queue = cond b f.queue (state_after m e r f.queue) })) (sym x)
             (record { queue = g.1; hand = stands.hand; out = out_after e r f.queue f.hand x stands.out }),
       )
-
--- only an ioctl is forbidden
-pub forbidden_ioctl : {P A : Type 0} (held : Option ℕ) (e : QueueEvent P A) → forbids held e ≡ true → is_ioctl e ≡ true
-forbidden_ioctl held (event.Ioctl c) is = refl
-forbidden_ioctl held (event.Complete index stamp bytes) is = absurd (cc)
-forbidden_ioctl held (event.Fail index stamp) is = absurd (cc)
-forbidden_ioctl held event.Fatal is = absurd (cc)
 
 -- ---- a dequeue
 

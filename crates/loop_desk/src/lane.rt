@@ -1,4 +1,5 @@
 //! A lane: a queue with its table of fds, a hand, and a desk, and lists of their events.
+//! docs/lane.md says why it is so.
 
 ghost use Rattle.std.specs.Prelude.{◌≡◌, [], ◌∷◌, IfErr, IfOk};
 ghost use Rattle.loop_ioctl.specs.Types.{type_of};

@@ -14,6 +14,8 @@
 //! - `laws` has what follows for lists of calls, of events of a lane, and of events of a queue (`specs/Waiting`).
 //!
 //! Only private functions speak of `specs/Parts`.
+//!
+//! docs/lane.md says why it is so.
 #![tactic(auto)]
 
 mod desk;

@@ -13,7 +13,7 @@ use Rattle.loop_disk.specs.declared.crash.Spoil.{Spoil}
 use Rattle.loop_disk.specs.declared.crash.Spoil.TheVariants as spoil
 use Rattle.loop_disk.specs.Medium.{LeavesEachTorn, Medium, with_bytes_at}
 use Rattle.loop_disk.specs.Calls.{Called, Stays, Writes, Syncs}
-use Rattle.loop_disk.specs.History.{Moment, at_rest, after_write, after_sync, is_within, is_loose, IsLeft, IsLeftSince, medium_of}
+use Rattle.loop_disk.specs.History.{Moment, at_rest, after_write, is_within, is_loose, IsLeft, IsLeftSince, medium_of}
 use Rattle.loop_disk.specs.Crashing.{Tape, call_of, after_call, moment_after, moments_from, medium_after, IsWithin, IsSpoiled, spoiled_byte}
 use Rattle.loop_disk.specs.Replay.{IsRecorded, IsReplayed, PutsSpoiled}
 use Rattle.std.proofs.lemmas.Bool.{cases_lt, or_parts}
@@ -129,32 +129,6 @@ left-after t n image fits left =
     let all : take n t.calls ++ drop n t.calls ≡ t.calls = take-append-drop n t.calls in
     subst (λ (calls : List (DeviceCall (List ℕ))). IsLeftSince (moment_after t.start calls ∷ moments_from (at_rest t.start) [] calls) n image) all
     (left-in (at_rest t.start) [] (take n t.calls) (drop n t.calls) n image (omega (arith, length-take n t.calls, fits)) left)
-
--- what is to be replayed begins with nothing loose
-pub replay-begins : (s : Spoil) (start : List ℕ) → IsReplayed s (at_rest start) start start
-replay-begins s start = record {
-  whole = refl;
-  spoilt = record { left = record { size = refl; kept = λ i fixed. refl }; loose = λ i within is. absurd (grind (arith, is)) };
-  size = refl;
-  steady = λ i fixed. refl;
-}
-
-pub replay-syncs : (s : Spoil) (m : Moment) (bytes image later : List ℕ) → later ≡ bytes → IsReplayed s m bytes image
-    → IsReplayed s (after_sync m) bytes later
-replay-syncs s m bytes image later same done =
-    let is : later ≡ m.bytes = same ∙ done.whole in record {
-      whole = done.whole;
-      spoilt = record {
-        left = record {
-          size = ap (λ (l : List ℕ). length l) is;
-          kept =
-              λ i fixed. ap (λ (l : List ℕ). get_or l i 0) is;
-        };
-        loose = λ i within loose. absurd (grind (arith, loose));
-      };
-      size = refl;
-      steady = λ i fixed. refl;
-    }
 
 -- an image that is replayed with the old bytes holds them everywhere
 old-there : (m : Moment) (bytes image : List ℕ) (i : ℕ) → IsReplayed spoil.Old m bytes image → i < length image

@@ -1,13 +1,13 @@
 -- A write that is done in part, by several calls of the inner disk.
 use Rattle.std.proofs.lemmas.Bool.{cases_lt}
-use Rattle.std.proofs.Common.{◌≡◌, ◌⊎◌, inl, inr, ℕ, ◌+◌, ◌-◌, ◌<◌, ◌≤◌, min, List, length, take, get_or, Result, Ok, Err, IsErr, OnOk, refl, sym, ◌∙◌, ap, subst, arith}
+use Rattle.std.proofs.Common.{◌≡◌, ◌⊎◌, inl, inr, ℕ, ◌+◌, ◌-◌, ◌<◌, ◌≤◌, min, List, length, take, get_or, Result, Ok, Err, IsErr, OnOk, sym, ◌∙◌, ap, subst, arith}
 use Rattle.std.proofs.lemmas.List.{ext_get_or, take_min, length-take}
 use Rattle.loop_disk.specs.declared.fault.DiskFault.{DiskFault}
-use Rattle.loop_disk.specs.Medium.{IsSound, LeavesEach, LeavesEachTorn, Medium, piece, with_bytes_at, SameOutside, TornAt}
+use Rattle.loop_disk.specs.Medium.{IsSound, LeavesEachTorn, Medium, piece, with_bytes_at, SameOutside, TornAt}
 use Rattle.loop_disk.specs.Calls.{Stays, Writes}
 use Rattle.loop_disk.specs.Failing.{Tears}
 use Rattle.loop_disk.proofs.Images.{get_or-piece, get_or-written_there, length-piece, written-piece, written_outside, untouched, widened, both}
-use Rattle.loop_disk.proofs.Moments.{at_first, meanwhile_on, meanwhile_weaker, remembers_on}
+use Rattle.loop_disk.proofs.Moments.{meanwhile_on, meanwhile_weaker, remembers_on}
 
 -- a torn image, torn again in the same range
 torn_twice : (at n : ℕ) (old mid : Medium) → ((c : List ℕ) → mid.may_leave c → TornAt at n old c) → (c : List ℕ)
@@ -19,16 +19,6 @@ torn_twice at n old mid before c torn =
 widened_torn : (a n at m : ℕ) (old : Medium) → at ≤ a → a + n ≤ at + m → (c : List ℕ) → TornAt a n old c
     → TornAt at m old c
 widened_torn a n at m old low high c torn = (torn.0, torn.1, widened a n at m torn.0 c torn.2 low high)
-
--- nothing is done yet
-pub tears_none : (at n : ℕ) (m : Medium) → Tears {T = Unit {0}} at n m.bytes m m (Ok tt)
-tears_none at n m = record {
-  done = refl;
-  elsewhere = untouched at n m.bytes;
-  images = λ c left. (c, left, untouched at n c);
-  time = at_first m (TornAt at n m);
-  keeps = λ t c le left. left;
-}
 
 pub tears_then : {T : Type 0} (at n : ℕ) (first second : List ℕ) (old mid new : Medium) (x : Unit {0})
     (r : Result T DiskFault)
@@ -126,11 +116,6 @@ torn_none a n m none c torn =
     go : (i : ℕ) → (i < a) ⊎ (a ≤ i) → get_or c i 0 ≡ get_or torn.0 i 0
     go i (inl below) = torn.2.before i below
     go i (inr above) = torn.2.behind i (omega (arith, above, none))
-
--- a write behind a read
-pub torn_read : (at n : ℕ) (old mid new : Medium) → LeavesEach old mid → LeavesEachTorn at n mid new
-    → LeavesEachTorn at n old new
-torn_read at n old mid new kept torn c at_old = torn c (at_old.0, kept at_old.0 at_old.1, at_old.2)
 
 -- two ranges, one behind the other
 pub torn_joined : (a m n : ℕ) (old mid new : Medium) → IsSound old → a + m + n ≤ old.size → LeavesEachTorn a m old mid

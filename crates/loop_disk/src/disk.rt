@@ -1,4 +1,4 @@
-// A disk of fixed size: what its calls do, and what a crash may leave.
+// A disk of fixed size: what its calls do, and what a crash may leave. docs/disk-model.md says why it is so.
 ghost use Rattle.std.specs.Prelude.{◌≡◌, ◌+◌, ◌≤◌, ℕ, List, length, OnOk, IfErr};
 ghost use Rattle.loop_disk.specs.declared.fault.DiskFault.TheVariants.{Read, Write, Sync};
 ghost use Rattle.loop_disk.specs.Medium.{Medium, MayBe, piece, IsSound, LeavesEach, LeavesEachTorn};

@@ -9,6 +9,8 @@
 //! the image that a crash leaves at a call of choice. `fuse` and `once` fail calls on purpose, over another disk.
 //! `specs/` has the definitions, `proofs/` the lemmas for callers: `Moments` joins runs of calls, `Images` has parts
 //! of images. A disk over a file is a crate of its own (loop_file).
+//!
+//! docs/disk-model.md says why it is so.
 #![tactic(auto)]
 
 mod crash;

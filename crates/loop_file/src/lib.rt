@@ -5,6 +5,8 @@
 //! made there or given up; `fresh` the order in which an old file is made anew; `text` a file or pipe that a text is
 //! written to; `opened` how each of them is opened, never with the number of a standard stream; `fault` why a file
 //! can't be had. `specs/Outcomes` says how a file's answer is the disk's.
+//!
+//! docs/store.md says why it is so.
 #![tactic(auto)]
 
 mod fault;

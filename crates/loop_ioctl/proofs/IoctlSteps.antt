@@ -48,7 +48,9 @@ on_linked s out n linked = still_linked s.body (on_body body_streaming s).body o
 
 off_linked : (s : QueueState) (out : List (ℕ × Plane)) (n : Names Plane) → IsLinked s.body out n
     → IsLinked (on_body body_stopped s).body out n
-off_linked s out n linked = still_linked s.body (on_body body_stopped s).body out n refl (λ (fd : ℕ). kept_mapped stop_buffer s.body.buffers fd (λ b d. refl)) linked
+off_linked s out n linked =
+    still_linked s.body (on_body body_stopped s).body out n refl
+    (λ (fd : ℕ). kept_mapped stop_buffer s.body.buffers fd (λ b d. refl)) linked
 
 mapped_linked : (mapped : Bool) (index : ℕ) (s : QueueState) (out : List (ℕ × Plane)) (n : Names Plane)
     → IsLinked s.body out n → IsLinked (change_buffer (mapped_as mapped) index s).body out n
@@ -60,7 +62,11 @@ pub stream_off_applies : {P : Type 0} (A : Type 0) (m : P → Plane) (type : Buf
     (table : Fds P) → Happens m q q' streamoff → AppliesTyped {A = A} m (call.StreamOff type)
     (Ok reply.Done) q table q' table
 stream_off_applies A m type q q' table step j stands =
-    let t = step j.queue stands.queue in ((tt, tt), moves m q q' table j (on_body body_stopped j.queue) stands t.1 (off_linked j.queue j.out j.names stands.linked))
+    let t = step j.queue stands.queue in (
+      (tt, tt),
+      moves m q q' table j (on_body body_stopped j.queue) stands t.1
+          (off_linked j.queue j.out j.names stands.linked),
+    )
 
 -- QUERYBUF
 pub query_applies : {P : Type 0} (A : Type 0) (m : P → Plane) (type : BufferType) (index : ℕ) (info : BufferInfo)

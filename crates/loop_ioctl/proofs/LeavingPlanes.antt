@@ -23,19 +23,15 @@ use Rattle.loop_vb2.specs.State.{Body, Lined}
 use Rattle.loop_vb2.specs.Events.{Happens, MayHappen, read_frame, read_grant, reqbufs, dqbuf}
 use Rattle.loop_ioctl.specs.declared.call.Ioctl.TheVariants as call
 use Rattle.loop_ioctl.specs.declared.call.IoctlReply.TheVariants as reply
-use Rattle.loop_ioctl.specs.Names.{Names, names_in, values_in, given_back, AreAway, GivesBack}
+use Rattle.loop_ioctl.specs.Names.{Names, names_in, given_back, AreAway, GivesBack}
 use Rattle.loop_ioctl.proofs.Short.{values_of, values_held, names_left}
 use Rattle.loop_ioctl.specs.Attached.{fd_times, values_by_fd, IsLinked}
 use Rattle.loop_ioctl.specs.Calls.{read_names, planes_at, handed_out, HandsBack}
 use Rattle.loop_ioctl.specs.Parts.{LetsOut, AppliesAt, AppliesOfAny}
 use Rattle.loop_vb2.proofs.PassedChecks.{Passed, all_passed, true_of}
-use Rattle.loop_ioctl.proofs.AttachedFds.{in_buffers, let_out, last_none, AreOnce, once_same, IsLetOut, given_once, in_more}
+use Rattle.loop_ioctl.proofs.AttachedFds.{in_buffers, let_out, AreOnce, once_same, IsLetOut, given_once, in_more}
 use Rattle.loop_ioctl.proofs.PlaneMeanings.{read_value, values_of_read, back_read, away_read}
 use Rattle.loop_ioctl.proofs.QueueSteps.{stays}
-
-pub gives_one : {T : Type 0} (set : PlaneSet T) (before after : Fds T) → GivesBack (values_in set) before after
-    → GivesBack (values_of (set ∷ [])) before after
-gives_one set before after h = subst (λ vs. GivesBack vs before after) (sym (last_none (values_in set))) h
 
 -- the names, and the counts that are left
 record IsLeft {P : Type 0} (m : P → Plane) (kind : Memory) (sets : List (PlaneSet Plane)) (n : ℕ → ℕ) (before : Names Plane) (after : Fds P) : Type 0 where
@@ -140,7 +136,8 @@ module _ {P : Type 0} (m : P → Plane) where
       let n : ℕ → ℕ = λ x. fd_times x (values_held s.body.kind (change_at (dequeued_from s.body.kind) answer.index s.body.buffers)) + fd_times x j.out in
       let lets_here : LetsOut s.body.kind (option_to_list answer.planes) a b = subst (λ x. LetsOut x (option_to_list answer.planes) a b) k lets in
       let read : s.body.kind ≡ DmaBuf → map (read_set m) (option_to_list answer.planes) ≡ hs =
-      λ (e : s.body.kind ≡ DmaBuf). list_read m answer.planes ∙ ap option_to_list (ap (λ x. x.planes) t.0.2.2 ∙ (handed_all s.body.kind buffer.planes e ∙ sym planes)) in
+      λ (e : s.body.kind ≡ DmaBuf). list_read m answer.planes ∙ ap option_to_list
+      (ap (λ x. x.planes) t.0.2.2 ∙ (handed_all s.body.kind buffer.planes e ∙ sym planes)) in
       let l : IsLeft m s.body.kind hs n j.names b = left m s.body.kind (option_to_list answer.planes) hs n a b j.names
       stands.names lets_here read (out_once s.body.buffers s.body.kind answer.index j.out j.names stands.linked) in
       subst (λ (d : Dequeued P). AppliesAt {P = P} {A = A} m j (call.DqBuf type) (Ok (reply.Dequeued d)) q' b)

@@ -69,7 +69,8 @@ module _ {T : Type 0} where
       → Updates before after fd (Some None) → TakesPlace due fd (Ok (Some value)) before after
   took_some due fd value before after d h u =
       let e : names_in before fd ≡ Some (Some value) = names_get before fd ∙ h in
-      subst (λ t. TakesPlace t fd (Ok (Some value)) before after) (sym d) (ap fd_refusal e, sym (ap option_flatten e), names_updated before after fd (Some None) u)
+      subst (λ t. TakesPlace t fd (Ok (Some value)) before after) (sym d)
+      (ap fd_refusal e, sym (ap option_flatten e), names_updated before after fd (Some None) u)
 
   fault_reason : (fault : FdFault) (name : Option (Option T)) → AttachFault fault name
       → fd_refusal name ≡ Some (reason_of fault)

@@ -107,7 +107,9 @@ used_none Prepare index s fd = kept_changed (prepared_with None) index s.body.bu
 used_none Queue index s fd = settled_fds (with_buffer (queued_with None) index s.body) fd
     ∙ kept_changed (queued_with None) index s.body.buffers fd (λ b d. refl)
 
-pub used_some : (way : Use) (index : ℕ) (set : PlaneSet Plane) (s : QueueState) (fd : ℕ) → index < length s.body.buffers → holds_at s.body.buffers index ≡ false → in_buffers fd (used way index (Some set) s).body.buffers ≡ in_buffers fd s.body.buffers + in_buffer fd (Some set)
+pub used_some : (way : Use) (index : ℕ) (set : PlaneSet Plane) (s : QueueState) (fd : ℕ)
+    → index < length s.body.buffers → holds_at s.body.buffers index ≡ false
+    → in_buffers fd (used way index (Some set) s).body.buffers ≡ in_buffers fd s.body.buffers + in_buffer fd (Some set)
 used_some Prepare index set s fd within empty = added (prepared_with (Some set)) (Some set) index s.body.buffers fd within empty (λ b. refl)
 used_some Queue index set s fd within empty =
     settled_fds (with_buffer (queued_with (Some set)) index s.body) fd ∙ added (queued_with (Some set))
@@ -286,19 +288,27 @@ module _ {P A : Type 0} (m : P → Plane) where
       t' step done back names still linked
 
   -- with memory that no fd names
-  pub uses_mmap : (way : Use) (index : ℕ) (result : Result (IoctlReply P A) (Refused P A)) (q q' : Lined P) (table : Fds P) → Happens m q q' (use_event way index Mmap None (refusal_in result)) → IfOk result (λ r. r ≡ reply.Done) → IfErr result (HandsBack None []) → AppliesOfAny m (use_call way index memory.Mmap) result q table q' table
+  pub uses_mmap : (way : Use) (index : ℕ) (result : Result (IoctlReply P A) (Refused P A)) (q q' : Lined P) (table : Fds P)
+      → Happens m q q' (use_event way index Mmap None (refusal_in result)) → IfOk result (λ r. r ≡ reply.Done)
+      → IfErr result (HandsBack None []) → AppliesOfAny m (use_call way index memory.Mmap) result q table q' table
   uses_mmap way index result q q' table step done back type j stands =
       use_step way index memory.Mmap type j result q' table refl
       (λ e. none_links way index Mmap j.queue j.out j.names e stands.linked) (step j.queue stands.queue) done back
       (if_ok result stands.names) (if_err result stands.names) stands.linked
 
-  pub uses_user : (way : Use) (index : ℕ) (given : Option (PlaneSet P)) (result : Result (IoctlReply P A) (Refused P A)) (q q' : Lined P) (table : Fds P) → Happens m q q' (use_event way index UserPtr (read_given m given) (refusal_in result)) → IfOk result (λ r. r ≡ reply.Done) → IfErr result (HandsBack given []) → AppliesOfAny m (use_call way index (memory.UserPtr given)) result q table q' table
+  pub uses_user : (way : Use) (index : ℕ) (given : Option (PlaneSet P)) (result : Result (IoctlReply P A) (Refused P A)) (q q' : Lined P) (table : Fds P)
+      → Happens m q q' (use_event way index UserPtr (read_given m given) (refusal_in result))
+      → IfOk result (λ r. r ≡ reply.Done) → IfErr result (HandsBack given [])
+      → AppliesOfAny m (use_call way index (memory.UserPtr given)) result q table q' table
   uses_user way index given result q q' table step done back type j stands =
       use_step way index (memory.UserPtr given) type j result q' table refl
       (λ e. user_links way index (read_given m given) j.queue j.out j.names e stands.linked)
       (step j.queue stands.queue) done back (if_ok result stands.names) (if_err result stands.names) stands.linked
 
-  pub uses_held : (way : Use) (index : ℕ) (result : Result (IoctlReply P A) (Refused P A)) (q q' : Lined P) (table : Fds P) → Happens m q q' (use_event way index DmaBuf None (refusal_in result)) → IfOk result (λ r. r ≡ reply.Done) → IfErr result (HandsBack None []) → AppliesOfAny m (use_call way index (memory.DmaBuf None)) result q table q' table
+  pub uses_held : (way : Use) (index : ℕ) (result : Result (IoctlReply P A) (Refused P A)) (q q' : Lined P) (table : Fds P)
+      → Happens m q q' (use_event way index DmaBuf None (refusal_in result)) → IfOk result (λ r. r ≡ reply.Done)
+      → IfErr result (HandsBack None [])
+      → AppliesOfAny m (use_call way index (memory.DmaBuf None)) result q table q' table
   uses_held way index result q q' table step done back type j stands =
       use_step way index (memory.DmaBuf None) type j result q' table refl
       (λ e. none_links way index DmaBuf j.queue j.out j.names e stands.linked) (step j.queue stands.queue) done

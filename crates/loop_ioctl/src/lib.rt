@@ -10,6 +10,8 @@
 //! fds. `Names` has that of the fds, `Attached` what holds of both (each fd of a plane that a queue holds is attached,
 //! and no two are the same), `Events` that of a list and of the device's calls, and `Modelled` the order of a run's
 //! events. Only private functions speak of `Parts`.
+//!
+//! docs/queue.md says why it is so.
 #![tactic(auto)]
 
 mod call;

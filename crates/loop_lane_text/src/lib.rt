@@ -5,6 +5,8 @@
 //!   the run's steps.
 //!
 //! Both call nothing but what a program would, one after the other; their contracts follow from theirs alone.
+//!
+//! docs/lane.md says why it is so.
 #![tactic(auto)]
 
 ghost use Rattle.std.specs.Prelude.{◌≡◌, IfOk, false};

@@ -1,13 +1,12 @@
 -- What the calls of an overlay do to it.
-use Rattle.std.proofs.Common.{◌≡◌, inl, inr, ⊎_elim, ℕ, ◌+◌, ◌<◌, ◌≤◌, List, [], ◌∷◌, ◌++◌, length, take, get_or, Ok, Err, refl, sym, ◌∙◌, ap, subst, arith, length-append}
+use Rattle.std.proofs.Common.{◌≡◌, inl, inr, ⊎_elim, ℕ, ◌+◌, ◌<◌, ◌≤◌, List, [], ◌∷◌, ◌++◌, length, take, get_or, Ok, refl, sym, ◌∙◌, ap, subst, arith, length-append}
 use Rattle.std.proofs.lemmas.Bool.{cases_lt}
 use Rattle.std.proofs.lemmas.List.{take_all, take-append-le, take_more}
 use Rattle.std.proofs.lemmas.List.Sums.{fold-append}
 use Rattle.loop_disk.specs.declared.fault.Failures.{Failures}
-use Rattle.loop_disk.specs.declared.fault.DiskFault.{DiskFault}
 use Rattle.loop_disk.specs.Medium.{Medium, SameOutside, TornAt, with_bytes_at}
 use Rattle.loop_disk.specs.Calls.{Stays, Syncs, Writes}
-use Rattle.loop_disk.proofs.Images.{length-written, untouched, written_outside}
+use Rattle.loop_disk.proofs.Images.{length-written, written_outside}
 use Rattle.loop_overlay.specs.Layers.{KeptWrite, laid, laid_on, overlaid}
 use Rattle.loop_overlay.specs.Sound.{length-laid}
 
@@ -58,19 +57,6 @@ kept_write m writes f w fits =
       };
       keeps = λ t c le left. (left.0, left.1, omega (arith, left.2, longer), left.3 ∙ sym (before left.0 left.2));
     }
-
--- a write for which there is no memory
-pub refused_write : (m : Medium) (writes : List KeptWrite) (f g : Failures) (at : ℕ) (bytes : List ℕ) (e : DiskFault)
-    → Writes {T = Unit {0}} at bytes (overlaid m writes f) (overlaid m writes g) (Err e)
-refused_write m writes f g at bytes e = record {
-  done = tt;
-  elsewhere = untouched at (length bytes) (laid writes m.bytes);
-  images = λ c left. torn_now m writes f at (length bytes) c
-      (subst (λ (l : List ℕ). SameOutside at (length bytes) (laid writes m.bytes) l) (sym left)
-      (untouched at (length bytes) (laid writes m.bytes)));
-  time = record { later = omega arith; nothing_else = λ t c le left. inl left };
-  keeps = λ t c le left. left;
-}
 
 pub synced : (m : Medium) (writes : List KeptWrite) (f : Failures) → Syncs {T = Unit {0}} (overlaid m writes f) (overlaid m writes f) (Ok tt)
 synced m writes f = record {

@@ -4,6 +4,8 @@
 //! are those of the disk beneath with the kept writes over them, the first one first, and each call leaves the disk
 //! beneath as it was. It is for looking at a recording without a write, and for trying what is to change nothing:
 //! all that is kept is gone with it. `specs/Layers` has the definitions, `proofs/` the lemmas.
+//!
+//! docs/store.md says why it is so.
 #![tactic(auto)]
 
 mod kept;

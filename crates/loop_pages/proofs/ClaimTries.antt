@@ -1,10 +1,10 @@
 -- One page more that a claim has tried.
-use Rattle.std.proofs.Common.{◌≡◌, ℕ, zero, suc, ◌+◌, ◌-◌, ◌<◌, inl, inr, List, [], ◌∷◌, ◌++◌, length, get_or, sym, refl, ap, ◌∙◌, subst, arith, slice_index, length-append, add-one}
+use Rattle.std.proofs.Common.{◌≡◌, ℕ, zero, suc, ◌+◌, ◌-◌, ◌<◌, inl, inr, List, [], ◌∷◌, ◌++◌, length, get_or, sym, ap, ◌∙◌, subst, arith, slice_index, length-append, add-one}
 use Rattle.std.proofs.Math.Seq.{get_or-append_seam}
 use Rattle.std.specs.List.{Contains, range_with_len}
 use Rattle.std.proofs.lemmas.List.Elements.{All-push, Contains-append_left, Contains-push}
 use Rattle.std.proofs.lemmas.List.Quantifiers.{all_pairs_push}
-use Rattle.std.proofs.lemmas.List.{append-nil, append_assoc, map-id}
+use Rattle.std.proofs.lemmas.List.{append_assoc, map-id}
 use Rattle.std.proofs.lemmas.List.FromFn.{map-range_with_len_more}
 use mathlib.Core.Logic.{dite}
 use native.Mathlib.Decide.{ℕ_discrete}
@@ -35,16 +35,6 @@ order_more : (page : ℕ) (before tried : List ℕ) → tried ≡ before ++ rang
     ∷ [] ≡ before ++ range_with_len 0 (page + 1)
 order_more page before tried is =
     ap (λ (l : List ℕ). l ++ page ∷ []) is ∙ append_assoc before (range_with_len 0 page) (page ∷ []) ∙ ap (λ (l : List ℕ). before ++ l) (sym (range_more page))
-
--- nothing was tried yet
-pub none_tried : (before : List ℕ) → IsTried 0 [] [] before before
-none_tried before = record {
-  order = sym (append-nil before);
-  got_rise = record { below = λ k d h. absurd (omega arith); rise = λ i j d below h. absurd (omega arith) };
-  missed_rise = record { below = λ k d h. absurd (omega arith); rise = λ i j d below h. absurd (omega arith) };
-  each = λ page h. absurd (omega arith);
-  once = refl;
-}
 
 -- the next page was got
 pub got_one : (page : ℕ) (got missed before tried : List ℕ) → IsTried page got missed before tried

@@ -7,6 +7,8 @@
 //! - `hold` has the pages that a claim got, until they are released or dropped, and the claim itself;
 //! - `rule` says what the words mean and what each step tells; `law` says the same of who holds a page;
 //! - `fault` says why a call was refused.
+//!
+//! docs/memory.md says why it is so.
 #![tactic(auto)]
 
 mod fault;

@@ -1,4 +1,4 @@
-//! What the two threads of a camera do: one has its front, the other its back.
+//! What the two threads of a camera do: one has its front, the other its back. docs/threads.md says why it is so.
 
 ghost use Rattle.std.specs.Prelude.{◌≡◌, ◌+◌, [], IfOk};
 ghost use Rattle.loop_desk.specs.declared.hand.Hand.TheVariants.{Empty};

@@ -13,6 +13,8 @@
 //! accepted or is counted; and of those that were accepted the footage is kept, whenever the power fails.
 //!
 //! Both programs film by it: `loop_cli record` and `loop_station`.
+//!
+//! docs/threads.md says why it is so.
 #![tactic(auto)]
 
 mod back;

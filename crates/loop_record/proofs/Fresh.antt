@@ -1,6 +1,6 @@
 -- What a freshly formatted image reads as, and what a part reads as once it has been written.
 use Rattle.std.proofs.Common.{◌≡◌, inr, ℕ, zero, suc, ◌+◌, ◌-◌, ◌^◌, ◌<◌, ◌≤◌, Bool, true, false, cond, ◌&&◌, eqb, leb, Option, Some, None, Ok, Err, List, [], ◌∷◌, ◌++◌, length, take, drop, get_or, map, replicate, refl, sym, ap, ◌∙◌, arith}
-use Rattle.std.proofs.lemmas.List.{length-take, length-drop, take_all, append-nil, take-append-drop, get_or-take, get_or-drop, drop-take, drop-drop, take-take}
+use Rattle.std.proofs.lemmas.List.{length-take, length-drop, take_all, append-nil, take-append-drop, get_or-take, get_or-drop, drop-take, take-take}
 use Rattle.std.specs.Prelude.{slice_range, ◌||◌}
 use Rattle.std.specs.List.{list_all, range_with_len}
 use Rattle.byteorder.specs.Endian.{little_from}
@@ -10,10 +10,10 @@ use Rattle.loop_record.specs.declared.damage.Damage.TheVariants.{SlotHead, Super
 use Rattle.loop_record.specs.declared.damage.LayoutFault.TheVariants.{NotFormatted, Damaged}
 use Rattle.loop_record.specs.declared.geometry.PixelFormat.{PixelFormat}
 use Rattle.loop_record.specs.declared.geometry.Geometry.{Geometry}
-use Rattle.loop_record.specs.Geometry.{format_named, frame_bytes, is_good, segment_at, slot_at, clip_at}
+use Rattle.loop_record.specs.Geometry.{format_named, frame_bytes, is_good, segment_at, clip_at}
 use Rattle.loop_record.specs.Recording.{Picture, empty, head}
-use Rattle.loop_record.specs.Layout.{magic, has_bytes, format_at, geometry_fields, checked_geometry, is_open, open_gates, whole_frames, segment_in, entry_at, clip_in, header_at, super_bytes, header_bytes, entry_bytes, geometry_in, version_in, with_version, super_in, slot_in, slot_bytes, slot_head}
-use Rattle.loop_record.specs.Reading.{recording_or_damage, by_block, open_segments, empty_segment}
+use Rattle.loop_record.specs.Layout.{magic, has_bytes, format_at, geometry_fields, checked_geometry, is_open, open_gates, segment_in, entry_at, clip_in, header_at, super_bytes, header_bytes, entry_bytes, geometry_in, version_in, with_version, super_in, slot_in, slot_bytes, slot_head}
+use Rattle.loop_record.specs.Reading.{recording_or_damage, by_block, open_segments}
 use Rattle.loop_record.specs.Laws.{FitsSlot, FitsEntry, WrittenIsRead, FreshImagesAreEmpty}
 use Rattle.loop_record.proofs.Bounds.{limits}
 use Rattle.loop_record.proofs.TestFacts.{equal, equal_test, at_most_test}
@@ -64,24 +64,6 @@ pub byte-slice : (at n i : ℕ) (image : List ℕ) → i < n → get_or image (a
 byte-slice at n i image l =
     let size : at + n - at ≡ n = omega arith in
     sym (get_or-drop at image i 0) ∙ sym (get_or-take (at + n - at) (drop at image) i 0 (omega (arith, size)))
-
--- a segment whose header was written without frames is begun
-pub segment_in-header_bytes : (g : Geometry) (image : List ℕ) (j b : ℕ) → b < 2 ^ 64 → 1 ≤ g.slots
-    → slice_range image (segment_at g j) (segment_at g j + 512) ≡ header_bytes b
-    → segment_in g image j ≡ Some (empty_segment b)
-segment_in-header_bytes g image j b fits some e =
-    let at = segment_at g j in
-    let byte : (i : ℕ) → i < 512 → get_or image (at + i) 0 ≡ get_or (header_bytes b) i 0 =
-    λ i l. byte-slice at 512 i image l ∙ ap (λ (bs : List ℕ). get_or bs i 0) e in
-    let gate : is_open image at ≡ true = ap (λ (k : ℕ). is_open image k) (omega arith) ∙ ap (λ (x : ℕ). eqb x 0xA5) (byte 0 (omega arith)) in
-    let number : little_from (at + 8) 8 image ≡ b = little_from-slice at (at + 512) 8 8 image (omega arith)
-    ∙ ap (little_from 8 8) e ∙ little_number-reads_back 8 b [] fits in
-    let first : is_open image (at + 256 + 0) ≡ false = ap (λ (k : ℕ). is_open image k) (omega arith) ∙ ap (λ (x : ℕ). eqb x 0xA5) (byte 256 (omega arith)) in
-    let whole : whole_frames g image j ≡ 0 = open_gates-are g.slots 0 (at + 256) image (λ i l. absurd (omega (arith, l))) (omega arith) (inr first) in
-    let slots : map (λ i. slot_in (frame_bytes g) image (slot_at g j i))
-    (range_with_len 0 (whole_frames g image j)) ≡ [] =
-    ap (λ (n : ℕ). map (λ i. slot_in (frame_bytes g) image (slot_at g j i)) (range_with_len 0 n)) whole in
-    λ i. cond (gate i) (Some (record { block = number i; slots = slots i })) None
 
 -- ---- a part by itself
 
@@ -177,31 +159,6 @@ pub entry_at-slice : (version : ℕ) (image : List ℕ) (at : ℕ)
 entry_at-slice version image at = moved_entry version 0 at (slice_range image at (at + 32)) image (λ k l.
     let here : 0 + k ≡ k = omega arith in
     ap (λ (x : ℕ). get_or (slice_range image at (at + 32)) x 0) here ∙ sym (byte-slice at 32 k image l))
-
--- a slot, cut out of its image, holds what it holds in it
-pub slot_in-slice : (n at : ℕ) (image : List ℕ) → slot_in n (slice_range image at (at + 32 + n)) 0 ≡ slot_in n image at
-slot_in-slice n at image =
-    let whole : at + 32 + n ≡ at + (32 + n) = omega arith in
-    let cut = slice_range image at (at + 32 + n) in
-    let field : (i m : ℕ) → i + m ≤ 32 → little_from i m cut ≡ little_from (at + i) m image =
-    λ i m h. ap (λ (e : ℕ). little_from i m (slice_range image at e)) whole ∙ number-slice at (32 + n) i m image
-    (omega (arith, h)) in
-    let number = field 0 8 (omega arith) ∙ ap (λ (k : ℕ). little_from k 8 image) (omega arith) in
-    let sequence = field 8 4 (omega arith) in
-    let flags = field 12 4 (omega arith) in
-    let timestamp = field 16 8 (omega arith) in
-    let size = field 24 4 (omega arith) in
-    let bytes : slice_range cut 32 (0 + 32 + n) ≡ slice_range image (at + 32) (at + 32 + n) = inner in
-    λ i. record { number = number i; size = size i; picture = record { sequence = sequence i; flags = flags i; timestamp = timestamp i; bytes = bytes i } }
-  where
-    inner : take (0 + 32 + n - 32) (drop 32 (take (at + 32 + n - at) (drop at image))) ≡ take
-        (at + 32 + n - (at + 32)) (drop (at + 32) image)
-    inner =
-        let a : 0 + 32 + n - 32 ≡ n = omega arith in
-        let b : at + 32 + n - at ≡ 32 + n = omega arith in
-        let c : at + 32 + n - (at + 32) ≡ n = omega arith in
-        rw (a, b, c) (ap (take n) (drop-take 32 n (drop at image)) ∙ take-take n n (drop 32 (drop at image))
-        (omega arith) ∙ ap (take n) (drop-drop 32 at image))
 
 -- ---- written by itself
 

@@ -126,7 +126,8 @@ steps-legal ring keep r group list e = spent (eqb r.next (last_number ring)) e
 pub plain-well_formed : (ring : Ring) (keep : ℕ) (r : Recording) (list : List Step) → 1 ≤ ring.slots → IsWellFormed r
     → AreLegal ring keep r list → IsWellFormed (plain ring r list)
 plain-well_formed ring keep r [] some w legal = w
-plain-well_formed ring keep r (s ∷ ss) some w legal = plain-well_formed ring keep (after_step ring r s) ss some (after-well_formed ring keep r s some w legal.0) legal.1
+plain-well_formed ring keep r (s ∷ ss) some w legal =
+    plain-well_formed ring keep (after_step ring r s) ss some (after-well_formed ring keep r s some w legal.0) legal.1
 
 -- the empty recording is well formed
 pub empty-well_formed : IsWellFormed empty

@@ -36,8 +36,3 @@ plays-joined m P Q R xs ys first second s stands =
       each-behind m.after m.May s xs ys a.0 b.0,
       subst R (sym (after-behind m.after s xs ys)) b.1,
     )
-
--- a run, and a turn behind it
-pub plays-more : {S X : Type 0} (m : Machine S X) (P Q R : S → Type 0) (xs : List X) (x : X) → Plays m P Q xs
-    → Turns m Q R x → Plays m P R (xs ++ x ∷ [])
-plays-more m P Q R xs x first turn = plays-joined m P Q R xs (x ∷ []) first (plays-once m Q R x turn)

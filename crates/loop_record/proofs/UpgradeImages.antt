@@ -12,7 +12,7 @@ use Rattle.loop_record.specs.Reading.{parts_of, shown_by, with_geometry, content
 use Rattle.loop_record.specs.Change.{KeepsClips, SameButTags, HasNoTags}
 use Rattle.loop_record.specs.Laws.{KeptClipsReadTheSame}
 use Rattle.loop_record.proofs.Bounds.{limits}
-use Rattle.loop_record.proofs.OwnBytes.{SameWithin, map_range, moved_clip, same_geometry, same_segment, same_version}
+use Rattle.loop_record.proofs.OwnBytes.{map_range, moved_clip, same_geometry, same_segment, same_version}
 use Rattle.loop_record.proofs.Fields.{moved_number}
 use Rattle.loop_record.proofs.Parts.{geometry-good}
 use Rattle.loop_record.proofs.Names.{tag_at}
@@ -39,10 +39,6 @@ reading-kept old new k = go (geometry_in old) refl
         ap (contents new) (geometry ∙ is)
         ∙ (λ i. cond (eqb (k.size i) (disk_size g)) (with_geometry g (shown_by g (same i))) (Err (Damaged DiskSize)))
         ∙ sym (ap (contents old) is)
-
--- the segments stay, byte for byte
-pub kept-segments : (to : ℕ) (old new : List ℕ) → KeepsClips old new → SameWithin 2560 to new old
-kept-segments to old new k = record { size = k.size; bytes = λ i low high. k.behind i low }
 
 -- so it is of one change after another
 pub kept-on : (old mid new : List ℕ) → KeepsClips old mid → KeepsClips mid new → KeepsClips old new

@@ -1,4 +1,4 @@
-//! Clips, and the entries of the clip table.
+//! Clips, and the entries of the clip table. docs/layout.md says why it is so.
 
 ghost use Rattle.std.specs.Prelude.{◌==◌, ◌≡◌, ◌≤◌, IfOk, if◌then◌else◌, length};
 ghost use Rattle.byteorder.specs.Endian.{little_from};

@@ -1,4 +1,4 @@
-//! The header of a segment: its gate, its block and its frame gates.
+//! The header of a segment: its gate, its block and its frame gates. docs/layout.md says why it is so.
 
 ghost use Rattle.std.specs.Prelude.{◌≡◌, ◌+◌, ◌≤◌, IsTrue, length};
 ghost use Rattle.loop_record.specs.Geometry.{is_good};

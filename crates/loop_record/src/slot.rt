@@ -1,4 +1,4 @@
-//! Slots: a frame's number and head, and its bytes.
+//! Slots: a frame's number and head, and its bytes. docs/layout.md says why it is so.
 
 ghost use Rattle.std.specs.Prelude.{◌≡◌, ◌++◌, ◌+◌, ◌-◌, ◌<◌, ◌≤◌, ◌^◌, IfErr, length};
 ghost use Rattle.loop_record.specs.declared.damage.Damage.TheVariants.{SlotHead};

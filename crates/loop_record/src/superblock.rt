@@ -1,4 +1,4 @@
-//! The superblock: whether a disk is formatted, and its geometry.
+//! The superblock: whether a disk is formatted, and its geometry. docs/layout.md says why it is so.
 
 ghost use Rattle.std.specs.Prelude.{◌==◌, ◌≡◌, ◌+◌, ◌≤◌, IsTrue, length};
 ghost use Rattle.std.specs.List.{list_all};

@@ -12,8 +12,8 @@ use Rattle.loop_record.specs.declared.geometry.Geometry.{Geometry}
 use Rattle.loop_record.specs.Reading.{Holds}
 use Rattle.loop_record.specs.Recording.{Recording, Ring, meets, ring_of, victim}
 use Rattle.loop_record.proofs.TestFacts.{at_most_test, differ_test}
-use Rattle.loop_ring.proofs.VictimByHeads.{victim-first}
-use Rattle.loop_ring.specs.Heads.{Segments, clip_counts, clips_on, floor_block, floor_of, free_block, going_block, going_first, going_free, grown, has_frame, held_block, heads_of, least_free, least_going, meets_head, without_one, with_one}
+use Rattle.loop_ring.proofs.VictimByHeads.{going_block, going_first, least_going, victim-first}
+use Rattle.loop_ring.specs.Heads.{Segments, clip_counts, clips_on, floor_block, floor_of, free_block, going_free, grown, has_frame, held_block, heads_of, least_free, meets_head, without_one, with_one}
 
 abbrev mark : Bool → ℕ
 mark t = cond t 1 0

@@ -18,7 +18,7 @@ use Rattle.loop_record.specs.Layout.{Slot, Segment, is_open, slot_in, whole_fram
 use Rattle.loop_record.specs.Recording.{Picture}
 use Rattle.loop_record.proofs.OwnBytes.{SameWithin, prefix_range, map_range, same_open, same_number, same_slot}
 use Rattle.loop_record.proofs.Gates.{first_closed_between, segment_in-more, slots_from}
-use Rattle.loop_ring.specs.Writes.{ShowsFrames, ShowsBeginning, HasNoStray, IsGroup, slots_in, slots_of, with_more}
+use Rattle.loop_ring.specs.Writes.{ShowsFrames, ShowsBeginning, HasNoStray, slots_in, slots_of, with_more}
 use Rattle.loop_record.proofs.Fields.{moved_number}
 use Rattle.loop_ring.proofs.Bytes.{shows, torn_at, closed_none, prefix_open, moved_slot}
 use Rattle.loop_ring.proofs.SlotStages.{slots-beginning}
@@ -287,7 +287,11 @@ pub record AreStaged (g : Geometry) (number : ℕ) (frames : List Picture) (byte
   pub size : length bytes ≡ length frames * slot_size g
   pub slots : slots_in (frame_bytes g) bytes (length frames) ≡ slots_of (frame_bytes g) number frames
 
--- the front of a buffer in which the slots of a group stand
+-- in some bytes stand the slots of these frames, which are so many
+pub record IsGroup (g : Geometry) (number : ℕ) (frames : List Picture) (bytes : List ℕ) (count : ℕ) : Type 0 where
+  pub count_is : count ≡ length frames
+  pub slots : slots_in (frame_bytes g) bytes count ≡ slots_of (frame_bytes g) number frames
+
 -- the slots of a group are those of its frames
 pub is_group : (g : Geometry) (number n count : ℕ) (frames : List Picture) (bytes : List ℕ) → n ≡ frame_bytes g
     → count ≡ length frames → slots_in n bytes (length frames) ≡ slots_of n number frames

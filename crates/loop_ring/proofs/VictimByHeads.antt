@@ -3,21 +3,36 @@ use Rattle.std.proofs.Common.{◌≡◌, ◌⊎◌, inl, inr, ℕ, suc, ◌<◌,
 use Rattle.std.proofs.lemmas.Bool.{cases_lt}
 use Rattle.std.proofs.lemmas.List.Folds.{list_any_at}
 use Rattle.std.proofs.lemmas.List.Quantifiers.{position-Some}
-use Rattle.std.specs.Prelude.{◌||◌}
+use Rattle.std.specs.Prelude.{◌||◌, if◌then◌else◌, nat_lt}
 use Rattle.std.specs.List.{count_by, list_any, filter, filter_map, fold, cons_option, position, reduce}
 use Rattle.loop_record.specs.declared.clip.Span.{Span}
 use Rattle.loop_record.specs.declared.geometry.Geometry.{Geometry}
 use Rattle.loop_record.specs.declared.segment.SegmentHead.{SegmentHead}
 use Rattle.loop_record.specs.Reading.{Holds}
-use Rattle.loop_record.specs.Recording.{Recording, RiseFrom, Ring, ring_of, block, held_blocks, older_blocks, is_locked, victim}
+use Rattle.loop_record.specs.Recording.{Recording, RiseFrom, Ring, ring_of, block, held_blocks, meets, older_blocks, is_locked, victim}
 use Rattle.loop_record.proofs.Blocks.{blocks-made}
 use Rattle.loop_record.proofs.TestFacts.{at_most, at_most_test, clash, both, not_true, equal, equal_test}
 use Rattle.loop_record.proofs.Form.{reading-well_formed}
 use Rattle.loop_record.proofs.NumberOrder.{Among}
 use Rattle.loop_record.proofs.Victim.{FirstOf, RiseFrom-front, blocks-rise, counted-front, find-first, find-none, from_on, from_on-less, from_on-some, front-counted, next-above}
-use Rattle.loop_ring.specs.Heads.{IsPlaceOf, floor_block, going_block, going_first, held_block, heads_of, is_going, is_of, least_going}
+use Rattle.loop_ring.specs.Heads.{IsPlaceOf, floor_block, held_block, heads_of, is_of}
 use Rattle.loop_ring.proofs.Heads.{any-index, position-none}
 use Rattle.loop_ring.proofs.HeldBlocks.{or_true, sorted, is_held, from-counted, held-any, any-held_block}
+
+-- the block may go, where this is the floor: it is below, and no clip meets it
+abbrev pub is_going : Ring → List (Option Span) → ℕ → ℕ → Bool
+is_going ring clips floor block = nat_lt block floor && not (list_any (meets ring block) clips)
+
+-- the block of a segment that is open and has a whole frame, if that block may go
+abbrev pub going_block : Ring → List (Option Span) → ℕ → Option SegmentHead → Option ℕ
+going_block ring clips floor None = None
+going_block ring clips floor (Some head) =
+    if nat_lt 0 head.frames && is_going ring clips floor head.block then Some head.block else None
+
+-- the least block that may go, where this is the floor, if there is one
+abbrev pub least_going : Ring → List (Option Span) → List (Option SegmentHead) → Option ℕ → Option ℕ
+least_going ring clips heads None = None
+least_going ring clips heads (Some floor) = reduce min (filter_map (going_block ring clips floor) heads)
 
 -- ---- the blocks of the headers
 
@@ -313,6 +328,10 @@ oldest-is g keep r image floor k f = go (reduce min ys) refl (victim (ring_of g)
         let low = x.least b y.0 (ap not y.1) in
         let high = l.least c (going-older g keep r image floor c k f x.there (not_true (is_locked (ring_of g) r c) x.passes)) in
         ap (λ (n : ℕ). Some n) (omega (arith, low, high))
+
+-- the block that goes when room is needed, by the headers and the clips alone
+abbrev pub going_first : Ring → ℕ → List (Option Span) → List (Option SegmentHead) → Option ℕ
+going_first ring keep clips heads = least_going ring clips heads (floor_block keep heads)
 
 -- what the headers and the clips say of the block that goes is the victim
 pub victim-first : (g : Geometry) (keep : ℕ) (r : Recording) (image : List ℕ) (heads : List (Option SegmentHead)) → Holds g r image

@@ -1,4 +1,4 @@
--- A group of frames in memory, put together as the slots that are to be written.
+-- A group of frames in memory: the heads of their slots, and their bytes where they are.
 use Rattle.std.specs.Prelude.{◌≡◌, ℕ, ◌+◌, ◌*◌, ◌<◌, ◌≤◌, ◌^◌, List, [], ◌∷◌, ◌++◌, length, map, take}
 use Rattle.std.specs.Borrow.{Bor}
 use Rattle.loop_record.specs.Recording.{Picture}

@@ -1,6 +1,6 @@
 -- The segments of a store as their headers say, in the order in which they lie on the disk.
-use Rattle.std.specs.Prelude.{◌≡◌, ℕ, ◌+◌, ◌-◌, ◌/◌, ◌%◌, Bool, false, not, ◌&&◌, ◌==◌, nat_le, nat_lt, max, min, if◌then◌else◌, Option, None, Some, List, [], ◌∷◌, map, slice_index_or}
-use Rattle.std.specs.List.{count_by, filter, filter_map, list_any, range_with_len, reduce, zip}
+use Rattle.std.specs.Prelude.{◌≡◌, ℕ, ◌+◌, ◌-◌, ◌/◌, ◌%◌, Bool, false, ◌&&◌, ◌==◌, nat_le, nat_lt, max, min, if◌then◌else◌, Option, None, Some, List, [], ◌∷◌, map, slice_index_or}
+use Rattle.std.specs.List.{count_by, filter, filter_map, range_with_len, reduce, zip}
 use Rattle.loop_record.specs.declared.clip.Span.{Span}
 use Rattle.loop_record.specs.declared.geometry.Geometry.{Geometry}
 use Rattle.loop_record.specs.declared.image.Found.{Found}
@@ -61,25 +61,6 @@ floor_of keep blocks = reduce max (filter (λ b. nat_le keep (count_by (nat_le b
 -- the block from which on no block may go where so many of the newest are kept, if as many are held
 abbrev pub floor_block : ℕ → List (Option SegmentHead) → Option ℕ
 floor_block keep heads = floor_of keep (filter_map held_block heads)
-
--- the block may go, where this is the floor: it is below, and no clip meets it
-abbrev pub is_going : Ring → List (Option Span) → ℕ → ℕ → Bool
-is_going ring clips floor block = nat_lt block floor && not (list_any (meets ring block) clips)
-
--- the block of a segment that is open and has a whole frame, if that block may go
-abbrev pub going_block : Ring → List (Option Span) → ℕ → Option SegmentHead → Option ℕ
-going_block ring clips floor None = None
-going_block ring clips floor (Some head) =
-    if nat_lt 0 head.frames && is_going ring clips floor head.block then Some head.block else None
-
--- the least block that may go, where this is the floor, if there is one
-abbrev pub least_going : Ring → List (Option Span) → List (Option SegmentHead) → Option ℕ → Option ℕ
-least_going ring clips heads None = None
-least_going ring clips heads (Some floor) = reduce min (filter_map (going_block ring clips floor) heads)
-
--- the block that goes when room is needed, by the headers and the clips alone
-abbrev pub going_first : Ring → ℕ → List (Option Span) → List (Option SegmentHead) → Option ℕ
-going_first ring keep clips heads = least_going ring clips heads (floor_block keep heads)
 
 -- ---- the count of clips of each segment
 

@@ -55,8 +55,3 @@ pub record Cleans {T : Type 0} (IsLeft IsClean : List ℕ → Type 0) (old new :
 -- the first k slots in some bytes, with frames of n bytes
 abbrev pub slots_in : ℕ → List ℕ → ℕ → List Slot
 slots_in n bytes k = map (λ i. slot_in n bytes (i * (32 + n))) (range_with_len 0 k)
-
--- in some bytes stand the slots of these frames, which are so many
-pub record IsGroup (g : Geometry) (number : ℕ) (frames : List Picture) (bytes : List ℕ) (count : ℕ) : Type 0 where
-  pub count_is : count ≡ length frames
-  pub slots : slots_in (frame_bytes g) bytes count ≡ slots_of (frame_bytes g) number frames

@@ -1,4 +1,4 @@
-// A group of frames, put together before it is written.
+// A group of frames that are written together.
 ghost use Rattle.std.specs.Prelude.{◌≡◌, ◌+◌, ◌*◌, ◌<◌, ◌≤◌, ◌^◌, ◌∷◌, ◌++◌, [], All, IsTrue, length, min, slice_index_or, take};
 ghost use Rattle.loop_disk.specs.Rows.{joined};
 ghost use Rattle.loop_record.specs.Geometry.{frame_bytes, is_good};

@@ -1,8 +1,8 @@
 //! The segments of a store's ring: on a disk, what opens one, what it gains, what closes it, and how a frame is
 //! read back; in memory, which of them is which.
 //!
-//! `ring` has the `Ring`, a store's geometry. `group` has the memory in which a group's slots are put together
-//! before they are written; a group is a value, its first number and its frames, and `Ring::commit` takes one.
+//! `ring` has the `Ring`, a store's geometry. `group` has the heads of a group's slots, and looks at its frames where
+//! they are; a group is a value, its first number and its frames, and `Ring::commit` takes one.
 //! At no moment does a crash during one of its calls leave a segment but as it was or as was asked for, or a
 //! commit's segment with a beginning of the group: `specs/Writes` says so segment by segment, and never speaks
 //! of bytes. Each call makes at most four calls of the disk, and none of them takes memory. `stray` closes the
@@ -13,6 +13,8 @@
 //! says of the recording; `specs/Entries`, `proofs/SegmentOrder` and `proofs/IndexOrder` how the order is kept and
 //! searched, `proofs/Oldest` that the victim is the first of them that may go, `proofs/ClipCounts` what a lock and
 //! an unlock make of the counts.
+//!
+//! docs/order-of-writes.md says why it is so.
 #![tactic(auto)]
 
 mod count;

@@ -1,4 +1,4 @@
-// The ring of a store: its segments, written and read one at a time.
+// The ring of a store: its segments, written and read one at a time. docs/order-of-writes.md says why it is so.
 ghost use Rattle.std.specs.Prelude.{◌≡◌, ◌≢◌, ◌+◌, ◌<◌, ◌≤◌, IsTrue, Err, None, Some, length};
 ghost use Rattle.loop_disk.specs.Calls.{Called, Stays};
 ghost use Rattle.loop_disk.specs.Medium.{IsSettled};

@@ -1,4 +1,4 @@
-// The frame gates that a stop left open behind a closed one.
+// The frame gates that a stop left open behind a closed one. docs/recovery.md says why it is so.
 ghost use Rattle.std.specs.Prelude.{◌≡◌, ◌+◌, ◌<◌, ◌≤◌, ◌==◌};
 ghost use Rattle.std.specs.List.{list_any};
 ghost use Rattle.loop_disk.specs.Medium.{IsSettled, SameOutside};

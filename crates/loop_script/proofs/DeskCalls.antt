@@ -1,5 +1,5 @@
 -- The calls that a session makes of its desk.
-use Rattle.std.proofs.Common.{◌≡◌, ℕ, ◌+◌, ◌-◌, ◌^◌, min, Result, Ok, Err, List, [], ◌∷◌, length, inl, inr, refl, sym, ap, subst}
+use Rattle.std.proofs.Common.{◌≡◌, ℕ, ◌+◌, ◌-◌, ◌^◌, Result, Ok, Err, List, [], ◌∷◌, length, inl, inr, refl, sym, ap, subst}
 use Rattle.std.specs.Prelude.{IfErr}
 use Rattle.loop_disk.specs.declared.memory.MemDisk.{MemDisk}
 use Rattle.loop_disk.specs.Behind.{moment_now}
@@ -89,14 +89,6 @@ module _ {D : Type 0} {medium : D → Medium} where
           | inr e ↦ refused-as old new n fault NumbersSpent e (along NumbersSpent e) refl
         ]
       ]
-
--- the count of accepted frames after a flush
-pub accepted-stored : (count after : ℕ) (result : Result Flushed StoreFault)
-    → IfErr result (λ fault. fault ≡ AllLocked) → after ≡ min (count + 1) (2 ^ 64 - 1)
-    → after ≡ accepted_after count result
-accepted-stored count after (Ok f) locked is = is
-accepted-stored count after (Err fault) locked is =
-    subst (λ (x : StoreFault). after ≡ accepted_after {T = Flushed} count (Err x)) (sym locked) is
 
 -- and after a submit that was refused
 pub accepted-refused : (count : ℕ) (fault : StoreFault) → RefusesFrame fault → count ≡ accepted_after {T = ℕ} count (Err fault)

@@ -1,5 +1,5 @@
 -- Numerals, as `parse` reads them.
-use Rattle.std.proofs.Common.{◌≡◌, ℕ, ◌<◌, ◌≤◌, ◌^◌, List, length, true, false, None, Result, Ok, Err, arith, rules}
+use Rattle.std.proofs.Common.{◌≡◌, ℕ, ◌<◌, ◌≤◌, ◌^◌, List, length, true, Result, Ok, Err, arith, rules}
 use Rattle.std.specs.Char.{is_ascii_digit}
 use Rattle.std.specs.List.{list_all}
 use Rattle.std.specs.Str.Parse.{ParsesUnsigned, digits_value}
@@ -13,12 +13,6 @@ tells = search rules
 
 own : IsNumeralModel (λ ds. list_all is_ascii_digit ds ≡ true) (digits_value 10)
 own = numerals_by_value _ tells
-
-pub number-long : (limit : ℕ) (word : List ℕ) → 20 < length word → number_below limit word ≡ None
-number-long limit word long = grind (arith, common_steps)
-
-pub number-other : (limit : ℕ) (word : List ℕ) → list_all is_ascii_digit word ≡ false → number_below limit word ≡ None
-number-other limit word other = grind (arith, common_steps)
 
 -- at most 20 digits, as `parse` reads them
 pub number-parsed : {E : Type 0} (word : List ℕ) (r : Result ℕ E) → length word ≤ 20

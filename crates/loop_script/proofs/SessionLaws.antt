@@ -2,6 +2,7 @@
 use Rattle.std.proofs.Common.{◌≡◌, ◌≢◌, ◌⊎◌, ℕ, ◌+◌, ◌-◌, ◌%◌, ◌<◌, ◌≤◌, ◌==◌, min, ◌||◌, Bool, true, false, not, if◌then◌else◌, IsTrue, Option, Some, None, Result, Ok, Err, List, [], ◌∷◌, ◌++◌, length, take, inl, inr, refl, sym, ap, ◌∙◌, subst, eq-eqb, add-zero, arith}
 use Rattle.std.proofs.lemmas.Bool.{false≢true}
 use Rattle.std.specs.Prelude.{IfErr, OnErr}
+use Rattle.std.specs.Result.{result_err}
 use Rattle.std.proofs.lemmas.List.{length-append, length-drop, length-take}
 use Rattle.std.proofs.Math.Seq.{take-nil}
 use Rattle.loop_disk.specs.declared.fault.DiskFault.{DiskFault}
@@ -15,7 +16,7 @@ use Rattle.loop_record.specs.Recording.{Picture, last_number, ring_of}
 use Rattle.loop_store.specs.declared.fault.StoreFault.{StoreFault}
 use Rattle.loop_store.specs.declared.fault.StoreFault.TheVariants.{AllLocked, Damaged, Disk, MustReopen, NoMemory, NotHeld, NumbersSpent, PendingFull, WrongSize}
 use Rattle.loop_store.specs.Calls.{AnswersDue, AnswersOtherwise, Call, StoreState, appended, due, failed_for, first_of, locked, unlocked, upgraded, was_read, was_read_part, sought}
-use Rattle.loop_store.specs.Faults.{answers_disk, failed_by, failed_in, is_disk}
+use Rattle.loop_store.specs.Faults.{disk_failed, failed_by, failed_in, is_disk}
 use Rattle.loop_store.specs.Goes.{Goes, Stands}
 use Rattle.loop_store.specs.Reopen.{TellsOne}
 use Rattle.loop_store.specs.declared.command.ReadFrame.{ReadFrame}
@@ -48,7 +49,7 @@ fine-fault : (fault : StoreFault) → failed_by fault ≡ None → is_disk fault
 fine-fault (Disk f) e = cc
 fine-fault _ e = refl
 
-fine-answer : {T : Type 0} (result : Result T StoreFault) → failed_in result ≡ None → answers_disk result ≡ false
+fine-answer : {T : Type 0} (result : Result T StoreFault) → failed_in result ≡ None → disk_failed (result_err result) ≡ false
 fine-answer (Ok x) e = refl
 fine-answer (Err fault) e = fine-fault fault e
 

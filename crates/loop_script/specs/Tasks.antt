@@ -6,7 +6,6 @@ use Rattle.std.specs.Str.{bytes_eq}
 use denote.Ref.{Bor}
 use Rattle.loop_script.specs.declared.task.FileCommand.{FileCommand}
 use Rattle.loop_script.specs.declared.task.FileCommand.TheVariants.{Export, Format, List as ListAll, Lock, Unlock, Upgrade}
-use Rattle.loop_script.specs.declared.task.Recording.{Recording}
 use Rattle.loop_script.specs.declared.task.Task.{Task}
 use Rattle.loop_script.specs.declared.task.Task.TheVariants.{OnFile, Record, Simulate}
 use Rattle.loop_record.specs.Geometry.{format_named}

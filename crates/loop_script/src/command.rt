@@ -1,4 +1,4 @@
-// The lines of a script.
+// The lines of a script. docs/script.md says why it is so.
 ghost use Rattle.std.specs.Prelude.{◌≡◌, ◌∷◌};
 ghost use Rattle.loop_record.specs.Geometry.{format_named};
 ghost use Rattle.loop_script.specs.Script.{behind, counted_said, geometry_of, geometry_said, named_said, number as said_number, rate_said, said, small_number as said_small_number, span_of, span_said, words};

@@ -11,6 +11,8 @@
 //! `specs/Histories` says when a history is legal, `specs/Sessions` what a desk's lock keeps, `specs/Ports` what a
 //! queue's lock keeps, `specs/Receipts` what a call leaves, `specs/Keeps` what a keep locks, `specs/Ends` what the end
 //! promises.
+//!
+//! docs/threads.md says why it is so.
 #![tactic(auto)]
 
 mod ended;

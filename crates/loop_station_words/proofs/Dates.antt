@@ -22,7 +22,10 @@ month_none year = refl
 -- twelve months are a year
 pub twelve : (year : ℕ) → days_to_month year 12 ≡ year_length year
 unfolding days_to_month
-twelve year = elim (is_leap year) as (λ b. 0 + 31 + (if b then 29 else 28) + 31 + 30 + 31 + 30 + 31 + 31 + 30 + 31 + 30 + 31 ≡ (if b then 366 else 365)) [ true ↦ refl | false ↦ refl ]
+twelve year =
+    elim (is_leap year) as
+    (λ b. 0 + 31 + (if b then 29 else 28) + 31 + 30 + 31 + 30 + 31 + 31 + 30 + 31 + 30 + 31 ≡
+    (if b then 366 else 365)) [ true ↦ refl | false ↦ refl ]
 
 pub year_long : (year : ℕ) → 1 ≤ year_length year
 year_long year = elim (is_leap year) as (λ b. 1 ≤ (if b then 366 else 365)) [ true ↦ omega arith | false ↦ omega arith ]

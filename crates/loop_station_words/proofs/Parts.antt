@@ -126,11 +126,6 @@ keep-all text first words are none =
     ap keep_said are ∙ ap (λ n. keep_by n first words) none ∙ ap (λ ws. keep_of None (times_said ws)) (sym are)
     ∙ ap (keep_of None) (times-parts text)
 
--- a text whose first word is one
-pub keep-one : (text first camera : List ℕ) (words : List (List ℕ)) → parts 2 text ≡ first ∷ words
-    → named first ≡ Some camera → keep_said (parts 2 text) ≡ keep_of (Some camera) (times_said words)
-keep-one text first camera words are some = ap keep_said are ∙ ap (λ n. keep_by n first words) some
-
 -- a line has a first part
 parts-some : (n : ℕ) (line : List ℕ) → (first : List ℕ) × (words : List (List ℕ)) × (parts n line ≡ first ∷ words)
 parts-some zero line = (line, [], refl)

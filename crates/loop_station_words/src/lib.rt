@@ -11,6 +11,8 @@
 //! What a line asks for, which moment a text means, which ring is chosen, what a file that is read says at each of its
 //! keys, and that its cameras have names and stores of their own is proved (`specs/`); why a file is refused, and what
 //! is printed, is tested.
+//!
+//! docs/station.md says why it is so.
 #![tactic(auto)]
 
 mod answers;

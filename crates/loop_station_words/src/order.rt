@@ -1,4 +1,4 @@
-// The lines that ask for something.
+// The lines that ask for something. docs/station.md says why it is so.
 ghost use Rattle.loop_station_words.specs.Cuts.{cut};
 ghost use Rattle.std.specs.Prelude.{◌≡◌, ◌∷◌, ℕ, suc, []};
 ghost use Rattle.loop_station_words.specs.Orders.{alone_said, between_of, camera_from, from_said, keep_of, keep_said, label_said, more, first_said, order_said, parts, plain_said, release_of, release_said, save_of, save_said, seconds_of, since_cut, tag_of, timed_said, times_kept, times_of, times_said, to_cut, until_cut};

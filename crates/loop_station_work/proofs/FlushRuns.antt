@@ -1,5 +1,5 @@
 -- Flushes, and one more.
-use Rattle.std.proofs.Common.{◌≡◌, ◌++◌, List, [], ◌∷◌, Result, refl, sym, subst, ap, ◌∙◌}
+use Rattle.std.proofs.Common.{◌≡◌, ◌++◌, List, [], ◌∷◌, Result, refl, subst, ap, ◌∙◌}
 use Rattle.loop_disk.specs.Medium.{Medium}
 use Rattle.loop_store.specs.declared.fault.StoreFault.{StoreFault}
 use Rattle.loop_desk.specs.declared.limits.Flushed.{Flushed}

@@ -15,6 +15,8 @@
 //! the source comes to the desk, in order and whole, or is counted, and that its footage is kept, is `film_camera`'s
 //! (`CameraKeeps`); that a keep locks just the held frames of its time is `Back::keep`'s: both of loop_pipeline. Which
 //! thread comes when, and time, are said by no clause.
+//!
+//! docs/station.md says why it is so.
 #![tactic(auto)]
 
 mod absent;

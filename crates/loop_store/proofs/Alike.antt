@@ -43,7 +43,9 @@ unlocked-same ring r t id same = clips-same r t _ _ same (ap (λ (cs : List (Opt
 
 pub place-same : (g : Geometry) (keep : ℕ) (r t : Recording) → IsSame r t → recycling_first (needs_recycling (ring_of g) r)
     (victim (ring_of g) keep r) ≡ recycling_first (needs_recycling (ring_of g) t) (victim (ring_of g) keep t)
-place-same g keep r t same = let needs = needs-same (ring_of g) r t same in let goes = victim-same (ring_of g) keep r t same in λ i. recycling_first (needs i) (goes i)
+place-same g keep r t same =
+    let needs = needs-same (ring_of g) r t same in let goes = victim-same (ring_of g) keep r t same in λ i.
+    recycling_first (needs i) (goes i)
 
 pub refuses-same : (g : Geometry) (keep : ℕ) (r t : Recording) (fault : StoreFault) → IsSame r t → RefusesPlace g keep r fault
     → RefusesPlace g keep t fault
@@ -60,7 +62,8 @@ before-steps ring r t true (Some b) same = recycled-same ring r t b same
 before-same : (g : Geometry) (keep : ℕ) (r t : Recording) → IsSame r t → IsSame (plain (ring_of g) r (steps_before g keep r))
     (plain (ring_of g) t (steps_before g keep t))
 before-same g keep r t same =
-    subst (λ (o : Option (List Step)). IsSame (plain (ring_of g) r (steps_before g keep r)) (plain (ring_of g) t (steps_or_none o))) (place-same g keep r t same)
+    subst (λ (o : Option (List Step)). IsSame (plain (ring_of g) r (steps_before g keep r))
+    (plain (ring_of g) t (steps_or_none o))) (place-same g keep r t same)
     (before-steps (ring_of g) r t (needs_recycling (ring_of g) r) (victim (ring_of g) keep r) same)
 
 pub appended-same : (g : Geometry) (keep : ℕ) (r t : Recording) (ps qs : List Picture) → IsSame r t → length ps ≡ length qs
@@ -70,4 +73,5 @@ appended-same g keep r t ps qs same count =
     let b = plain-append (ring_of g) t (steps_before g keep t) (map store qs) in
     subst (λ (x : Recording). IsSame x (plain (ring_of g) t (steps_before g keep t ++ map store qs))) (sym a)
     (subst (λ (x : Recording). IsSame (plain (ring_of g) (plain (ring_of g) r (steps_before g keep r)) (map store ps)) x) (sym b)
-    (stored-same (ring_of g) (plain (ring_of g) r (steps_before g keep r)) (plain (ring_of g) t (steps_before g keep t)) ps qs (before-same g keep r t same) count))
+    (stored-same (ring_of g) (plain (ring_of g) r (steps_before g keep r))
+    (plain (ring_of g) t (steps_before g keep t)) ps qs (before-same g keep r t same) count))

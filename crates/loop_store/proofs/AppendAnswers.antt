@@ -45,7 +45,8 @@ first-locked : (g : Geometry) (s : StoreState) (ps : List Picture) (result : Res
     → first_of (checks_on (ring_of g) s (appended ps result)) ≡ Some AllLocked
 first-locked g s ps result unspent none =
     passed (eqb s.recording.next (last_number (ring_of g))) NumbersSpent _ (differ_test s.recording.next (last_number (ring_of g)) unspent)
-    ∙ failed (lacks_victim (ring_of g) s.keep s.recording) AllLocked [] (lacks (needs_recycling (ring_of g) s.recording) (victim (ring_of g) s.keep s.recording) none)
+    ∙ failed (lacks_victim (ring_of g) s.keep s.recording) AllLocked []
+    (lacks (needs_recycling (ring_of g) s.recording) (victim (ring_of g) s.keep s.recording) none)
 
 -- where there is a place
 first-none : (g : Geometry) (s : StoreState) (ps : List Picture) (result : Result ℕ StoreFault)
@@ -53,7 +54,8 @@ first-none : (g : Geometry) (s : StoreState) (ps : List Picture) (result : Resul
     → first_of (checks_on (ring_of g) s (appended ps result)) ≡ None
 first-none g s ps result unspent some =
     passed (eqb s.recording.next (last_number (ring_of g))) NumbersSpent _ (differ_test s.recording.next (last_number (ring_of g)) unspent)
-    ∙ passed (lacks_victim (ring_of g) s.keep s.recording) AllLocked [] (has (needs_recycling (ring_of g) s.recording) (victim (ring_of g) s.keep s.recording) some)
+    ∙ passed (lacks_victim (ring_of g) s.keep s.recording) AllLocked []
+    (has (needs_recycling (ring_of g) s.recording) (victim (ring_of g) s.keep s.recording) some)
 
 some-first : (recycles : Bool) (v : Option ℕ) → (recycles && not (is_some v)) ≡ false
     → recycling_first recycles v ≢ None

@@ -1,6 +1,6 @@
 -- The store after an append.
 use Rattle.std.proofs.Common.{◌≡◌, ◌≢◌, ◌⊎◌, inl, inr, ℕ, ◌+◌, ◌*◌, ◌/◌, ◌%◌, ◌^◌, ◌<◌, ◌≤◌, Bool, true, false, cond, eqb, Option, Some, None, All, List, ◌++◌, length, set, map, refl, sym, ap, ◌∙◌, subst, arith}
-use Rattle.std.proofs.Math.Nat.{add-mul, div-add-mod', mod-lt, mul-le-mul_right, mul_comm}
+use Rattle.std.proofs.Math.Nat.{add-mul, div-add-mod', mul-le-mul_right, mul_comm}
 use Rattle.std.proofs.lemmas.Bool.{cases_lt}
 use Rattle.std.proofs.lemmas.List.{length-set}
 use Rattle.std.proofs.lemmas.List.Elements.{All-set}
@@ -11,7 +11,7 @@ use Rattle.loop_record.specs.Geometry.{disk_size}
 use Rattle.loop_record.specs.Layout.{is_too_high}
 use Rattle.loop_record.specs.Reading.{Holds}
 use Rattle.loop_record.specs.Recording.{IsWellFormed, Picture, Recording, Ring, Step, last_number, needs_recycling, plain, recycling_first, ring_of, steps, store, victim}
-use Rattle.loop_record.proofs.TestFacts.{differ_test, equal_test, not_below_test}
+use Rattle.loop_record.proofs.TestFacts.{differ_test, not_below_test}
 use Rattle.loop_record.proofs.Steps.{plain-append, plain-stores}
 use Rattle.loop_ring.specs.Heads.{clip_counts, heads_of}
 use Rattle.loop_store.proofs.Room.{before-next}
@@ -65,21 +65,6 @@ steps-some g keep r ps unspent some none =
     go None some e = some refl
     go (Some first) some e = absurd cc
 
--- where the numbers are spent, it has none
-pub steps-spent : (g : Geometry) (keep : ℕ) (r : Recording) (ps : List Picture) → r.next ≡ last_number (ring_of g)
-    → steps (ring_of g) keep r ps ≡ None
-steps-spent g keep r ps spent =
-    let same : eqb r.next (last_number (ring_of g)) ≡ true = equal_test r.next (last_number (ring_of g)) spent in
-    λ i. cond (same i) None (stores_after (recycling_first (needs_recycling (ring_of g) r) (victim (ring_of g) keep r)) ps)
-
-steps-none : (g : Geometry) (keep : ℕ) (r : Recording) (ps : List Picture) → recycling_first (needs_recycling (ring_of g) r)
-    (victim (ring_of g) keep r) ≡ None → steps (ring_of g) keep r ps ≡ None
-steps-none g keep r ps none = (λ i. cond (eqb r.next (last_number (ring_of g))) None (stores_after (none i) ps)) ∙ either (eqb r.next (last_number (ring_of g)))
-  where
-    either : (b : Bool) → cond {A = Option (List Step)} b None None ≡ None
-    either true = refl
-    either false = refl
-
 -- ---- what stays and what grows
 
 before-clips : (ring : Ring) (r : Recording) (recycling : Bool) (v : Option ℕ)
@@ -130,10 +115,6 @@ appended-few g next count some most unspent room =
     let end = below-last g.slots next some below in
     omega (arith, end, room, div-add-mod' next g.slots, add-mul (next / g.slots) 1 g.slots)
 
--- a group of one fits
-pub one-fits : (g : Geometry) (next : ℕ) → 1 ≤ g.slots → next % g.slots + 1 ≤ g.slots
-one-fits g next some = let l : next % g.slots < g.slots = mod-lt next (omega (arith, some)) in omega (arith, l)
-
 -- and its block isn't too high
 pub appended-low : (g : Geometry) (next : ℕ) → 1 ≤ g.slots → next ≤ last_number (ring_of g)
     → next ≢ last_number (ring_of g) → is_too_high g (next / g.slots) ≡ false
@@ -177,11 +158,6 @@ place-known index image place was clean at = record {
 }
 
 -- ---- refusals
-
--- where there is no place, an append has no steps
-pub place-none : (g : Geometry) (keep : ℕ) (r : Recording) (ps : List Picture) → recycling_first (needs_recycling (ring_of g) r)
-    (victim (ring_of g) keep r) ≡ None → steps (ring_of g) keep r ps ≡ None
-place-none g keep r ps none = steps-none g keep r ps none
 
 -- ---- the store
 
@@ -281,7 +257,8 @@ has-grown was now place n known whole noted placed =
     (length-set heads j (Some (head_after g was.next n)) ∙ whole.count)
     (All-set (IsHeadIn g) heads j (Some (head_after g was.next n)) head whole.within) back.held
     (ap (λ (x : LoopRing). x.geometry) noted.ring) noted.heads noted.clips
-    (noted.next ∙ (λ i. next i + sym back.size i) ∙ sym (appended-next g keep r back.pictures)) (known.known.clips_are ∙ sym (appended-clips g keep r back.pictures)) in
+    (noted.next ∙ (λ i. next i + sym back.size i) ∙ sym (appended-next g keep r back.pictures))
+    (known.known.clips_are ∙ sym (appended-clips g keep r back.pictures)) in
     record { pictures = back.pictures; size = back.size; known = all }
 
 times-grown : {A : Type 0} (was now : Index A) (r0 r1 r : Recording) (image image' : List ℕ) (ps : List Picture) (n j : ℕ)
@@ -323,7 +300,8 @@ kept-grown medium old new was now place n j ps must kept fine at placed noted si
   };
   known =
       let grown = has-grown was now place n kept.known kept.fits.whole (noted-at was now j (place_segment place) n at noted) placed in record {
-        recording = plain (ring_of was.ring.geometry) kept.known.recording (steps_before was.ring.geometry was.table.keep kept.known.recording ++ map store grown.pictures);
+        recording = plain (ring_of was.ring.geometry) kept.known.recording
+            (steps_before was.ring.geometry was.table.keep kept.known.recording ++ map store grown.pictures);
         known = grown.known;
       };
   present = λ f honest.

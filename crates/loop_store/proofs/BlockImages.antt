@@ -1,6 +1,6 @@
 -- What a begun block and stored frames make of an image.
 use Rattle.std.proofs.Common.{◌≡◌, inl, inr, ℕ, zero, suc, ◌+◌, ◌*◌, ◌/◌, ◌%◌, ◌<◌, ◌≤◌, true, ◌&&◌, eqb, Option, Some, List, [], ◌∷◌, ◌++◌, length, take, map, refl, sym, ap, ◌∙◌, subst, arith}
-use Rattle.std.proofs.lemmas.List.{length-map, length-append, take_all}
+use Rattle.std.proofs.lemmas.List.{length-map, length-append}
 use Rattle.std.proofs.lemmas.Bool.Decides.{nat_tests}
 use Rattle.std.proofs.Math.Nat.{div-add-mod'}
 use Rattle.loop_disk.specs.Medium.{Medium, LeavesOnly}
@@ -96,18 +96,6 @@ begun-held_or g r next j old c held is l first free (inr shows) = begun-held g r
 pub held-some : (g : Geometry) (r : Recording) (steps : List Step) (c : List ℕ) → Holds g r c → HoldsSome g r steps c
 held-some g r steps c held = record { count = 0; enough = omega arith; few = omega arith; held = held }
 
--- after all of them
-pub all-held : (g : Geometry) (r : Recording) (steps : List Step) (c : List ℕ) → Holds g (plain (ring_of g) r steps) c
-    → HoldsSome g r steps c
-all-held g r steps c held = record {
-  count = length steps;
-  enough = omega arith;
-  few = omega arith;
-  held =
-      subst (λ (l : List Step). Holds g (plain (ring_of g) r l) c) (sym (take_all (length steps) steps (omega arith)))
-      held;
-}
-
 -- ---- steps behind steps
 
 take_behind : (a b : List Step) (k : ℕ) → take (length a + k) (a ++ b) ≡ a ++ take k b
@@ -145,7 +133,8 @@ pub from-none : (g : Geometry) (r : Recording) (least : ℕ) (steps : List Step)
     → HoldsFrom g r least steps c → HoldsSome g r steps c
 from-none g r least steps c some = record { count = some.count; enough = omega arith; few = some.few; held = some.held }
 
--- Two calls, one after the other: what the first leaves is a beginning of its steps, what the second leaves one of its own behind these. So both leave a beginning of all of them.
+-- Two calls, one after the other: what the first leaves is a beginning of its steps, what the second leaves one of
+-- its own behind these. So both leave a beginning of all of them.
 pub steps-joined : (g : Geometry) (r : Recording) (a b : List Step) (old mid new : Medium)
     → LeavesOnly old mid (HoldsSome g r a) → LeavesOnly mid new (HoldsSome g (plain (ring_of g) r a) b)
     → LeavesOnly old new (HoldsSome g r (a ++ b))

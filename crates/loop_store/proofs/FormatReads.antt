@@ -61,7 +61,8 @@ opened-fresh h old c laid torn gate = record {
         ∙ ap (λ (b : List ℕ). get_or b (i - 1) 0) laid.superblock ∙ get_or-drop 1 (super_bytes h) (i - 1) 0 ∙ ap (λ (k : ℕ). get_or (super_bytes h) k 0) at
 
 -- an image in which the gate may be torn
-opening-torn : (h : SuperHead) (old c : List ℕ) → IsVersion h.version → IsTrue (is_good h.geometry) → IsLaid h h.geometry.segments old → SameOutside 0 1 old c → NoneOrEmpty h c
+opening-torn : (h : SuperHead) (old c : List ℕ) → IsVersion h.version → IsTrue (is_good h.geometry)
+    → IsLaid h h.geometry.segments old → SameOutside 0 1 old c → NoneOrEmpty h c
 opening-torn h old c is good laid torn = go (is_open c 0) refl
   where
     go : (t : Bool) → is_open c 0 ≡ t → NoneOrEmpty h c
@@ -71,7 +72,9 @@ opening-torn h old c is good laid torn = go (is_open c 0) refl
 pub opening-moments : {T : Type 0} (h : SuperHead) (old new : Medium) (r : Result T DiskFault) → IsVersion h.version
     → IsTrue (is_good h.geometry) → IsSettled old → IsLaid h h.geometry.segments old.bytes
     → Stores 0 (165 ∷ []) old new r → LeavesOnly old new (NoneOrEmpty h)
-opening-moments h old new r is good settled laid stores = stored 0 (165 ∷ []) old new r (NoneOrEmpty h) settled stores (λ c torn. opening-torn h old.bytes c is good laid torn)
+opening-moments h old new r is good settled laid stores =
+    stored 0 (165 ∷ []) old new r (NoneOrEmpty h) settled stores
+    (λ c torn. opening-torn h old.bytes c is good laid torn)
 
 pub opening-fresh : {T : Type 0} (h : SuperHead) (old new : Medium) (r : Result T DiskFault)
     → IsLaid h h.geometry.segments old.bytes → Stores 0 (165 ∷ []) old new r → OnOk r (IsFreshImage h new.bytes)

@@ -15,7 +15,7 @@ use Rattle.loop_record.proofs.TestFacts.{clash}
 use Rattle.loop_store.specs.declared.fault.StoreFault.{StoreFault}
 use Rattle.loop_store.specs.declared.fault.StoreFault.TheVariants.{Damaged, MustReopen, NoMemory, NotHeld}
 use Rattle.loop_store.specs.Calls.{AnswersDue, Call, ReadFails, IsAnswered, StoreState, begun_by, checks_on, due, failed_for, first_of, made_by, part_with, read_with, sought, was_read, was_read_part, version_after, was_refused}
-use Rattle.loop_store.specs.Faults.{answers_disk, failed_in, is_damage, is_disk, is_early}
+use Rattle.loop_store.specs.Faults.{disk_failed, failed_in, is_damage, is_disk, is_early}
 use Rattle.loop_store.specs.Goes.{Goes, Stands, TellsState}
 use Rattle.loop_store.specs.Reopen.{TellsOne}
 use Rattle.loop_store.specs.Look.{AnswersFrame, AnswersFramePart}
@@ -45,7 +45,7 @@ pub record IsLook (c : Call) : Type 0 where
 pub look-read : (number : ℕ) (result : Result (FrameHead × List ℕ) StoreFault) → IsLook (was_read number result)
 look-read number result = record {
   steps = λ g s. made-either (result_err result);
-  begins = λ g s. none-either (answers_disk result);
+  begins = λ g s. none-either (disk_failed (result_err result));
   version = λ v. refl;
   fine = refl;
 }
@@ -53,7 +53,7 @@ look-read number result = record {
 pub look-part : (number at : ℕ) (result : Result (List ℕ) StoreFault) → IsLook (was_read_part number at result)
 look-part number at result = record {
   steps = λ g s. made-either (result_err result);
-  begins = λ g s. none-either (answers_disk result);
+  begins = λ g s. none-either (disk_failed (result_err result));
   version = λ v. refl;
   fine = refl;
 }
@@ -61,7 +61,7 @@ look-part number at result = record {
 pub look-sought : (times : Times) (result : Result (List Span) StoreFault) → IsLook (sought times result)
 look-sought times result = record {
   steps = λ g s. made-either (result_err result);
-  begins = λ g s. none-either (answers_disk result);
+  begins = λ g s. none-either (disk_failed (result_err result));
   version = λ v. refl;
   fine = refl;
 }

@@ -1,5 +1,5 @@
 -- What a lock and an unlock make of an image, of what is known of it, and of a store.
-use Rattle.std.proofs.Common.{◌≡◌, ◌≢◌, ◌⊎◌, inl, inr, ℕ, suc, ◌+◌, ◌-◌, ◌*◌, ◌^◌, ◌/◌, ◌%◌, ◌<◌, ◌≤◌, Bool, true, false, not, ◌&&◌, eqb, leb, ltb, if◌then◌else◌, is_some, Option, None, Some, Result, Ok, Err, List, [], ◌∷◌, length, get_or, set, map, refl, sym, ap, ◌∙◌, subst, arith}
+use Rattle.std.proofs.Common.{◌≡◌, ◌≢◌, ◌⊎◌, inl, inr, ℕ, suc, ◌+◌, ◌-◌, ◌*◌, ◌^◌, ◌/◌, ◌%◌, ◌<◌, ◌≤◌, Bool, true, false, not, ◌&&◌, eqb, leb, ltb, if◌then◌else◌, is_some, Option, None, Some, Result, Err, List, [], ◌∷◌, length, get_or, set, map, refl, sym, ap, ◌∙◌, subst, arith}
 use Rattle.std.proofs.Math.Nat.{add-mul, div-add-mod', mul-div-le}
 use Rattle.std.proofs.lemmas.Bool.{cases_lt}
 use Rattle.std.proofs.lemmas.List.{length-map, set-get_or}
@@ -34,7 +34,7 @@ use Rattle.loop_ring.proofs.Heads.{head_of, heads-are, heads-length}
 use Rattle.loop_store.specs.declared.index.Index.{Index}
 use Rattle.loop_store.specs.declared.fault.StoreFault.{StoreFault}
 use Rattle.loop_store.specs.declared.fault.StoreFault.TheVariants.{NoSuchClip}
-use Rattle.loop_store.specs.Calls.{Call, IsAnswered, AnswersOtherwise, StoreState, begun_by, checks, failed_for, first_of, is_look, locked, made_by, span_checks, unlocked, version_after, was_refused}
+use Rattle.loop_store.specs.Calls.{Call, IsAnswered, AnswersOtherwise, StoreState, begun_by, failed_for, first_of, is_look, locked, made_by, span_checks, unlocked, version_after, was_refused}
 use Rattle.loop_store.specs.Faults.{failed_by, is_disk}
 use Rattle.loop_store.specs.Goes.{Goes, Stands}
 use Rattle.loop_store.specs.Reopen.{TellsOne}
@@ -57,7 +57,7 @@ use Rattle.loop_store.proofs.UnheldNumbers.{fits-legal}
 use Rattle.loop_store.proofs.ImageChanges.{drawn-clip}
 use Rattle.loop_store.proofs.AppendImages.{known-drawn}
 use Rattle.loop_store.proofs.Same.{IsSame}
-use Rattle.loop_store.proofs.CheckAnswers.{answer-due, answer-given, due-none, failed, passed}
+use Rattle.loop_store.proofs.CheckAnswers.{answer-due, answer-given, failed, passed}
 use Rattle.loop_store.proofs.Once.{goes-done, goes-failed, goes-refused}
 use Rattle.loop_store.proofs.Numbers.{among-block, among-range}
 use Rattle.loop_record.proofs.Names.{free_id}
@@ -540,11 +540,6 @@ lock-refused medium s span fault one sound fine can first =
       begun_none = λ g t. ap (λ (b : Bool). if b then lock span ∷ [] else []) quiet.unfailed;
     }) (λ H t told. answer-due H s.geometry t (locked span (Err fault)) fault (sym told.must_reopen ∙ fine)
     (ap (λ (v : ℕ). first_of (span_checks v t.recording span)) (sym told.version) ∙ first t.recording told.recording) refl)
-
--- the id that was answered is the least free one
-pub answered-id : (H : Type 0) (g : Geometry) (s : StoreState) (span : Span) (id : ℕ)
-    → IsAnswered H (ring_of g) s (locked span (Ok id)) → id ≡ free_id s.recording
-answered-id H g s span id said = (due-none (first_of (checks (ring_of g) s (locked span (Ok id)))) (locked span (Ok id)) (id ≡ free_id s.recording) said refl).1
 
 -- ---- an unlock
 

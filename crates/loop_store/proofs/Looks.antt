@@ -175,12 +175,6 @@ alike-by medium disk index must_reopen r kept told =
     (tells-same (seen_with disk index must_reopen) (drawn-of index kept.known) r
     (told-drawn medium disk index must_reopen kept) told)
 
--- where the store needn't be reopened, the times of all that an honest disk holds are known
-pub timed-by : {D A : Type 0} (medium : D → Medium) (disk : D) (index : Index A) (must_reopen : Bool) (r : Recording)
-    → IsKept medium disk index must_reopen → must_reopen ≡ false → (medium disk).honest
-    → Holds index.ring.geometry r (medium disk).bytes → AreTimes (times-in index) r
-timed-by medium disk index must_reopen r kept fine now held = (kept.present fine now).timed.each r held
-
 -- a number whose frame a segment has is held by each of these
 pub there-alike : {D A : Type 0} (medium : D → Medium) (disk : D) (index : Index A) (must_reopen : Bool)
     (r : Recording) (n j : ℕ) → (kept : IsKept medium disk index must_reopen)

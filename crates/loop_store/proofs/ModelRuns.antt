@@ -1,12 +1,13 @@
 -- Calls of the model of a store, one after the other.
 use Rattle.std.proofs.Common.{◌≡◌, Bool, true, false, Option, List, [], ◌∷◌, ◌++◌, if◌then◌else◌, refl, sym, ap, ◌∙◌}
 use Rattle.std.specs.Prelude.{◌||◌}
+use Rattle.std.specs.Result.{result_err}
 use Rattle.loop_record.specs.declared.geometry.Geometry.{Geometry}
 use Rattle.loop_record.specs.Recording.{Step, lock, plain, ring_of, unlock}
 use Rattle.loop_record.proofs.TestFacts.{neither}
 use Rattle.loop_record.proofs.Steps.{plain-append}
 use Rattle.loop_store.specs.declared.fault.StoreFault.{StoreFault}
-use Rattle.loop_store.specs.Faults.{answers_disk}
+use Rattle.loop_store.specs.Faults.{disk_failed}
 use Rattle.loop_store.specs.Calls.{AreAnswered, Call, IsAnswered, StoreState, appended, locked, unlocked, was_read, after_store_call, after_calls, begun_by, begun_in, sought, made_by, made_in, steps_of, upgraded, was_read_part}
 use Rattle.loop_store.proofs.CheckAnswers.{must-answer}
 use Rattle.loop_store.proofs.Names.{steps_asked, has_failed, if_answered, if_failed}
@@ -29,12 +30,12 @@ none-either true = refl
 none-either false = refl
 
 begun-none : (g : Geometry) (s : StoreState) (c : Call) → has_failed c ≡ false → begun_by (ring_of g) s c ≡ []
-begun-none g s (was_read number result) fine = none-either (answers_disk result)
-begun-none g s (upgraded result) fine = none-either (answers_disk result)
+begun-none g s (was_read number result) fine = none-either (disk_failed (result_err result))
+begun-none g s (upgraded result) fine = none-either (disk_failed (result_err result))
 begun-none g s (locked span result) fine = ap (λ (b : Bool). if b then lock span ∷ [] else []) fine
 begun-none g s (unlocked id result) fine = ap (λ (b : Bool). if b then unlock id ∷ [] else []) fine
-begun-none g s (was_read_part number at result) fine = none-either (answers_disk result)
-begun-none g s (sought times result) fine = none-either (answers_disk result)
+begun-none g s (was_read_part number at result) fine = none-either (disk_failed (result_err result))
+begun-none g s (sought times result) fine = none-either (disk_failed (result_err result))
 begun-none g s (appended group result) fine = ap (λ (b : Bool). if b then steps_asked (ring_of g) s.keep s.recording group else []) fine
 
 -- nothing has failed before

@@ -189,14 +189,16 @@ alike-same g r j old new e l shows =
 -- a run that left all as it was
 pub stays-moments : (old new : Medium) → IsSound old → Stays old new → LeavesOnly old new (WasOr old (ReadsAlike old.bytes))
 stays-moments old new sound stays =
-    goes_on old old new (WasOr old (ReadsAlike old.bytes)) old.may_leave (started old (WasOr old (ReadsAlike old.bytes)) sound (λ c left. inl left)) stays.time (λ c left. inl left)
+    goes_on old old new (WasOr old (ReadsAlike old.bytes)) old.may_leave
+    (started old (WasOr old (ReadsAlike old.bytes)) sound (λ c left. inl left)) stays.time (λ c left. inl left)
 
 -- and then one that left only what reads alike
 pub moments-on : (old mid new : Medium) → IsSound old → Stays old mid → LeavesOnly mid new (ReadsAlike mid.bytes)
     → LeavesOnly old new (WasOr old (ReadsAlike old.bytes))
 moments-on old mid new sound stays run =
     joined old mid new (WasOr old (ReadsAlike old.bytes)) (stays-moments old mid sound stays)
-    (weaker mid new (ReadsAlike mid.bytes) (WasOr old (ReadsAlike old.bytes)) run (λ c alike. inr (alike.0 ∙ ap reading stays.bytes, alike.1 ∙ ap version_in stays.bytes)))
+    (weaker mid new (ReadsAlike mid.bytes) (WasOr old (ReadsAlike old.bytes)) run
+    (λ c alike. inr (alike.0 ∙ ap reading stays.bytes, alike.1 ∙ ap version_in stays.bytes)))
 
 pub alike-on : (old mid new : Medium) → IsSound new → Stays old mid → LeavesOnly mid new (ReadsAlike mid.bytes)
     → ReadsAlike old.bytes new.bytes
@@ -335,23 +337,57 @@ pub refused-honest : (old new : Medium) (keep : ℕ) (fault : StoreFault) → (o
     → IsRefusedOpen keep old.bytes fault
 refused-honest old new keep StoreFault.NoMemory now sound stays said honest = tt
 refused-honest old new keep (StoreFault.Disk fault) now sound stays said honest = tt
-refused-honest old new keep StoreFault.NotFormatted now sound stays said honest = of_bytes old new (λ image. IsRefusedOpen keep image StoreFault.NotFormatted) (sound (now honest)) (stays honest refl) said
-refused-honest old new keep (StoreFault.Damaged damage) now sound stays said honest = of_bytes old new (λ image. IsRefusedOpen keep image (StoreFault.Damaged damage)) (sound (now honest)) (stays honest refl) said
-refused-honest old new keep StoreFault.MustReopen now sound stays said honest = of_bytes old new (λ image. IsRefusedOpen keep image StoreFault.MustReopen) (sound (now honest)) (stays honest refl) said
-refused-honest old new keep StoreFault.NotHeld now sound stays said honest = of_bytes old new (λ image. IsRefusedOpen keep image StoreFault.NotHeld) (sound (now honest)) (stays honest refl) said
-refused-honest old new keep StoreFault.BadGeometry now sound stays said honest = of_bytes old new (λ image. IsRefusedOpen keep image StoreFault.BadGeometry) (sound (now honest)) (stays honest refl) said
-refused-honest old new keep StoreFault.NumbersSpent now sound stays said honest = of_bytes old new (λ image. IsRefusedOpen keep image StoreFault.NumbersSpent) (sound (now honest)) (stays honest refl) said
-refused-honest old new keep StoreFault.AllLocked now sound stays said honest = of_bytes old new (λ image. IsRefusedOpen keep image StoreFault.AllLocked) (sound (now honest)) (stays honest refl) said
-refused-honest old new keep StoreFault.ClipEmpty now sound stays said honest = of_bytes old new (λ image. IsRefusedOpen keep image StoreFault.ClipEmpty) (sound (now honest)) (stays honest refl) said
-refused-honest old new keep (StoreFault.ClipNotHeld number) now sound stays said honest = of_bytes old new (λ image. IsRefusedOpen keep image (StoreFault.ClipNotHeld number)) (sound (now honest)) (stays honest refl) said
-refused-honest old new keep StoreFault.ClipTableFull now sound stays said honest = of_bytes old new (λ image. IsRefusedOpen keep image StoreFault.ClipTableFull) (sound (now honest)) (stays honest refl) said
-refused-honest old new keep StoreFault.NoSuchClip now sound stays said honest = of_bytes old new (λ image. IsRefusedOpen keep image StoreFault.NoSuchClip) (sound (now honest)) (stays honest refl) said
-refused-honest old new keep StoreFault.PendingFull now sound stays said honest = of_bytes old new (λ image. IsRefusedOpen keep image StoreFault.PendingFull) (sound (now honest)) (stays honest refl) said
-refused-honest old new keep StoreFault.WrongSize now sound stays said honest = of_bytes old new (λ image. IsRefusedOpen keep image StoreFault.WrongSize) (sound (now honest)) (stays honest refl) said
-refused-honest old new keep StoreFault.HandFull now sound stays said honest = of_bytes old new (λ image. IsRefusedOpen keep image StoreFault.HandFull) (sound (now honest)) (stays honest refl) said
-refused-honest old new keep StoreFault.HandEmpty now sound stays said honest = of_bytes old new (λ image. IsRefusedOpen keep image StoreFault.HandEmpty) (sound (now honest)) (stays honest refl) said
-refused-honest old new keep StoreFault.OldLayout now sound stays said honest = of_bytes old new (λ image. IsRefusedOpen keep image StoreFault.OldLayout) (sound (now honest)) (stays honest refl) said
-refused-honest old new keep StoreFault.BadKeep now sound stays said honest = of_bytes old new (λ image. IsRefusedOpen keep image StoreFault.BadKeep) (sound (now honest)) (stays honest refl) said
+refused-honest old new keep StoreFault.NotFormatted now sound stays said honest =
+    of_bytes old new (λ image. IsRefusedOpen keep image StoreFault.NotFormatted) (sound (now honest))
+    (stays honest refl) said
+refused-honest old new keep (StoreFault.Damaged damage) now sound stays said honest =
+    of_bytes old new (λ image. IsRefusedOpen keep image (StoreFault.Damaged damage)) (sound (now honest))
+    (stays honest refl) said
+refused-honest old new keep StoreFault.MustReopen now sound stays said honest =
+    of_bytes old new (λ image. IsRefusedOpen keep image StoreFault.MustReopen) (sound (now honest))
+    (stays honest refl) said
+refused-honest old new keep StoreFault.NotHeld now sound stays said honest =
+    of_bytes old new (λ image. IsRefusedOpen keep image StoreFault.NotHeld) (sound (now honest)) (stays honest refl)
+    said
+refused-honest old new keep StoreFault.BadGeometry now sound stays said honest =
+    of_bytes old new (λ image. IsRefusedOpen keep image StoreFault.BadGeometry) (sound (now honest))
+    (stays honest refl) said
+refused-honest old new keep StoreFault.NumbersSpent now sound stays said honest =
+    of_bytes old new (λ image. IsRefusedOpen keep image StoreFault.NumbersSpent) (sound (now honest))
+    (stays honest refl) said
+refused-honest old new keep StoreFault.AllLocked now sound stays said honest =
+    of_bytes old new (λ image. IsRefusedOpen keep image StoreFault.AllLocked) (sound (now honest)) (stays honest refl)
+    said
+refused-honest old new keep StoreFault.ClipEmpty now sound stays said honest =
+    of_bytes old new (λ image. IsRefusedOpen keep image StoreFault.ClipEmpty) (sound (now honest)) (stays honest refl)
+    said
+refused-honest old new keep (StoreFault.ClipNotHeld number) now sound stays said honest =
+    of_bytes old new (λ image. IsRefusedOpen keep image (StoreFault.ClipNotHeld number)) (sound (now honest))
+    (stays honest refl) said
+refused-honest old new keep StoreFault.ClipTableFull now sound stays said honest =
+    of_bytes old new (λ image. IsRefusedOpen keep image StoreFault.ClipTableFull) (sound (now honest))
+    (stays honest refl) said
+refused-honest old new keep StoreFault.NoSuchClip now sound stays said honest =
+    of_bytes old new (λ image. IsRefusedOpen keep image StoreFault.NoSuchClip) (sound (now honest))
+    (stays honest refl) said
+refused-honest old new keep StoreFault.PendingFull now sound stays said honest =
+    of_bytes old new (λ image. IsRefusedOpen keep image StoreFault.PendingFull) (sound (now honest))
+    (stays honest refl) said
+refused-honest old new keep StoreFault.WrongSize now sound stays said honest =
+    of_bytes old new (λ image. IsRefusedOpen keep image StoreFault.WrongSize) (sound (now honest)) (stays honest refl)
+    said
+refused-honest old new keep StoreFault.HandFull now sound stays said honest =
+    of_bytes old new (λ image. IsRefusedOpen keep image StoreFault.HandFull) (sound (now honest)) (stays honest refl)
+    said
+refused-honest old new keep StoreFault.HandEmpty now sound stays said honest =
+    of_bytes old new (λ image. IsRefusedOpen keep image StoreFault.HandEmpty) (sound (now honest)) (stays honest refl)
+    said
+refused-honest old new keep StoreFault.OldLayout now sound stays said honest =
+    of_bytes old new (λ image. IsRefusedOpen keep image StoreFault.OldLayout) (sound (now honest)) (stays honest refl)
+    said
+refused-honest old new keep StoreFault.BadKeep now sound stays said honest =
+    of_bytes old new (λ image. IsRefusedOpen keep image StoreFault.BadKeep) (sound (now honest)) (stays honest refl)
+    said
 
 -- the newest block may always be kept
 pub newest-kept : (image : List ℕ) → IsBadKeep 1 image → ⊥

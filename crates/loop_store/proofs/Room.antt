@@ -254,7 +254,8 @@ known-newest g keep r next j p image is l known held same =
 
 pub known-closed : (g : Geometry) (keep : ℕ) (r : Recording) (next j : ℕ) (p : Place) (image : List ℕ) → p ≡ Closed j
     → IsKnown g keep next p image → Holds g r image → r.next ≡ next → IsClosedFor g keep r next j image
-known-closed g keep r next j p image is known held same = closed-for g keep r next j image (subst (λ (q : Place). IsKnown g keep next q image) is known) held same
+known-closed g keep r next j p image is known held same =
+    closed-for g keep r next j image (subst (λ (q : Place). IsKnown g keep next q image) is known) held same
 
 pub closed-at : (g : Geometry) (keep next j : ℕ) (p : Place) (old new : List ℕ) → g.slots ≤ 256 → p ≡ Closed j
     → place_segment p < g.segments → IsKnown g keep next p old

@@ -97,7 +97,8 @@ under-filter : (q : ℕ → Bool) (fs : List (ℕ × Picture)) (n : ℕ) (p : Pi
 under-filter q [] n p e = e
 under-filter q (f ∷ fs) n p e = go (q f.0) refl (λ r. under-filter q fs n p r) e
   where
-    stays : (b : Bool) → (frame_under (filter (λ g. q g.0) fs) n ≡ Some p → frame_under fs n ≡ Some p) → cond b (Some f.1) (frame_under (filter (λ g. q g.0) fs) n) ≡ Some p
+    stays : (b : Bool) → (frame_under (filter (λ g. q g.0) fs) n ≡ Some p → frame_under fs n ≡ Some p)
+        → cond b (Some f.1) (frame_under (filter (λ g. q g.0) fs) n) ≡ Some p
         → cond b (Some f.1) (frame_under fs n) ≡ Some p
     stays true ih e = e
     stays false ih e = ih e
@@ -131,7 +132,8 @@ under-enumerate first [] n p e = absurd (none-some p e)
 under-enumerate first (q ∷ ps) n p e = go (eqb first n) refl (λ r. under-enumerate (first + 1) ps n p r) e
   where
     go : (b : Bool) → eqb first n ≡ b
-        → (frame_under (enumerate_from (first + 1) ps) n ≡ Some p → StoredAt (first + 1) ps n p) → cond b (Some q) (frame_under (enumerate_from (first + 1) ps) n) ≡ Some p
+        → (frame_under (enumerate_from (first + 1) ps) n ≡ Some p → StoredAt (first + 1) ps n p) → cond b (Some q)
+        (frame_under (enumerate_from (first + 1) ps) n) ≡ Some p
         → StoredAt first (q ∷ ps) n p
     go true same ih e = record {
       place = 0;

@@ -70,9 +70,6 @@ keeps-stamped g image j k at time old new l low here is noted = λ m n less was.
         ap (λ (xs : List ℕ). get_or xs (m * g.slots + n) 0) noted
         ∙ get_or-set_other old at (m * g.slots + n) time 0 apart ∙ was
 
-pub keeps-all : (g : Geometry) (image : List ℕ) (times : List ℕ) → KeepsStamps g image times times
-keeps-all g image times = λ j k l is. is
-
 pub keeps-on : (g : Geometry) (image a b c : List ℕ) → KeepsStamps g image a b → KeepsStamps g image b c → KeepsStamps g image a c
 keeps-on g image a b c first second = λ j k l is. second j k l (first j k l is)
 
@@ -88,11 +85,6 @@ stamped-more g image j k at time old new l low here is noted so_far = λ n less.
         (so_far n (omega (arith, less, apart)))
 
 -- ---- found segments
-
--- what is known of a segment stays known
-pub stamped-on : (g : Geometry) (image old new : List ℕ) (j count : ℕ) → count ≤ g.slots → KeepsStamps g image old new
-    → AreStamped g image old j count → AreStamped g image new j count
-stamped-on g image old new j count few keeps was = λ k l. keeps j k (omega (arith, l, few)) (was k l)
 
 -- the times of one that was found
 pub among-stamped : (g : Geometry) (image times : List ℕ) (f : Found) (fs : List Found) → IsAmong f fs

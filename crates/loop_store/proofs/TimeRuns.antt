@@ -95,9 +95,6 @@ pub record RunsSoFar (p : ℕ → Bool) (numbers : List ℕ) (k : ℕ) (runs : L
   pub are : AreRuns (filter p (take k numbers)) runs
   pub ends : (j : ℕ) → k ≤ j → j < length numbers → EndsBelow (get_or numbers j 0) runs
 
-pub runs-none : (p : ℕ → Bool) (numbers : List ℕ) → RunsSoFar p numbers 0 []
-runs-none p numbers = record { are = record { numbers_are = refl; apart = tt }; ends = λ j le l. tt }
-
 filter-one : (p : ℕ → Bool) (numbers : List ℕ) (k n : ℕ) (b : Bool) → k < length numbers → get_or numbers k 0 ≡ n → p n ≡ b
     → filter p (take (k + 1) numbers) ≡ filter p (take k numbers) ++ cond b (n ∷ []) []
 filter-one p numbers k n b l is said =

@@ -77,10 +77,6 @@ none-missing r span none = each-all_range (holds r) span.from (span.to + 1 - spa
 
 -- ---- the checks of a span
 
-pub first-empty : (v : ℕ) (r : Recording) (span : Span) → span.to < span.from
-    → first_of (span_checks v r span) ≡ Some ClipEmpty
-first-empty v r span less = failed (ltb span.to span.from) ClipEmpty _ (at_most_test (suc span.to) span.from less)
-
 behind-empty : (v : ℕ) (r : Recording) (span : Span) → span.from ≤ span.to
     → first_of (span_checks v r span) ≡ first_of (option_map ClipNotHeld (missing r span)
     ∷ due (eqb (free_id r) 64) ClipTableFull ∷ due (not (has_tag_place v span)) OldLayout ∷ [])

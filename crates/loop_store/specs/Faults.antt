@@ -67,9 +67,6 @@ is_write_fault _ = false
 abbrev pub disk_failed : Option StoreFault → Bool
 disk_failed fault = option_map_or is_disk fault false
 
-abbrev pub answers_disk : {T : Type 0} → Result T StoreFault → Bool
-answers_disk result = disk_failed (result_err result)
-
 -- the call of the disk that failed, if a refusal says that one did
 abbrev pub failed_by : StoreFault → Option DiskFault
 failed_by (Disk fault) = Some fault

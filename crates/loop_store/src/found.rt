@@ -1,5 +1,5 @@
 //! The parts of a recording on a disk, each read alone: the superblock, the headers, the heads of the slots,
-//! the clip table.
+//! the clip table. docs/recovery.md says why it is so.
 //!
 //! Each call reads and never writes; after a refusal the disk is as it was.
 

@@ -1,4 +1,5 @@
 //! What formatting writes, in its order: the superblock's gate is closed first and opened last.
+//! docs/order-of-writes.md says why it is so.
 
 ghost use Rattle.std.specs.Prelude.{◌≡◌, ◌+◌, ◌<◌, ◌≤◌, IsTrue, ◌++◌, drop, length};
 ghost use Rattle.loop_disk.specs.Medium.{IsSettled};

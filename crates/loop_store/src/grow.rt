@@ -1,5 +1,5 @@
 //! What an append writes: the block that it begins, and the frames. What each of these makes of a recording is
-//! said by `Makes`.
+//! said by `Makes`. docs/order-of-writes.md says why it is so.
 
 ghost use Rattle.std.specs.Prelude.{◌≡◌, ◌+◌, ◌<◌, ◌≤◌, ◌/◌, ◌%◌, ◌++◌, [], Some, length, map};
 ghost use Rattle.loop_disk.specs.Medium.{IsSettled};

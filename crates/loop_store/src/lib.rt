@@ -16,6 +16,8 @@
 //! Of `specs`, contracts of public calls name `Calls`, `Steps`, `Seen`, `Goes`, `Runs`, `Faults`, `Numbers`, `Make`,
 //! `Reopen` and `Chain`, and the first words of `Times`. The others are for this crate alone: `Drawn`, and those named
 //! after the files in `src` of which they speak.
+//!
+//! docs/store.md and docs/recovery.md say why it is so.
 #![tactic(auto)]
 
 pub mod chain;

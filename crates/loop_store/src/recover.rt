@@ -1,4 +1,4 @@
-//! What a disk's image reads as, found with few reads and without pixels.
+//! What a disk's image reads as, found with few reads and without pixels. docs/recovery.md says why it is so.
 
 ghost use Rattle.std.specs.Prelude.{◌≡◌, Ok, Err, IfOk};
 ghost use Rattle.loop_record.specs.Layout.{super_in};

@@ -1,4 +1,4 @@
-//! The upgrade of the layout to version 2, in which clips have tags.
+//! The upgrade of the layout to version 2, in which clips have tags. docs/layout.md says why it is so.
 
 ghost use Rattle.std.specs.Prelude.{◌≡◌, ◌∷◌, [], Ok, false};
 ghost use Rattle.loop_store.specs.Calls.{upgraded};

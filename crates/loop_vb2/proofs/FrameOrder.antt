@@ -202,7 +202,11 @@ next_dequeued s d (x ∷ rest) r first =
       still =
           λ e. absurd (not_empty_line x rest (r.still e));
     } in
-    record { rest = rest; runs = subst (λ (i : ℕ). Runs (change_buffer (dequeued_from s.body.kind) i s) rest) same after_x; joined = append-nil (x ∷ rest) ∙ ap (λ i. i ∷ rest) same }
+    record {
+      rest = rest;
+      runs = subst (λ (i : ℕ). Runs (change_buffer (dequeued_from s.body.kind) i s) rest) same after_x;
+      joined = append-nil (x ∷ rest) ∙ ap (λ i. i ∷ rest) same;
+    }
 
 below : (count : ℕ) → (count == 0) ≡ false → nat_lt 0 count ≡ true
 below count e = grind (arith, nat_tests)

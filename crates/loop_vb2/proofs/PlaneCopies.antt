@@ -12,9 +12,9 @@ use Rattle.loop_vb2.specs.declared.reason.Reason.{Reason}
 use Rattle.loop_vb2.specs.declared.reason.Reason.TheVariants.{BadIndex, BadPlanes, BadState, PlaneTooShort}
 use Rattle.loop_vb2.specs.Errnos.{errno}
 use Rattle.loop_vb2.specs.Owner.{is_dequeued}
-use Rattle.loop_vb2.specs.Planes.{number_at, bytes_in, plane_of_set, plane_in, has_used_bytes, has_used, read_set}
+use Rattle.loop_vb2.specs.Planes.{number_at, bytes_in, plane_of_set, plane_in, has_used, read_set}
 use Rattle.loop_vb2.specs.Buffers.{state_at, used_at, bytes_at, readable, readable_at, read_buffer}
-use Rattle.loop_vb2.proofs.Short.{has_plane_at, AllFit}
+use Rattle.loop_vb2.proofs.Short.{has_plane_at, has_used_bytes, AllFit}
 use Rattle.loop_vb2.specs.Checks.{first_reason, copy_checks}
 use Rattle.loop_vb2.specs.Refusals.{copy_refusal}
 use Rattle.loop_vb2.specs.Copies.{code_refusal}

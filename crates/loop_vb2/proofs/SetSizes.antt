@@ -12,9 +12,9 @@ use Rattle.loop_vb2.specs.declared.buffer.Stamp.{Stamp}
 use Rattle.loop_vb2.specs.declared.planes.PlaneSet.{PlaneSet}
 use Rattle.loop_vb2.specs.declared.planes.Shape.{Shape}
 use Rattle.loop_vb2.specs.declared.state.BufferState.TheVariants.{Done}
-use Rattle.loop_vb2.specs.Planes.{number_at, same_memory, is_kind, is_long, are_kind, has_count, has_room, has_used_bytes, misfits, frame_size, slot_filled, slot_cut, set_by, set_filled}
+use Rattle.loop_vb2.specs.Planes.{number_at, same_memory, is_kind, is_long, are_kind, has_count, has_room, misfits, frame_size, slot_filled, slot_cut, set_by, set_filled}
 use Rattle.loop_vb2.specs.Buffers.{change_at, no_bytes_used, prepared_with, queued_with, completed_by, dequeued_from, failed_with, stop_buffer, wake_buffer}
-use Rattle.loop_vb2.proofs.Short.{completed_with, mapped_as, kept, without_planes, body_queued, AllFit}
+use Rattle.loop_vb2.proofs.Short.{completed_with, has_used_bytes, mapped_as, kept, without_planes, body_queued, AllFit}
 use Rattle.loop_vb2.specs.Checks.{queue_checks, prepare_checks, request_checks, serves, is_supply, grant_count}
 use Rattle.loop_vb2.specs.Refusals.{queue_refusal, prepare_refusal, request_refusal}
 use Rattle.loop_vb2.specs.Effects.{awake, device_runs, settle_device, with_buffer, body_streaming, body_stopped}

@@ -1,5 +1,6 @@
 -- Short names of what the definitions write out.
-use Rattle.std.specs.Prelude.{ℕ, Bool, true, false, List, Option, None, cond, is_some, not}
+use Rattle.std.specs.Prelude.{ℕ, Bool, true, false, List, Option, None, cond, is_some, length, nat_le, not}
+use Rattle.std.specs.Option.{option_map_or}
 use Rattle.loop_plane.specs.Plane.{Plane}
 use Rattle.loop_plane.specs.declared.memory.Memory.{Memory}
 use Rattle.loop_plane.specs.declared.memory.Memory.TheVariants.{Mmap}
@@ -52,3 +53,7 @@ module _ {P : Type 0} where
   -- the start has been noticed
   abbrev pub body_seen : Body P → Body P
   body_seen b = record b { fresh = false }
+
+-- a place is empty, or has so many bytes in use
+abbrev pub has_used_bytes : ℕ → Option Plane → Bool
+has_used_bytes count place = option_map_or (λ p. nat_le count (length p.bytes)) place true

@@ -12,6 +12,8 @@
 //! - `buffer`, `state`, `flags`: one buffer; `planes`: its memory; `reason`: refusals with their errnos;
 //! - `line`: buffers in order, by links between 32 places;
 //! - `laws`: what follows from the definitions, over every list of events (`specs/Events`).
+//!
+//! docs/queue.md says why it is so.
 #![tactic(auto)]
 
 mod application;

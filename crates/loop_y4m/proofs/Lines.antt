@@ -6,8 +6,12 @@ use Rattle.std.specs.Io.KnownBytes.{Consumes, IsAtEnd}
 use Rattle.std.specs.List.{position_or_len}
 use Rattle.loop_y4m.specs.declared.fault.Y4mFault.TheVariants.{BadHeader, Truncated}
 use Rattle.loop_y4m.specs.Stream.{line, is_newline}
-use Rattle.loop_y4m.specs.Steps.{IsBegun}
 use Rattle.loop_y4m.proofs.Places.{behind}
+
+-- these bytes of a line came, none of them a newline, and the rest is left
+abbrev pub IsBegun : List ℕ → List ℕ → Option (List ℕ) → Type 0
+IsBegun bytes seen left =
+    (rest : List ℕ) × (bytes ≡ seen ++ rest) × (left ≡ Some rest) × (position_or_len is_newline seen ≡ length seen)
 
 -- the first newline stands where what follows begins
 newline_at : (seen rest : List ℕ) → position_or_len is_newline seen ≡ length seen

@@ -3,8 +3,11 @@ use Rattle.std.proofs.Common.{◌≡◌, ℕ, ◌-◌, Option, Some, None, List,
 use Rattle.std.specs.Io.KnownBytes.{Appends, Keeps}
 use Rattle.std.proofs.lemmas.List.{take_rest, take-append-drop}
 use Rattle.std.specs.Prelude.{Ok, Err, IsErr, Result}
-use Rattle.loop_y4m.specs.Steps.{IsGiven}
 use Rattle.loop_y4m.specs.Text.{Wrote}
+
+-- the writer was given all that stands before these bytes
+abbrev pub IsGiven : Option (List ℕ) → Option (List ℕ) → List ℕ → List ℕ → Type 0
+IsGiven old now bytes rest = (done : List ℕ) × (bytes ≡ done ++ rest) × Appends old now done
 
 appends_none : (held : Option (List ℕ)) → Appends held held []
 appends_none None = tt

@@ -164,11 +164,6 @@ pub record Given (H : Type 0) (r : Recording) (first to count : ℕ) (next : Opt
   pub counted : length done ≡ count
   pub given : H → Appends old now (flat_map frame done)
 
--- none yet
-pub given_none : (H : Type 0) (r : Recording) (first to : ℕ) (old : Option (List ℕ))
-    → Given H r first to 0 (Some first) old old
-given_none H r first to old = record { done = []; are = refl; counted = refl; given = λ h. Appends-nil old }
-
 -- one more
 pub given_more : (H : Type 0) (r : Recording) (first to count n high : ℕ) (p : Picture) (next : Option ℕ)
     (old mid new : Option (List ℕ)) → n ≤ to → RiseBetween 0 high r.frames → frame_under r.frames n ≡ Some p

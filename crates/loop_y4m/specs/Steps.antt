@@ -1,7 +1,6 @@
 -- What private functions say; no caller needs it.
 use Rattle.std.specs.Prelude.{◌≡◌, ◌≤◌, ◌<◌, ℕ, Bool, Option, Some, None, Result, Ok, Err, List, [], ◌++◌, flat_map, length, take, IfOk, IfSome, ⊤, true, false}
 use Rattle.std.specs.Io.KnownBytes.{Appends}
-use Rattle.std.specs.List.{position_or_len}
 use Rattle.loop_record.specs.Recording.{Picture, Recording, holds}
 use Rattle.loop_y4m.specs.declared.fault.ExportFault.{ExportFault}
 use Rattle.loop_y4m.specs.declared.fault.Y4mFault.{Y4mFault}
@@ -10,7 +9,7 @@ use Rattle.loop_y4m.specs.declared.header.Header.{Header}
 use Rattle.loop_y4m.specs.declared.header.Parameters.{Parameters}
 use Rattle.loop_y4m.specs.Export.{Stopped, frames_between}
 use Rattle.loop_y4m.specs.Header.{size_of_frame}
-use Rattle.loop_y4m.specs.Stream.{header_and_rest, is_newline, next_frame}
+use Rattle.loop_y4m.specs.Stream.{header_and_rest, next_frame}
 use Rattle.loop_y4m.specs.Text.{frame}
 
 -- each side that is given has its limit
@@ -26,11 +25,6 @@ abbrev pub LineIs : Result (List ℕ × List ℕ) Y4mFault → Result ℕ Y4mFau
 LineIs whole (Err Read) buf left = ⊤
 LineIs whole (Err fault) buf left = whole ≡ Err fault
 LineIs whole (Ok n) buf left = (rest : List ℕ) × (whole ≡ Ok (take n buf, rest)) × (left ≡ Some rest)
-
--- these bytes of a line came, none of them a newline, and the rest is left
-abbrev pub IsBegun : List ℕ → List ℕ → Option (List ℕ) → Type 0
-IsBegun bytes seen left =
-    (rest : List ℕ) × (bytes ≡ seen ++ rest) × (left ≡ Some rest) × (position_or_len is_newline seen ≡ length seen)
 
 -- the bytes are what the input begins with, or it is too short, which this fault answers; a reader that failed may have
 -- lost bytes
@@ -52,10 +46,6 @@ abbrev pub HeaderIs : List ℕ → Result Header Y4mFault → Option (List ℕ) 
 HeaderIs bytes (Err Read) left = ⊤
 HeaderIs bytes (Err fault) left = header_and_rest bytes ≡ Err fault
 HeaderIs bytes (Ok header) left = (rest : List ℕ) × (header_and_rest bytes ≡ Ok (header, rest)) × (left ≡ Some rest)
-
--- the writer was given all that stands before these bytes
-abbrev pub IsGiven : Option (List ℕ) → Option (List ℕ) → List ℕ → List ℕ → Type 0
-IsGiven old now bytes rest = (done : List ℕ) × (bytes ≡ done ++ rest) × Appends old now done
 
 -- ---- the export of a store
 

@@ -1,4 +1,4 @@
-//! The held frames of a store, written as a text.
+//! The held frames of a store, written as a text. docs/export.md says why it is so.
 
 ghost use Rattle.std.specs.Prelude.{◌≡◌, ◌+◌, ◌<◌, ◌≤◌, ◌^◌, IfSome, Some, false, length, true};
 ghost use Rattle.loop_disk.specs.Medium.{piece};

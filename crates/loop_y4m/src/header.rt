@@ -1,4 +1,4 @@
-//! What a stream's header line says.
+//! What a stream's header line says. docs/y4m.md says why it is so.
 
 ghost use Rattle.std.specs.Prelude.{◌≡◌, ◌≤◌, IfSome, IfOk, IsTrue};
 ghost use Rattle.loop_record.specs.Geometry.{is_good};

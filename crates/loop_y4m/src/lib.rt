@@ -15,6 +15,8 @@
 //!   that do nothing.
 //!
 //! Only `export` takes memory, for one piece of a frame.
+//!
+//! docs/y4m.md and docs/export.md say why it is so.
 #![tactic(auto)]
 
 mod exported;

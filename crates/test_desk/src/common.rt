@@ -10,7 +10,7 @@ use loop_pages::{PageHold, PageLedger};
 use loop_plane::{FdTable, Memory, MmapPlane, PlaneMemory};
 use loop_record::{Frame, Geometry, PixelFormat};
 use loop_store::{ReadFrame, Store, StoreFault, format};
-use loop_vb2::{PlaneSet, Planes, Queue, Reason, Stamp};
+use loop_vb2::{PlaneSet, Queue, Reason, Stamp};
 use std::alloc::{Allocator, Global};
 use std::mem;
 use std::process::Abort;
@@ -312,19 +312,6 @@ pub(crate) fn page<A: Allocator + Copy>(rt: &impl Abort, alloc: A) -> PageHold<A
     }
 }
 
-/// The set of three planes.
-pub(crate) fn three<P>(y: P, cb: P, cr: P) -> PlaneSet<P> {
-    PlaneSet {
-        count: 3,
-        planes: Planes {
-            y: Some(y),
-            cb: Some(cb),
-            cr: Some(cr),
-        },
-        fds: [0; 3],
-    }
-}
-
 // A plane of mapped memory.
 fn mapped<A: Allocator + Copy>(rt: &impl Abort, alloc: A) -> MmapPlane<A> {
     match MmapPlane::new(alloc, page(rt, alloc)) {
@@ -335,7 +322,7 @@ fn mapped<A: Allocator + Copy>(rt: &impl Abort, alloc: A) -> MmapPlane<A> {
 
 // A set of mapped memory.
 fn mapped_set<A: Allocator + Copy>(rt: &impl Abort, alloc: A) -> PlaneSet<MmapPlane<A>> {
-    three(mapped(rt, alloc), mapped(rt, alloc), mapped(rt, alloc))
+    PlaneSet::three(mapped(rt, alloc), mapped(rt, alloc), mapped(rt, alloc))
 }
 
 /// Two sets of mapped memory.

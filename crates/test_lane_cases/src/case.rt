@@ -5,7 +5,7 @@ use crate::camera::{self, Camera};
 use crate::desk;
 use crate::event::Supply;
 use crate::line::{Call, Verb};
-use crate::plane::{AnyPlane, mapped, three, window};
+use crate::plane::{AnyPlane, mapped, window};
 use anyhow::{Result, anyhow};
 use loop_capture::Device;
 use loop_desk::{Desk, DeskLimits, Hand, Lane};
@@ -88,7 +88,7 @@ fn desk_over<D: Disk + Drop>(alloc: Global, store: Store<D>, limits: DeskLimits)
 fn mapped_sets(alloc: Global) -> Result<Vec<PlaneSet<AnyPlane>>> {
     let mut sets = Vec::new(alloc);
     for _ in 0..2 {
-        sets.push(three(mapped(alloc)?, mapped(alloc)?, mapped(alloc)?))?;
+        sets.push(PlaneSet::three(mapped(alloc)?, mapped(alloc)?, mapped(alloc)?))?;
     }
     Ok(sets)
 }
@@ -96,7 +96,7 @@ fn mapped_sets(alloc: Global) -> Result<Vec<PlaneSet<AnyPlane>>> {
 // One set of windows of the application's.
 fn window_set(alloc: Global) -> Result<Vec<PlaneSet<AnyPlane>>> {
     let mut sets = Vec::new(alloc);
-    sets.push(three(window(alloc, 8)?, window(alloc, 2)?, window(alloc, 2)?))?;
+    sets.push(PlaneSet::three(window(alloc, 8)?, window(alloc, 2)?, window(alloc, 2)?))?;
     Ok(sets)
 }
 

@@ -4,7 +4,6 @@ ghost use Rattle.std.specs.Prelude.{◌≡◌, IfOk, length};
 use anyhow::{Result, anyhow};
 use loop_pages::{PageHold, PageLedger};
 use loop_plane::{DmabufPlane, Memory, MmapPlane, PlaneMemory, UserPlane};
-use loop_vb2::{PlaneSet, Planes};
 use std::alloc::Global;
 
 /// A plane of any kind.
@@ -100,31 +99,5 @@ pub(crate) fn shared(alloc: Global) -> Result<AnyPlane> {
     match DmabufPlane::new(alloc, page(alloc)?) {
         Ok(plane) => Ok(AnyPlane::Shared(plane)),
         Err(_) => Err(anyhow!("memory for a plane")),
-    }
-}
-
-/// The set of one plane.
-pub(crate) fn one(plane: AnyPlane) -> PlaneSet<AnyPlane> {
-    PlaneSet {
-        count: 1,
-        planes: Planes {
-            y: Some(plane),
-            cb: None,
-            cr: None,
-        },
-        fds: [0; 3],
-    }
-}
-
-/// The set of three planes.
-pub(crate) fn three(y: AnyPlane, cb: AnyPlane, cr: AnyPlane) -> PlaneSet<AnyPlane> {
-    PlaneSet {
-        count: 3,
-        planes: Planes {
-            y: Some(y),
-            cb: Some(cb),
-            cr: Some(cr),
-        },
-        fds: [0; 3],
     }
 }

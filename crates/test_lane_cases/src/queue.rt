@@ -2,7 +2,7 @@
 use crate::event::{Supply, is_of_queue, queue_event};
 use crate::line::{Call, Verb};
 use crate::lists::first_other;
-use crate::plane::{AnyPlane, mapped, one, window};
+use crate::plane::{AnyPlane, mapped, window};
 use crate::{desk, told};
 use anyhow::{Result, anyhow};
 use loop_ioctl::{QueueEvent, QueueReply, are_whole, run_events};
@@ -76,7 +76,7 @@ pub(crate) fn back(
 fn pages(alloc: Global, count: u64) -> Result<Vec<PlaneSet<AnyPlane>>> {
     let mut sets = Vec::new(alloc);
     for _ in 0..count {
-        sets.push(one(mapped(alloc)?))?;
+        sets.push(PlaneSet::one(mapped(alloc)?))?;
     }
     Ok(sets)
 }
@@ -171,7 +171,7 @@ fn fresh(case: &mut QueueCase, out: &mut Vec<u8>) -> io::Result<()> {
 
 // One more set at hand: how many there are.
 fn adds(case: &mut QueueCase, plane: AnyPlane, out: &mut Vec<u8>) -> Result<()> {
-    case.supply.sets.push(one(plane))?;
+    case.supply.sets.push(PlaneSet::one(plane))?;
     told::named(out, "sets", case.supply.sets.len() as u64)?;
     Ok(())
 }

@@ -5,7 +5,7 @@ ghost use Rattle.loop_vb2.specs.Planes.{frame_size, number_at};
 ghost use Rattle.loop_vb2.specs.State.{QueueState, StandsQueue};
 
 use loop_plane::PlaneMemory;
-use loop_vb2::{Queue, Stamp};
+use loop_vb2::{PlaneSet, Queue, Stamp};
 
 /// Completes a buffer with a frame, dequeues it, and reads its first plane. True says that `out` has the first
 /// bytes of the frame; false, that a call was refused, or that another buffer was to be dequeued first. `bytes`
@@ -35,7 +35,7 @@ pub fn read_back(queue: &mut Queue, index: u32, stamp: Stamp, bytes: &[u8], out:
 #[cfg(test)]
 use crate::asserts::holds;
 #[cfg(test)]
-use crate::common::{one, page};
+use crate::common::page;
 #[cfg(test)]
 use loop_pages::PageLedger;
 #[cfg(test)]
@@ -55,7 +55,7 @@ fn a_frame_passes_through_a_queue_of_boxes(rt: HostRuntime) -> Result<(), Fail> 
     };
     let plane: Box<dyn PlaneMemory + Send> = Box::new(alloc, plane)?;
     let mut supply = Vec::new(alloc);
-    supply.push(one(plane))?;
+    supply.push(PlaneSet::one(plane))?;
     let mut queue = Queue::new(alloc, PixelFormat::Grey, 8, 8, 1);
     let stamp = Stamp {
         sequence: 0,

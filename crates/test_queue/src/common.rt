@@ -9,7 +9,7 @@ use bitflags::Flags;
 use loop_pages::{PageHold, PageLedger, PageSeat};
 use loop_plane::{Memory, MmapPlane, PlaneMemory};
 use loop_record::PixelFormat;
-use loop_vb2::{Errno, PlaneSet, Planes, Queue, Reason, Stamp};
+use loop_vb2::{Errno, PlaneSet, Queue, Reason, Stamp};
 use std::alloc::{Allocator, Global};
 use std::marker::Model;
 use std::process::Abort;
@@ -33,19 +33,6 @@ pub(crate) fn page<A: Allocator + Copy>(
     }
 }
 
-/// The set of one plane.
-pub(crate) fn one<P>(plane: P) -> PlaneSet<P> {
-    PlaneSet {
-        count: 1,
-        planes: Planes {
-            y: Some(plane),
-            cb: None,
-            cr: None,
-        },
-        fds: [0; 3],
-    }
-}
-
 /// Puts a set of one page behind the others, and gives the seat for the next.
 pub(crate) fn supplied<A: Allocator + Copy>(
     rt: &impl Abort,
@@ -61,7 +48,7 @@ pub(crate) fn supplied<A: Allocator + Copy>(
     let Ok(plane) = MmapPlane::new(alloc, hold) else {
         panic!(rt; "memory for a plane")
     };
-    let Ok(()) = supply.push(one(plane)) else {
+    let Ok(()) = supply.push(PlaneSet::one(plane)) else {
         panic!(rt; "memory for a list of sets")
     };
     next

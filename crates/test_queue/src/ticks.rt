@@ -6,13 +6,12 @@ ghost use Rattle.loop_pages.specs.Place.{IsIdle};
 
 use self::Step::{Starts, Stops, Takes, Ticks};
 use crate::asserts::{holds, same};
-use crate::common::one;
 use crate::listed::{Frame, Lender, Listed, round};
 use loop_capture::{Device, FrameSource, Next, Pattern, Tick, Y4mSource};
 use loop_pages::{PageLedger, PageSeat};
 use loop_plane::{Memory, MmapPlane};
 use loop_record::PixelFormat;
-use loop_vb2::{PlaneSet, Planes, Queue};
+use loop_vb2::{PlaneSet, Queue};
 use loop_y4m::Y4mReader;
 use std::alloc::{AllocError, Global};
 use std::process::Abort;
@@ -103,7 +102,7 @@ fn one_pixel(rt: &impl Abort, alloc: Global) -> Result<Queue<MmapPlane>, Fail> {
     let (ledger, seat) = PageLedger::new(alloc, 1)?;
     let plane = plane(alloc, &ledger, seat)?;
     let mut queue: Queue<MmapPlane> = Queue::new(alloc, PixelFormat::Grey, 1, 1, 1);
-    requests(rt, alloc, &mut queue, one(plane))?;
+    requests(rt, alloc, &mut queue, PlaneSet::one(plane))?;
     Ok(queue)
 }
 
@@ -184,15 +183,11 @@ fn three_planes(rt: &impl Abort, alloc: Global) -> Result<Queue<MmapPlane>, Fail
     let (ledger, seat) = PageLedger::new(alloc, 3)?;
     let (first, rest) = ledger.split(seat);
     let (second, third) = ledger.split(rest);
-    let set = PlaneSet {
-        count: 3,
-        planes: Planes {
-            y: Some(plane(alloc, &ledger, first)?),
-            cb: Some(plane(alloc, &ledger, second)?),
-            cr: Some(plane(alloc, &ledger, third)?),
-        },
-        fds: [0; 3],
-    };
+    let set = PlaneSet::three(
+        plane(alloc, &ledger, first)?,
+        plane(alloc, &ledger, second)?,
+        plane(alloc, &ledger, third)?,
+    );
     let mut queue: Queue<MmapPlane> = Queue::new(alloc, PixelFormat::Ym12, 4, 2, 1);
     requests(rt, alloc, &mut queue, set)?;
     Ok(queue)

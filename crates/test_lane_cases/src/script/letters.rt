@@ -2,7 +2,7 @@
 use super::cell::Cell;
 use loop_ioctl::{BufferMemory, BufferType, Ioctl, PlaneFds, QueueEvent};
 use loop_plane::Memory;
-use loop_vb2::{PlaneSet, Planes, Stamp};
+use loop_vb2::{PlaneSet, Stamp};
 use std::alloc::{AllocError, Global};
 
 // The buffer type of the queue.
@@ -10,19 +10,11 @@ const GREY: BufferType = BufferType::VideoCapture;
 
 /// The set of one plane of this kind.
 pub(crate) fn set(kind: Memory, short: bool) -> PlaneSet<Cell> {
-    PlaneSet {
-        count: 1,
-        planes: Planes {
-            y: Some(Cell {
-                kind,
-                short,
-                byte: None,
-            }),
-            cb: None,
-            cr: None,
-        },
-        fds: [0; 3],
-    }
+    PlaneSet::one(Cell {
+        kind,
+        short,
+        byte: None,
+    })
 }
 
 /// So many sets of MMAP planes.

@@ -10,4 +10,5 @@ returns-clause-disk g c = λ honest.
     read_and_written c.args.at (length c.args.chunk.now) c.read.new.buf (g.D.Disk.medium c.args.disk.now)
     (g.D.Disk.medium c.read.new.self) (g.D.Disk.medium c.write_at.new.self) c.write_at.result fits
     (read_present _ _ (g.met.D.Disk.sound c.read.new.self (c.in_ok-read.ensures.called.honest.0 honest))
-    (c.in_ok-read.ensures.disk honest) c.in_ok-read.ensures.gives) (c.in_ok-read.ensures.disk honest) (c.write_at.ensures.disk (c.in_ok-read.ensures.called.honest.0 honest))
+    (c.in_ok-read.ensures.disk honest) c.in_ok-read.ensures.gives) (c.in_ok-read.ensures.disk honest)
+    (c.write_at.ensures.disk (c.in_ok-read.ensures.called.honest.0 honest))

@@ -10,6 +10,8 @@ returns-clause-keeps g c =
     (record { device = c.args.begun.device.value; queue = c.args.begun.queue.value; desk = c.args.back.began })
     (record { device = c.args.front.device; queue = c.args.front.queue; desk = d })
     (c.into_parts-desk.result.given_up + c.slots_beside-left.result)) (sym c.into_parts-desk.ensures.desk)
-    (ends g.D.Disk.medium g.S.FrameSource.next_gives g.P.PlaneMemory.plane (made_of c.args.begun) c.args.back _ _ c.args.front.to c.slots_beside-left.new.producer
+    (ends g.D.Disk.medium g.S.FrameSource.next_gives g.P.PlaneMemory.plane (made_of c.args.begun) c.args.back _ _
+    c.args.front.to c.slots_beside-left.new.producer
     c.into_parts-desk.result.from c.slots_beside-left.new.self _ _ c.requires.front.keeps
-    c.into_parts-desk.ensures.keeps c.slots_beside-left.ensures.producer c.slots_beside-left.ensures.looked c.slots_beside-left.ensures.fifo c.slots_beside-left.ensures.value)
+    c.into_parts-desk.ensures.keeps c.slots_beside-left.ensures.producer c.slots_beside-left.ensures.looked
+    c.slots_beside-left.ensures.fifo c.slots_beside-left.ensures.value)

@@ -15,7 +15,8 @@ returns-then-not-has_open g c =
             ap (λ (l : List ℕ). is_open l i) (c.in_ok-read.ensures.disk honest).bytes
             ∙ closed_as_read c.args.at c.args.count old _
             (omega (arith, (g.met.D.Disk.sound c.args.disk.now honest).length_is, c.requires.inside))
-            (read_front c.args.at c.args.count old _ c.requires.few (read_present _ _ (g.met.D.Disk.sound c.read.new.self (c.in_ok-read.ensures.called.honest.0 honest))
+            (read_front c.args.at c.args.count old _ c.requires.few
+            (read_present _ _ (g.met.D.Disk.sound c.read.new.self (c.in_ok-read.ensures.called.honest.0 honest))
             (c.in_ok-read.ensures.disk honest) c.in_ok-read.ensures.gives))
             (sym c.has_open.ensures ∙ c.if-not-has_open.true) i low high,
       );

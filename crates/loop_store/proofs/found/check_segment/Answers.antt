@@ -31,7 +31,12 @@ inside : (g : Over) (c : goal.In_ok-time g)
     → c.args.found.segment * c.args.geometry.now.slots + c.loop-slot.slot < length c.loop-slot.times
 inside g c =
     let h = c.args.geometry.now in
-    omega (arith, place-within h.segments h.slots c.args.found.segment c.loop-slot.slot c.requires.segment (low g c), c.requires.room, c.loop-slot.invariant.room)
+    omega (
+      arith,
+      place-within h.segments h.slots c.args.found.segment c.loop-slot.slot c.requires.segment (low g c),
+      c.requires.room,
+      c.loop-slot.invariant.room,
+    )
 
 pub loop-slot-preserved : goal.loop-slot-preserved
 loop-slot-preserved g c =

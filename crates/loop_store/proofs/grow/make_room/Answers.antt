@@ -19,7 +19,8 @@ returns-in-Newest g c =
     let m = g.D.Disk.medium c.args.disk.now in record {
       moments = λ r is honest held. unmoved-some _ h r _ (g.met.D.Disk.sound c.args.disk.now honest) (c.requires.settled honest) held;
       held = λ r is honest held.
-          let at = known-newest h c.args.index.now.table.keep r c.args.next c.in-Newest.field-0 c.args.place m.bytes c.in-Newest.is c.requires.segment (c.requires.known honest) held is in
+          let at = known-newest h c.args.index.now.table.keep r c.args.next c.in-Newest.field-0 c.args.place m.bytes
+          c.in-Newest.is c.requires.segment (c.requires.known honest) held is in
           subst (λ (steps : List Step). Holds h (plain (ring_of h) r steps) m.bytes) (sym at.steps) held;
       such = λ honest.
           let known = c.requires.known honest in
@@ -37,10 +38,12 @@ returns-in-Closed g c =
     let old = g.D.Disk.medium c.args.disk.now in
     let new = g.D.Disk.medium c.begin.new.disk in record {
       moments = λ r is honest held.
-          let at = known-closed h c.args.index.now.table.keep r c.args.next c.in-Closed.segment c.args.place old.bytes c.in-Closed.is (c.requires.known honest) held is in
+          let at = known-closed h c.args.index.now.table.keep r c.args.next c.in-Closed.segment c.args.place old.bytes
+          c.in-Closed.is (c.requires.known honest) held is in
           subst (λ (steps : List Step). LeavesOnly old new (HoldsSome h r steps)) (sym at.steps) (c.begin.ensures.moments r is honest held);
       held = λ r is honest held.
-          let at = known-closed h c.args.index.now.table.keep r c.args.next c.in-Closed.segment c.args.place old.bytes c.in-Closed.is (c.requires.known honest) held is in
+          let at = known-closed h c.args.index.now.table.keep r c.args.next c.in-Closed.segment c.args.place old.bytes
+          c.in-Closed.is (c.requires.known honest) held is in
           subst (λ (steps : List Step). OnOk c.begin.result (Holds h (plain (ring_of h) r steps) new.bytes))
           (sym at.steps) (c.begin.ensures.held r is honest held);
       such = λ honest.

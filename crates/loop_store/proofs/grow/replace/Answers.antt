@@ -57,7 +57,8 @@ returns g c =
       moments = λ r is honest held.
           let now = c.retire.ensures.called.honest.0 honest in
           let gone = goes h c.args.index.now.table.keep r c.args.next j old.bytes (c.requires.known honest) held in
-          let gap = retired-held h c.args.index.now.table.keep r gone.block j old.bytes mid.bytes held c.requires.segment gone.chosen gone.is (c.in_ok-retire.ensures.such honest) in
+          let gap = retired-held h c.args.index.now.table.keep r gone.block j old.bytes mid.bytes held
+          c.requires.segment gone.chosen gone.is (c.in_ok-retire.ensures.such honest) in
           subst (λ (steps : List Step). LeavesOnly old new (HoldsSome h r steps)) (sym gone.steps)
           (steps-joined h r (recycle gone.block ∷ []) [] old mid new
           (weaker _ _ _ _ (c.retire.ensures.moments honest)
@@ -67,7 +68,8 @@ returns g c =
       held = λ r is honest held.
           let now = c.retire.ensures.called.honest.0 honest in
           let gone = goes h c.args.index.now.table.keep r c.args.next j old.bytes (c.requires.known honest) held in
-          let gap = retired-held h c.args.index.now.table.keep r gone.block j old.bytes mid.bytes held c.requires.segment gone.chosen gone.is (c.in_ok-retire.ensures.such honest) in
+          let gap = retired-held h c.args.index.now.table.keep r gone.block j old.bytes mid.bytes held
+          c.requires.segment gone.chosen gone.is (c.in_ok-retire.ensures.such honest) in
           subst (λ (steps : List Step). OnOk c.begin.result (Holds h (plain (ring_of h) r steps) new.bytes)) (sym gone.steps)
           (c.begin.ensures.held (after_step (ring_of h) r (recycle gone.block)) is now gap);
       such = λ honest.

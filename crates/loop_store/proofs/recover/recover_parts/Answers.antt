@@ -159,7 +159,9 @@ returns-clause-finds g c = record {
       stays_on _ _ _ (stays_on _ _ _ (c.in_ok-heads.ensures.finds.stays honest)
       (c.in_ok-check_slots.ensures.finds.stays second))
       (c.in_ok-clips.ensures.finds.stays (c.in_ok-check_slots.ensures.finds.called.honest.0 second));
-  called = called_on _ _ _ None (called_on _ _ _ None c.in_ok-heads.ensures.finds.called c.in_ok-check_slots.ensures.finds.called) c.in_ok-clips.ensures.finds.called;
+  called = called_on _ _ _ None
+      (called_on _ _ _ None c.in_ok-heads.ensures.finds.called c.in_ok-check_slots.ensures.finds.called)
+      c.in_ok-clips.ensures.finds.called;
 }
 
 pub returns-clause-known : goal.returns-clause-known

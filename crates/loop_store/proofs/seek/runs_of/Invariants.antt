@@ -5,5 +5,8 @@ use Rattle.loop_store.proofs.seek.runs_of.Given as goal
 
 -- the runs so far
 abbrev pub invariant-loop-number : goal.invariant-loop-number
-invariant-loop-number g l = Rise l.numbers → RunsSoFar (λ n. is_in l.fn.times (time_under l.fn.index.ring.geometry.slots l.fn.index.table.heads l.fn.index.times.items n))
+invariant-loop-number g l =
+    Rise l.numbers → RunsSoFar
+    (λ n. is_in l.fn.times
+    (time_under l.fn.index.ring.geometry.slots l.fn.index.table.heads l.fn.index.times.items n))
     l.numbers l.number-index l.runs.items

@@ -1,5 +1,5 @@
 use Rattle.std.proofs.Common.{◌-◌, ◌≡◌, ◌≤◌, length, take, IfSome, ◌++◌}
-use Rattle.loop_y4m.specs.Steps.{IsBegun}
+use Rattle.loop_y4m.proofs.Lines.{IsBegun}
 use Rattle.loop_y4m.proofs.input.next_line.Given as goal
 
 -- the bytes so far have begun the line

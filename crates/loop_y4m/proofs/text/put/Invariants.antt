@@ -1,4 +1,4 @@
-use Rattle.loop_y4m.specs.Steps.{IsGiven}
+use Rattle.loop_y4m.proofs.PartWrites.{IsGiven}
 use Rattle.loop_y4m.proofs.text.put.Given as goal
 
 -- what isn't left was written

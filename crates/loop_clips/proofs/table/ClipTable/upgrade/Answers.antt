@@ -25,10 +25,12 @@ returns g c =
     let room : 2560 ≤ mid.size = omega (arith, cleared.called.size, c.requires.extent) in record {
       moments = λ honest.
           let there = cleared.called.honest.0 honest in
-          opened-moments old mid _ c.store.result (c.requires.version honest) (sound there) (cleared.moments honest) (cleared.such honest) (cleared.settled honest) (c.store.ensures.disk there);
+          opened-moments old mid _ c.store.result (c.requires.version honest) (sound there) (cleared.moments honest)
+          (cleared.such honest) (cleared.settled honest) (c.store.ensures.disk there);
       such = λ honest.
           let there = cleared.called.honest.0 honest in
-          opened-ok old mid _ c.store.result (c.requires.version honest) room (sound there) (cleared.moments honest) (cleared.such honest) (c.store.ensures.disk there);
+          opened-ok old mid _ c.store.result (c.requires.version honest) room (sound there) (cleared.moments honest)
+          (cleared.such honest) (c.store.ensures.disk there);
       settled = λ honest. (c.store.ensures.disk (cleared.called.honest.0 honest)).settled;
       fault = c.store.ensures.fault;
       called = called_on old mid _ _ cleared.called c.store.ensures.called;

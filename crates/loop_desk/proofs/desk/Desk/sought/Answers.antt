@@ -11,7 +11,8 @@ returns-clause-goes g c =
     let s = c.self.inside in
     let d : SeenDesk g.row.D.Denot = record { store = s.store; pending = pictures s.pending.items; limits = s.limits } in
     subst (λ (v : SeenDesk g.row.D.Denot). IfOk c.sought.result (λ runs. DeskGoes g.D.Disk.medium v v (runs_told c.args.times 0 runs.items)))
-    c.self.view_is (goes-sought g.D.Disk.medium d (λ runs. runs.items) c.args.times c.sought.result c.sought.ensures (λ now. g.met.D.Disk.sound s.store.disk now))
+    c.self.view_is (goes-sought g.D.Disk.medium d (λ runs. runs.items) c.args.times c.sought.result c.sought.ensures
+    (λ now. g.met.D.Disk.sound s.store.disk now))
 
 pub returns-clause-refused : goal.returns-clause-refused
 returns-clause-refused g c =

@@ -6,4 +6,5 @@ pub invariant_of-self : goal.invariant_of-self
 invariant_of-self g c =
     let before = c.self.invariant in
     moved g.S.FrameSource.next_gives g.P.PlaneMemory.plane _ _ _ _ _ _ _ _ _ _ before
-    (put-adds g.S.FrameSource.next_gives g.P.PlaneMemory.plane _ _ _ _ _ _ _ before.now c.requeue.result c.requeue.ensures.shape before.free before.stands c.requeue.ensures.turn)
+    (put-adds g.S.FrameSource.next_gives g.P.PlaneMemory.plane _ _ _ _ _ _ _ before.now c.requeue.result
+    c.requeue.ensures.shape before.free before.stands c.requeue.ensures.turn)

@@ -6,4 +6,5 @@ pub invariant_of-self : goal.invariant_of-self
 invariant_of-self g c =
     let before = c.self.invariant in
     moved g.S.FrameSource.next_gives g.P.PlaneMemory.plane _ _ _ _ _ _ _ _ _ _ before
-    (tick-adds g.S.FrameSource.next_gives g.P.PlaneMemory.plane _ c.args.now _ _ _ _ _ _ c.tick.result before.now c.tick.ensures.shape before.free before.stands c.tick.ensures.tick)
+    (tick-adds g.S.FrameSource.next_gives g.P.PlaneMemory.plane _ c.args.now _ _ _ _ _ _ c.tick.result before.now
+    c.tick.ensures.shape before.free before.stands c.tick.ensures.tick)

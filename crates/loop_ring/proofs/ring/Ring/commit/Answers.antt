@@ -9,8 +9,8 @@ use Rattle.loop_record.proofs.Parts.{apart}
 use Rattle.std.specs.Borrow.{Bor}
 use Rattle.loop_disk.specs.Rows.{joined}
 use Rattle.loop_ring.proofs.AnswerPairs.{both_ok}
-use Rattle.loop_ring.specs.Writes.{HasNoStray, IsGroup, slots_in, slots_of}
-use Rattle.loop_ring.proofs.Commits.{AreGates, IsReady, slots_end, commit_moments, commit_ok, CanCommit, commit_stray_done, is_group}
+use Rattle.loop_ring.specs.Writes.{HasNoStray, slots_in, slots_of}
+use Rattle.loop_ring.proofs.Commits.{AreGates, IsGroup, IsReady, slots_end, commit_moments, commit_ok, CanCommit, commit_stray_done, is_group}
 use Rattle.loop_ring.proofs.ring.Ring.commit.Goals as goal
 
 abbrev gates_8 : List ℕ
@@ -115,7 +115,8 @@ returns g c =
     old.bytes c.len-count.ensures.few (can honest) group c.slot_at-at.ensures c.gate_at-gate.ensures in record {
       moments = λ honest. commit_moments _ _ _ _ _ _ _ _ _ _ _ _ (made honest) (c.store_rows_in_turn.ensures.disk honest);
       such = λ honest.
-          both_ok c.store_rows_in_turn.result (λ shows stray. (shows, stray)) (commit_ok _ _ _ _ _ _ _ _ _ _ _ _ (made honest) (c.store_rows_in_turn.ensures.disk honest))
+          both_ok c.store_rows_in_turn.result (λ shows stray. (shows, stray))
+          (commit_ok _ _ _ _ _ _ _ _ _ _ _ _ (made honest) (c.store_rows_in_turn.ensures.disk honest))
           (commit_stray_done h j c.args.first_slot n _ _ _ _ _ _ _ c.slot_at-at.ensures c.gate_at-gate.ensures
           (can honest) (are_gates n c.len-count.ensures.few) (c.store_rows_in_turn.ensures.disk honest));
       settled = λ honest. (c.store_rows_in_turn.ensures.disk honest).settled;
