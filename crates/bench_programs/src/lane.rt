@@ -18,10 +18,10 @@ use std::env::Args;
 use std::fs::File;
 use std::rt::Files;
 
-/// The buffer type of the queue.
+// The buffer type of the queue.
 const GREY: BufferType = BufferType::VideoCapture;
 
-/// The pages of the ledger that both buffers are claimed from.
+// The pages of the ledger that both buffers are claimed from.
 const PAGES: u32 = 1024;
 
 /// A lane to a store, from mapped memory.

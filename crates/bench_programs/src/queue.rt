@@ -15,7 +15,7 @@ use std::io;
 use std::rt::Clock;
 use std::time::Instant;
 
-/// A queue of one buffer, which is streaming, and the frame that goes through it.
+// A queue of one buffer, which is streaming, and the frame that goes through it.
 #[derive(Drop)]
 struct Stream {
     queue: Queue<MmapPlane>,

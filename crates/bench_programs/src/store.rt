@@ -12,7 +12,7 @@ use std::env::Args;
 use std::fs::File;
 use std::rt::Files;
 
-/// The most frames of a group.
+// The most frames of a group.
 const MAX_GROUP: usize = 8;
 
 /// The geometry that the next words name, of one frame a second.

@@ -15,7 +15,7 @@ pub(crate) struct Window<A: Allocator> {
 }
 
 impl<A: Allocator> Window<A> {
-    // Copies the bytes from `at` on that it holds to the beginning of a buffer, and tells how many these are.
+    /// Copies the bytes from `at` on that it holds to the beginning of a buffer, and tells how many these are.
     pub(crate) fn give(&self, at: u64, buf: &mut [u8]) -> usize
         requires { self.now.held ≤ length self.now.bytes.items }
         ensures few { result ≤ length buf.old }
@@ -113,7 +113,7 @@ fn fill<D: Disk>(disk: &mut D, buf: &mut [u8], at: u64, count: usize) -> Result<
     disk.read(at, &mut buf[..count])
 }
 
-// Reads the bytes from `at` on: by way of the window where they are at most half of it.
+/// Reads the bytes from `at` on: by way of the window where they are at most half of it.
 pub(crate) fn read_by<D: Disk, A: Allocator>(
     disk: &mut D,
     window: &mut Window<A>,

@@ -155,7 +155,7 @@ fn free_place(clips: &[Option<Span>]) -> Option<usize>
     clips.iter().position(|clip| clip.is_none())
 }
 
-// Where the entry of an id lies on a disk.
+/// Where the entry of an id lies on a disk.
 pub(crate) fn entry_place(id: u32) -> u64
     requires { id < 64 }
     ensures { result ≡ clip_at id }

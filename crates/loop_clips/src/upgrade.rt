@@ -13,7 +13,7 @@ use crate::table::entry_place;
 use loop_disk::{Disk, DiskFault, store};
 use loop_record::{OPEN, Span, VERSION_GATE};
 
-/// Where the tag stands in an entry.
+// Where the tag stands in an entry.
 const TAG: u64 = 24;
 
 // Writes zeros in the place of the tag of an id.

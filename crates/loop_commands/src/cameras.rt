@@ -30,7 +30,7 @@ pub enum Unrecorded {
     Refused(StoreFault),
 }
 
-/// Want of memory, or of threads.
+// Want of memory, or of threads.
 const NO_MEMORY: Unrecorded = Unrecorded::Refused(StoreFault::NoMemory);
 
 impl From<AllocError> for Unrecorded {
@@ -39,16 +39,16 @@ impl From<AllocError> for Unrecorded {
     }
 }
 
-/// A camera of a source before a store in a file.
+// A camera of a source before a store in a file.
 type FileCamera = Camera<RecordSource, FileDisk, MmapPlane>;
 
-/// What came of filming it.
+// What came of filming it.
 type Filmed = Result<
     Ended<RecordSource, FileDisk, MmapPlane>,
     Unfilmed<RecordSource, FileDisk, MmapPlane>,
 >;
 
-/// Where the cameras wait until each has begun.
+// Where the cameras wait until each has begun.
 #[derive(Drop)]
 struct Gate {
     cameras: u32,
@@ -87,8 +87,8 @@ impl Gate {
     }
 }
 
-/// What the threads of a camera share: so many ticks at the rate of its store, once each camera has begun, and no flush
-/// behind one that was refused.
+// What the threads of a camera share: so many ticks at the rate of its store, once each camera has begun, and no flush
+// behind one that was refused.
 #[derive(Drop)]
 struct Post {
     link: Link,

@@ -10,7 +10,7 @@ use std::io::{Result, Write};
 pub struct EvenWriter<W> {
     inner: W,
     at_once: usize,
-    // How many bytes lead to the next multiple.
+    /// How many bytes lead to the next multiple.
     left: usize,
 }
 

@@ -19,18 +19,18 @@ use std::os::unix::fs::MetadataExt;
 use std::rt::Files;
 use std::{fs, io};
 
-/// How many bytes of a store are fetched at once where an export reads on.
+// How many bytes of a store are fetched at once where an export reads on.
 const READ_AHEAD: usize = 65_536;
 
-/// The program's own output as a path.
+// The program's own output as a path.
 const OWN_OUTPUT: &str = "/dev/stdout";
 
-/// Where the text of an export goes.
+// Where the text of an export goes.
 #[derive(Drop)]
 enum Opened {
-    /// Through the program's own output, in front of what is printed. Where that is a file, its lock is held.
+    // Through the program's own output, in front of what is printed. Where that is a file, its lock is held.
     Own(Option<TextFile>),
-    /// Elsewhere.
+    // Elsewhere.
     Apart(TextFile),
 }
 
@@ -53,16 +53,16 @@ impl Beneath for Option<TextFile> {
     }
 }
 
-/// Why a command wasn't done, or not to its end.
+// Why a command wasn't done, or not to its end.
 #[derive(Drop)]
 enum Undone<'a> {
-    /// The file of this path can't be opened, or not made.
+    // The file of this path can't be opened, or not made.
     CannotOpen(&'a str),
-    /// The file or pipe of this path can't be opened for the text, or it can't be written to its end.
+    // The file or pipe of this path can't be opened for the text, or it can't be written to its end.
     CannotWrite(&'a str),
-    /// The store refused.
+    // The store refused.
     Refused(StoreFault),
-    /// What was done couldn't be printed.
+    // What was done couldn't be printed.
     Write(Error),
 }
 

@@ -24,7 +24,7 @@ use std::alloc::Allocator;
 use std::io;
 use std::io::{BufWriter, Write};
 
-/// How many bytes of a text are gathered before they are written to its file.
+// How many bytes of a text are gathered before they are written to its file.
 const TEXT_AT_ONCE: usize = 262_144;
 
 /// What a command answered, and whether what tells it could be printed. Of a refusal nothing is printed.

@@ -17,13 +17,13 @@ use std::sync::Wait;
 use std::thread::Threads;
 use std::time::Clock;
 
-/// The status of a run that was refused, or that couldn't be read or printed to its end.
+// The status of a run that was refused, or that couldn't be read or printed to its end.
 const FAILED: u8 = 1;
 
-/// The status of a run whose words can't be read.
+// The status of a run whose words can't be read.
 const BAD_WORDS: u8 = 2;
 
-/// The commands of the program.
+// The commands of the program.
 const COMMANDS: [&str; 8] = [
     "simulate", "format", "record", "list", "lock", "unlock", "upgrade", "export",
 ];

@@ -22,22 +22,22 @@ use std::sync::Wait;
 use std::thread::Threads;
 use std::time::Clock;
 
-/// The source that is a pattern, and no file.
+// The source that is a pattern, and no file.
 const PATTERN: &str = "-";
 
-/// How many bytes of a source are fetched at once: as many as a pipe holds.
+// How many bytes of a source are fetched at once: as many as a pipe holds.
 const SOURCE_AT_ONCE: usize = 65_536;
 
-/// Why nothing was recorded, or what was recorded not printed.
+// Why nothing was recorded, or what was recorded not printed.
 #[derive(Drop)]
 enum NotRecorded<'a> {
-    /// The file or pipe of this path can't be opened, or what it begins with isn't the header of a source.
+    // The file or pipe of this path can't be opened, or what it begins with isn't the header of a source.
     CannotOpen(&'a str),
-    /// The buffers of a camera of the store in this file need more pages than there are.
+    // The buffers of a camera of the store in this file need more pages than there are.
     CannotRecord(&'a str),
-    /// A store can't be opened, or memory was refused.
+    // A store can't be opened, or memory was refused.
     Refused(StoreFault),
-    /// What was recorded couldn't be printed.
+    // What was recorded couldn't be printed.
     Write(Error),
 }
 

@@ -12,18 +12,18 @@ use std::alloc::Allocator;
 use std::io::{BufReader, BufWriter, Error, Read, Write};
 use std::{io, str};
 
-/// The most lines of a script.
+// The most lines of a script.
 const MAX_LINES: u32 = 1_000_000;
 
-/// How many bytes of a frame `read` prints.
+// How many bytes of a frame `read` prints.
 const SHOWN_BYTES: usize = 8;
 
-/// Why a script ends before its last line.
+// Why a script ends before its last line.
 #[derive(Drop)]
 enum ScriptFault {
-    /// The line of this number, from 1, can't be read.
+    // The line of this number, from 1, can't be read.
     BadLine(u32),
-    /// What was printed couldn't be written.
+    // What was printed couldn't be written.
     Write(Error),
 }
 

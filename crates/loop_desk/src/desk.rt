@@ -42,7 +42,7 @@ impl<D: Disk + Drop, A: Allocator> Model for Desk<D, A> {
     ghost invariant = { λ d. IsDesk d.store d.limits d.pending };
 }
 
-/// Takes out the first `count` frames that wait, and puts their memory aside.
+// Takes out the first `count` frames that wait, and puts their memory aside.
 fn set_aside<A: Allocator>(
     pending: &mut HeapCircularBuffer<Frame<A>, A>,
     spare: &mut HeapCircularBuffer<Vec<u8, A>, A>,
@@ -97,7 +97,7 @@ impl<D: Disk + Drop, A: Allocator> Desk<D, A> {
         self.spare.push_back(bytes);
     }
 
-    /// Memory for the frame of a number, where that is held and there is some to spare.
+    // Memory for the frame of a number, where that is held and there is some to spare.
     fn spare_for(&mut self, number: u64) -> Option<Vec<u8, A>>
         ensures { self.new ≡ self.old }
     {
@@ -131,7 +131,7 @@ impl<D: Disk + Drop, A: Allocator> Desk<D, A> {
         self.limits
     }
 
-    /// The number that a frame will have, or why it isn't taken in.
+    // The number that a frame will have, or why it isn't taken in.
     fn number_for(&self, frame: &Frame<A>) -> Result<u64, StoreFault>
         ensures answer { (s : DeskState) → TellsDesk self.now s
             → result ≡ submit_answer (rules_of self.now) s (length frame.now.bytes.items) }

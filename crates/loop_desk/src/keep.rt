@@ -22,7 +22,7 @@ pub struct Kept<A: Allocator = Global> {
     pub fault: Option<StoreFault>,
 }
 
-/// Locks runs with a tag, from the first on, and tells each clip.
+// Locks runs with a tag, from the first on, and tells each clip.
 fn lock_runs<D: Disk + Drop, A: Allocator + Copy>(
     desk: &mut Desk<D, A>,
     tag: u64,
@@ -43,7 +43,7 @@ fn lock_runs<D: Disk + Drop, A: Allocator + Copy>(
     Ok(())
 }
 
-/// What was locked before a refusal.
+// What was locked before a refusal.
 fn refused<A: Allocator>(clips: Vec<Clip, A>, fault: StoreFault) -> Kept<A>
     ensures { result ≡ record { clips = clips; fault = Some fault } }
 {

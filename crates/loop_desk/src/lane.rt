@@ -32,7 +32,7 @@ pub struct Lane<D: Disk + Drop, P = Box<dyn PlaneMemory + Send>, A: Allocator + 
     pub desk: Desk<D, A>,
 }
 
-/// Whether an event is the ioctl DQBUF of a queue of this format.
+// Whether an event is the ioctl DQBUF of a queue of this format.
 fn is_dequeue<P, A: Allocator>(format: PixelFormat, event: &QueueEvent<P, A>) -> bool
     ensures { result ≡ is_dequeue format event.now }
 {
@@ -42,7 +42,7 @@ fn is_dequeue<P, A: Allocator>(format: PixelFormat, event: &QueueEvent<P, A>) ->
     }
 }
 
-/// Gives the hand's frame to the desk; a refused one stays in the hand. `HandEmpty` where there is none.
+// Gives the hand's frame to the desk; a refused one stays in the hand. `HandEmpty` where there is none.
 fn submit<D: Disk + Drop, P: PlaneMemory, A: Allocator + Copy>(
     hand: &mut Hand<P, A>,
     desk: &mut Desk<D, A>,
@@ -79,7 +79,7 @@ fn submit<D: Disk + Drop, P: PlaneMemory, A: Allocator + Copy>(
     }
 }
 
-/// DQBUF into the hand, with memory that the desk keeps.
+// DQBUF into the hand, with memory that the desk keeps.
 fn dequeues<D: Disk + Drop, P: PlaneMemory, A: Allocator + Copy>(
     alloc: A,
     lane: &mut Lane<D, P, A>,
@@ -95,7 +95,7 @@ fn dequeues<D: Disk + Drop, P: PlaneMemory, A: Allocator + Copy>(
     answer
 }
 
-/// Does one event.
+// Does one event.
 fn answer<D: Disk + Drop, P: PlaneMemory, A: Allocator + Copy>(
     alloc: A,
     lane: &mut Lane<D, P, A>,

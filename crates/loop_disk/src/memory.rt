@@ -17,7 +17,7 @@ use std::alloc::{AllocError, Allocator, Global};
 #[derive(Drop)]
 pub struct MemDisk<A: Allocator = Global> {
     bytes: Vec<u8, A>,
-    // Its writes and syncs. It takes no memory: proofs alone read it.
+    /// Its writes and syncs. It takes no memory: proofs alone read it.
     past: Past,
 }
 
@@ -145,7 +145,7 @@ impl<A: Allocator> Disk for MemDisk<A> {
     }
 }
 
-// Puts bytes in their place.
+/// Puts bytes in their place.
 pub(crate) fn put<A: Allocator>(image: &mut Vec<u8, A>, at: u64, bytes: &[u8])
     requires { at + length bytes.now ≤ length image.old.items }
     ensures { image.new.items ≡ with_bytes_at at bytes.now image.old.items }

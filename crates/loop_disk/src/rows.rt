@@ -28,7 +28,7 @@ pub fn join_rows<A: Allocator>(alloc: A, rows: &[&[u8]]) -> Result<Vec<u8, A>, A
     Ok(bytes)
 }
 
-// Puts rows in their place.
+/// Puts rows in their place.
 pub(crate) fn put_rows<A: Allocator>(image: &mut Vec<u8, A>, at: u64, rows: &[&[u8]])
     requires { at + length (joined rows.now) ≤ length image.old.items }
     ensures { image.new.items ≡ with_bytes_at at (joined rows.now) image.old.items }

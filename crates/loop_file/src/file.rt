@@ -30,7 +30,7 @@ pub struct FileDisk<F = File> {
     file: F,
     size: u64,
     failures: Failures,
-    // What its reads gave since its last write. It takes no memory: proofs alone read it.
+    /// What its reads gave since its last write. It takes no memory: proofs alone read it.
     given: Given,
 }
 
@@ -57,7 +57,7 @@ impl FileDisk {
         Ok(FileDisk::over(file)?)
     }
 
-    // The file, with its lock.
+    /// The file, with its lock.
     pub(crate) fn into_file(self) -> File {
         self.file
     }
@@ -83,7 +83,7 @@ impl<F: OpenFile + FileExt + Drop> FileDisk<F> {
         Ok(FileDisk::of_size(file, size))
     }
 
-    // A disk of that size, of which no call has failed.
+    /// A disk of that size, of which no call has failed.
     pub(crate) fn of_size(file: F, size: u64) -> Self
         ensures { (result.size ≡ size) × IsUnused (⟦<FileDisk<F> as Disk>⟧.medium result) }
     {

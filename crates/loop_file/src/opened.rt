@@ -9,10 +9,10 @@ use std::os::fd::{AsRawFd, IntoRawFd};
 use std::path::AsPath;
 use std::rt::Files;
 
-/// How many standard streams there are: their descriptors are 0, 1 and 2.
+// How many standard streams there are: their descriptors are 0, 1 and 2.
 const STREAMS: i32 = 3;
 
-/// A folder that every process sees.
+// A folder that every process sees.
 const ROOT: &str = "/";
 
 /// Opens a file, pipe or device as is asked for. Its descriptor is never 0, 1 or 2, also where the program was started

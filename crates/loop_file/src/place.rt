@@ -15,10 +15,10 @@ use std::path::{Path, PathBuf};
 use std::rt::Files;
 use std::{fs, io};
 
-/// The most links, one behind the other, that are followed from a path to a file.
+// The most links, one behind the other, that are followed from a path to a file.
 const MAX_LINKS: u32 = 40;
 
-/// What is added to a file's name, after a dot, while the file is being made.
+// What is added to a file's name, after a dot, while the file is being made.
 const UNFINISHED: &str = "new";
 
 /// Where the file of a path stands, or is to stand: what a link at the path's end names, and not the link. Its folder
@@ -27,7 +27,7 @@ const UNFINISHED: &str = "new";
 pub struct FilePlace {
     path: PathBuf,
     folder: File,
-    // Whether the file was made by `create`.
+    /// Whether the file was made by `create`.
     is_new: bool,
 }
 

@@ -14,9 +14,9 @@ use std::{fs, io};
 #[derive(Drop)]
 pub struct TextFile {
     file: File,
-    // Whether it is a regular file: one that can be emptied, and whose bytes can be kept on a disk.
+    /// Whether it is a regular file: one that can be emptied, and whose bytes can be kept on a disk.
     is_file: bool,
-    // The folder of a file that was made, in which its name isn't on the disk yet.
+    /// The folder of a file that was made, in which its name isn't on the disk yet.
     folder: Option<File>,
 }
 

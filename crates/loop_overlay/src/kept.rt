@@ -45,7 +45,7 @@ fn put(buf: &mut [u8], at: usize, bytes: &[u8])
     buf[at..at + bytes.len()].copy_from_slice(bytes);
 }
 
-// Lays the writes over a buffer that holds a disk's bytes from `at` on, the first one first.
+/// Lays the writes over a buffer that holds a disk's bytes from `at` on, the first one first.
 pub(crate) fn lay_all<A: Allocator>(writes: &[Kept<A>], at: u64, buf: &mut [u8])
     ensures { (image : List ℕ) → IsBufferOf at image buf.old → IsBufferOf at (laid writes.now image) buf.new }
 {
@@ -54,7 +54,7 @@ pub(crate) fn lay_all<A: Allocator>(writes: &[Kept<A>], at: u64, buf: &mut [u8])
     }
 }
 
-// Puts a write behind the others, or changes nothing where there is no room.
+/// Puts a write behind the others, or changes nothing where there is no room.
 pub(crate) fn add_write<A: Allocator + Copy>(
     alloc: A,
     writes: &mut Vec<Kept<A>, A>,

@@ -80,7 +80,7 @@ impl<A: Allocator> PageLedger<A> {
         (PageSeat { seat }, PageSeat { seat: other })
     }
 
-    // The one step that takes a page: a compare-exchange of its word from 0 to 1. Says whether the seat got the page.
+    /// The one step that takes a page: a compare-exchange of its word from 0 to 1. Says whether the seat got the page.
     pub(crate) fn take_page(&self, seat: &mut PageSeat, page: u32) -> bool
         requires ledger { seat.old.ledger ≡ self.now }
         requires page { page < self.now.words }
@@ -98,7 +98,7 @@ impl<A: Allocator> PageLedger<A> {
         found == 0
     }
 
-    // The one step that gives a page back: a store of 0 to the word of the page that the seat got last.
+    /// The one step that gives a page back: a store of 0 to the word of the page that the seat got last.
     pub(crate) fn free_page(&self, seat: &mut PageSeat, page: u32)
         requires ledger { seat.old.ledger ≡ self.now }
         requires page { page < self.now.words }

@@ -24,7 +24,7 @@ impl TableRule<(), Holding, u32> for PageRule {
     ghost first = { λ _. holding [] [] [] };
 }
 
-// A compare-exchange of 0 to 1.
+/// A compare-exchange of 0 to 1.
 pub(crate) struct Tries;
 
 impl Play<(), Holding> for Tries {
@@ -33,7 +33,7 @@ impl Play<(), Holding> for Tries {
     ghost then = { tries };
 }
 
-// A store of 0 to a page of one's own.
+/// A store of 0 to a page of one's own.
 pub(crate) struct Frees;
 
 impl Play<(), Holding> for Frees {
@@ -42,7 +42,7 @@ impl Play<(), Holding> for Frees {
     ghost then = { frees };
 }
 
-// The seat keeps its view, and the new seat's lists no page.
+/// The seat keeps its view, and the new seat's lists no page.
 pub(crate) struct Halves;
 
 impl Split<Holding> for Halves {

@@ -11,10 +11,10 @@ use loop_vb2::{PlaneSet, Planes, Queue, Shape};
 use std::alloc::{AllocError, Global};
 use std::sync::Arc;
 
-/// The buffers of a queue of mapped memory.
+// The buffers of a queue of mapped memory.
 const MAPPED_BUFFERS: u32 = 4;
 
-/// The most bytes of a plane: as many as a frame may have.
+// The most bytes of a plane: as many as a frame may have.
 const MOST_BYTES: u32 = 16_777_216;
 
 /// Memory for the buffers of a queue.

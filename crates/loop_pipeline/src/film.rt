@@ -21,16 +21,16 @@ use std::sync::{Mutex, Wait};
 use std::thread::{Promise, Scope, Threads};
 use std::time::{Clock, Duration};
 
-/// How many frames the ring takes: as many as a flush stores at once.
+// How many frames the ring takes: as many as a flush stores at once.
 const RING: usize = 8;
 
-/// How much memory of stored frames goes back to the front at most.
+// How much memory of stored frames goes back to the front at most.
 const SPARES: usize = 16;
 
-/// How many milliseconds a desk's thread sleeps at most before it looks what others ask of it, unless it is woken.
+// How many milliseconds a desk's thread sleeps at most before it looks what others ask of it, unless it is woken.
 const LOOK_AGAIN: u64 = 250;
 
-/// How many milliseconds a flush that was refused is left alone at most, unless the thread is woken.
+// How many milliseconds a flush that was refused is left alone at most, unless the thread is woken.
 const FLUSH_AGAIN: u64 = 100;
 
 /// What the two threads of a camera tell each other, and how others wake them. It serves one filming after another.

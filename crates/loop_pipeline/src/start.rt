@@ -16,7 +16,7 @@ use loop_record::Geometry;
 use loop_vb2::Queue;
 use std::alloc::{AllocError, Global};
 
-/// How many buffers of a queue have to be queued before its device starts.
+// How many buffers of a queue have to be queued before its device starts.
 const MIN_QUEUED: u32 = 1;
 
 /// A queue without buffers for frames of this geometry, and a table in which no fd names a plane.

@@ -59,7 +59,7 @@ pub fn decode_clip(version: u32, bytes: &[u8]) -> Result<Option<Span>, Damage>
     Ok(Some(span))
 }
 
-/// The tag in an entry of this version.
+// The tag in an entry of this version.
 fn tag_in(version: u32, bytes: &[u8]) -> u64
     requires { 32 ≤ length bytes.now }
     ensures { result ≡ (if version == 2 then little_from 24 8 bytes.now else 0) }

@@ -7,7 +7,7 @@ ghost use Rattle.loop_record.specs.Recording.{block, meets, ring_of};
 
 use crate::{Geometry, Span};
 
-/// The block of a number.
+// The block of a number.
 fn block(geometry: &Geometry, number: u64) -> u64
     requires { IsTrue (is_good geometry.now) }
     ensures { result ≡ block (ring_of geometry.now) number }

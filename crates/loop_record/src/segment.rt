@@ -10,7 +10,7 @@ use crate::{Damage, Geometry};
 /// The bytes of a segment before its first slot.
 pub const HEADER_SIZE: usize = 512;
 
-/// Where the frame gates begin in a header.
+// Where the frame gates begin in a header.
 const GATES: usize = 256;
 
 /// No frame has this number or one above it.
@@ -56,7 +56,7 @@ pub fn decode_header(geometry: &Geometry, bytes: &[u8]) -> Result<Option<Segment
     }))
 }
 
-/// How many frame gates are open before the first closed one.
+// How many frame gates are open before the first closed one.
 fn open_gates(bytes: &[u8], slots: u32) -> u32
     requires { 256 + slots ≤ length bytes.now }
     ensures { result ≡ open_gates slots bytes.now 256 }

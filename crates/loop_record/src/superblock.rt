@@ -11,7 +11,7 @@ use crate::{Damage, Geometry, LayoutFault, PixelFormat};
 /// The bytes of the superblock.
 pub const SUPER_SIZE: usize = 512;
 
-/// What stands behind the magic, in each version of the layout.
+// What stands behind the magic, in each version of the layout.
 const MARK: u32 = 1;
 
 /// Where the gate of the version lies.
@@ -20,7 +20,7 @@ pub const VERSION_GATE: usize = 44;
 /// The version of the layout whose gate is open: its clips have tags. Any other image has version 1.
 pub const TAGGED: u32 = 2;
 
-/// The bytes behind the superblock's gate.
+// The bytes behind the superblock's gate.
 const MAGIC: [u8; 7] = *b"LOOPREC";
 
 /// What an open superblock says.
@@ -54,7 +54,7 @@ pub fn encode_super(head: &SuperHead, out: &mut [u8])
     put(out, 45, &[0; 467]);
 }
 
-/// The gate of a version.
+// The gate of a version.
 fn version_gate(version: u32) -> u8
     ensures { result ≡ version_gate version }
 {
@@ -86,7 +86,7 @@ pub fn decode_super(bytes: &[u8]) -> Result<SuperHead, LayoutFault>
     }
 }
 
-/// The version, by its gate.
+// The version, by its gate.
 fn version_in(bytes: &[u8]) -> u32
     requires { 512 ≤ length bytes.now }
     ensures { result ≡ version_in bytes.now }
@@ -98,7 +98,7 @@ fn version_in(bytes: &[u8]) -> u32
     }
 }
 
-/// The geometry that the fields name.
+// The geometry that the fields name.
 fn geometry_fields(bytes: &[u8], format: PixelFormat) -> Geometry
     requires { 512 ≤ length bytes.now }
     ensures { result ≡ geometry_fields bytes.now format }
@@ -114,7 +114,7 @@ fn geometry_fields(bytes: &[u8], format: PixelFormat) -> Geometry
     }
 }
 
-/// Whether a 1 stands behind the magic, the geometry is good, its frame bytes its own, and the rest zeros.
+// Whether a 1 stands behind the magic, the geometry is good, its frame bytes its own, and the rest zeros.
 fn is_super_of(bytes: &[u8], geometry: &Geometry) -> bool
     requires { 512 ≤ length bytes.now }
     ensures { result ≡ is_super_of bytes.now geometry.now }
@@ -125,7 +125,7 @@ fn is_super_of(bytes: &[u8], geometry: &Geometry) -> bool
     u32_at(bytes, 40) == geometry.frame_bytes() && is_zero(&bytes[45..SUPER_SIZE])
 }
 
-/// Whether each byte is zero.
+// Whether each byte is zero.
 fn is_zero(bytes: &[u8]) -> bool
     ensures { result ≡ list_all (λ b. b == 0) bytes.now }
 {

@@ -33,7 +33,7 @@ fn some_stands(clips: &[Option<Span>]) -> bool
     clips.iter().any(|clip| clip.is_some())
 }
 
-// Sets the count of each segment, where these clips are all that stand.
+/// Sets the count of each segment, where these clips are all that stand.
 pub(crate) fn count_clips(
     counts: &mut [u32],
     geometry: &Geometry,
@@ -58,7 +58,7 @@ fn meets_head(geometry: &Geometry, clip: Option<Span>, head: Option<SegmentHead>
     head.is_some_and(|head| meets(geometry, head.block, clip))
 }
 
-// Raises the counts of the segments whose block a clip meets.
+/// Raises the counts of the segments whose block a clip meets.
 pub(crate) fn raise_counts(
     counts: &mut [u32],
     geometry: &Geometry,
@@ -77,7 +77,7 @@ pub(crate) fn raise_counts(
     }
 }
 
-// Lowers the counts of the segments whose block a clip meets.
+/// Lowers the counts of the segments whose block a clip meets.
 pub(crate) fn lower_counts(
     counts: &mut [u32],
     geometry: &Geometry,

@@ -16,7 +16,7 @@ use std::marker::Model;
 /// The most frames that one commit takes.
 pub const MAX_GROUP: usize = 8;
 
-// How many rows the slots of a group are: the head and the bytes of each frame.
+/// How many rows the slots of a group are: the head and the bytes of each frame.
 pub(crate) const MAX_ROWS: usize = 2 * MAX_GROUP;
 
 /// Frames that are written together, numbered from a first one on. It has the heads of their slots, and looks at
@@ -117,7 +117,7 @@ impl<'a> Group<'a> {
         times[place]
     }
 
-    // The rows of the slots: of each frame the head, and then the bytes.
+    /// The rows of the slots: of each frame the head, and then the bytes.
     pub(crate) fn rows(&self) -> [&[u8]; MAX_ROWS]
         ensures size { length (joined (take (2 * length self.now.frames) result))
             ≡ length self.now.frames * (32 + self.now.size) }

@@ -24,7 +24,7 @@ use std::marker::Model;
 pub struct SegmentIndex<A: Allocator = Global> {
     heads: Vec<Option<SegmentHead>, A>,
     clips: Vec<u32, A>,
-    // The open segments by block, those of one block by segment. There is room for all segments.
+    /// The open segments by block, those of one block by segment. There is room for all segments.
     entries: Vec<Found, A>,
     held: u32,
     keep: u32,

@@ -6,9 +6,9 @@ ghost use Rattle.loop_ring.specs.Heads.{floor_block, free_block, going_free, has
 
 use loop_record::{Found, SegmentHead};
 
-// The block that goes when room is needed: the least block of a held frame that no clip meets and that isn't among so
-// many of the newest blocks of held frames, of which one stays in any case. Nothing where none may go. A segment
-// without frames holds none and is passed over.
+/// The block that goes when room is needed: the least block of a held frame that no clip meets and that isn't among so
+/// many of the newest blocks of held frames, of which one stays in any case. Nothing where none may go. A segment
+/// without frames holds none and is passed over.
 pub(crate) fn victim_of(
     heads: &[Option<SegmentHead>],
     clips: &[u32],
@@ -23,7 +23,7 @@ pub(crate) fn victim_of(
     oldest_free(heads, clips, entries, floor)
 }
 
-// Whether a segment is open and has a whole frame.
+/// Whether a segment is open and has a whole frame.
 pub(crate) fn has_frame(head: Option<SegmentHead>) -> bool
     ensures { result ≡ has_frame head }
 {

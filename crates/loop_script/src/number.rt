@@ -4,7 +4,7 @@ ghost use Rattle.std.specs.Char.{is_ascii_digit};
 ghost use Rattle.std.specs.List.{list_all};
 ghost use Rattle.loop_script.specs.Script.{number_below};
 
-/// The most digits of a number.
+// The most digits of a number.
 const MAX_DIGITS: usize = 20;
 
 /// The number that a word writes with 1 to 20 decimal digits, leading zeros among them; `None` for any other

@@ -32,7 +32,7 @@ pub const LIMITS: DeskLimits = DeskLimits {
 #[derive(Drop)]
 pub struct ScriptDesk<A: Allocator + Copy = Global> {
     desk: Desk<MemDisk<A>, A>,
-    // Frames accepted since the store was formatted. Those that were lost at a reopen count too.
+    /// Frames accepted since the store was formatted. Those that were lost at a reopen count too.
     accepted: u64,
 }
 

@@ -24,7 +24,7 @@ pub struct Kept<A: Allocator = Global> {
     pub fault: Option<SessionFault>,
 }
 
-/// Notes runs of a time one by one, and that there are no more.
+// Notes runs of a time one by one, and that there are no more.
 fn note_runs<A: Allocator>(
     history: &mut Vec<Entry, A>,
     camera: u32,
@@ -49,8 +49,8 @@ fn note_runs<A: Allocator>(
     note(history, camera, pass, Noted::Sought(times, place, None));
 }
 
-/// Asks a desk for the runs of a time, and notes each: as `Desk::sought`; where they can't be noted `SessionFull`, then
-/// `NoMemory`.
+// Asks a desk for the runs of a time, and notes each: as `Desk::sought`; where they can't be noted `SessionFull`, then
+// `NoMemory`.
 fn seek<D: Disk + Drop, A: Allocator + Copy>(
     alloc: A,
     desk: &Desk<D, A>,
@@ -74,7 +74,7 @@ fn seek<D: Disk + Drop, A: Allocator + Copy>(
     Ok(runs)
 }
 
-/// Locks the frames of a span, and notes the answer: `SessionFull`, then `NoMemory`, then as `Desk::lock_clip`.
+// Locks the frames of a span, and notes the answer: `SessionFull`, then `NoMemory`, then as `Desk::lock_clip`.
 fn lock<D: Disk + Drop, A: Allocator + Copy>(
     desk: &mut Desk<D, A>,
     history: &mut Vec<Entry, A>,
@@ -95,7 +95,7 @@ fn lock<D: Disk + Drop, A: Allocator + Copy>(
     }
 }
 
-/// Locks runs with a tag, from the first on, and tells each clip.
+// Locks runs with a tag, from the first on, and tells each clip.
 fn lock_runs<D: Disk + Drop, A: Allocator + Copy>(
     desk: &mut Desk<D, A>,
     history: &mut Vec<Entry, A>,
@@ -119,7 +119,7 @@ fn lock_runs<D: Disk + Drop, A: Allocator + Copy>(
     Ok(())
 }
 
-/// What was locked before a refusal.
+// What was locked before a refusal.
 fn refused<A: Allocator>(clips: Vec<Clip, A>, fault: SessionFault) -> Kept<A>
     ensures { result ≡ record { clips = clips; fault = Some fault } }
 {

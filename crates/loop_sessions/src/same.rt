@@ -9,14 +9,14 @@ use loop_record::{Damage, FrameHead, Span, Times};
 use loop_store::{Clip, StoreFault};
 use std::alloc::Allocator;
 
-/// Whether two pieces of damage are the same.
+// Whether two pieces of damage are the same.
 fn same_damage(one: Damage, other: Damage) -> bool
     ensures { IsTrue result ↔ one ≡ other }
 {
     one == other
 }
 
-/// Whether two refusals are the same.
+// Whether two refusals are the same.
 fn same_fault(one: StoreFault, other: StoreFault) -> bool
     ensures { IsTrue result ↔ one ≡ other }
 {
@@ -26,35 +26,35 @@ fn same_fault(one: StoreFault, other: StoreFault) -> bool
     }
 }
 
-/// Whether two stamps are the same.
+// Whether two stamps are the same.
 fn same_stamp(one: FrameInfo, other: FrameInfo) -> bool
     ensures { IsTrue result ↔ one ≡ other }
 {
     one == other
 }
 
-/// Whether two heads are the same.
+// Whether two heads are the same.
 fn same_head(one: FrameHead, other: FrameHead) -> bool
     ensures { IsTrue result ↔ one ≡ other }
 {
     one == other
 }
 
-/// Whether two answers of a flush are the same.
+// Whether two answers of a flush are the same.
 fn same_flushed(one: Flushed, other: Flushed) -> bool
     ensures { IsTrue result ↔ one ≡ other }
 {
     one == other
 }
 
-/// Whether two spans are the same.
+// Whether two spans are the same.
 fn same_span(one: Span, other: Span) -> bool
     ensures { IsTrue result ↔ one ≡ other }
 {
     one == other
 }
 
-/// Whether two runs are the same.
+// Whether two runs are the same.
 fn same_run(one: Option<Span>, other: Option<Span>) -> bool
     ensures { IsTrue result ↔ one ≡ other }
 {
@@ -65,21 +65,21 @@ fn same_run(one: Option<Span>, other: Option<Span>) -> bool
     }
 }
 
-/// Whether two times are the same.
+// Whether two times are the same.
 fn same_times(one: Times, other: Times) -> bool
     ensures { IsTrue result ↔ one ≡ other }
 {
     one == other
 }
 
-/// Whether two statuses are the same.
+// Whether two statuses are the same.
 fn same_status(one: Status, other: Status) -> bool
     ensures { IsTrue result ↔ one ≡ other }
 {
     one == other
 }
 
-/// Whether two submits were answered alike.
+// Whether two submits were answered alike.
 fn same_number(one: Result<u64, StoreFault>, other: Result<u64, StoreFault>) -> bool
     ensures { IsTrue result ↔ one ≡ other }
 {
@@ -90,7 +90,7 @@ fn same_number(one: Result<u64, StoreFault>, other: Result<u64, StoreFault>) -> 
     }
 }
 
-/// Whether two flushes were answered alike.
+// Whether two flushes were answered alike.
 fn same_flush(one: Result<Flushed, StoreFault>, other: Result<Flushed, StoreFault>) -> bool
     ensures { IsTrue result ↔ one ≡ other }
 {
@@ -101,7 +101,7 @@ fn same_flush(one: Result<Flushed, StoreFault>, other: Result<Flushed, StoreFaul
     }
 }
 
-/// Whether two locks were answered alike.
+// Whether two locks were answered alike.
 fn same_lock(one: Result<u32, StoreFault>, other: Result<u32, StoreFault>) -> bool
     ensures { IsTrue result ↔ one ≡ other }
 {
@@ -112,7 +112,7 @@ fn same_lock(one: Result<u32, StoreFault>, other: Result<u32, StoreFault>) -> bo
     }
 }
 
-/// Whether two unlocks were answered alike.
+// Whether two unlocks were answered alike.
 fn same_unlock(one: Result<(), StoreFault>, other: Result<(), StoreFault>) -> bool
     ensures { IsTrue result ↔ one ≡ other }
 {
@@ -123,7 +123,7 @@ fn same_unlock(one: Result<(), StoreFault>, other: Result<(), StoreFault>) -> bo
     }
 }
 
-/// Whether two reads were answered alike.
+// Whether two reads were answered alike.
 fn same_read(one: Result<FrameHead, StoreFault>, other: Result<FrameHead, StoreFault>) -> bool
     ensures { IsTrue result ↔ one ≡ other }
 {
@@ -160,21 +160,21 @@ pub(crate) fn is_same(one: Noted, other: Noted) -> bool
     }
 }
 
-/// Whether two lists of numbers are the same.
+// Whether two lists of numbers are the same.
 fn same_numbers(one: &[u64], other: &[u64]) -> bool
     ensures { IsTrue result ↔ one.now ≡ other.now }
 {
     one == other
 }
 
-/// Whether two clips are the same.
+// Whether two clips are the same.
 fn same_clip(one: Clip, other: Clip) -> bool
     ensures { IsTrue result ↔ one ≡ other }
 {
     one == other
 }
 
-/// Whether two lists of clips are the same.
+// Whether two lists of clips are the same.
 fn same_clips(one: &[Clip], other: &[Clip]) -> bool
     ensures { IsTrue result ↔ one.now ≡ other.now }
 {

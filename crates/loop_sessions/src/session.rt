@@ -112,7 +112,7 @@ pub(crate) fn note<A: Allocator>(
     });
 }
 
-/// A frame's stamp.
+// A frame's stamp.
 fn stamp_of<A: Allocator>(frame: &Frame<A>) -> FrameInfo
     ensures { result ≡ stamp_of frame.now }
 {
@@ -123,7 +123,7 @@ fn stamp_of<A: Allocator>(frame: &Frame<A>) -> FrameInfo
     }
 }
 
-/// The answer alone, without the frame that a refusal hands back.
+// The answer alone, without the frame that a refusal hands back.
 fn answer_of<A: Allocator>(outcome: &Result<u64, (StoreFault, Frame<A>)>) -> Result<u64, StoreFault>
     ensures { result ≡ answer_of outcome.now }
 {
@@ -133,7 +133,7 @@ fn answer_of<A: Allocator>(outcome: &Result<u64, (StoreFault, Frame<A>)>) -> Res
     }
 }
 
-/// The answer to a read, without pixels.
+// The answer to a read, without pixels.
 fn head_of<A: Allocator>(
     outcome: &Result<ReadFrame<A>, StoreFault>,
 ) -> Result<FrameHead, StoreFault>

@@ -16,10 +16,10 @@ use std::thread::Threads;
 use std::time::Clock;
 use std::{env, fs, io};
 
-/// The status of a run whose configuration can't be had, that can't begin, or whose lines couldn't be printed.
+// The status of a run whose configuration can't be had, that can't begin, or whose lines couldn't be printed.
 const FAILED: u8 = 1;
 
-/// The status of a run with other words than one path.
+// The status of a run with other words than one path.
 const BAD_WORDS: u8 = 2;
 
 fn main(rt: HostRuntime) -> ExitCode {

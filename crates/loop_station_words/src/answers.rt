@@ -9,10 +9,10 @@ use std::fmt::Display;
 use std::io::Write;
 use std::{io, str};
 
-/// The most bytes of a line that is told as a bad order.
+// The most bytes of a line that is told as a bad order.
 const MOST_OF_LINE: usize = 200;
 
-/// The orders, as `help` lists them.
+// The orders, as `help` lists them.
 const ORDERS: [&str; 10] = [
     "keep [CAMERA] [SECONDS [TAG]]",
     "keep [CAMERA] from T to T [TAG]",

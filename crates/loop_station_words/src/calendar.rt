@@ -2,10 +2,10 @@
 ghost use Rattle.std.specs.Prelude.{◌≡◌, ◌+◌, ◌-◌, ◌*◌, ◌^◌, ◌<◌, ◌≤◌, ◌/◌, IfSome};
 ghost use Rattle.loop_station_words.specs.Calendar.{IsMoment, IsMomentOf, days_to_month, days_to_year, is_leap, month_length, year_length};
 
-/// The year from which time is counted.
+// The year from which time is counted.
 const FIRST_YEAR: u64 = 1970;
 
-/// The months of a year.
+// The months of a year.
 const MONTHS: u64 = 12;
 
 /// A moment in UTC.
@@ -97,7 +97,7 @@ fn year_length(year: u64) -> u64
     if is_leap(year) { 366 } else { 365 }
 }
 
-// The days of a month, which is 0 for January.
+/// The days of a month, which is 0 for January.
 pub(crate) fn month_length(year: u64, month: u64) -> u64
     ensures { result ≡ month_length year month }
 {
@@ -108,7 +108,7 @@ pub(crate) fn month_length(year: u64, month: u64) -> u64
     }
 }
 
-// The days of the years from 1970 on, before a year.
+/// The days of the years from 1970 on, before a year.
 pub(crate) fn days_before(year: u64) -> u64
     requires since { 1970 ≤ year }
     requires until { year < 10000 }
@@ -122,7 +122,7 @@ pub(crate) fn days_before(year: u64) -> u64
     days
 }
 
-// The days of the months before one.
+/// The days of the months before one.
 pub(crate) fn days_before_month(year: u64, month: u64) -> u64
     requires { month < 12 }
     ensures days { result ≡ days_to_month year month }

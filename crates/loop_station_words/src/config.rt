@@ -21,7 +21,7 @@ use toml::{Table, Value};
 /// The most cameras.
 pub const MAX_CAMERAS: usize = 16;
 
-/// The keys of the file.
+// The keys of the file.
 const KEYS: [&str; 5] = ["orders", "answers", "times", "events", "camera"];
 
 /// What the file says.

@@ -14,31 +14,31 @@ use loop_script::number::number;
 use std::num::saturating_f64_to_u64;
 use toml::{Table, Value};
 
-/// The keys of a camera.
+// The keys of a camera.
 const KEYS: [&str; 12] = [
     "name", "source", "store", "minutes", "bytes", "keep", "tag", "pattern", "buffers", "memory",
     "save_to", "release",
 ];
 
-/// The fewest buffers of a camera.
+// The fewest buffers of a camera.
 const MIN_BUFFERS: u32 = 4;
 
-/// How many buffers a camera has where they are left out.
+// How many buffers a camera has where they are left out.
 const BUFFERS: u64 = 8;
 
-/// The most buffers of a camera: as many as a queue may have.
+// The most buffers of a camera: as many as a queue may have.
 const MAX_BUFFERS: u64 = 32;
 
-/// The seconds of a minute.
+// The seconds of a minute.
 const MINUTE: f64 = 60.0;
 
-/// Above the most minutes that are no whole number.
+// Above the most minutes that are no whole number.
 const MOST_MINUTES: f64 = 1e15;
 
-/// The pattern's shape where it is left out.
+// The pattern's shape where it is left out.
 const SHAPE: &str = "640x480 YM12 25:1";
 
-// Whether each key is a camera's.
+/// Whether each key is a camera's.
 pub(crate) fn check_keys(table: &Table) -> Result<(), CameraFault> {
     for key in table.keys() {
         if !KEYS.contains(&key.as_str()) {
@@ -48,14 +48,14 @@ pub(crate) fn check_keys(table: &Table) -> Result<(), CameraFault> {
     Ok(())
 }
 
-// What stands at a key.
+/// What stands at a key.
 pub(crate) fn value_at<'a>(table: &'a Table, key: &str) -> Option<&'a Value>
     ensures { option_map (λ v. view v.now) result ≡ get_member key.now (table_view table.now) }
 {
     table.get(key)
 }
 
-// The text at a key; `None` where there is none, or it is empty.
+/// The text at a key; `None` where there is none, or it is empty.
 pub(crate) fn text_at<'a>(table: &'a Table, key: &str) -> Option<&'a str>
     ensures { option_map (λ t. t.now) result ≡ text_of (get_member key.now (table_view table.now)) }
 {
@@ -65,7 +65,7 @@ pub(crate) fn text_at<'a>(table: &'a Table, key: &str) -> Option<&'a str>
     }
 }
 
-// The number at a key, or this one where there is none; `None` where it is no whole number from 0 to the most.
+/// The number at a key, or this one where there is none; `None` where it is no whole number from 0 to the most.
 pub(crate) fn number_at(table: &Table, key: &str, other: u64, most: u64) -> Option<u64>
     requires { other ≤ most }
     ensures number { result ≡ number_or other most (get_member key.now (table_view table.now)) }
@@ -81,7 +81,7 @@ pub(crate) fn number_at(table: &Table, key: &str, other: u64, most: u64) -> Opti
     }
 }
 
-// The number of 32 bits at a key, or this one where there is none; `None` where it is none.
+/// The number of 32 bits at a key, or this one where there is none; `None` where it is none.
 pub(crate) fn small_at(table: &Table, key: &str, other: u32) -> Option<u32>
     ensures { result ≡ number_or other 4294967295 (get_member key.now (table_view table.now)) }
 {
@@ -89,7 +89,7 @@ pub(crate) fn small_at(table: &Table, key: &str, other: u32) -> Option<u32>
     Some(number as u32)
 }
 
-// How many buffers a camera has; `None` where that is no whole number from 4 to 32.
+/// How many buffers a camera has; `None` where that is no whole number from 4 to 32.
 pub(crate) fn buffers_at(table: &Table) -> Option<u32>
     ensures number { IfSome result (λ buffers.
         number_or 8 32 (get_member (codes "buffers") (table_view table.now)) ≡ Some buffers) }
@@ -114,7 +114,7 @@ fn shape_text<'a>(table: &'a Table) -> Option<&'a str>
     }
 }
 
-// The pattern's shape, where that is the source.
+/// The pattern's shape, where that is the source.
 pub(crate) fn shape_at(table: &Table, source: &str) -> Result<Option<FrameShape>, CameraFault>
     ensures { IfOk result (SaysShape source.now (get_member (codes "pattern") (table_view table.now))) }
 {
@@ -134,7 +134,7 @@ pub(crate) fn shape_at(table: &Table, source: &str) -> Result<Option<FrameShape>
     }
 }
 
-// How large the store is: by minutes or by bytes, and just one of them.
+/// How large the store is: by minutes or by bytes, and just one of them.
 pub(crate) fn room_at(table: &Table) -> Result<StoreSize, CameraFault>
     ensures { IfOk result (λ room. room_of (get_member (codes "minutes") (table_view table.now))
         (get_member (codes "bytes") (table_view table.now)) ≡ Some room) }
@@ -198,7 +198,7 @@ fn positive(number: i64) -> Option<u64>
     }
 }
 
-// What its source's frames may take: a number of bytes, or a text as `4 s`; `None` where it is neither, or 0.
+/// What its source's frames may take: a number of bytes, or a text as `4 s`; `None` where it is neither, or 0.
 pub(crate) fn memory_at(table: &Table) -> Option<Option<Memory>>
     ensures { result ≡ memory_of (get_member (codes "memory") (table_view table.now)) }
 {
@@ -229,7 +229,7 @@ fn seconds_in(text: &str) -> Option<u64>
     }
 }
 
-// The path at a key, if there is one; `None` where it is no text, or an empty one.
+/// The path at a key, if there is one; `None` where it is no text, or an empty one.
 pub(crate) fn path_at<'a>(table: &'a Table, key: &str) -> Option<Option<&'a str>>
     ensures { option_map (λ p. option_map (λ t. t.now) p) result
         ≡ path_of (get_member key.now (table_view table.now)) }
@@ -241,7 +241,7 @@ pub(crate) fn path_at<'a>(table: &'a Table, key: &str) -> Option<Option<&'a str>
     }
 }
 
-// Whether it is said at a key, or this where nothing is; `None` where it is neither `true` nor `false`.
+/// Whether it is said at a key, or this where nothing is; `None` where it is neither `true` nor `false`.
 pub(crate) fn truth_at(table: &Table, key: &str, other: bool) -> Option<bool>
     ensures { result ≡ truth_of other (get_member key.now (table_view table.now)) }
 {

@@ -24,7 +24,7 @@ impl<'a> Model for Name<'a> {
 }
 
 impl<'a> Name<'a> {
-    // A text as it stands.
+    /// A text as it stands.
     pub(crate) fn of(text: &'a str) -> Self
         ensures { result ≡ text.now }
     {

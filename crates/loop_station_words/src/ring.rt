@@ -3,22 +3,22 @@ ghost use Rattle.std.specs.Prelude.{◌≡◌, ◌≤◌, ◌<◌, ◌↔◌, �
 ghost use Rattle.loop_record.specs.Geometry.{divided_up};
 ghost use Rattle.loop_station_words.specs.Rings.{IsLargestWithin, IsLeastFor, IsPreferred, IsRing, file_size, held};
 
-/// From so many slots on, few of them cost nothing.
+// From so many slots on, few of them cost nothing.
 const SLOTS: u64 = 64;
 
-/// The most segments of a store.
+// The most segments of a store.
 const MAX_SEGMENTS: u64 = 64;
 
-/// The most slots of a segment.
+// The most slots of a segment.
 const MAX_SLOTS: u64 = 256;
 
-/// The bytes before the first segment.
+// The bytes before the first segment.
 const HEAD: u64 = 2560;
 
-/// The bytes of a segment before its first slot.
+// The bytes of a segment before its first slot.
 const SEGMENT_HEAD: u64 = 512;
 
-/// The bytes of a slot before its frame.
+// The bytes of a slot before its frame.
 const SLOT_HEAD: u64 = 32;
 
 /// How large a store's ring is.

@@ -6,7 +6,7 @@ use crate::calendar::{days_before, days_before_month, month_length};
 use crate::cut::cut;
 use loop_script::small_number;
 
-/// The microseconds of a day.
+// The microseconds of a day.
 const DAY: u64 = 86_400_000_000;
 
 /// The time in microseconds since 1970 that a text says: `2026-11-22T15:38:00Z`, with up to six decimals of the second

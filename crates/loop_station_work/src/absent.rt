@@ -5,12 +5,12 @@ use loop_store::StoreFault;
 use std::fmt;
 use std::fmt::{Display, Formatter};
 
-/// The most bytes of a file's name, and of a path.
+// The most bytes of a file's name, and of a path.
 const MOST_OF_NAME: usize = 255;
 
 const MOST_OF_PATH: usize = 4_095;
 
-/// What is added to the name of a store while it is made.
+// What is added to the name of a store while it is made.
 const UNFINISHED: usize = 4;
 
 /// Why a camera's store isn't there, so that it can't be asked.

@@ -5,7 +5,7 @@ use crate::size::size_of;
 use loop_record::Geometry;
 use loop_station_words::{RingSize, StoreSize, frames_in, ring_for, ring_within};
 
-/// How many frames any ring holds for certain.
+// How many frames any ring holds for certain.
 const MOST_FRAMES: u128 = 16_129;
 
 /// The ring for as much as is to be kept of frames like these.

@@ -20,19 +20,19 @@ use std::sync::Wait;
 use std::sync::atomic::Ordering;
 use std::time::{Clock, Duration};
 
-/// From so many microseconds on the disk is told to be behind.
+// From so many microseconds on the disk is told to be behind.
 const BEHIND: u64 = 1_000_000;
 
-/// Below so many it has caught up.
+// Below so many it has caught up.
 const CAUGHT_UP: u64 = 500_000;
 
-/// So many microseconds at least lie between two lines of frames that were given up.
+// So many microseconds at least lie between two lines of frames that were given up.
 const GIVEN_UP_AGAIN: u64 = 1_000_000;
 
-/// So many microseconds after the program's beginning a source or a store that isn't there is told.
+// So many microseconds after the program's beginning a source or a store that isn't there is told.
 const COMES_SOON: u64 = 1_000_000;
 
-/// How a camera's store stood when it was looked at.
+// How a camera's store stood when it was looked at.
 #[derive(Clone, Copy)]
 enum Store {
     Unknown,
@@ -43,14 +43,14 @@ enum Store {
 /// What was told of a camera last.
 #[derive(Clone, Copy)]
 pub struct Told {
-    // From then on it is told that a source or a store isn't there.
+    /// From then on it is told that a source or a store isn't there.
     soon: u64,
     source: Option<SourceState>,
     store: Store,
     given_up: u64,
-    // Since when frames are given up that aren't told yet.
+    /// Since when frames are given up that aren't told yet.
     since: u64,
-    // When frames that were given up may be told again.
+    /// When frames that were given up may be told again.
     again: u64,
     locked: bool,
     behind: bool,

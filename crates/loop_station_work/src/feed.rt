@@ -11,7 +11,7 @@ use std::mem;
 use std::sync::{Arc, Condvar, Mutex, Wait};
 use std::time::{Clock, Duration};
 
-/// How many frames may wait before it is known how large they are.
+// How many frames may wait before it is known how large they are.
 const FEWEST: usize = 2;
 
 /// A frame of a source.
@@ -27,17 +27,17 @@ pub struct Fed {
 struct Waiting {
     frames: HeapCircularBuffer<Fed>,
     spare: HeapCircularBuffer<Vec<u8>>,
-    /// When the frame was there that waits for a place, if one does.
+    // When the frame was there that waits for a place, if one does.
     coming: Option<u64>,
-    /// How many frames were taken for the device.
+    // How many frames were taken for the device.
     taken: u64,
 }
 
 #[derive(Drop)]
 struct Ready {
-    /// The frame of the next tick.
+    // The frame of the next tick.
     frame: Option<Fed>,
-    /// The memory of the frame before the one that is lent.
+    // The memory of the frame before the one that is lent.
     row: Option<Vec<u8>>,
 }
 
@@ -188,7 +188,7 @@ impl FrameSource for FeedSource {
         }
     }
 
-    // Nobody else holds the lock, so that it needn't wait for it.
+    /// Nobody else holds the lock, so that it needn't wait for it.
     fn make_ready(&mut self, size: usize) -> Option<Next> {
         let Some(mut ready) = self.feed.ready.try_lock() else {
             return Some(Next::Bad);

@@ -24,16 +24,16 @@ use std::thread;
 use std::thread::Threads;
 use std::time::{Clock, Duration};
 
-/// How many milliseconds a store that can't be had is left alone.
+// How many milliseconds a store that can't be had is left alone.
 const OPEN_AGAIN: u64 = 1_000;
 
-/// How many milliseconds a header is waited for before it is looked whether the program ends.
+// How many milliseconds a header is waited for before it is looked whether the program ends.
 const LOOK_AGAIN: u64 = 100;
 
-/// A camera before a store in a file.
+// A camera before a store in a file.
 type FileCamera = Camera<FeedSource, FileDisk, HeapPlane>;
 
-/// What came of filming it.
+// What came of filming it.
 type Filmed = Result<
     Ended<FeedSource, FileDisk, HeapPlane>,
     Unfilmed<FeedSource, FileDisk, HeapPlane>,
@@ -60,7 +60,7 @@ pub(crate) fn run_camera<
     state.leave(rt, Absent::Stopped);
 }
 
-/// The store isn't there, and is left alone for a while.
+// The store isn't there, and is left alone for a while.
 fn rest<R: Wait + Clock>(rt: &R, state: &CameraState, why: Absent) {
     state.leave(rt, why);
     if !state.is_stopped() {
@@ -69,7 +69,7 @@ fn rest<R: Wait + Clock>(rt: &R, state: &CameraState, why: Absent) {
     }
 }
 
-/// Prints once that what stands where a store is to be, or where it is made, isn't one. Whether it isn't one.
+// Prints once that what stands where a store is to be, or where it is made, isn't one. Whether it isn't one.
 fn tell_absence<R: AllocGlobal + Wait + Clock, W: Write + Drop>(
     rt: &R,
     state: &CameraState,
@@ -90,7 +90,7 @@ fn tell_absence<R: AllocGlobal + Wait + Clock, W: Write + Drop>(
     true
 }
 
-/// The store of a camera, made for its source where it isn't there.
+// The store of a camera, made for its source where it isn't there.
 fn open_store<R: AllocGlobal + Places + Wait + Clock>(
     rt: &R,
     state: &CameraState,
@@ -107,7 +107,7 @@ fn open_store<R: AllocGlobal + Places + Wait + Clock>(
     }
 }
 
-/// Makes the store of a camera for what its source's header says, once that is there.
+// Makes the store of a camera for what its source's header says, once that is there.
 fn make_store<R: AllocGlobal + Places + Wait + Clock>(
     rt: &R,
     state: &CameraState,
@@ -120,7 +120,7 @@ fn make_store<R: AllocGlobal + Places + Wait + Clock>(
     rt.make_store(state.config.store.as_str(), geometry)
 }
 
-/// What the source's header says, once it is there; None where the camera is stopped before.
+// What the source's header says, once it is there; None where the camera is stopped before.
 fn wait_header<R: Wait + Clock>(rt: &R, state: &CameraState) -> Option<Geometry> {
     for _ in rt.forever() {
         if state.is_stopped() {
@@ -133,7 +133,7 @@ fn wait_header<R: Wait + Clock>(rt: &R, state: &CameraState) -> Option<Geometry>
     unreachable!()
 }
 
-/// The geometry of a store for a header, with room for as much as is to be kept.
+// The geometry of a store for a header, with room for as much as is to be kept.
 fn geometry_for(header: &Geometry, room: &StoreSize) -> Result<Geometry, Absent> {
     let RingSize { segments, slots } = asked_ring(header, room)?;
     let geometry = Geometry {
@@ -147,7 +147,7 @@ fn geometry_for(header: &Geometry, room: &StoreSize) -> Result<Geometry, Absent>
     }
 }
 
-/// Films into a store, until the camera is stopped or the store must be reopened; why it ended.
+// Films into a store, until the camera is stopped or the store must be reopened; why it ended.
 fn film_into<R: AllocGlobal + Threads + Wait + Clock + Sync>(
     rt: &R,
     state: &CameraState,
@@ -163,7 +163,7 @@ fn film_into<R: AllocGlobal + Threads + Wait + Clock + Sync>(
     why_ended(state, filmed)
 }
 
-/// Why a filming ended.
+// Why a filming ended.
 fn why_ended(state: &CameraState, filmed: Filmed) -> Absent {
     match filmed {
         Ok(ended) => {
@@ -177,7 +177,7 @@ fn why_ended(state: &CameraState, filmed: Filmed) -> Absent {
     }
 }
 
-/// A camera before a store: its queue streams, and nothing waits at its desk. None where memory was refused.
+// A camera before a store: its queue streams, and nothing waits at its desk. None where memory was refused.
 fn camera_before(alloc: Global, state: &CameraState, store: Store<FileDisk>) -> Option<FileCamera> {
     let geometry = store.geometry();
     let (mut queue, mut table) = new_queue(alloc, &geometry);
@@ -191,7 +191,7 @@ fn camera_before(alloc: Global, state: &CameraState, store: Store<FileDisk>) -> 
     }
 }
 
-/// Films a camera until its state ends it.
+// Films a camera until its state ends it.
 fn film<R: AllocGlobal + Threads + Wait + Clock + Sync>(
     rt: &R,
     state: &CameraState,

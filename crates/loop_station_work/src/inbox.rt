@@ -3,16 +3,16 @@
 use std::sync::{Condvar, Mutex, Wait};
 use std::time::{Clock, Duration};
 
-/// What stands between who asks and who answers: one question at a time, and its answer.
+// What stands between who asks and who answers: one question at a time, and its answer.
 #[derive(Drop)]
 struct Exchange<Q: Drop, A: Drop, N: Drop + Copy> {
-    /// Someone has asked, and hasn't taken the answer.
+    // Someone has asked, and hasn't taken the answer.
     busy: bool,
     question: Option<Q>,
     answer: Option<Result<A, N>>,
-    /// Nobody answers now, and why.
+    // Nobody answers now, and why.
     nobody: Option<N>,
-    /// Someone answers now.
+    // Someone answers now.
     open: bool,
 }
 

@@ -30,9 +30,9 @@ pub enum Offered {
 #[derive(Clone, Copy)]
 struct Known {
     source: SourceState,
-    /// What the source's header said last, with a ring of any size.
+    // What the source's header said last, with a ring of any size.
     offered: Option<Geometry>,
-    /// What the store has.
+    // What the store has.
     wanted: Option<Geometry>,
 }
 

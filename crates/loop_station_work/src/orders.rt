@@ -343,7 +343,7 @@ fn list<R: Wait, W: Write + Drop, L: Write>(
     Ok(())
 }
 
-// Tells how each camera stands.
+/// Tells how each camera stands.
 pub(crate) fn status<R: Wait, W: Write + Drop, L: Write>(
     rt: &R,
     station: &Station<W>,

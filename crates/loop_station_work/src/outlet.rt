@@ -10,7 +10,7 @@ use std::sync::atomic::{AtomicBool, Ordering};
 use std::sync::{Arc, Mutex, Wait};
 use std::time::Clock;
 
-/// Where lines go, and the lines of the status that a terminal shows below them.
+// Where lines go, and the lines of the status that a terminal shows below them.
 #[derive(Drop)]
 struct Screen<W: Write + Drop> {
     out: W,

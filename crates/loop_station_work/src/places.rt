@@ -90,7 +90,7 @@ impl Places for HostRuntime {
     }
 }
 
-/// What a path leads to.
+// What a path leads to.
 fn found_at<R: Files>(rt: &R, path: &str) -> Found {
     let metadata = match fs::metadata(rt, path) {
         Ok(metadata) => metadata,
@@ -112,7 +112,7 @@ fn found_at<R: Files>(rt: &R, path: &str) -> Found {
     }
 }
 
-/// Whether two paths lead to one file; or, where neither does to any, to one name in one folder.
+// Whether two paths lead to one file; or, where neither does to any, to one name in one folder.
 fn lead_to_one<R: Files>(rt: &R, path: &str, other: &str) -> bool {
     match (fs::metadata(rt, path), fs::metadata(rt, other)) {
         (Ok(a), Ok(b)) => (a.dev(), a.ino()) == (b.dev(), b.ino()),
@@ -127,7 +127,7 @@ fn lead_to_one<R: Files>(rt: &R, path: &str, other: &str) -> bool {
     }
 }
 
-/// The folder of a path, and the name in it.
+// The folder of a path, and the name in it.
 fn parted(path: &str) -> (&str, &str) {
     match path.rsplit_once('/') {
         Some(("", name)) => ("/", name),
@@ -136,7 +136,7 @@ fn parted(path: &str) -> (&str, &str) {
     }
 }
 
-/// Makes a store where there is no file, under another name first, and opens it.
+// Makes a store where there is no file, under another name first, and opens it.
 fn make_at<R: AllocGlobal + Files<File = File>>(
     rt: &R,
     path: &str,
@@ -157,8 +157,8 @@ fn make_at<R: AllocGlobal + Files<File = File>>(
     Ok(store)
 }
 
-/// The store at a place, as a stop left it; None where there is no file, one that isn't a store yet, or a store without
-/// a frame that is for other frames than these. `Unfinished` where it can't be told what is there.
+// The store at a place, as a stop left it; None where there is no file, one that isn't a store yet, or a store without
+// a frame that is for other frames than these. `Unfinished` where it can't be told what is there.
 fn left_at<R: AllocGlobal + Files<File = File>>(
     rt: &R,
     place: &FilePlace,
@@ -178,7 +178,7 @@ fn left_at<R: AllocGlobal + Files<File = File>>(
     }
 }
 
-/// A store that has a frame, or is for frames like these.
+// A store that has a frame, or is for frames like these.
 fn for_frames(store: Store<FileDisk>, geometry: &Geometry) -> Option<Store<FileDisk>> {
     if store.next() > 0 || store.geometry() == *geometry {
         Some(store)
@@ -187,7 +187,7 @@ fn for_frames(store: Store<FileDisk>, geometry: &Geometry) -> Option<Store<FileD
     }
 }
 
-/// Makes the file of a place anew, with a store in it. What a refusal leaves there isn't a store.
+// Makes the file of a place anew, with a store in it. What a refusal leaves there isn't a store.
 fn format_at<R: AllocGlobal + Files<File = File>>(
     rt: &R,
     place: &mut FilePlace,

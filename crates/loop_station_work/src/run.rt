@@ -19,7 +19,7 @@ use std::thread;
 use std::thread::{JoinHandle, Scope, Threads};
 use std::time::{Clock, Duration};
 
-/// How often it is looked whether a status is due.
+// How often it is looked whether a status is due.
 const STATUS_STEPS: u32 = 10;
 
 /// Why the program couldn't begin.

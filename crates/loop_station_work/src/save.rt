@@ -29,16 +29,16 @@ use std::thread::Threads;
 use std::time::{Clock, Duration};
 use std::{fmt, io, thread};
 
-/// How many clips may be saved at once.
+// How many clips may be saved at once.
 const MOST_SAVES: usize = 16;
 
-/// How many bytes of a text are gathered before they are written.
+// How many bytes of a text are gathered before they are written.
 const AT_ONCE: usize = 262_144;
 
-/// How often a stop waits ten milliseconds for saves that are about to end.
+// How often a stop waits ten milliseconds for saves that are about to end.
 const STOP_STEPS: u32 = 70;
 
-/// How many clips that are written by themselves may have one name but for their place.
+// How many clips that are written by themselves may have one name but for their place.
 const MOST_NAMES: u32 = 100;
 
 /// Why a clip wasn't written, or not to its end.
@@ -112,7 +112,7 @@ impl<'a> Target<'a> {
     }
 }
 
-/// A clip that is saved: what it was when its order was read, and where it is written to.
+// A clip that is saved: what it was when its order was read, and where it is written to.
 #[derive(Drop)]
 struct Save {
     state: Arc<CameraState>,
@@ -162,14 +162,14 @@ impl Save {
     }
 }
 
-/// A place for a save.
+// A place for a save.
 #[derive(Drop)]
 struct Place {
-    /// The save that has it.
+    // The save that has it.
     save: Option<Arc<Save>>,
-    /// Its thread hasn't seen that save yet.
+    // Its thread hasn't seen that save yet.
     is_new: bool,
-    /// It has a thread.
+    // It has a thread.
     has_thread: bool,
 }
 

@@ -3,13 +3,13 @@
 use loop_record::Geometry;
 use loop_station_words::{Memory, frames_in};
 
-/// What frames may take before the disk, where nothing is said: so many seconds,
+// What frames may take before the disk, where nothing is said: so many seconds,
 const SECONDS: u64 = 4;
 
-/// but so many bytes at most.
+// but so many bytes at most.
 const MOST_BYTES: u64 = 256_000_000;
 
-/// The most frames that wait, whatever is said: their places alone take 50 bytes each.
+// The most frames that wait, whatever is said: their places alone take 50 bytes each.
 const MOST_FRAMES: u64 = 1_000_000;
 
 /// The bytes of a frame of a geometry; None where it is none that a store may have.

@@ -21,22 +21,22 @@ use std::sync::Wait;
 use std::thread;
 use std::time::{Clock, Duration};
 
-/// How many milliseconds a source that ended, broke or isn't there is left alone.
+// How many milliseconds a source that ended, broke or isn't there is left alone.
 const OPEN_AGAIN: u64 = 200;
 
-/// How many bytes of a source are fetched at once: as many as a pipe holds.
+// How many bytes of a source are fetched at once: as many as a pipe holds.
 const AT_ONCE: usize = 65_536;
 
-/// A ring of any size: the store's own is chosen elsewhere.
+// A ring of any size: the store's own is chosen elsewhere.
 const ANY_RING: RingSize = RingSize {
     segments: 2,
     slots: 1,
 };
 
-/// How many milliseconds a source without memory for a frame waits for that of an earlier one.
+// How many milliseconds a source without memory for a frame waits for that of an earlier one.
 const MEMORY_AGAIN: u64 = 10;
 
-/// A source that is so many microseconds late gives its frames from now on.
+// A source that is so many microseconds late gives its frames from now on.
 const LATE: u64 = 1_000_000;
 
 /// Gives a source's frames to a camera's feed, and opens it again where it ends or breaks, until the camera is stopped.
@@ -57,7 +57,7 @@ pub(crate) fn run_source<R: AllocGlobal + Places + Wait + Clock, W: Write + Drop
     }
 }
 
-/// When the frames of a source that doesn't come by itself are due.
+// When the frames of a source that doesn't come by itself are due.
 #[derive(Drop)]
 struct Beat {
     start: u64,
@@ -67,7 +67,7 @@ struct Beat {
 }
 
 impl Beat {
-    /// Sleeps until the next frame is due.
+    // Sleeps until the next frame is due.
     fn wait<R: Clock>(&mut self, rt: &R, state: &CameraState) {
         let now = state.timeline.now(rt);
         let passed = u128::from(self.count) * 1_000_000 * u128::from(self.den)
@@ -85,7 +85,7 @@ impl Beat {
     }
 }
 
-/// One that begins now, at a geometry's rate.
+// One that begins now, at a geometry's rate.
 fn beat_of<R: Clock>(rt: &R, state: &CameraState, geometry: &Geometry) -> Beat {
     Beat {
         start: state.timeline.now(rt),
@@ -95,7 +95,7 @@ fn beat_of<R: Clock>(rt: &R, state: &CameraState, geometry: &Geometry) -> Beat {
     }
 }
 
-/// Gives the frames of the pattern, each when it is due.
+// Gives the frames of the pattern, each when it is due.
 fn play_pattern<R: AllocGlobal + Wait + Clock, W: Write + Drop>(
     rt: &R,
     state: &CameraState,
@@ -124,8 +124,8 @@ fn play_pattern<R: AllocGlobal + Wait + Clock, W: Write + Drop>(
     }
 }
 
-/// Tells what a source's header says; whether the store takes its frames. That it doesn't is printed, but not again
-/// while nothing else comes of it.
+// Tells what a source's header says; whether the store takes its frames. That it doesn't is printed, but not again
+// while nothing else comes of it.
 fn offer<R: AllocGlobal + Wait + Clock, W: Write + Drop>(
     rt: &R,
     state: &CameraState,
@@ -147,7 +147,7 @@ fn offer<R: AllocGlobal + Wait + Clock, W: Write + Drop>(
     }
 }
 
-/// Prints what frames a camera's source has, which aren't as its store has them.
+// Prints what frames a camera's source has, which aren't as its store has them.
 fn tell_other<R: AllocGlobal + Wait + Clock, W: Write + Drop>(
     rt: &R,
     state: &CameraState,
@@ -160,7 +160,7 @@ fn tell_other<R: AllocGlobal + Wait + Clock, W: Write + Drop>(
     }
 }
 
-/// Gives the frames of a file or pipe: those of a file each when it is due, those of a pipe as they come.
+// Gives the frames of a file or pipe: those of a file each when it is due, those of a pipe as they come.
 fn play_file<R: AllocGlobal + Places + Wait + Clock, W: Write + Drop>(
     rt: &R,
     state: &CameraState,
@@ -183,7 +183,7 @@ fn play_file<R: AllocGlobal + Places + Wait + Clock, W: Write + Drop>(
     }
 }
 
-/// Gives the frames of an input that begins with a header.
+// Gives the frames of an input that begins with a header.
 fn play_input<R: AllocGlobal + Wait + Clock, I: Read + Drop, W: Write + Drop>(
     rt: &R,
     state: &CameraState,
@@ -216,8 +216,8 @@ fn play_input<R: AllocGlobal + Wait + Clock, I: Read + Drop, W: Write + Drop>(
     }
 }
 
-/// Memory for a frame of so many bytes: that of an earlier one, or new. Where it is refused, that of an earlier frame
-/// is waited for; None where the camera is stopped before.
+// Memory for a frame of so many bytes: that of an earlier one, or new. Where it is refused, that of an earlier frame
+// is waited for; None where the camera is stopped before.
 fn row_for<R: AllocGlobal + Wait + Clock>(rt: &R, state: &CameraState, size: u32) -> Option<Vec<u8>>
     ensures { IfSome result (λ bytes. length bytes.items ≡ size) }
 {
@@ -234,7 +234,7 @@ fn row_for<R: AllocGlobal + Wait + Clock>(rt: &R, state: &CameraState, size: u32
     unreachable!()
 }
 
-/// Reads a frame and gives it to the feed; whether there was one.
+// Reads a frame and gives it to the feed; whether there was one.
 fn give_next<R: AllocGlobal + Wait + Clock, I: Read + Drop>(
     rt: &R,
     state: &CameraState,

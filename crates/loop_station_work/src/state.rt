@@ -20,7 +20,7 @@ use std::sync::atomic::{AtomicBool, Ordering};
 use std::sync::{Arc, Mutex, Wait};
 use std::time::{Clock, Duration};
 
-/// How many milliseconds a device waits for a frame before it looks whether its filming is over.
+// How many milliseconds a device waits for a frame before it looks whether its filming is over.
 const LOOK_AGAIN: u64 = 50;
 
 /// What the threads of one camera share.
@@ -129,8 +129,8 @@ impl CameraState {
         self.locked.load(Ordering::SeqCst)
     }
 
-    /// Whether the filming is to end: desk or queue is broken, or the program ends and no frame that the source gave
-    /// before waits for the device.
+    // Whether the filming is to end: desk or queue is broken, or the program ends and no frame that the source gave
+    // before waits for the device.
     fn is_done<R: Wait>(&self, rt: &R) -> bool {
         let (come, taken) = self.feed.counts(rt);
         self.over.load(Ordering::SeqCst) || self.is_stopped() && come == taken
@@ -163,7 +163,7 @@ impl CameraState {
 }
 
 impl Guide for CameraState {
-    // A tick for each frame of the source, at the time when it was there.
+    /// A tick for each frame of the source, at the time when it was there.
     fn next_tick<R: Wait + Clock>(&self, rt: &R, _n: u64) -> Option<u64> {
         for _ in rt.forever() {
             if self.is_done(rt) {
@@ -196,8 +196,8 @@ impl Guide for CameraState {
         self.store(count);
     }
 
-    // Where each block is locked the frames wait, until the program ends; where the disk failed, the filming ends, and
-    // the store is opened again.
+    /// Where each block is locked the frames wait, until the program ends; where the disk failed, the filming ends, and
+    /// the store is opened again.
     fn flushes_again(&self, fault: StoreFault) -> bool {
         if fault == StoreFault::AllLocked {
             self.locked.store(true, Ordering::SeqCst);
@@ -207,7 +207,7 @@ impl Guide for CameraState {
         false
     }
 
-    // A store that is opened again answers what is asked when its desk is broken.
+    /// A store that is opened again answers what is asked when its desk is broken.
     fn visit<R: Wait + Clock, D: Disk + Drop>(&self, rt: &R, alloc: Global, back: &mut Back<D>) {
         if !self.over.load(Ordering::SeqCst) {
             attend(rt, alloc, self, back);

@@ -14,22 +14,22 @@ use std::sync::{Condvar, Mutex, Wait};
 use std::thread;
 use std::time::{Clock, Duration};
 
-/// How many bytes of lines wait at most.
+// How many bytes of lines wait at most.
 const MOST: usize = 1_048_576;
 
-/// How many milliseconds a file that can't be opened is left alone.
+// How many milliseconds a file that can't be opened is left alone.
 const OPEN_AGAIN: u64 = 1_000;
 
-/// How often the end of the program waits ten milliseconds for what isn't written yet.
+// How often the end of the program waits ten milliseconds for what isn't written yet.
 const END_STEPS: u32 = 50;
 
 #[derive(Drop)]
 struct Waiting {
-    /// The lines that aren't written yet.
+    // The lines that aren't written yet.
     lines: Vec<u8>,
-    /// Someone reads, or will: lines are kept for it.
+    // Someone reads, or will: lines are kept for it.
     wanted: bool,
-    /// The thread writes lines that it has taken.
+    // The thread writes lines that it has taken.
     writing: bool,
 }
 

@@ -79,7 +79,7 @@ impl<D: Disk + Drop, A: Allocator + Copy> Store<D, A> {
 }
 
 impl<D: Disk + Drop, A: Allocator + Copy> Store<D, A> {
-    /// Does one command.
+    // Does one command.
     fn answer(&mut self, alloc: A, command: &Command<A>) -> Reply<A>
         requires { IsOfSize self.old.geometry command.now }
         ensures { (call : Call) × (IsCall command.now result call × Goes D.medium self.old self.new (call ∷ [])) }

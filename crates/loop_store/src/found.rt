@@ -57,7 +57,7 @@ pub(crate) fn read_super<D: Disk>(disk: &mut D) -> Result<SuperHead, StoreFault>
     Ok(head)
 }
 
-/// What the header of a segment says: one read.
+// What the header of a segment says: one read.
 fn read_head<D: Disk>(
     disk: &mut D,
     geometry: &Geometry,
@@ -100,7 +100,7 @@ pub(crate) fn read_heads<D: Disk, A: Allocator>(
     Ok(heads)
 }
 
-/// The time of frame `number`, where a slot holds it, or `SlotHead`: one read of its first `HEAD_SIZE` bytes.
+// The time of frame `number`, where a slot holds it, or `SlotHead`: one read of its first `HEAD_SIZE` bytes.
 fn check_slot<D: Disk>(
     disk: &mut D,
     geometry: &Geometry,
@@ -124,7 +124,7 @@ fn check_slot<D: Disk>(
     Ok(head.timestamp)
 }
 
-/// Whether the slots of a segment's whole frames hold these frames, or `SlotHead`: a read each. Notes their times.
+// Whether the slots of a segment's whole frames hold these frames, or `SlotHead`: a read each. Notes their times.
 fn check_segment<D: Disk>(
     disk: &mut D,
     geometry: &Geometry,

@@ -12,10 +12,10 @@ ghost use Rattle.loop_store.specs.Grow.{Brings};
 use loop_disk::{Disk, DiskFault, store};
 use loop_record::{HEADER_SIZE, OPEN, SUPER_SIZE, SuperHead, encode_super};
 
-/// The bytes of the superblock and the clip table.
+// The bytes of the superblock and the clip table.
 const FRONT_SIZE: usize = 2560;
 
-/// Closes the superblock's gate, if it is open, on a disk where a crash leaves the present bytes and nothing else.
+// Closes the superblock's gate, if it is open, on a disk where a crash leaves the present bytes and nothing else.
 fn close_gate<D: Disk>(disk: &mut D) -> Result<(), DiskFault>
     requires extent { 1 ≤ (D.medium disk.old).size }
     requires settled { (D.medium disk.old).honest → IsSettled (D.medium disk.old) }
@@ -30,7 +30,7 @@ fn close_gate<D: Disk>(disk: &mut D) -> Result<(), DiskFault>
     }
 }
 
-/// Settles the disk and closes the superblock's gate.
+// Settles the disk and closes the superblock's gate.
 fn unformat<D: Disk>(disk: &mut D) -> Result<(), DiskFault>
     requires extent { 1 ≤ (D.medium disk.old).size }
     ensures { let old = D.medium disk.old in Brings (WasOrClosed old) LeavesClosed old (D.medium disk.new) result }
@@ -39,7 +39,7 @@ fn unformat<D: Disk>(disk: &mut D) -> Result<(), DiskFault>
     close_gate(disk)
 }
 
-/// Puts an open superblock at the front of some bytes.
+// Puts an open superblock at the front of some bytes.
 fn put_super(front: &mut [u8], head: &SuperHead)
     requires good { IsTrue (is_good head.now.geometry) }
     requires size { 512 ≤ length front.old }
@@ -48,7 +48,7 @@ fn put_super(front: &mut [u8], head: &SuperHead)
     encode_super(head, &mut front[0..SUPER_SIZE]);
 }
 
-/// Bytes without the gate before them.
+// Bytes without the gate before them.
 fn behind_gate(bytes: &[u8]) -> &[u8]
     requires { 1 ≤ length bytes.now }
     ensures { result.now ≡ drop 1 bytes.now }
@@ -56,7 +56,7 @@ fn behind_gate(bytes: &[u8]) -> &[u8]
     &bytes[1..]
 }
 
-/// Writes the superblock behind its gate, and the clip table without a clip.
+// Writes the superblock behind its gate, and the clip table without a clip.
 fn write_front<D: Disk>(disk: &mut D, head: &SuperHead) -> Result<(), DiskFault>
     requires fits { FitsDisk head.now.geometry (D.medium disk.old).size }
     requires closed { (D.medium disk.old).honest → LeavesClosed (D.medium disk.old) }
@@ -67,7 +67,7 @@ fn write_front<D: Disk>(disk: &mut D, head: &SuperHead) -> Result<(), DiskFault>
     disk.write_at(1, behind_gate(&front))
 }
 
-/// Writes the header of a segment as zeros.
+// Writes the header of a segment as zeros.
 fn write_header<D: Disk>(disk: &mut D, head: &SuperHead, segment: u32) -> Result<(), DiskFault>
     requires fits { FitsDisk head.now.geometry (D.medium disk.old).size }
     requires segment { segment < head.now.geometry.segments }
@@ -77,7 +77,7 @@ fn write_header<D: Disk>(disk: &mut D, head: &SuperHead, segment: u32) -> Result
     disk.write_at(head.geometry.segment_at(segment), &[0; HEADER_SIZE])
 }
 
-/// Writes the headers of all segments as zeros.
+// Writes the headers of all segments as zeros.
 fn write_headers<D: Disk>(disk: &mut D, head: &SuperHead) -> Result<(), DiskFault>
     requires fits { FitsDisk head.now.geometry (D.medium disk.old).size }
     requires laid { (D.medium disk.old).honest → IsLaidClosed head.now 0 (D.medium disk.old) }
@@ -90,7 +90,7 @@ fn write_headers<D: Disk>(disk: &mut D, head: &SuperHead) -> Result<(), DiskFaul
     Ok(())
 }
 
-/// Opens the superblock's gate, on a disk where a crash leaves the present bytes and nothing else.
+// Opens the superblock's gate, on a disk where a crash leaves the present bytes and nothing else.
 fn open_gate<D: Disk>(disk: &mut D, head: &SuperHead) -> Result<(), DiskFault>
     requires fits { FitsDisk head.now.geometry (D.medium disk.old).size }
     requires version { IsVersion head.now.version }
@@ -102,7 +102,7 @@ fn open_gate<D: Disk>(disk: &mut D, head: &SuperHead) -> Result<(), DiskFault>
     store(disk, 0, &[OPEN])
 }
 
-/// Settles what was laid out behind the gate, and opens it.
+// Settles what was laid out behind the gate, and opens it.
 fn finish<D: Disk>(disk: &mut D, head: &SuperHead) -> Result<(), DiskFault>
     requires fits { FitsDisk head.now.geometry (D.medium disk.old).size }
     requires version { IsVersion head.now.version }

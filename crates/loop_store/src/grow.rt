@@ -18,7 +18,7 @@ use loop_disk::{Disk, DiskFault};
 use loop_ring::{Group, Ring};
 use std::alloc::Allocator;
 
-/// Begins the block of the next number, its first, in a closed segment: the recording stays as it is.
+// Begins the block of the next number, its first, in a closed segment: the recording stays as it is.
 fn begin<D: Disk>(disk: &mut D, ring: &Ring, segment: u32, next: u64) -> Result<(), DiskFault>
     requires extent { (D.medium disk.old).size ≡ disk_size ring.now.geometry }
     requires segment { segment < ring.now.geometry.segments }
@@ -33,7 +33,7 @@ fn begin<D: Disk>(disk: &mut D, ring: &Ring, segment: u32, next: u64) -> Result<
     ring.begin_block(disk, segment, next / u64::from(ring.geometry.slots))
 }
 
-/// Stores a group of frames in the block that has begun, behind its others.
+// Stores a group of frames in the block that has begun, behind its others.
 fn store_group<D: Disk>(
     disk: &mut D,
     ring: &Ring,
@@ -57,7 +57,7 @@ fn store_group<D: Disk>(
     ring.commit(disk, segment, slot, group)
 }
 
-/// Retires the victim's segment, and begins the block of the next number there.
+// Retires the victim's segment, and begins the block of the next number there.
 fn replace<D: Disk, A: Allocator>(
     disk: &mut D,
     index: &Index<A>,
@@ -78,8 +78,8 @@ fn replace<D: Disk, A: Allocator>(
     begin(disk, &index.ring, segment, next)
 }
 
-/// Makes room for the next frames at a place: a block is recycled and another begun, or one is begun, or
-/// nothing is to be done.
+// Makes room for the next frames at a place: a block is recycled and another begun, or one is begun, or
+// nothing is to be done.
 fn make_room<D: Disk, A: Allocator>(
     disk: &mut D,
     index: &Index<A>,

@@ -49,7 +49,7 @@ pub(crate) fn last_number(geometry: &Geometry) -> u64
     slots * (NUMBERS_END / slots)
 }
 
-/// Whether a segment has a frame of a block.
+// Whether a segment has a frame of a block.
 fn has_frame_of(head: Option<SegmentHead>, block: u64) -> bool
     ensures { result ≡ (is_of block head && has_frame head) }
 {
@@ -92,7 +92,7 @@ impl<A: Allocator> Index<A> {
         self.table.find(block).0
     }
 
-    /// The segment of the block that goes when room is needed, or nothing where no block may go.
+    // The segment of the block that goes when room is needed, or nothing where no block may go.
     fn victim_segment(&self) -> Option<u32>
         requires { IsIndex self.now }
         ensures within { IfSome result (λ segment. segment < length self.now.table.heads) }
@@ -103,8 +103,8 @@ impl<A: Allocator> Index<A> {
         self.find(block)
     }
 
-    /// Where a block begins that no segment has: in the closed segment of least number, or in the victim's
-    /// where each segment has a frame. Nothing where there is no victim then.
+    // Where a block begins that no segment has: in the closed segment of least number, or in the victim's
+    // where each segment has a frame. Nothing where there is no victim then.
     fn place_of_new(&self) -> Option<Place>
         requires { IsIndex self.now }
         ensures within { IfSome result (λ place. place_segment place < self.now.ring.geometry.segments) }
@@ -125,8 +125,8 @@ impl<A: Allocator> Index<A> {
         }
     }
 
-    /// Where the next frames go, where a number is left. Nothing where a block has to be recycled first and
-    /// none may go.
+    // Where the next frames go, where a number is left. Nothing where a block has to be recycled first and
+    // none may go.
     fn place_of_next(&self) -> Option<Place>
         requires { IsIndex self.now }
         ensures within { IfSome result (λ place. place_segment place < self.now.ring.geometry.segments) }
@@ -203,7 +203,7 @@ impl<A: Allocator> Index<A> {
     }
 }
 
-/// Puts the times of a group's frames among others, from a place on.
+// Puts the times of a group's frames among others, from a place on.
 fn put_times(times: &mut [u64], at: usize, group: &Group<'_>)
     requires { at + length group.now.frames ≤ length times.old }
     ensures { HasTimes times.old times.new at group.now.frames }
@@ -213,7 +213,7 @@ fn put_times(times: &mut [u64], at: usize, group: &Group<'_>)
     }
 }
 
-/// Sets the header of a segment. A block that had a frame there only grows: its clips aren't counted anew.
+// Sets the header of a segment. A block that had a frame there only grows: its clips aren't counted anew.
 fn set_head<A: Allocator>(
     table: &mut SegmentIndex<A>,
     ring: &Ring,
@@ -237,7 +237,7 @@ fn set_head<A: Allocator>(
     table.set(segment, Some(head), count);
 }
 
-/// Takes the clip of an id, if one stands there, out of the counts.
+// Takes the clip of an id, if one stands there, out of the counts.
 fn uncount_clip<A: Allocator>(
     table: &mut SegmentIndex<A>,
     ring: &Ring,
@@ -257,7 +257,7 @@ fn uncount_clip<A: Allocator>(
     }
 }
 
-/// Puts a clip, if there is one, into the counts: it is to stand under an id that is free.
+// Puts a clip, if there is one, into the counts: it is to stand under an id that is free.
 fn count_clip<A: Allocator>(
     table: &mut SegmentIndex<A>,
     ring: &Ring,

@@ -19,8 +19,8 @@ use loop_disk::{Disk, DiskFault};
 use loop_record::{Span, TAGGED};
 use std::alloc::Allocator;
 
-/// The first number from this one on that isn't held, if it is one of its block, or the one behind the block: the
-/// number itself where that isn't held.
+// The first number from this one on that isn't held, if it is one of its block, or the one behind the block: the
+// number itself where that isn't held.
 fn run_end<A: Allocator>(index: &Index<A>, number: u64) -> u64
     requires { IsIndex index.now }
     ensures from { number ≤ result }
@@ -41,8 +41,8 @@ fn run_end<A: Allocator>(index: &Index<A>, number: u64) -> u64
     }
 }
 
-/// The least number of a span that isn't held. It looks at each held block of the span once, and at no number of
-/// it alone.
+// The least number of a span that isn't held. It looks at each held block of the span once, and at no number of
+// it alone.
 fn first_missing<A: Allocator>(index: &Index<A>, span: Span) -> Option<u64>
     requires index { IsIndex index.now }
     requires some { span.from ≤ span.to }
@@ -60,15 +60,15 @@ fn first_missing<A: Allocator>(index: &Index<A>, span: Span) -> Option<u64>
     None
 }
 
-/// Whether a version of the layout has a place for the tag of a clip.
+// Whether a version of the layout has a place for the tag of a clip.
 fn has_place(version: u32, span: Span) -> bool
     ensures { result ≡ has_tag_place version span }
 {
     version == TAGGED || span.tag == 0
 }
 
-/// The id under which a clip of a span may be added. `ClipEmpty`, then `ClipNotHeld`, then `ClipTableFull`, then
-/// `OldLayout`.
+// The id under which a clip of a span may be added. `ClipEmpty`, then `ClipNotHeld`, then `ClipTableFull`, then
+// `OldLayout`.
 fn id_for<A: Allocator>(index: &Index<A>, span: Span) -> Result<u32, StoreFault>
     requires { IsIndex index.now }
     ensures id { IfOk result (λ id. ((id < 64) × (id ≡ first_free index.now.clips)) × (span.from ≤ span.to)) }
@@ -92,7 +92,7 @@ fn id_for<A: Allocator>(index: &Index<A>, span: Span) -> Result<u32, StoreFault>
     Ok(id)
 }
 
-/// Writes a clip under the least free id, and notes it.
+// Writes a clip under the least free id, and notes it.
 fn add_clip<D: Disk, A: Allocator>(
     disk: &mut D,
     index: &mut Index<A>,
@@ -117,7 +117,7 @@ fn add_clip<D: Disk, A: Allocator>(
     written
 }
 
-/// Takes away the clip of an id, and notes it.
+// Takes away the clip of an id, and notes it.
 fn remove_clip<D: Disk, A: Allocator>(
     disk: &mut D,
     index: &mut Index<A>,

@@ -38,7 +38,7 @@ pub(crate) fn segment_with<A: Allocator>(index: &Index<A>, number: u64) -> Optio
     }
 }
 
-/// The lesser of two numbers, where there are two.
+// The lesser of two numbers, where there are two.
 fn lesser(first: Option<u64>, second: Option<u64>) -> Option<u64>
     ensures { (p q : ℕ → Bool) (n : ℕ) → IsLeastFrom p n first → IsLeastFrom q n second
         → IsLeastFrom (λ k. p k || q k) n result }
@@ -49,7 +49,7 @@ fn lesser(first: Option<u64>, second: Option<u64>) -> Option<u64>
     }
 }
 
-/// The least number from this one on whose frame a segment has, by its header.
+// The least number from this one on whose frame a segment has, by its header.
 fn least_in(geometry: &Geometry, head: Option<SegmentHead>, number: u64) -> Option<u64>
     requires good { IsTrue (is_good geometry.now) }
     requires within { IsHeadIn geometry.now head }
@@ -134,7 +134,7 @@ pub(crate) fn read_held_part<D: Disk>(
     Ok(())
 }
 
-/// How many frames a header names.
+// How many frames a header names.
 fn frames_under(head: Option<SegmentHead>) -> u32
     ensures { (slots : ℕ) → result ≡ length (numbers_under slots (head ∷ [])) }
 {
@@ -156,7 +156,7 @@ pub(crate) fn count_held<A: Allocator>(index: &Index<A>) -> u64
     count
 }
 
-/// Puts the numbers of a segment's frames behind others, in memory that was taken before.
+// Puts the numbers of a segment's frames behind others, in memory that was taken before.
 fn add_numbers<A: Allocator>(geometry: &Geometry, found: Found, numbers: &mut Vec<u64, A>)
     requires few { found.frames ≤ geometry.now.slots }
     requires low { is_too_high geometry.now found.block ≡ false }

@@ -14,7 +14,7 @@ use loop_record::{Geometry, SuperHead, TAGGED};
 use loop_ring::{Ring, SegmentIndex};
 use std::alloc::Allocator;
 
-/// Whether a geometry is good, and a disk has its size.
+// Whether a geometry is good, and a disk has its size.
 fn fits<D: Disk>(disk: &D, geometry: &Geometry) -> bool
     ensures { result ≡ (is_good geometry.now && ((D.medium disk.now).size == disk_size geometry.now)) }
 {
@@ -24,7 +24,7 @@ fn fits<D: Disk>(disk: &D, geometry: &Geometry) -> bool
     }
 }
 
-/// Writes an empty recording in a version of the layout over whatever stands on a disk, and hands out its store.
+// Writes an empty recording in a version of the layout over whatever stands on a disk, and hands out its store.
 fn format_as<D: Disk + Drop, A: Allocator + Copy>(
     alloc: A,
     disk: D,

@@ -15,7 +15,7 @@ use loop_record::{Damage, SuperHead, lacks_frame, next_after, repeats};
 use loop_ring::SegmentIndex;
 use std::alloc::Allocator;
 
-/// The index of what the image of a disk with this superblock reads as.
+// The index of what the image of a disk with this superblock reads as.
 fn recover_parts<D: Disk, A: Allocator + Copy>(
     alloc: A,
     disk: &mut D,

@@ -19,7 +19,7 @@ use loop_disk::{Disk, DiskFault};
 use loop_record::Geometry;
 use std::alloc::Allocator;
 
-/// Syncs, so that a stop leaves what a read gives, and finds what the disk's image reads as.
+// Syncs, so that a stop leaves what a read gives, and finds what the disk's image reads as.
 fn reread<D: Disk, A: Allocator + Copy>(alloc: A, disk: &mut D) -> Result<Index<A>, StoreFault>
     ensures known { IfOk result (λ index. IsFitting index (D.medium disk.old).size × SaysRecording index) }
     ensures settled { (D.medium disk.old).honest → IfOk result (λ index. IsSettled (D.medium disk.new)) }
@@ -30,8 +30,8 @@ fn reread<D: Disk, A: Allocator + Copy>(alloc: A, disk: &mut D) -> Result<Index<
     recover(alloc, disk)
 }
 
-/// Clears the stray gates that a stop may have left in the block of the next number. The other segments have all their
-/// frames, so that no gate of theirs can be stray.
+// Clears the stray gates that a stop may have left in the block of the next number. The other segments have all their
+// frames, so that no gate of theirs can be stray.
 fn clear_newest<D: Disk, A: Allocator>(disk: &mut D, index: &Index<A>) -> Result<(), DiskFault>
     requires fits { IsFitting index.now (D.medium disk.old).size }
     requires settled { (D.medium disk.old).honest → IsSettled (D.medium disk.old) }
@@ -56,7 +56,7 @@ pub fn can_keep(geometry: &Geometry, keep: u32) -> bool
     0 < keep && keep < geometry.segments
 }
 
-/// Keeps so many of the newest blocks. `BadKeep` where they can't be kept.
+// Keeps so many of the newest blocks. `BadKeep` where they can't be kept.
 fn keep_newest<A: Allocator>(index: &mut Index<A>, keep: u32) -> Result<(), StoreFault>
     ensures kept { IfOk result (λ done. (index.new ≡ keeping keep index.old)
         × (is_bad_keep index.old.ring.geometry.segments keep ≡ false)) }
@@ -70,7 +70,7 @@ fn keep_newest<A: Allocator>(index: &mut Index<A>, keep: u32) -> Result<(), Stor
     Ok(())
 }
 
-/// Syncs, and finds what the disk's image reads as, with so many of the newest blocks kept. It writes nothing.
+// Syncs, and finds what the disk's image reads as, with so many of the newest blocks kept. It writes nothing.
 fn find<D: Disk, A: Allocator + Copy>(
     alloc: A,
     disk: &mut D,
@@ -91,7 +91,7 @@ fn find<D: Disk, A: Allocator + Copy>(
     Ok(index)
 }
 
-/// Finds the recording on a disk again, and makes the disk ready for a store.
+// Finds the recording on a disk again, and makes the disk ready for a store.
 fn reopen<D: Disk, A: Allocator + Copy>(
     alloc: A,
     disk: &mut D,

@@ -12,7 +12,7 @@ use crate::look::held_numbers;
 use loop_record::{Span, Times};
 use std::alloc::{AllocError, Allocator};
 
-/// The time at the slot of a number in the segment that has its block; 0 where none has it.
+// The time at the slot of a number in the segment that has its block; 0 where none has it.
 fn time_of<A: Allocator>(index: &Index<A>, number: u64) -> u64
     requires { IsIndex index.now }
     ensures { result ≡ time_under index.now.ring.geometry.slots index.now.table.heads index.now.times.items number }
@@ -26,14 +26,14 @@ fn time_of<A: Allocator>(index: &Index<A>, number: u64) -> u64
     }
 }
 
-/// Whether a number comes next after a run.
+// Whether a number comes next after a run.
 fn is_next(run: Span, number: u64) -> bool
     ensures { result ≡ (run.to + 1 == number) }
 {
     run.to < number && number - run.to == 1
 }
 
-/// The run of one number.
+// The run of one number.
 fn one(number: u64) -> Span
     ensures { result ≡ record { from = number; to = number; tag = 0 } }
 {
@@ -44,7 +44,7 @@ fn one(number: u64) -> Span
     }
 }
 
-/// Puts a number after the last run, or as a run of its own.
+// Puts a number after the last run, or as a run of its own.
 fn add_number<A: Allocator>(runs: &mut Vec<Span, A>, number: u64) -> Result<(), AllocError>
     ensures { OnOk result (runs.new.items ≡ added runs.old.items number) }
 {
@@ -62,7 +62,7 @@ fn add_number<A: Allocator>(runs: &mut Vec<Span, A>, number: u64) -> Result<(), 
     Ok(())
 }
 
-/// The runs of those of these numbers, which rise, whose frames have their time among these.
+// The runs of those of these numbers, which rise, whose frames have their time among these.
 fn runs_of<A: Allocator, B: Allocator>(
     alloc: B,
     index: &Index<A>,

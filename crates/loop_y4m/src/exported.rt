@@ -16,7 +16,7 @@ use loop_store::{Store, StoreFault};
 use std::alloc::Allocator;
 use std::io::Write;
 
-/// The most bytes of a frame that are moved at once.
+// The most bytes of a frame that are moved at once.
 const MAX_PIECE: u32 = 65_536;
 
 /// Writes the held frames whose numbers are from `from` to `to`, in rising order, behind a header, and answers
@@ -52,7 +52,7 @@ pub fn export<D: Disk + Drop, A: Allocator + Copy, W: Write>(
     write_frames(store, first, to, &mut piece, out)
 }
 
-/// The least number from `from` to `to` that a frame has.
+// The least number from `from` to `to` that a frame has.
 fn held_between<D: Disk + Drop, A: Allocator>(
     store: &Store<D, A>,
     from: u64,
@@ -67,7 +67,7 @@ fn held_between<D: Disk + Drop, A: Allocator>(
     }
 }
 
-/// Writes the held frames from `first`, which is held, to `to`, and answers how many they are.
+// Writes the held frames from `first`, which is held, to `to`, and answers how many they are.
 fn write_frames<D: Disk + Drop, A: Allocator, W: Write>(
     store: &mut Store<D, A>,
     first: u64,
@@ -93,7 +93,7 @@ fn write_frames<D: Disk + Drop, A: Allocator, W: Write>(
     Ok(count)
 }
 
-/// Writes a frame of the store, piece by piece.
+// Writes a frame of the store, piece by piece.
 fn write_held<D: Disk + Drop, A: Allocator, W: Write>(
     store: &mut Store<D, A>,
     number: u64,
@@ -118,7 +118,7 @@ fn write_held<D: Disk + Drop, A: Allocator, W: Write>(
     Ok(())
 }
 
-/// Writes a part of a frame of the store, from byte `at` on: as many bytes as `part` has.
+// Writes a part of a frame of the store, from byte `at` on: as many bytes as `part` has.
 fn move_part<D: Disk + Drop, A: Allocator, W: Write>(
     store: &mut Store<D, A>,
     number: u64,

@@ -8,7 +8,7 @@ use crate::Y4mFault;
 use crate::input::{MAX_LINE, next_byte, next_line, read_some};
 use std::io::Read;
 
-/// Whether a line is a frame's.
+// Whether a line is a frame's.
 fn is_frame_line(line: &[u8]) -> bool
     ensures { result ≡ is_frame_line line.now }
 {

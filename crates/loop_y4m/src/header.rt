@@ -9,7 +9,7 @@ use crate::number::{find, number};
 use crate::{GeometryFault, Y4mFault};
 use loop_record::{Geometry, PixelFormat};
 
-/// The most bytes of a frame.
+// The most bytes of a frame.
 const MAX_FRAME: u32 = 16_777_216;
 
 /// What a header says.
@@ -73,7 +73,7 @@ impl Header {
     }
 }
 
-/// The parameters so far.
+// The parameters so far.
 #[derive(Clone, Copy)]
 struct Parameters {
     width: Option<u32>,
@@ -125,7 +125,7 @@ fn colour(text: &[u8]) -> Option<PixelFormat>
     }
 }
 
-/// Progressive frames, or unknown ones.
+// Progressive frames, or unknown ones.
 fn interlace(text: &[u8]) -> Result<(), Y4mFault>
     ensures { result ≡ interlace text.now }
 {
@@ -136,7 +136,7 @@ fn interlace(text: &[u8]) -> Result<(), Y4mFault>
     }
 }
 
-/// Takes one parameter more.
+// Takes one parameter more.
 fn with_parameter(mut given: Parameters, word: &[u8]) -> Result<Parameters, Y4mFault>
     ensures value { result ≡ with_parameter given word.now }
     ensures bound { HasSmallSides given → IfOk result HasSmallSides }
@@ -155,7 +155,7 @@ fn with_parameter(mut given: Parameters, word: &[u8]) -> Result<Parameters, Y4mF
     Ok(given)
 }
 
-/// The header of all parameters: its width and height are given, and its frames aren't too large.
+// The header of all parameters: its width and height are given, and its frames aren't too large.
 fn complete(given: Parameters) -> Result<Header, Y4mFault>
     requires { HasSmallSides given }
     ensures value { result ≡ complete given.width given.height given }

@@ -120,7 +120,7 @@ impl<R: Read + Drop> Y4mReader<R> {
     }
 }
 
-/// Reads the header's line, and judges it.
+// Reads the header's line, and judges it.
 fn read_header<R: Read>(reader: &mut R) -> Result<Header, Y4mFault>
     ensures header { IfSome (R.remaining reader.old)
         (λ bytes. HeaderIs bytes result (R.remaining reader.new)) }
@@ -131,7 +131,7 @@ fn read_header<R: Read>(reader: &mut R) -> Result<Header, Y4mFault>
     parse_header(&line[n.min(10)..n])
 }
 
-/// Reads the header's line into `line`, and answers how many bytes it has before its 0x0A.
+// Reads the header's line into `line`, and answers how many bytes it has before its 0x0A.
 fn read_header_line<R: Read>(reader: &mut R, line: &mut [u8]) -> Result<usize, Y4mFault>
     requires { length line.old ≡ MAX_LINE }
     ensures bound { IfOk result (λ n. n < MAX_LINE) }

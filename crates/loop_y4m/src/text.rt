@@ -8,10 +8,10 @@ use arrayvec::ArrayVec;
 use loop_record::{Geometry, PixelFormat};
 use std::io::{Error, ErrorKind, Result, Write};
 
-/// More bytes than a header has.
+// More bytes than a header has.
 const MAX_HEADER: usize = 80;
 
-/// The name of a format's colour.
+// The name of a format's colour.
 fn colour_name(format: PixelFormat) -> &'static str
     ensures { result.now ≡ colour_name format }
 {
@@ -68,8 +68,8 @@ pub fn write_frame<W: Write>(bytes: &[u8], out: &mut W) -> Result<()>
     write_pixels(bytes, out)
 }
 
-/// Writes all of these bytes. A write that was interrupted is made again, as `write_all` does, which doesn't
-/// say how much was written before a fault.
+// Writes all of these bytes. A write that was interrupted is made again, as `write_all` does, which doesn't
+// say how much was written before a fault.
 #[tactic(auto, using(crate::proofs::PartWrites::writing))]
 fn put<W: Write>(bytes: &[u8], out: &mut W) -> Result<()>
     ensures { Wrote (W.contents out.old) (W.contents out.new) result bytes.now }

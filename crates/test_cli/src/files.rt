@@ -21,7 +21,7 @@ fn put(image: &mut [u8], at: usize, bytes: &[u8]) {
     }
 }
 
-// Frames of 4x2 YM12 at 25 a second, 3 segments of 2: the image after the frames 0 to 6, by the layout.
+/// Frames of 4x2 YM12 at 25 a second, 3 segments of 2: the image after the frames 0 to 6, by the layout.
 pub(crate) fn ring() -> [u8; 4360] {
     image_of(&[(0, 3, 1), (1, 1, 2), (2, 2, 2)])
 }
@@ -59,10 +59,10 @@ fn put_segment(image: &mut [u8], segment: usize, block: u8, frames: usize) {
     }
 }
 
-// The words of a run, with a space between them; what they print, what they tell, and the status.
+/// The words of a run, with a space between them; what they print, what they tell, and the status.
 pub(crate) type Step = (&'static str, &'static str, &'static str, u8);
 
-// The words of a text, between its spaces.
+/// The words of a text, between its spaces.
 pub(crate) fn words_of<'a>(rt: &(impl Abort + AllocGlobal), text: &'a str) -> Vec<&'a str> {
     text.split(' ')
         .collect(rt.alloc())
@@ -81,7 +81,7 @@ fn does(
     comes_to(rt, &ran, printed, told, status, &words);
 }
 
-// Runs each step, one after the other.
+/// Runs each step, one after the other.
 pub(crate) fn each_does(
     rt: &(impl Abort + AllocGlobal + Files<File = File> + Threads + Wait + Clock + Sync),
     steps: &[Step],
@@ -91,7 +91,7 @@ pub(crate) fn each_does(
     }
 }
 
-// Runs each step while a file is in use.
+/// Runs each step while a file is in use.
 pub(crate) fn each_does_in_use(
     rt: &(impl Abort + AllocGlobal + Files<File = File> + Threads + Wait + Clock + Sync),
     path: &str,
@@ -104,12 +104,12 @@ pub(crate) fn each_does_in_use(
     drop(disk);
 }
 
-// Makes a file with these bytes.
+/// Makes a file with these bytes.
 pub(crate) fn write_file(rt: &(impl Abort + Files), path: &str, bytes: &[u8]) {
     fs::write(rt, path, bytes).expect(rt, "a file that is written");
 }
 
-// Removes these files.
+/// Removes these files.
 pub(crate) fn remove_files(rt: &(impl Abort + Files), paths: &[&str]) {
     for path in paths {
         fs::remove_file(rt, *path).expect(rt, "a file that is removed");
@@ -121,7 +121,7 @@ fn read_file(rt: &(impl Abort + AllocGlobal + Files<File = File>), path: &str) -
     fs::read(rt, path).expect(rt, "a file that is read")
 }
 
-// Fails the test unless a file has these bytes.
+/// Fails the test unless a file has these bytes.
 pub(crate) fn has(rt: &(impl Abort + AllocGlobal + Files<File = File>), path: &str, bytes: &[u8]) {
     same!(rt; read_file(rt, path).as_slice(), bytes, path);
 }
@@ -131,7 +131,7 @@ fn has_size(rt: &(impl Abort + AllocGlobal + Files<File = File>), path: &str, si
     same!(rt; read_file(rt, path).len(), size, path);
 }
 
-// Makes a file that holds the ring, and runs each step.
+/// Makes a file that holds the ring, and runs each step.
 pub(crate) fn each_does_on_ring(
     rt: &(impl Abort + AllocGlobal + Files<File = File> + Threads + Wait + Clock + Sync),
     path: &str,
@@ -362,7 +362,7 @@ static TOLD: [&str; 4] = [
     "list .",
 ];
 
-// Runs words where nothing can be printed or told, which ends with status 1.
+/// Runs words where nothing can be printed or told, which ends with status 1.
 pub(crate) fn is_unprinted(
     rt: &(impl Abort + AllocGlobal + Files<File = File> + Threads + Wait + Clock + Sync),
     words: &str,

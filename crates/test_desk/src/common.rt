@@ -33,7 +33,7 @@ pub(crate) const AMPLE: DeskLimits = DeskLimits {
     calls: 1,
 };
 
-/// The buffer type of the queues here.
+// The buffer type of the queues here.
 const YM12: BufferType = BufferType::VideoCaptureMplane;
 
 /// An event of a lane over mapped memory.

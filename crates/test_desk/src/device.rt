@@ -16,10 +16,10 @@ use loop_y4m::export;
 use std::alloc::Global;
 use std::process::Abort;
 
-/// The lane of these tests.
+// The lane of these tests.
 type Mapped = Lane<MemDisk, MmapPlane>;
 
-/// The pattern, of which frames 4 and 9 can't be had.
+// The pattern, of which frames 4 and 9 can't be had.
 #[derive(Drop)]
 struct Faulty {
     pattern: Pattern,
@@ -46,7 +46,7 @@ impl FrameSource for Faulty {
     }
 }
 
-/// Two buffers stream.
+// Two buffers stream.
 const START: [(Call, Told); 4] = [
     (ReqBufs(2), Count(2)),
     (QBuf(0), Done),
@@ -54,10 +54,10 @@ const START: [(Call, Told); 4] = [
     (StreamOn, Done),
 ];
 
-/// Frame periods, each with its end, and the events behind them.
+// Frame periods, each with its end, and the events behind them.
 type Part = (&'static [(u64, Tick)], &'static [(Call, Told)]);
 
-/// What a device and a lane do.
+// What a device and a lane do.
 const PARTS: [Part; 8] = [
     // Eight frame periods up to a stop: two find no active buffer, one has no frame, and the last one's is thrown away.
     (
@@ -139,8 +139,8 @@ const PARTS: [Part; 8] = [
     ),
 ];
 
-/// What the disk holds at the end: number, sequence and time of each frame. Its sequence is the count of the ticks
-/// before its own since streaming began, those that were missed or failed among them; numbers 0 and 1 were recycled.
+// What the disk holds at the end: number, sequence and time of each frame. Its sequence is the count of the ticks
+// before its own since streaming began, those that were missed or failed among them; numbers 0 and 1 were recycled.
 const HELD: [(u64, u32, u64); 6] = [
     (2, 3, 120_000),
     (3, 5, 200_000),
@@ -150,7 +150,7 @@ const HELD: [(u64, u32, u64); 6] = [
     (7, 3, 480_000),
 ];
 
-/// Their text: byte i of the pattern's frame n is (n + i) mod 256, and the pattern gave a frame at each tick.
+// Their text: byte i of the pattern's frame n is (n + i) mod 256, and the pattern gave a frame at each tick.
 const TEXT: &[u8] = b"YUV4MPEG2 W4 H2 F25:1 Ip A0:0 C420jpeg\n\
     FRAME\n\x03\x04\x05\x06\x07\x08\x09\x0A\x0B\x0C\x0D\x0E\
     FRAME\n\x05\x06\x07\x08\x09\x0A\x0B\x0C\x0D\x0E\x0F\x10\

@@ -10,8 +10,8 @@ use loop_plane::{MmapPlane, PlaneMemory};
 use std::alloc::{Allocator, Global};
 use std::process::Abort;
 
-/// How many calls of the disk before the end of a run the power fails, what then stands where nothing was synced, and
-/// the next number of what is opened. The run's last calls are the eight of its one flush, of one frame.
+// How many calls of the disk before the end of a run the power fails, what then stands where nothing was synced, and
+// the next number of what is opened. The run's last calls are the eight of its one flush, of one frame.
 const STOPS: [(usize, Spoil, u64); 5] = [
     (8, Spoil::Keep, 0),
     (4, Spoil::Gate, 0),

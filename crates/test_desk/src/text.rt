@@ -31,7 +31,7 @@ pub(crate) const FIFTEEN: [(Call, Told); 15] = [
     (Flush, Flushed(0, 1, 0)),
 ];
 
-/// The text of the one frame that the list of fifteen stores.
+// The text of the one frame that the list of fifteen stores.
 const TEXT: &[u8] =
     b"YUV4MPEG2 W4 H2 F25:1 Ip A0:0 C420jpeg\nFRAME\n\x00\x01\x02\x03\x04\x05\x06\x07\x08\x09\x0a\x0b";
 

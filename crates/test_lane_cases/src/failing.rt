@@ -9,12 +9,12 @@ use loop_disk::{Disk, FuseDisk, MemDisk, OnceDisk};
 use std::alloc::Global;
 use std::io::Write;
 
-/// The calls that fail, one after the other.
+// The calls that fail, one after the other.
 #[derive(Clone, Copy)]
 struct Range {
-    /// The last call of the list's.
+    // The last call of the list's.
     last: u64,
-    /// From this call on a failure is one of a read, which is no reason to open the disk again.
+    // From this call on a failure is one of a read, which is no reason to open the disk again.
     reads: u64,
 }
 
@@ -28,12 +28,12 @@ fn is_stopped(verb: Verb, told: &[u8]) -> bool {
         || told == b"HandEmpty".as_slice()
 }
 
-/// What the replies show.
+// What the replies show.
 #[derive(Clone, Copy, PartialEq, Eq)]
 enum Replies {
-    /// All are those without a failure.
+    // All are those without a failure.
     Same,
-    /// One was Disk, and all behind it are right.
+    // One was Disk, and all behind it are right.
     Failed,
     Wrong,
 }

@@ -15,7 +15,7 @@ use loop_store::{OpenRefused, Store, format, format_v1};
 use std::alloc::Global;
 use std::io::{BufRead, Write};
 
-/// Three segments with two slots each, of frames of 12 bytes.
+// Three segments with two slots each, of frames of 12 bytes.
 const SMALL: Geometry = Geometry {
     width: 4,
     height: 2,
@@ -26,7 +26,7 @@ const SMALL: Geometry = Geometry {
     slots: 2,
 };
 
-/// What lines share.
+// What lines share.
 #[derive(Drop)]
 struct CaseSession {
     image: Vec<u8>,

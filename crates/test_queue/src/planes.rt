@@ -16,7 +16,7 @@ use std::sync::Arc;
 use std::test::Fail;
 use test_alloc::Budget;
 
-/// A plane of any kind.
+// A plane of any kind.
 type Plane = Box<dyn PlaneMemory + Send>;
 
 // A plane of one page, in a box.

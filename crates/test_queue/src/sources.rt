@@ -6,7 +6,7 @@ use loop_y4m::Y4mReader;
 use std::test::Fail;
 use test_alloc::Budget;
 
-/// Two frames of one byte.
+// Two frames of one byte.
 const SMALL: &[u8; 42] = b"YUV4MPEG2 W1 H1 F25:1 Cmono\nFRAME\n\x07FRAME\n\x08";
 
 #[test]

@@ -18,21 +18,21 @@ use std::process::Abort;
 use std::sync::Arc;
 use std::test::Fail;
 
-/// Two frames of 4 by 2 but for the last byte of the second: byte i of frame n is n + i.
+// Two frames of 4 by 2 but for the last byte of the second: byte i of frame n is n + i.
 const CUT: &[u8; 74] = b"YUV4MPEG2 W4 H2 F25:1 Ip A0:0 C420jpeg\nFRAME\n\
     \x00\x01\x02\x03\x04\x05\x06\x07\x08\x09\x0A\x0BFRAME\n\
     \x01\x02\x03\x04\x05\x06\x07\x08\x09\x0A\x0B";
 
-/// What a device and its queue are made to do, with the answer.
+// What a device and its queue are made to do, with the answer.
 #[derive(Clone, Copy)]
 enum Step {
-    /// A tick at this time.
+    // A tick at this time.
     Ticks(u64, Tick),
-    /// A frame is dequeued, and its buffer queued again.
+    // A frame is dequeued, and its buffer queued again.
     Takes(Option<Frame>),
-    /// The one buffer is queued, and streaming goes on.
+    // The one buffer is queued, and streaming goes on.
     Starts,
-    /// Streaming stops.
+    // Streaming stops.
     Stops,
 }
 

@@ -18,13 +18,13 @@ use std::sync::Wait;
 use std::thread;
 use std::thread::Threads;
 
-/// The calls of each of eight callers.
+// The calls of each of eight callers.
 const TURNS: u32 = 1250;
 
-/// What no answer is looked at in.
+// What no answer is looked at in.
 const UNHEARD: StoreFault = StoreFault::NoMemory;
 
-/// Numbers that look random, and are the same each time.
+// Numbers that look random, and are the same each time.
 #[derive(Drop)]
 struct Dice {
     state: u64,
@@ -41,7 +41,7 @@ impl Dice {
     }
 }
 
-/// A caller: its dice, and the number of the frame that each camera took in last.
+// A caller: its dice, and the number of the frame that each camera took in last.
 #[derive(Drop)]
 struct Caller {
     dice: Dice,

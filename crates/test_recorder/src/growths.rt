@@ -17,18 +17,18 @@ use std::process::Abort;
 use std::sync::Wait;
 use test_alloc::Budget;
 
-/// Cameras all of whose memory is granted by a budget.
+// Cameras all of whose memory is granted by a budget.
 type Cameras<'a, P> = Vec<Camera<MemDisk, P, &'a Budget>, &'a Budget>;
 
-/// A recorder of such cameras.
+// A recorder of such cameras.
 type Thrifty<'a, P> = Recorder<MemDisk, P, &'a Budget>;
 
-/// Its passes.
+// Its passes.
 type Passes<'a> = Vec<Pass<&'a Budget>, &'a Budget>;
 
-/// The growths of a new recorder of two cameras, each with a frame and a clip: two lists of locks, the lists for the
-/// end and for what is given up, the passes, and twice a list of outlines, each of which takes a growth for its frames
-/// and one for its clips.
+// The growths of a new recorder of two cameras, each with a frame and a clip: two lists of locks, the lists for the
+// end and for what is given up, the passes, and twice a list of outlines, each of which takes a growth for its frames
+// and one for its clips.
 const NEW: u64 = 15;
 
 // Within so many growths no recorder is made, and the cameras come back as they were.
@@ -79,7 +79,7 @@ fn made<'a, P: PlaneMemory>(
     made
 }
 
-/// A status of a desk with one frame.
+// A status of a desk with one frame.
 const STANDS: Noted = Noted::Status(Status {
     next: 1,
     held: 1,
@@ -87,7 +87,7 @@ const STANDS: Noted = Noted::Status(Status {
     must_reopen: false,
 });
 
-/// The head of the frame that is stored.
+// The head of the frame that is stored.
 const HEAD: FrameHead = FrameHead {
     number: 1,
     sequence: 9,
@@ -95,7 +95,7 @@ const HEAD: FrameHead = FrameHead {
     timestamp: 360_000,
 };
 
-/// The calls that are noted.
+// The calls that are noted.
 const NOTED: [Noted; 8] = [
     STANDS,
     Noted::Submit(NINE, SIZE, Ok(1)),
@@ -118,9 +118,9 @@ const NOTED: [Noted; 8] = [
     Noted::Read(1, Err(StoreFault::NoMemory)),
 ];
 
-/// So many growths, all of which are needed; a call; and whether it is noted, as above, or refused for want of memory
-/// for an entry or a receipt. Each has room for four. What is submitted takes a growth for its frame; the first frame
-/// that is read lies in the memory of the stored one, and for the second there is none.
+// So many growths, all of which are needed; a call; and whether it is noted, as above, or refused for want of memory
+// for an entry or a receipt. Each has room for four. What is submitted takes a growth for its frame; the first frame
+// that is read lies in the memory of the stored one, and for the second there is none.
 const ROWS: [(u64, usize, bool); 19] = [
     (0, 0, false),
     (1, 0, false),

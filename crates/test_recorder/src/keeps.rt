@@ -14,19 +14,19 @@ use std::alloc::Global;
 use std::process::Abort;
 use std::sync::Wait;
 
-/// Frames that are stored one by one, by their times, some clips that are locked behind so many of them, and a keep.
+// Frames that are stored one by one, by their times, some clips that are locked behind so many of them, and a keep.
 struct Case<'a> {
     times: &'a [u64],
-    /// Behind so many frames those from one number to another are locked, so many times.
+    // Behind so many frames those from one number to another are locked, so many times.
     lock: (u64, u64, u64, u32),
-    /// The first and the last moment.
+    // The first and the last moment.
     keep: (u64, u64),
-    /// The ids and numbers of the clips that the keep tells, and why no further one.
+    // The ids and numbers of the clips that the keep tells, and why no further one.
     clips: &'a [(u32, u64, u64)],
     fault: Option<SessionFault>,
-    /// How many looks it notes: one for each run of the time, and the one that finds no more.
+    // How many looks it notes: one for each run of the time, and the one that finds no more.
     looks: u64,
-    /// How many calls the history may have.
+    // How many calls the history may have.
     calls: u32,
 }
 

@@ -29,7 +29,7 @@ use std::thread;
 use std::thread::Threads;
 use std::time::Clock;
 
-/// So many ticks from a first one on, each a millisecond behind the other; and what the threads told.
+// So many ticks from a first one on, each a millisecond behind the other; and what the threads told.
 #[derive(Drop)]
 struct Guided {
     ticks: u64,
@@ -77,7 +77,7 @@ impl Guide for Guided {
         false
     }
 
-    // Once, when two frames or more are held, a visitor locks them, and unlocks them again.
+    /// Once, when two frames or more are held, a visitor locks them, and unlocks them again.
     fn visit<R: Wait + Clock, D: Disk + Drop>(&self, _rt: &R, alloc: Global, back: &mut Back<D>) {
         if self.clips.load(Ordering::SeqCst) > 0 || back.status().held < 2 {
             return;

@@ -9,10 +9,10 @@ use loop_recorder::{FrameInfo, Noted};
 use loop_store::{Clip, Store};
 use std::alloc::{AllocError, Global};
 
-/// The frames of a block.
+// The frames of a block.
 const SLOTS: u64 = 2;
 
-/// The blocks that a disk has room for.
+// The blocks that a disk has room for.
 const SEGMENTS: usize = 3;
 
 /// A recording.

@@ -16,7 +16,7 @@ use std::io::{ErrorKind, Write};
 use std::process::Abort;
 use test_alloc::Budget;
 
-/// Three segments with two slots each, of frames of 12 bytes.
+// Three segments with two slots each, of frames of 12 bytes.
 const SMALL: Geometry = Geometry {
     width: 4,
     height: 2,
@@ -27,7 +27,7 @@ const SMALL: Geometry = Geometry {
     slots: 2,
 };
 
-/// Frames of 65,538 bytes, two more than are moved at once.
+// Frames of 65,538 bytes, two more than are moved at once.
 const LARGE: Geometry = Geometry {
     width: 331,
     height: 198,
@@ -38,10 +38,10 @@ const LARGE: Geometry = Geometry {
     slots: 1,
 };
 
-/// The header of its text.
+// The header of its text.
 const LARGE_HEADER: &[u8; 40] = b"YUV4MPEG2 W331 H198 F25:1 Ip A0:0 Cmono\n";
 
-/// Keeps how many bytes each call gave it.
+// Keeps how many bytes each call gave it.
 #[derive(Drop)]
 struct Sizes {
     sizes: Vec<usize>,
@@ -141,7 +141,7 @@ fn stored<A: Allocator + Copy>(
     store
 }
 
-/// What an export answers.
+// What an export answers.
 type Answer = Result<u64, ExportFault>;
 
 // What an export of a range writes and answers.
@@ -230,7 +230,7 @@ fn a_writer_that_fails_has_a_beginning_of_the_text(rt: HostRuntime) {
     exports_failing_at(&rt, rt.alloc(), &mut store, &kinds);
 }
 
-/// A range, and the numbers of the frames that are exported of it.
+// A range, and the numbers of the frames that are exported of it.
 type Range<'a> = ((u64, u64), &'a [u64]);
 
 // The bytes of small frames of these numbers.
@@ -348,7 +348,7 @@ fn large_text(rt: &impl Abort, alloc: Global) -> Vec<u8> {
     text
 }
 
-/// What an export answers and writes, and what a second one answers.
+// What an export answers and writes, and what a second one answers.
 type Twice = (Answer, Vec<u8>, Answer);
 
 // What an export of a store writes and answers, and what a second one answers.
@@ -416,7 +416,7 @@ fn granted<D: Disk + Drop, A: Allocator + Copy>(
     (answer, out.len())
 }
 
-/// How many growths are granted, the last number of the range, what an export answers, and how much it writes.
+// How many growths are granted, the last number of the range, what an export answers, and how much it writes.
 type Growth = (u64, u64, (Answer, usize));
 
 // Exports where memory is refused answer so, and leave no growth.

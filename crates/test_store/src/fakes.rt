@@ -95,7 +95,7 @@ pub struct Story {
     pub ends: [Result<bool, Y4mFault>; 2],
 }
 
-/// The next frame, if `out` has a frame's length.
+// The next frame, if `out` has a frame's length.
 fn next<R: Read + Drop>(reader: &mut Y4mReader<R>, out: &mut [u8]) -> Result<bool, Y4mFault> {
     if out.len() != reader.frame_bytes() as usize {
         return Err(Y4mFault::NotY4m);
@@ -103,7 +103,7 @@ fn next<R: Read + Drop>(reader: &mut Y4mReader<R>, out: &mut [u8]) -> Result<boo
     reader.next_frame(out)
 }
 
-/// The frames of a reader that was opened, at most eight.
+// The frames of a reader that was opened, at most eight.
 fn go_on<R: Read + Drop>(rt: &impl Abort, alloc: Global, mut reader: Y4mReader<R>) -> Story {
     let mut frames = Vec::new(alloc);
     let size = reader.frame_bytes() as usize;

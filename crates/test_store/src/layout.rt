@@ -10,7 +10,7 @@ use loop_record::{
 use std::process::Abort;
 use std::test::Fail;
 
-/// Frames of 4 by 2, three segments of two slots.
+// Frames of 4 by 2, three segments of two slots.
 const SMALL: Geometry = Geometry {
     width: 4,
     height: 2,
@@ -21,7 +21,7 @@ const SMALL: Geometry = Geometry {
     slots: 2,
 };
 
-/// Frames of one sample, two segments of one slot.
+// Frames of one sample, two segments of one slot.
 const TINY: Geometry = Geometry {
     width: 1,
     height: 1,
@@ -52,14 +52,14 @@ fn sizes_and_places(rt: HostRuntime) {
     holds!(rt; wide.check().is_err());
 }
 
-/// The front of the superblock of `SMALL`: its gate and name, version 1, 4 by 2, YM12, 25 over 1, three
-/// segments of two slots, 12 bytes.
+// The front of the superblock of `SMALL`: its gate and name, version 1, 4 by 2, YM12, 25 over 1, three
+// segments of two slots, 12 bytes.
 const FRONT: [u8; 44] = [
     0xA5, 0x4C, 0x4F, 0x4F, 0x50, 0x52, 0x45, 0x43, 1, 0, 0, 0, 4, 0, 0, 0, 2, 0, 0, 0, 0x59, 0x4D,
     0x31, 0x32, 25, 0, 0, 0, 1, 0, 0, 0, 3, 0, 0, 0, 2, 0, 0, 0, 12, 0, 0, 0,
 ];
 
-/// The slot of frame 3 of a pattern: its number, sequence, flags, time, length, a zero, and 12 bytes.
+// The slot of frame 3 of a pattern: its number, sequence, flags, time, length, a zero, and 12 bytes.
 const SLOT: [u8; 44] = [
     3, 0, 0, 0, 0, 0, 0, 0, 3, 0, 0, 0, 0, 0x20, 0, 0, 0xC0, 0xD4, 1, 0, 0, 0, 0, 0, 12, 0, 0, 0,
     0, 0, 0, 0, 3, 4, 5, 6, 7, 8, 9, 10, 11, 12, 13, 14,

@@ -22,7 +22,7 @@ const SMALL: Shape = (PixelFormat::Ym12, 4, 2, (25, 1));
 
 const TRUNCATED: Result<bool, Y4mFault> = Err(Y4mFault::Truncated);
 
-/// The count of bytes that are left, what opening them answers, how many bytes of frames come, and what ends them.
+// The count of bytes that are left, what opening them answers, how many bytes of frames come, and what ends them.
 type Cut = (
     usize,
     usize,
@@ -102,7 +102,7 @@ fn a_read_that_fails_is_answered_then_and_from_then_on(rt: HostRuntime) {
     }
 }
 
-/// Header lines, and what they say.
+// Header lines, and what they say.
 const HEADERS: [(&[u8], Result<Shape, Y4mFault>); 36] = [
     (
         b"YUV4MPEG2 W4 H2 F25:1 Ip A1:1 C420jpeg XYSCSS=420JPEG\n",
@@ -193,7 +193,7 @@ fn a_header_is_read_or_refused_by_name(rt: HostRuntime) {
     opens(&rt, rt.alloc(), &HEADERS);
 }
 
-/// Header lines, segments and slots, and the geometry of a store of them.
+// Header lines, segments and slots, and the geometry of a store of them.
 const GEOMETRIES: [(&[u8], u32, u32, Result<Geometry, GeometryFault>); 11] = [
     (
         b"YUV4MPEG2 W5 H3 F30000:1001 C422\n",
@@ -290,7 +290,7 @@ fn a_geometry_is_the_headers_or_refused_by_name(rt: HostRuntime) {
     gives_geometry(&rt, &GEOMETRIES);
 }
 
-/// What stands behind a header of frames of one byte, the frames' bytes, and what ends them.
+// What stands behind a header of frames of one byte, the frames' bytes, and what ends them.
 const FRAMES: [(&[u8], &[u8], Result<bool, Y4mFault>); 9] = [
     (b"", b"", Ok(false)),
     (b"FRAME\naFRAME Ip Xof them\nb", b"ab", Ok(false)),
@@ -303,7 +303,7 @@ const FRAMES: [(&[u8], &[u8], Result<bool, Y4mFault>); 9] = [
     (b"FRAME\n", b"", TRUNCATED),
 ];
 
-/// A header of frames of one byte, and what it says.
+// A header of frames of one byte, and what it says.
 const POINT: &[u8; 22] = b"YUV4MPEG2 W1 H1 Cmono\n";
 
 const ONE: Result<Shape, Y4mFault> = Ok((PixelFormat::Grey, 1, 1, (0, 0)));

@@ -7,7 +7,7 @@ use loop_y4m::Y4mFault;
 use std::alloc::Global;
 use std::process::Abort;
 
-/// A stream, what its header says or why it is refused, its frame's bytes, and what ends it.
+// A stream, what its header says or why it is refused, its frame's bytes, and what ends it.
 type Row = (
     &'static [u8],
     Result<Shape, Y4mFault>,

@@ -13,8 +13,8 @@ use std::alloc::{AllocError, Global};
 use std::process::Abort;
 use std::test::Fail;
 
-/// Two segments with four slots each, of frames of 12 bytes. The segments begin at 2,560 and 3,248, and the
-/// disk has 3,936 bytes.
+// Two segments with four slots each, of frames of 12 bytes. The segments begin at 2,560 and 3,248, and the
+// disk has 3,936 bytes.
 const FOUR: Geometry = Geometry {
     width: 4,
     height: 2,
@@ -87,7 +87,7 @@ fn clear<D: Disk>(ring: &Ring, disk: &mut Bare<D>, frames: u32) -> Result<(), Di
     ring.clear_stray(disk, 0, frames)
 }
 
-/// The frame gates of a segment, how many of its frames are whole, how many calls are made, and the gates afterwards.
+// The frame gates of a segment, how many of its frames are whole, how many calls are made, and the gates afterwards.
 type Cleared = ([u8; 4], u32, u64, [u8; 4]);
 
 const CLEARED: [Cleared; 6] = [
@@ -99,8 +99,8 @@ const CLEARED: [Cleared; 6] = [
     ([0xA5, 0xA5, 0xA5, 0xA5], 4, 0, [0xA5, 0xA5, 0xA5, 0xA5]),
 ];
 
-/// The number of the call that fails, how many bytes of it are written if it is a write, its fault, and the
-/// gates that are left of 0xA5, 0x07, 0xA5, 0x01.
+// The number of the call that fails, how many bytes of it are written if it is a write, its fault, and the
+// gates that are left of 0xA5, 0x07, 0xA5, 0x01.
 type Uncleared = (u64, usize, DiskFault, [u8; 4]);
 
 const UNCLEARED: [Uncleared; 4] = [
@@ -144,7 +144,7 @@ fn stray_gates_are_cleared_and_no_others(rt: HostRuntime) -> Result<(), Fail> {
     Ok(())
 }
 
-/// How many calls pass, a change of a byte, the number that is asked for, and the answer.
+// How many calls pass, a change of a byte, the number that is asked for, and the answer.
 type Asked = (u64, (usize, u8), u64, Result<FrameHead, SlotFault>);
 
 // Reads slot 3 of segment 0 of an image with a change, on a disk that passes so many calls.

@@ -139,7 +139,7 @@ fn a_block_is_found_by_few_looks(rt: HostRuntime) -> Result<(), Fail> {
     Ok(())
 }
 
-/// Blocks that none of the 64 segments has.
+// Blocks that none of the 64 segments has.
 const ABSENT: [(u64, Option<u32>); 5] = [
     (0, None),
     (9, None),
@@ -173,7 +173,7 @@ fn moves<A: Allocator>(rt: &impl Abort, index: &mut SegmentIndex<A>)
     finds_soon(rt, index, &[(mixed_block(20), Some(50))]);
 }
 
-/// The headers of three segments of two slots, the clips, and the block that goes with its segment.
+// The headers of three segments of two slots, the clips, and the block that goes with its segment.
 type Row = (
     [Option<SegmentHead>; 3],
     [Option<Span>; 2],
@@ -254,8 +254,8 @@ fn tagged(from: u64, to: u64, tag: u64) -> Option<Span> {
     Some(Span { from, to, tag })
 }
 
-/// The headers of three segments of two slots, the clips, and the block that goes where one, two or three of the newest
-/// are kept.
+// The headers of three segments of two slots, the clips, and the block that goes where one, two or three of the newest
+// are kept.
 type KeptRow = (
     [Option<SegmentHead>; 3],
     [Option<Span>; 2],

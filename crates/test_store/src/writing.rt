@@ -20,7 +20,7 @@ const SMALL: Geometry = Geometry {
     slots: 2,
 };
 
-/// Writes two frames of `SMALL`.
+// Writes two frames of `SMALL`.
 fn write_two<W: Write>(out: &mut W) -> io::Result<()> {
     let (first, second) = PIXELS.split_at(12);
     write_header(&SMALL, out)?;
@@ -86,7 +86,7 @@ fn two_frames_are_written_as_these_75_bytes(rt: HostRuntime) {
     writes_to_the_end(&rt, alloc);
 }
 
-/// Formats, the sizes of their frames of 5 by 3 pixels, and the header that is written.
+// Formats, the sizes of their frames of 5 by 3 pixels, and the header that is written.
 const ODD: [(PixelFormat, usize, &[u8]); 4] = [
     (
         PixelFormat::Grey,

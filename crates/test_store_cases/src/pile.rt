@@ -103,7 +103,7 @@ fn counting(alloc: Global, count: u64) -> Result<Vec<u8>> {
     Ok(bytes)
 }
 
-// A call of a disk.
+/// A call of a disk.
 #[derive(Drop)]
 pub(crate) enum Call {
     Write(u64, Vec<u8>),
@@ -430,7 +430,7 @@ enum Asked {
     Made,
     Passed,
     Bytes,
-    /// A call of the uppermost disk.
+    // A call of the uppermost disk.
     Makes,
 }
 
