@@ -1,21 +1,19 @@
 #!/usr/bin/env python3
-"""Counts the definitions of specs/ that contracts rest on: of the store's public calls and the trait `Disk`, of the
-calls that write and open, of a desk's calls, of `lane_run`, of a camera's `film_camera`, and of that with all calls of the
-recorder's library; of those that write, a desk's, `lane_run` and `film_camera` also those alone under what a power loss leaves, which are the clauses in LOSS, and of the records in FIELDS the fields that stand
-there.
+"""Counts the definitions of specs/ that contracts rest on: of the store's public calls and the trait `Disk`, of the calls that write and open, of a desk's
+calls, of `lane_run`, of a camera's `film_camera`, and of that with all calls of the recorder's library. For the calls that write, a desk's, `lane_run` and
+`film_camera` it also counts only those on which it rests what a power loss leaves: the clauses in LOSS, and of the records in FIELDS the fields that are
+listed there.
 
 Run it at the top of the repository: `python3 tools/definitions.py`. With names after it (`after Goes`) it says which
 definitions of these names there are, and what each rests on. It is no part of the gate.
 
-A definition is a crate, a module and a name, since one name may stand in several modules. A name in a clause or in a
-definition is resolved by its own file: what the file defines goes first, then what its lines `use
-Rattle.crate.specs.Module.{a, b as c}` import, and `word.a` where `use Rattle.crate.specs.Module as word` stands there.
-A constructor is its type; a name after a dot is a field, and one in front of ':' is a field or bound. What a type's
-contracts look at, its `ghost Value`, counts with each call whose signature names the type, or whose `self` is one.
-Types that the program declares (`specs.declared`) and what the kit defines aren't definitions of specs/.
+A definition is a crate, a module and a name, since one name may stand in several modules. A name in a clause or in a definition is resolved by its own
+file: what the file defines comes first, then what its lines `use Rattle.crate.specs.Module.{a, b as c}` import, and `word.a` where
+`use Rattle.crate.specs.Module as word` stands there. A constructor is its type; a name after a dot is a field, and one in front of ':' is a field or
+bound. What a type's contracts look at, its `ghost Value`, counts with each call whose signature names the type, or whose `self` is one. Types that the
+program declares (`specs.declared`) and what the kit defines aren't definitions of specs/.
 
-Printed are how many definitions, their lines with all comments beside and in them, their lines without, and the
-same file by file.
+It prints how many definitions there are, their lines with all comments beside and in them, their lines without, and the same file by file.
 """
 import collections
 import glob

@@ -1,6 +1,6 @@
-"""The layout of a store, once for all that is written in Python here: its places, how a store is written, how its bytes read, which block is
-removed next, and what `list` and `export` answer of it. It is written by docs/layout.md, docs/recovery.md, docs/order-of-writes.md and docs/y4m.md,
-and not by the program: the checks compare the two. `python3 tools/layout.py FILE` says what a file reads as, as `loop_cli list` prints it."""
+"""The layout of a store, for all Python code here: its places, how a store is written, how its bytes read, which block is removed next, and what `list`
+and `export` answer of it. It was written from docs/layout.md, docs/recovery.md, docs/order-of-writes.md and docs/y4m.md, and not from the program: the
+checks compare the two. `python3 tools/layout.py FILE` says what a file reads as, as `loop_cli list` prints it."""
 import os
 import stat
 import struct

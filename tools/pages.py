@@ -1,5 +1,5 @@
-"""What package_check and docs_check share: the commands that stand on a page, what the page says
-that they print, and where a program prints something else."""
+"""What package_check and docs_check share: the commands on a page, what the page says that they
+print, and where a program prints something else."""
 import re
 import shutil
 

@@ -1,5 +1,5 @@
-/* Stands between a program and its files, for kill_check, power_check, format_check, start_check, save_check and stall_check: built by them as a
- * shared library and preloaded.
+/* Comes between a program and its files. kill_check, power_check, format_check, start_check, save_check and stall_check build it as a shared
+ * library and preload it.
  *
  *   LOOP_FILE   the file: calls on descriptors that were opened by this name
  *   LOOP_LOG    a file to which each change of it is appended before it is made, and each sync and answer once it was made: a byte W, T, S or A,

@@ -5,8 +5,7 @@
     queue_model.py PROGRAM all [KINDS]           every list of at most three events of ALL
     queue_model.py PROGRAM random COUNT SEED     so many random lists of up to a thousand events of ALL
 
-It says how many lists were compared. At the first that the program tells otherwise it prints the list with both lines, and
-exits with 1.
+It prints how many lists were compared. At the first for which the program prints something else, it prints the list with both lines, and exits with 1.
 
 A list is one line: the kind of memory of the queue (m, u or d: MMAP, USERPTR, DMABUF), then two characters an event, a letter
 and a digit (a buffer's index, or a count). The queue has two buffers of GREY 1x1, and min_queued 1. The fds 0 and 1 name a plane
@@ -22,10 +21,10 @@ each; 2 names nothing.
     t      an ioctl for another buffer type
     c f x  the device completes a buffer, gives it up, can't go on
 
-The program prints a line for each list. A reply is `ok`, or `n` with the buffers granted and the sets that lay in old ones, or
-`I` with flags and used bytes, or `F` with index, flags, used bytes, sequence and whether planes come out, or `E` with reason,
-errno, whether planes come back and how many sets of the supply do. After `|` stand flags, state and used bytes of the buffers 0 to
-2, which of the fds 0 and 1 aren't attached, whether the device has started and the buffer that has been active longest.
+The program prints a line for each list. A reply is `ok`, or `n` with the buffers granted and the sets that lay in old ones, or `I` with flags and used
+bytes, or `F` with index, flags, used bytes, sequence and whether planes come out, or `E` with reason, errno, whether planes come back and how many sets of
+the supply do. After `|` come flags, state and used bytes of the buffers 0 to 2, which of the fds 0 and 1 aren't attached, whether the device has started
+and the buffer that has been active longest.
 """
 import copy
 import itertools

@@ -1,5 +1,5 @@
-"""What kill_check, power_check, format_check, start_check, output_check, descriptor_check and save_check share: the programs, the preloaded library
-and its log, what a loss of power may leave of a file, and the plain recorder that says what may stand in it."""
+"""What kill_check, power_check, format_check, start_check, output_check, descriptor_check and save_check share: the programs, the preloaded library and
+its log, what a loss of power may leave of a file, and the plain recorder that says what a file may hold."""
 import os
 import random
 import struct

@@ -7,7 +7,7 @@ use loop_disk::Disk;
 use loop_store::Store;
 use std::alloc::Global;
 
-/// A desk of a store that can be written, within these limits.
+/// A desk of a store that can be written to, with these limits.
 pub(crate) fn desk_of<D: Disk + Drop>(
     alloc: Global,
     store: Store<D>,

@@ -13,7 +13,7 @@ use std::env::Args;
 use std::rt::Clock;
 use std::time::Instant;
 
-// What is recorded: so many groups of so many frames.
+// What is recorded: this many groups of this many frames.
 #[derive(Clone, Copy)]
 struct Work {
     group: u32,
@@ -38,12 +38,12 @@ fn fresh_lane(alloc: Global, geometry: Geometry, group: u32) -> Result<Mapped<Me
     lane_to(alloc, fresh(alloc, geometry)?, group)
 }
 
-// A frame is taken out and submitted, and its buffer queued again.
+// Takes a frame out, submits it and queues its buffer again.
 fn taken(alloc: Global) -> Result<Vec<Event>> {
     Ok(vec![in alloc; LaneEvent::Dequeue, LaneEvent::Submit, LaneEvent::Requeue]?)
 }
 
-// What waits is stored.
+// Stores the frames that wait.
 fn flushed(alloc: Global) -> Result<Vec<Event>> {
     Ok(vec![in alloc; LaneEvent::Flush]?)
 }
@@ -60,7 +60,7 @@ fn tick<D: Disk + Drop>(
     }
 }
 
-// As many groups of ticks, with a flush behind each.
+// Makes groups of ticks, with a flush after each.
 fn tick_groups<D: Disk + Drop>(
     alloc: Global,
     lane: &mut Mapped<D>,
@@ -114,7 +114,7 @@ fn device_nanos(
     Ok(start.elapsed(rt)?.as_nanos())
 }
 
-// A device of the pattern, whose frames have so many bytes.
+// A device of the pattern, for frames of this many bytes.
 fn device_of(alloc: Global, size: u32) -> Result<Device<Pattern>> {
     match Device::new(alloc, Pattern::new(), size) {
         Ok(device) => Ok(device),

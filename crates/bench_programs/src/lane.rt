@@ -1,4 +1,4 @@
-// Frames of a camera that go through a queue of two buffers of mapped memory to a store.
+// Frames of a camera that pass through a queue of two buffers of mapped memory to a store.
 ghost use Rattle.std.specs.Prelude.{◌≤◌};
 
 use crate::desk::desk_of;
@@ -30,7 +30,7 @@ pub(crate) type Mapped<D> = Lane<D, MmapPlane>;
 /// An event of such a lane.
 pub(crate) type Event = LaneEvent<MmapPlane>;
 
-// Mapped memory of two buffers, for frames of so many bytes.
+// Mapped memory of two buffers, for frames of this many bytes.
 fn supply(alloc: Global, size: u32) -> Result<Vec<PlaneSet<MmapPlane>>> {
     let pages = size.div_ceil(PAGE_BYTES);
     let (ledger, seat) = PageLedger::new(alloc, PAGES)?;
@@ -66,13 +66,13 @@ fn streaming() -> Event {
     LaneEvent::Queue(QueueEvent::Ioctl(Ioctl::StreamOn { buf_type: GREY }))
 }
 
-/// What starts a lane for frames of so many bytes: REQBUFS of two buffers, QBUF of each, STREAMON.
+/// The events that start a lane for frames of this many bytes: REQBUFS of two buffers, QBUF of each, STREAMON.
 pub(crate) fn start_events(alloc: Global, size: u32) -> Result<Vec<Event>> {
     let request = requested(supply(alloc, size)?);
     Ok(vec![in alloc; request, queued(0), queued(1), streaming()]?)
 }
 
-// What a camera fills its buffers with, in turn: the frame of a number, whose bytes are all the same.
+// A camera fills a buffer, in turn, with the frame of a number, whose bytes are all the same.
 fn completed(alloc: Global, size: u32, number: u32) -> Result<Event, AllocError> {
     let byte = (number % 256) as u8;
     Ok(LaneEvent::Queue(QueueEvent::Complete {
@@ -85,7 +85,7 @@ fn completed(alloc: Global, size: u32, number: u32) -> Result<Event, AllocError>
     }))
 }
 
-// Puts a frame behind other events: it is taken out and submitted, and its buffer queued again.
+// Adds a frame to other events: it is taken out and submitted, and its buffer is queued again.
 fn push_frame(events: &mut Vec<Event>, frame: Event) -> Result<(), AllocError> {
     events.reserve(4)?;
     events.push_reserved(frame);
@@ -95,7 +95,8 @@ fn push_frame(events: &mut Vec<Event>, frame: Event) -> Result<(), AllocError> {
     Ok(())
 }
 
-// So many frames from a number on, each taken out, submitted and its buffer queued again, and a flush.
+// This many frames from a number on, and a flush. Each frame is taken out and submitted, and its buffer is queued
+// again.
 fn group_events(
     alloc: Global,
     size: u32,
@@ -210,7 +211,7 @@ pub(crate) fn frame_of<D: Disk + Drop>(lane: &Mapped<D>) -> Result<u32> {
     grey_bytes(&lane.desk.geometry())
 }
 
-/// Records so many groups of frames through a lane, and answers the number of the next frame.
+/// Records groups of frames through a lane, and returns the number of the next frame.
 pub(crate) fn record_groups<D: Disk + Drop>(
     alloc: Global,
     lane: &mut Mapped<D>,
@@ -227,7 +228,7 @@ pub(crate) fn record_groups<D: Disk + Drop>(
     Ok(lane.desk.status().next)
 }
 
-// Records so many groups of frames through a lane to the store in a file, and answers the number of the next frame.
+// Records groups of frames through a lane to the store in a file, and returns the number of the next frame.
 fn record_into(
     rt: &impl Files<File = File>,
     alloc: Global,
@@ -239,7 +240,7 @@ fn record_into(
     record_groups(alloc, &mut lane, group, groups)
 }
 
-/// Records as the next words say, and answers the number of the next frame.
+/// Records as the next words say, and returns the number of the next frame.
 pub(crate) fn record(rt: &impl Files<File = File>, alloc: Global, words: &mut Args) -> Result<u64> {
     let path = path(words)?;
     let group = number(words)?;

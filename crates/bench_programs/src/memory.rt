@@ -10,7 +10,7 @@ use loop_vb2::PlaneSet;
 use std::alloc::{AllocError, Global};
 use std::sync::Arc;
 
-/// One copy, which is neither left out nor drawn together with another.
+/// One copy. The compiler neither leaves it out nor merges it with another one.
 #[inline(never)]
 pub(crate) fn copy(from: &[u8], to: &mut [u8])
     requires { length from.now ≡ length to.old }
@@ -18,7 +18,7 @@ pub(crate) fn copy(from: &[u8], to: &mut [u8])
     to.copy_from_slice(from);
 }
 
-/// So many free pages of the ledger.
+/// This many free pages of the ledger.
 pub(crate) fn claimed(
     alloc: Global,
     ledger: &Arc<PageLedger>,
@@ -34,7 +34,7 @@ pub(crate) fn claimed(
     }
 }
 
-/// Mapped memory of one buffer with one plane, of so many pages.
+/// Mapped memory of one buffer with one plane of this many pages.
 pub(crate) fn set_of(
     alloc: Global,
     ledger: &Arc<PageLedger>,

@@ -15,10 +15,10 @@ use std::time::Instant;
 // Pages of 4,096 bytes that are copied in and out: 1 MiB.
 const PAGES: u32 = 256;
 
-// Where the window begins in its first page: it needs one page more.
+// The offset of the window in its first page: it needs one more page.
 const OFFSET: u32 = 100;
 
-// Nanoseconds for two plain copies, as many rounds: into a row of bytes, and out of it.
+// The nanoseconds of this many rounds of two plain copies: into a row of bytes, and out of it.
 fn plain_nanos(
     rt: &impl Clock,
     row: &mut [u8],
@@ -37,7 +37,7 @@ fn plain_nanos(
     Ok(start.elapsed(rt)?.as_nanos())
 }
 
-// Nanoseconds for a fill of the plane and a copy out of it, as many rounds. The plane has room for the source.
+// The nanoseconds of this many rounds of a fill of the plane and a copy out of it. The plane has room for the source.
 fn plane_nanos<P: PlaneMemory>(
     rt: &impl Clock,
     plane: &mut P,
@@ -57,7 +57,7 @@ fn plane_nanos<P: PlaneMemory>(
     Ok(start.elapsed(rt)?.as_nanos())
 }
 
-// The plain copies beside the plane, in percent.
+// Prints the plain copies beside the plane, in percent.
 fn report<P: PlaneMemory>(
     rt: &(impl Clock + Print),
     name: &str,
@@ -77,8 +77,8 @@ fn report<P: PlaneMemory>(
     Ok(())
 }
 
-// Measures a plane of each kind, of so many pages, with these rows of bytes. Three such planes and a page more fit the
-// ledger.
+// Measures a plane of each kind, of this many pages, with these rows of bytes. Three such planes and one more page fit
+// the ledger.
 fn measure_with(
     rt: &(impl Clock + Print),
     alloc: Global,
@@ -106,7 +106,7 @@ fn measure_with(
     report(rt, "dmabuf", plane, row, source, out, rounds)
 }
 
-// Measures a plane of each kind, of so many pages.
+// Measures a plane of each kind, of this many pages.
 fn measure_each(rt: &(impl Clock + Print), alloc: Global, pages: u32, rounds: u32) -> Result<()>
     requires { (0 < pages) × (pages ≤ 300) }
 {
@@ -117,7 +117,7 @@ fn measure_each(rt: &(impl Clock + Print), alloc: Global, pages: u32, rounds: u3
     measure_with(rt, alloc, &mut row, &source, &mut out, pages, rounds)
 }
 
-/// Measures a plane of each kind, as many rounds as the next word says.
+/// Measures a plane of each kind, for as many rounds as the next word says.
 pub(crate) fn measure(rt: &(impl Clock + Print), alloc: Global, words: &mut Args) -> Result<()> {
     measure_each(rt, alloc, PAGES, number(words)?)
 }

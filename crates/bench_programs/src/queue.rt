@@ -1,4 +1,4 @@
-// Frames that go through a queue, beside plain copies of as many bytes.
+// Frames that pass through a queue, beside plain copies of as many bytes.
 ghost use Rattle.std.specs.Prelude.{◌≡◌, ◌≤◌, length};
 ghost use Rattle.loop_vb2.specs.Planes.{frame_size};
 
@@ -15,7 +15,7 @@ use std::io;
 use std::rt::Clock;
 use std::time::Instant;
 
-// A queue of one buffer, which is streaming, and the frame that goes through it.
+// A queue of one buffer, which is streaming, and the frame that passes through it.
 #[derive(Drop)]
 struct Stream {
     queue: Queue<MmapPlane>,
@@ -43,7 +43,7 @@ impl Stream {
     }
 }
 
-// The memory of one buffer of so many bytes.
+// The memory of one buffer of this many bytes.
 fn supply(alloc: Global, size: u32) -> Result<Vec<PlaneSet<MmapPlane>>>
     requires { size ≤ 4194304 }
 {
@@ -69,7 +69,7 @@ fn started(alloc: Global, width: u32, height: u32) -> Result<Stream>
     Ok(Stream { queue, frame })
 }
 
-// Nanoseconds for as many plain copies.
+// The nanoseconds of this many plain copies.
 fn plain_nanos(rt: &impl Clock, source: &[u8], row: &mut [u8], rounds: u32) -> io::Result<u128>
     requires { length row.old ≡ length source.now }
 {
@@ -80,7 +80,7 @@ fn plain_nanos(rt: &impl Clock, source: &[u8], row: &mut [u8], rounds: u32) -> i
     Ok(start.elapsed(rt)?.as_nanos())
 }
 
-// Nanoseconds for as many rounds of the queue.
+// The nanoseconds of this many rounds of the queue.
 fn queue_nanos(rt: &impl Clock, stream: &mut Stream, rounds: u32) -> Result<u128> {
     let start = Instant::now(rt)?;
     for number in 0..rounds {
@@ -91,7 +91,7 @@ fn queue_nanos(rt: &impl Clock, stream: &mut Stream, rounds: u32) -> Result<u128
     Ok(start.elapsed(rt)?.as_nanos())
 }
 
-// The nanoseconds of as many plain copies, and of as many rounds of a queue.
+// The nanoseconds of this many plain copies, and of as many rounds of a queue.
 fn nanos(
     rt: &impl Clock,
     stream: &mut Stream,
@@ -105,7 +105,7 @@ fn nanos(
     Ok((plain, queue_nanos(rt, stream, rounds)?))
 }
 
-// Makes as many plain copies and rounds of a queue of such frames: the nanoseconds of both.
+// The nanoseconds of this many plain copies, and of as many rounds of a queue of such frames.
 fn measured(
     rt: &impl Clock,
     alloc: Global,
@@ -122,7 +122,7 @@ fn measured(
     nanos(rt, &mut stream, &source, &mut row, rounds)
 }
 
-// The rounds of a queue of such frames, beside plain copies.
+// Prints the rounds of a queue of such frames beside plain copies.
 fn measure_frames(
     rt: &(impl Clock + Print),
     alloc: Global,
@@ -142,7 +142,7 @@ fn measure_frames(
     Ok(())
 }
 
-/// Measures frames of 64x48 and of 1920x1080, as many rounds as the next word says.
+/// Measures frames of 64x48 and of 1920x1080, for as many rounds as the next word says.
 pub(crate) fn measure(rt: &(impl Clock + Print), alloc: Global, words: &mut Args) -> Result<()> {
     let rounds = number(words)?;
     measure_frames(rt, alloc, 64, 48, rounds)?;

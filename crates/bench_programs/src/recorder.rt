@@ -12,7 +12,7 @@ use loop_disk::{Disk, MemDisk};
 use loop_file::FileDisk;
 use loop_plane::{FdTable, MmapPlane, PlaneMemory};
 use loop_record::{Frame, Geometry, PixelFormat};
-use loop_recorder::{Camera, NewRefused, Pace, Pass, Recorder, Step};
+use loop_recorder::{CameraParts, NewRefused, Pace, Pass, Recorder, Step};
 use loop_store::{OpenRefused, Store, format};
 use loop_vb2::Queue;
 use std::alloc::{AllocError, Global};
@@ -24,7 +24,7 @@ use std::thread;
 use std::thread::Threads;
 use std::time::Instant;
 
-// What each camera stores: so many groups of so many frames of so many bytes.
+// What each camera stores: this many groups of this many frames of this many bytes.
 #[derive(Clone, Copy)]
 struct Work {
     size: u32,
@@ -32,14 +32,14 @@ struct Work {
     groups: u32,
 }
 
-// Waits nowhere.
+// Waits at no point.
 struct AtOnce;
 
 impl Pace for AtOnce {
     fn reached(&self, _camera: u32, _step: Step) {}
 }
 
-// Submits a group of frames, whose bytes don't matter; whether all were taken in.
+// Submits a group of frames, whose bytes don't matter. Returns whether all were accepted.
 fn submit_group<R: Wait, D: Disk + Drop, P: PlaneMemory>(
     rt: &R,
     alloc: Global,
@@ -68,7 +68,7 @@ fn submit_group<R: Wait, D: Disk + Drop, P: PlaneMemory>(
     true
 }
 
-// Stores all that a camera is to store; whether it could, with one flush a group.
+// Stores all that a camera is to store, with one flush a group. Returns whether it could.
 fn store_groups<R: Wait, D: Disk + Drop, P: PlaneMemory>(
     rt: &R,
     alloc: Global,
@@ -91,7 +91,7 @@ fn store_groups<R: Wait, D: Disk + Drop, P: PlaneMemory>(
     true
 }
 
-// Stores all that the camera of a pass's number is to store; whether it could.
+// Stores all that the camera of a pass's number is to store. Returns whether it could.
 fn feed<R: Wait, D: Disk + Drop, P: PlaneMemory>(
     rt: &R,
     alloc: Global,
@@ -106,7 +106,7 @@ fn feed<R: Wait, D: Disk + Drop, P: PlaneMemory>(
     camera < count && store_groups(rt, alloc, recorder, camera, &mut pass, work)
 }
 
-// Feeds all cameras, each from a thread of its own; which of them could store all.
+// Feeds all cameras, each from a thread of its own. Returns which of them could store all.
 fn feed_all<R: Threads + Wait + Sync, D: Disk + Drop + Send + Sync, P: PlaneMemory + Send>(
     rt: &R,
     alloc: Global,
@@ -127,7 +127,7 @@ fn feed_all<R: Threads + Wait + Sync, D: Disk + Drop + Send + Sync, P: PlaneMemo
 }
 
 // A camera with this desk, and a queue of small frames without buffers.
-fn camera_of<D: Disk + Drop, P: PlaneMemory>(alloc: Global, desk: Desk<D>) -> Camera<D, P>
+fn camera_of<D: Disk + Drop, P: PlaneMemory>(alloc: Global, desk: Desk<D>) -> CameraParts<D, P>
     requires { desk.store.must_reopen ≡ false }
     ensures { IsReady P.plane result }
 {
@@ -141,7 +141,7 @@ fn cameras_of<D: Disk + Drop, P: PlaneMemory>(
     alloc: Global,
     stores: Vec<Store<D>>,
     group: u32,
-) -> Result<Vec<Camera<D, P>>>
+) -> Result<Vec<CameraParts<D, P>>>
     ensures { IfOk result (λ cameras. All (IsReady P.plane) cameras.items) }
 {
     let mut cameras = Vec::with_capacity(alloc, stores.len())?;
@@ -161,7 +161,7 @@ fn cameras_of<D: Disk + Drop, P: PlaneMemory>(
 // A recorder of these cameras, with a pass for each.
 fn recorder_of<D: Disk + Drop, P: PlaneMemory>(
     alloc: Global,
-    cameras: Vec<Camera<D, P>>,
+    cameras: Vec<CameraParts<D, P>>,
     count: u32,
 ) -> Result<(Recorder<D, P>, Vec<Pass>)>
     requires ready { All (IsReady P.plane) cameras.items }
@@ -194,7 +194,7 @@ fn fed_nanos<R: Threads + Wait + Sync + Clock, D: Disk + Drop + Send + Sync>(
     Ok(nanos)
 }
 
-// How many frames so many cameras store, per second of so many nanoseconds.
+// How many frames a second this many cameras store in this many nanoseconds.
 fn per_second(count: u32, work: Work, nanos: u128) -> u64 {
     let frames = u128::from(count)
         .saturating_mul(u128::from(work.group))
@@ -209,7 +209,7 @@ fn rate<R: Threads + Wait + Sync + Clock, D: Disk + Drop + Send + Sync>(
     stores: Vec<Store<D>>,
     work: Work,
 ) -> Result<u64> {
-    let cameras: Vec<Camera<D, MmapPlane>> = cameras_of(alloc, stores, work.group)?;
+    let cameras: Vec<CameraParts<D, MmapPlane>> = cameras_of(alloc, stores, work.group)?;
     let count = u32::try_from(cameras.len())?;
     let (recorder, passes) = recorder_of(alloc, cameras, count)?;
     let nanos = fed_nanos(rt, alloc, &recorder, count, passes, work)?;
@@ -233,7 +233,7 @@ fn in_memory(alloc: Global, geometry: Geometry, count: u32) -> Result<Vec<Store<
     Ok(stores)
 }
 
-// Prints what so many cameras store at once, what one stores alone, and the first as a part of the second.
+// Prints what this many cameras store at once, what one stores alone, and the first as a percentage of the second.
 fn told(rt: &impl Print, count: u32, all: u64, one: u64) -> Result<()> {
     let percent = u128::from(all) * 100 / u128::from(one.max(1));
     println!(rt; "{count} cameras {all} frames/s, one {one} frames/s, {percent} %")?;
@@ -280,7 +280,7 @@ fn size_of<D: Disk + Drop>(stores: &[Store<D>]) -> Result<u32> {
     }
 }
 
-// Frames a second that are stored in the files of the next words, so many groups of so many frames in each.
+// Frames a second that are stored in the files of the next words.
 fn rate_of_files<R: Threads + Wait + Sync + Clock + Files<File = File>>(
     rt: &R,
     alloc: Global,

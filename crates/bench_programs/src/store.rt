@@ -34,7 +34,7 @@ pub(crate) fn geometry(words: &mut Args) -> Result<Geometry>
     }
 }
 
-// A group of so many frames, each byte of which is this one.
+// A group of this many frames, each byte of which is this one.
 fn group_of(
     alloc: Global,
     geometry: &Geometry,
@@ -56,7 +56,7 @@ fn group_of(
     Ok(group)
 }
 
-// Appends a group so many times.
+// Appends a group this many times.
 fn append_groups<D: Disk + Drop>(store: &mut Store<D>, group: &[Frame], groups: u32) -> Result<()>
     requires { All (λ frame. length frame.bytes.items ≡ frame_bytes store.old.geometry) group.now }
     ensures { store.new.geometry ≡ store.old.geometry }
@@ -70,7 +70,7 @@ fn append_groups<D: Disk + Drop>(store: &mut Store<D>, group: &[Frame], groups: 
     Ok(())
 }
 
-// Formats a disk in memory and appends a group so many times.
+// Formats a disk in memory and appends a group this many times.
 fn append_round(alloc: Global, geometry: Geometry, group: &[Frame], groups: u32) -> Result<()>
     requires good { IsTrue (is_good geometry) }
     requires sizes { All (λ frame. length frame.bytes.items ≡ frame_bytes geometry) group.now }
@@ -82,7 +82,7 @@ fn append_round(alloc: Global, geometry: Geometry, group: &[Frame], groups: u32)
     }
 }
 
-/// Appends as the next words say, and answers how many frames.
+/// Appends as the next words say, and returns how many frames.
 pub(crate) fn append(alloc: Global, words: &mut Args) -> Result<u64> {
     let geometry = geometry(words)?;
     let group = group_of(alloc, &geometry, number(words)?, 0)?;
@@ -95,7 +95,7 @@ pub(crate) fn append(alloc: Global, words: &mut Args) -> Result<u64> {
     Ok(frames.saturating_mul(u64::from(rounds)))
 }
 
-/// Opens as the next words say, and answers the number of the next frame.
+/// Opens as the next words say, and returns the number of the next frame.
 pub(crate) fn open(rt: &impl Files<File = File>, alloc: Global, words: &mut Args) -> Result<u64> {
     let path = path(words)?;
     let mut next = 0;
@@ -105,7 +105,7 @@ pub(crate) fn open(rt: &impl Files<File = File>, alloc: Global, words: &mut Args
     Ok(next)
 }
 
-// Appends so many groups of so many frames to a store.
+// Appends this many groups of this many frames to a store.
 fn append_to<D: Disk + Drop>(
     alloc: Global,
     store: &mut Store<D>,
@@ -117,7 +117,7 @@ fn append_to<D: Disk + Drop>(
     Ok(store.next())
 }
 
-/// Appends to a file as the next words say, and answers the number of the next frame.
+/// Appends to a file as the next words say, and returns the number of the next frame.
 pub(crate) fn append_file(
     rt: &impl Files<File = File>,
     alloc: Global,
@@ -130,7 +130,7 @@ pub(crate) fn append_file(
     append_to(alloc, &mut store, count, groups)
 }
 
-// Locks the newest frame and unlocks it again, so many times, and answers the number of the next frame.
+// Locks the newest frame and unlocks it again, this many times, and returns the number of the next frame.
 fn lock_and_unlock<D: Disk + Drop>(store: &mut Store<D>, rounds: u32) -> Result<u64> {
     let newest = store.next().checked_sub(1).context("no frame is there")?;
     for _ in 0..rounds {
@@ -140,7 +140,7 @@ fn lock_and_unlock<D: Disk + Drop>(store: &mut Store<D>, rounds: u32) -> Result<
     Ok(store.next())
 }
 
-/// Locks in a file as the next words say, and answers the number of the next frame.
+/// Locks in a file as the next words say, and returns the number of the next frame.
 pub(crate) fn lock_file(
     rt: &impl Files<File = File>,
     alloc: Global,
@@ -152,14 +152,14 @@ pub(crate) fn lock_file(
     lock_and_unlock(&mut store, rounds)
 }
 
-// How many frames and clips a store has, as lists of both tell.
+// How many frames and clips a store has, from the lists of both.
 fn listed<D: Disk + Drop>(alloc: Global, store: &Store<D>) -> Result<u64> {
     let frames = store.frames(alloc).map_err(refused)?.len();
     let clips = store.clips(alloc).map_err(refused)?.len();
     Ok(frames.wrapping_add(clips) as u64)
 }
 
-/// Lists as the next words say, and answers how many frames and clips there are.
+/// Lists as the next words say, and returns how many frames and clips there are.
 pub(crate) fn list(rt: &impl Files<File = File>, alloc: Global, words: &mut Args) -> Result<u64> {
     let path = path(words)?;
     let mut count = 0;
@@ -170,12 +170,12 @@ pub(crate) fn list(rt: &impl Files<File = File>, alloc: Global, words: &mut Args
     Ok(count)
 }
 
-// The byte of which a run's frame of that number is made, so that no other run's and none near it is the same.
+// The byte of which a run's frame of that number is made. A frame of another run, or one near it, has another byte.
 fn footage(number: u64, run: u32) -> u8 {
     ((number % 251 + u64::from(run % 251) * 7) % 251) as u8
 }
 
-// Appends a frame so many times, and prints the number behind it each time.
+// Appends a frame this many times, and prints the number after it each time.
 fn record_frames<D: Disk + Drop>(
     rt: &HostRuntime,
     store: &mut Store<D>,

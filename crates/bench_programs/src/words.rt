@@ -1,4 +1,4 @@
-// The words behind the first one, and the store in a file.
+// The words after the first one, and the store in a file.
 use anyhow::{Context, Error, Result, anyhow};
 use loop_file::FileDisk;
 use loop_store::{OpenRefused, Store, StoreFault};
@@ -14,7 +14,7 @@ pub(crate) fn number(words: &mut Args) -> Result<u32> {
     Ok(number)
 }
 
-/// The refusal of a store, as an error.
+/// The error for a refusal of a store.
 pub(crate) fn refused(fault: StoreFault) -> Error {
     let name = fault.name();
     anyhow!("refused {name}")

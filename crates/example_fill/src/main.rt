@@ -1,5 +1,5 @@
-//! `example_fill STORE SEGMENTS SLOTS VIDEO LAST OUT`: a fresh store in a file, and in it the frames of a YUV4MPEG2
-//! file or pipe; then a clip of the last so many of them is locked, and exported to another file.
+//! `example_fill STORE SEGMENTS SLOTS VIDEO LAST OUT` makes a fresh store in a file, and fills it with the frames of a
+//! YUV4MPEG2 file or pipe. Then it locks the last LAST frames as a clip, and exports them to another file.
 #![tactic(auto)]
 
 use anyhow::{Context, Result, anyhow};
@@ -15,7 +15,7 @@ use std::io::{BufReader, Read};
 // How many frames wait at most. They are stored in groups.
 const WAITING: u32 = 8;
 
-// Submits each frame of a video, and stores them: of one that is cut, those in front of the cut.
+// Submits each frame of a video, and stores them. Of a video that is cut, the whole frames before the cut are stored.
 fn fill<R: Read + Drop>(
     alloc: Global,
     video: &mut Y4mReader<R>,
@@ -49,7 +49,7 @@ fn fill<R: Read + Drop>(
     Ok(())
 }
 
-// A desk before a store.
+// A desk over a store.
 fn desk_of(alloc: Global, store: Store<FileDisk>) -> Result<Desk<FileDisk>> {
     let limits = DeskLimits {
         pending: WAITING,
@@ -59,7 +59,7 @@ fn desk_of(alloc: Global, store: Store<FileDisk>) -> Result<Desk<FileDisk>> {
     Desk::new(alloc, store, limits).ok().context("no memory")
 }
 
-// Makes the store, of so many segments and slots, and fills it with the frames of a source. Its desk.
+// Makes the store, with these segments and slots, and fills it with the frames of a source. Returns its desk.
 fn make(
     rt: &HostRuntime,
     path: &str,
@@ -77,7 +77,7 @@ fn make(
     Ok(desk)
 }
 
-// Locks the newest so many frames. The first and the last of them.
+// Locks the newest frames, `last` of them. Returns the numbers of the first and the last.
 fn lock(desk: &mut Desk<FileDisk>, last: u64) -> Result<(u64, u64)> {
     let next = desk.status().next;
     let to = next.checked_sub(1).context("no frame came")?;
@@ -86,7 +86,7 @@ fn lock(desk: &mut Desk<FileDisk>, last: u64) -> Result<(u64, u64)> {
     Ok((from, to))
 }
 
-// Exports the frames from a number to another, and keeps the text on the disk. How many they are.
+// Exports the frames from a number to another, and syncs the file. Returns how many there are.
 fn save(rt: &HostRuntime, desk: Desk<FileDisk>, from: u64, to: u64, path: &str) -> Result<u64> {
     let alloc = rt.alloc();
     let mut store = Store::open(alloc, desk.into_disk())?;

@@ -1,4 +1,4 @@
--- What a buffer gets of a disk.
+-- What a buffer gets from a disk.
 use Rattle.std.proofs.Common.{◌≡◌, ⊎_elim, ℕ, ◌+◌, ◌-◌, ◌<◌, ◌≤◌, List, ◌++◌, length, take, drop, get_or, sym, ◌∙◌, ap, arith, length-append, length-take, length-drop}
 use Rattle.std.proofs.lemmas.Bool.{cases_lt}
 use Rattle.std.proofs.lemmas.List.{ext_get_or, get_or-take, get_or_append_left, get_or-append_right, length-take-le}
@@ -6,7 +6,7 @@ use Rattle.loop_disk.specs.Medium.{piece}
 use Rattle.loop_disk.proofs.Images.{length-piece, get_or-piece}
 use Rattle.loop_ahead.specs.Windows.{IsCopy}
 
--- a buffer whose beginning was known, and whose rest was read
+-- a buffer whose first bytes were known, and whose rest was read
 pub read_on : (at k n : ℕ) (image given rest : List ℕ) → k ≤ n → length given ≡ n → at + n ≤ length image
     → IsCopy at k image given
     → rest ≡ piece (at + k) (length (take (length given - k) (drop k given))) image

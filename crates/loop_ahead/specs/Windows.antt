@@ -1,4 +1,4 @@
--- What a window holds of a disk, and a disk with a count of its own.
+-- What a window holds of a disk, and a disk with its own count of failures.
 use Rattle.std.specs.Prelude.{◌≡◌, ◌↔◌, ℕ, ◌+◌, ◌<◌, ◌≤◌, Result, IfErr, List, length, get_or}
 use Rattle.loop_disk.specs.declared.fault.DiskFault.{DiskFault}
 use Rattle.loop_disk.specs.declared.fault.DiskFault.TheVariants.{Read}
@@ -15,13 +15,13 @@ pub record IsAhead (window : List ℕ) (start held : ℕ) (m : Medium) : Type 0 
   pub few : held ≤ length window
   pub same : (image : List ℕ) → MayBe m image → IsCopy start held image window
 
--- a disk, and which calls have failed of those that were made by way of it
+-- a disk, and which of the calls that were made through it have failed
 pub record Recounted (D : Type 0) : Type 0 where
   pub disk : D
   pub failures : Failures
 
 -- What reads, however many, do to the disk beneath, and how they fail: an honest disk stays as it was, a harsh one may
--- leave what it might before, what agrees with what they gave did before, and size and honesty are every disk's own.
+-- leave what it might before, an image that agrees with what they gave did so before, and size and honesty stay.
 pub record OnlyReads {D T : Type 0} (medium : D → Medium) (harsh : D → Type 0) (old new : D)
     (result : Result T DiskFault) : Type 0 where
   pub stays : (medium old).honest → Stays (medium old) (medium new)

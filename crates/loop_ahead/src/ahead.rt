@@ -1,8 +1,6 @@
 // A disk that reads ahead, over another disk.
-ghost use Rattle.std.specs.Prelude.{◌≡◌, ◌+◌, ◌≤◌, IfErr, IfOk, OnOk, length};
-ghost use Rattle.loop_disk.specs.declared.fault.DiskFault.TheVariants.{Read, Write, Sync};
-ghost use Rattle.loop_disk.specs.Medium.{LeavesEach, LeavesEachTorn, piece};
-ghost use Rattle.loop_disk.specs.Calls.{Called, Stays, Syncs, Writes, failed_call, no_failures};
+ghost use Rattle.std.specs.Prelude.{◌≡◌, IfErr, IfOk};
+ghost use Rattle.loop_disk.specs.Calls.{no_failures};
 ghost use Rattle.loop_disk.specs.Sound.{sound_recounted};
 ghost use Rattle.loop_ahead.specs.Windows.{IsAhead, Recounted};
 
@@ -11,12 +9,12 @@ use loop_disk::{Disk, DiskFault, Failures};
 use std::alloc::{Allocator, Global};
 use std::marker::Model;
 
-/// Passes each write and each sync to the disk beneath it, and answers reads out of a window of bytes that it
-/// fetches from there. A read of at most half the window is made by way of it: where it goes on from what the
-/// window holds, the window is filled in one read, else, and where that read fails, it gets just the bytes that are
-/// asked for. A longer read goes past the window, but for the beginning that the window holds. A write empties the
-/// window, as a failed fetch does. In contracts it is the disk beneath with a count of its own of the calls that
-/// failed, in which a read of bytes that nobody asked for isn't one.
+/// Passes each write and each sync to the disk beneath it, and answers reads from a window of bytes that it fetches
+/// from there. A read of at most half the window is made through it. Where the read continues what the window holds,
+/// the window is filled by one read; otherwise, and where that read fails, it gets just the bytes that are asked for. A
+/// longer read bypasses the window, except for the first bytes where the window holds them. A write empties the window,
+/// as a failed fetch does. In contracts it is the disk beneath with its own count of the calls that failed. A failed
+/// read of bytes that no caller asked for isn't counted.
 #[derive(Drop)]
 pub struct AheadDisk<D: Disk + Drop, A: Allocator = Global> {
     inner: D,
@@ -35,7 +33,7 @@ impl<D: Disk + Drop, A: Allocator> Model for AheadDisk<D, A> {
 
 impl<D: Disk + Drop, A: Allocator> AheadDisk<D, A> {
     /// A disk over this one, whose window has room for so many bytes. It takes their memory, and no later call takes
-    /// any. Its only error is want of memory, and then the disk comes back.
+    /// any. Its only error is want of memory, and then the disk is returned.
     pub fn new(alloc: A, inner: D, bytes: usize) -> Result<Self, D>
         ensures ahead { IfOk result (λ ahead. ahead ≡ record { disk = inner; failures = no_failures }) }
         ensures back { IfErr result (λ disk. disk ≡ inner) }
@@ -80,6 +78,7 @@ impl<D: Disk + Drop, A: Allocator> Disk for AheadDisk<D, A> {
     }
 
     fn read(&mut self, at: u64, buf: &mut [u8]) -> Result<(), DiskFault> {
+        // The bytes end on the disk, so their places are u64s, as its size is.
         let _size = self.inner.size();
         let known = self.window.give(at, buf);
         if known == buf.len() {

@@ -1,12 +1,12 @@
 // The bytes of a disk that were read before they are asked for.
-ghost use Rattle.std.specs.Prelude.{◌≡◌, ◌+◌, ◌-◌, ◌≤◌, ℕ, List, IfOk, OnOk, length};
+ghost use Rattle.std.specs.Prelude.{◌≡◌, ◌+◌, ◌≤◌, ℕ, List, IfOk, OnOk, length};
 ghost use Rattle.loop_disk.specs.Medium.{MayBe, piece};
 ghost use Rattle.loop_ahead.specs.Windows.{IsAhead, IsCopy, OnlyReads};
 
 use loop_disk::{Disk, DiskFault};
 use std::alloc::Allocator;
 
-/// So many bytes of a disk, from a place on, and room for more.
+/// Consecutive bytes of a disk, and room for more.
 #[derive(Drop)]
 pub(crate) struct Window<A: Allocator> {
     pub(crate) bytes: Vec<u8, A>,
@@ -15,7 +15,7 @@ pub(crate) struct Window<A: Allocator> {
 }
 
 impl<A: Allocator> Window<A> {
-    /// Copies the bytes from `at` on that it holds to the beginning of a buffer, and tells how many these are.
+    /// Copies the bytes that it holds from `at` on to the start of a buffer, and returns how many they are.
     pub(crate) fn give(&self, at: u64, buf: &mut [u8]) -> usize
         requires { self.now.held ≤ length self.now.bytes.items }
         ensures few { result ≤ length buf.old }
@@ -33,8 +33,8 @@ impl<A: Allocator> Window<A> {
         count
     }
 
-    // How many bytes are to be fetched from `at` on, of a disk of that size, where so many are asked for: all that
-    // it has room for where they go on from those that it holds.
+    // How many bytes to fetch from `at` on, of a disk of this size, where at least so many are asked for. It is as many
+    // as there is room for if they continue those that it holds.
     fn reach(&self, at: u64, least: usize, size: u64) -> usize
         requires inside { at + least ≤ size }
         requires room { least ≤ length self.now.bytes.items }
@@ -54,8 +54,8 @@ impl<A: Allocator> Window<A> {
     }
 }
 
-// Fetches the bytes from `at` on into the window: all that `reach` tells, or, where they can't be read at once, just
-// those that are asked for. After a failure it holds none.
+// Fetches the bytes from `at` on into the window: as many as `reach` returns, or, where these can't be read at once,
+// just those that are asked for. After a failure it holds none.
 fn fetch<D: Disk, A: Allocator>(
     disk: &mut D,
     window: &mut Window<A>,
@@ -76,8 +76,8 @@ fn fetch<D: Disk, A: Allocator>(
     Ok(())
 }
 
-// Reads the bytes from `at` on to the beginning of a buffer: as many as wanted, or, where these can't be read at
-// once, just as many as are asked for. Tells how many it read.
+// Reads the bytes from `at` on to the start of a buffer: as many as wanted, or, where these can't be read at once, just
+// as many as are asked for. Returns how many it read.
 fn fill_most<D: Disk>(
     disk: &mut D,
     buf: &mut [u8],
@@ -95,7 +95,7 @@ fn fill_most<D: Disk>(
     if least < most {
         match fill(disk, buf, at, most) {
             Ok(()) => return Ok(most),
-            // The place that can't be read may lie behind what is asked for.
+            // The place that can't be read may lie after the bytes that are asked for.
             Err(_) => (),
         }
     }
@@ -103,7 +103,7 @@ fn fill_most<D: Disk>(
     Ok(least)
 }
 
-// Reads so many bytes of the disk from `at` on to the beginning of a buffer.
+// Reads so many bytes of the disk from `at` on to the start of a buffer.
 fn fill<D: Disk>(disk: &mut D, buf: &mut [u8], at: u64, count: usize) -> Result<(), DiskFault>
     requires inside { at + count ≤ (D.medium disk.old).size }
     requires room { count ≤ length buf.old }
@@ -113,7 +113,7 @@ fn fill<D: Disk>(disk: &mut D, buf: &mut [u8], at: u64, count: usize) -> Result<
     disk.read(at, &mut buf[..count])
 }
 
-/// Reads the bytes from `at` on: by way of the window where they are at most half of it.
+/// Reads the bytes from `at` on: through the window where they are at most half of it.
 pub(crate) fn read_by<D: Disk, A: Allocator>(
     disk: &mut D,
     window: &mut Window<A>,
@@ -131,6 +131,7 @@ pub(crate) fn read_by<D: Disk, A: Allocator>(
         return disk.read(at, buf);
     }
     fetch(disk, window, at, buf.len())?;
+    // The window holds all of these bytes now, so their count is known.
     window.give(at, buf);
     Ok(())
 }

@@ -5,18 +5,18 @@ use Rattle.loop_capture.specs.declared.source.Next.TheVariants.{More, End, Bad}
 use Rattle.loop_record.specs.Pattern.{pattern_bytes}
 use Rattle.loop_y4m.specs.declared.fault.Y4mFault.{Y4mFault}
 use Rattle.loop_y4m.specs.Header.{size_of_frame}
-use Rattle.loop_y4m.specs.Reader.{GivesNext, Opened}
+use Rattle.loop_y4m.specs.Reader.{GivesNext, OpenReader}
 
 -- the pattern gives its next frame
 abbrev pub GivesPattern : ℕ → Next → List ℕ → ℕ → Type 0
 GivesPattern n answer out after = (answer ≡ More) × (out ≡ pattern_bytes n (length out)) × (after ≡ (n + 1) % 256)
 
--- an input that is read, and whether its end or a fault was answered
+-- the reader of an input, and whether its end or a fault was answered
 pub record Footage : Type 0 where
-  pub reader : Opened
+  pub reader : OpenReader
   pub over : Bool
 
--- what a source answers to what its reader answered, and whether it is over then
+-- what a source answers, given its reader's answer, and whether it is over then
 abbrev pub next_of : Result Bool Y4mFault → Next
 next_of (Ok true) = More
 next_of (Ok false) = End
@@ -27,8 +27,8 @@ over_by More = false
 over_by End = true
 over_by Bad = true
 
--- a source that is over answers End; else an `out` of another length than a frame is Bad, and one of a frame's length
--- gets what the reader gives
+-- A source that is over answers End. Otherwise an `out` of another length than a frame is Bad, and one of a frame's
+-- length gets what the reader gives.
 abbrev pub GivesBy : (over fits : Bool) → Footage → Next → List ℕ → Footage → Type 0
 GivesBy true fits s answer out t = (answer ≡ End) × (t ≡ s)
 GivesBy false false s answer out t = (answer ≡ Bad) × (t ≡ record s { over = true })

@@ -1,4 +1,4 @@
--- A tick as events of the queue's model, and what it makes of the device.
+-- A tick as events of the queue's model, and what it does to the device.
 use Rattle.std.specs.Prelude.{◌≡◌, ◌≢◌, ℕ, ◌+◌, ◌%◌, ◌^◌, true, false, cond, List, [], ◌∷◌, length, Option, Some, None}
 use Rattle.loop_plane.specs.Plane.{Plane}
 use Rattle.loop_record.specs.Turns.{EachIn, Plays, after_all}
@@ -32,7 +32,7 @@ sequence_after End sequence = sequence
 sequence_after More sequence = (sequence + 1) % 2 ^ 32
 sequence_after Bad sequence = (sequence + 1) % 2 ^ 32
 
--- what a tick does, for what the source answered and the buffer that has been active longest
+-- what a tick does, given the source's answer and the buffer that has been active longest
 abbrev pub tick_of : Next → Option ℕ → Tick
 tick_of End active = Ended
 tick_of More (Some i) = Completed i
@@ -56,13 +56,13 @@ Ends meaning answer stamp bytes tick before after =
     ((s : QueueState) → StandsQueue meaning before s → tick ≡ tick_of answer (longest_active s))
     × Plays queue_machine (StandsQueue meaning before) (StandsQueue meaning after) (end_of tick stamp bytes)
 
--- what a tick for which the source was asked is of the queue: the start is noticed, and the frame is ended
+-- the events of the queue in a tick that asked the source: the start is noticed, and the frame is ended
 abbrev pub tick_events : ℕ → ℕ → Tick → List ℕ → QueueState → List Event
 tick_events now next tick bytes s =
     take_fresh s.body.fresh ∷ end_of tick (record { sequence = sequence_of next s; timestamp = now }) bytes
 
--- a tick for which the source was asked: the device had a frame's length and had started, the source gave these bytes,
--- which are whole if it has more, and the queue's events happen
+-- A tick that asked the source: the device had a frame's length and had started, the source gave these bytes, which are
+-- a whole frame at More, and the queue's events happen.
 pub record Took {S P : Type 0} (gives : S → Next → List ℕ → S → Type 0) (meaning : P → Plane) (now : ℕ) (tick : Tick)
     (d e : SeenDevice S) (before after : Lined P) (s : QueueState) : Type 0 where
   pub fits : d.size ≡ frame_size s.body.shape

@@ -17,7 +17,7 @@ pub enum Tick {
     Idle,
     /// The buffer of this index was completed with a frame.
     Completed(u32),
-    /// The buffer of this index was given up, since the frame can't be had.
+    /// The buffer of this index was given up, since its frame couldn't be got.
     Failed(u32),
     /// A frame was due, and no buffer was active: it is lost.
     Missed,
@@ -27,7 +27,7 @@ pub enum Tick {
     WrongSize,
 }
 
-/// Memory was refused; the source is handed back.
+/// Memory was refused; the source is returned.
 #[derive(Drop)]
 pub struct NoMemory<S> {
     /// The source that was given.
@@ -49,8 +49,8 @@ impl<S, A: Allocator + Copy> Model for Device<S, A> {
 }
 
 impl<S: FrameSource, A: Allocator + Copy> Device<S, A> {
-    /// A device for frames of so many bytes. Its buffer is taken here, and no tick takes memory. NoMemory: the
-    /// buffer was refused, and the source comes back.
+    /// A device for frames of so many bytes. Its buffer is taken here, and no tick takes memory. NoMemory: the buffer
+    /// was refused, and the source is returned.
     pub fn new(alloc: A, source: S, frame_bytes: u32) -> Result<Device<S, A>, NoMemory<S>>
         ensures new { IfOk result (IsNew source frame_bytes) }
         ensures back { IfErr result (λ refused. refused.source ≡ source) }
@@ -65,10 +65,10 @@ impl<S: FrameSource, A: Allocator + Copy> Device<S, A> {
         }
     }
 
-    /// One frame period, at `now` (microseconds). WrongSize, then Idle, change nothing. Otherwise the source is
-    /// asked for a frame. More completes the buffer that has been active longest, Bad fails it; without an
-    /// active buffer the frame is Missed. End is Ended. The sequence is 0 at the first frame after a start, and
-    /// rises by one a frame, modulo 2^32, those that are Bad or Missed among them; an End takes no number.
+    /// One frame period, at `now` (microseconds). WrongSize, then Idle, change nothing. Otherwise the source is asked
+    /// for a frame. More completes the buffer that has been active longest, and Bad fails it; without an active buffer
+    /// the frame is Missed. End is Ended. The sequence is 0 at the first frame after a start. It rises by one with each
+    /// frame, modulo 2^32, also with one that is Bad or Missed; an End takes no number.
     pub fn tick<P: PlaneMemory, B: Allocator + Copy>(
         &mut self,
         queue: &mut Queue<P, B>,
@@ -103,7 +103,7 @@ impl<S: FrameSource, A: Allocator + Copy> Device<S, A> {
     }
 }
 
-// Asks a source for a frame of the row's length.
+// Asks a source for a frame as long as this buffer.
 fn ask<S: FrameSource, A: Allocator + Copy>(source: &mut S, frame: &mut Vec<u8, A>) -> Next
     ensures gives { S.next_gives source.old result frame.new.items source.new }
     ensures size { length frame.new.items ≡ length frame.old.items }
@@ -121,7 +121,7 @@ fn sequence_after(answer: Next, sequence: u32) -> u32
     }
 }
 
-// Ends the buffer that has been active longest with what the source answered.
+// Ends the buffer that has been active longest, as the source answered.
 fn end_frame<P: PlaneMemory, A: Allocator + Copy>(
     queue: &mut Queue<P, A>,
     active: Option<u32>,

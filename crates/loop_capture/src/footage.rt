@@ -7,8 +7,8 @@ use loop_y4m::Y4mReader;
 use std::io::Read;
 use std::marker::Model;
 
-/// A source of an input's frames. A fault of the input, or a call for another length than that of its frames,
-/// is Bad once, and End comes after it. After an End there is nothing but End.
+/// A source of an input's frames. A fault of the input, or a call for another length than that of its frames, is Bad
+/// once, and then End. After an End each answer is End.
 #[derive(Drop)]
 pub struct Y4mSource<R: Read + Drop> {
     reader: Y4mReader<R>,
@@ -22,7 +22,7 @@ impl<R: Read + Drop> Model for Y4mSource<R> {
 }
 
 impl<R: Read + Drop> Y4mSource<R> {
-    /// The frames that a reader has still to give.
+    /// A source of the frames that a reader still has to give.
     pub fn new(reader: Y4mReader<R>) -> Y4mSource<R>
         ensures { result ≡ record { reader = reader; over = false } }
     {

@@ -1,4 +1,4 @@
-// Frames that tell by their bytes which they are.
+// Frames whose bytes identify them.
 ghost use Rattle.std.specs.Prelude.{◌≡◌, [], ℕ};
 ghost use Rattle.loop_capture.specs.Sources.{GivesPattern};
 
@@ -6,8 +6,8 @@ use crate::source::{FrameSource, Next};
 use loop_record::fill_pattern;
 use std::marker::Model;
 
-/// A source that never ends: byte i of its frame n is n + i, modulo 256, whatever length is asked for.
-/// Contracts see the number of its next frame, modulo 256.
+/// A source that never ends: byte i of its frame n is n + i, modulo 256, whatever length is asked for. Contracts see
+/// the number of its next frame, modulo 256.
 #[derive(Drop)]
 pub struct Pattern {
     first: u8,

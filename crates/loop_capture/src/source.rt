@@ -2,18 +2,18 @@
 ghost use Rattle.std.specs.Prelude.{◌≡◌, List, ℕ, ⊤, [], IfSome, None, Some, length};
 ghost use Rattle.loop_capture.specs.declared.source.Next.TheVariants.{More};
 
-/// What a source answers to the call for a frame.
+/// What a source answers when it is asked for a frame.
 #[derive(Clone, Copy, PartialEq, Eq, Debug)]
 pub enum Next {
     /// The frame is there.
     More,
-    /// No frame comes any more.
+    /// No more frames come.
     End,
-    /// A frame was due and can't be had.
+    /// A frame was due and couldn't be got.
     Bad,
 }
 
-/// What gives frames, one a call: it puts them into memory that it is given, or lends its own.
+/// What gives frames, one in each call: it puts them into memory that it is given, or lends its own.
 pub trait FrameSource: Drop {
     ghost use Rattle.loop_capture.specs.declared.source.Next.{Next};
 
@@ -23,12 +23,12 @@ pub trait FrameSource: Drop {
     /// The bytes of the frame that it lends.
     ghost lends: { Self → List ℕ };
 
-    /// Puts the next frame's bytes into `out`. Unless it answers More, `out` may have any bytes after it.
+    /// Puts the next frame's bytes into `out`. Unless it answers More, `out` may then hold any bytes.
     fn next(&mut self, out: &mut [u8]) -> Next
         ensures gives { next_gives self.old result out.new self.new };
 
-    /// Makes the next frame, of so many bytes, one that is lent, and answers as `next` would. None: it lends no frame,
-    /// and nothing changed.
+    /// Makes the next frame, of so many bytes, ready to be lent, and answers as `next` would. None: this source lends
+    /// no frame, and nothing changed.
     fn make_ready(&mut self, _size: usize) -> Option<Next>
         ensures gives { IfSome result (λ answer. next_gives self.old answer (lends self.new) self.new) }
         ensures size { result ≡ Some More → length (lends self.new) ≡ _size }
@@ -42,7 +42,8 @@ pub trait FrameSource: Drop {
         ensures { result.now ≡ lends self.now };
 }
 
-/// Code that is generic in a source serves boxes too. Of what comes out of a box nothing is said, and it lends nothing.
+/// So that code which is generic in a source takes boxes too. Nothing is known of the frames that a box gives, and it
+/// lends none.
 impl FrameSource for Box<dyn FrameSource + Send> {
     ghost next_gives = { λ b r out c. ⊤ };
 

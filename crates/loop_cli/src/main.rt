@@ -1,7 +1,7 @@
 //! The program: it runs scripts on a recorder whose disk lies in memory, and does commands on stores in files.
 //! docs/script.md has the language of the scripts.
 //!
-//! It hands its words, its input and its outputs to loop_commands, and ends with the status that this answers. Its
+//! It passes its words, its input and its outputs to loop_commands, and ends with the status that this returns. Its
 //! stored run (`stdin`) is the script of the first look.
 #![tactic(auto)]
 
@@ -13,6 +13,7 @@ fn main(rt: HostRuntime) -> ExitCode {
     let status = match env::args(&rt) {
         Err(error) => words_refused(&error, &mut rt.stderr()),
         Ok(mut words) => {
+            // The first word is the program's own name.
             let _program = words.next();
             match words.collect::<Vec<String>>(rt.alloc()) {
                 Ok(words) => run_words(

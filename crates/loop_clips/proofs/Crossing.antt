@@ -1,4 +1,4 @@
--- That a clip table may go to another thread, and be looked at by several: each alone, and (`in`) as what holds it has it.
+-- That a clip table may be sent to another thread, and shared by several: each alone, and (`in`) as part of what holds it.
 use denote.Param.Send.{IsSend, IsSync, sendable}
 use Rattle.loop_clips.specs.contracts.table.ClipTable as ClipTable
 

@@ -21,7 +21,7 @@ use Rattle.loop_record.proofs.Parts.{version-outside}
 use Rattle.loop_record.proofs.Fresh.{written-entry}
 use Rattle.loop_clips.specs.Table.{IsFirstFree, ShowsClipOrNot}
 
--- what the entry of a clip has behind its gate
+-- what the entry of a clip has after its gate
 pub record IsEntry (version : ℕ) (s : Span) (entry : List ℕ) : Type 0 where
   pub is : entry ≡ drop 1 (entry_bytes s)
   pub fits : FitsEntry version s
@@ -42,7 +42,7 @@ none_closed c id e = go (is_open c (clip_at id)) _ e
 
 -- ---- a lock
 
--- an image with that entry behind its gate
+-- an image with that entry after its gate
 entry_there : (id k : ℕ) (entry old c : List ℕ) → length entry ≡ 31 → clip_at id + 32 ≤ length old
     → SameOutside (clip_at id) 1 (with_bytes_at (clip_at id + 1) entry old) c → k < 31
     → get_or c (clip_at id + 1 + k) 0 ≡ get_or entry k 0
@@ -108,7 +108,7 @@ lock_done id s entry old e fits =
     let outside = both at 32 old mid _ (entry_outside id entry old long fits) (widened at 1 at 32 mid _ torn (omega arith) (omega arith)) in
     record { outside = outside; holds = locked_there id s entry old _ e fits torn outside (ap (λ (k : ℕ). eqb k 0xA5) gate) }
 
--- the gate behind its entry
+-- the gate after its entry
 stores_there : {T : Type 0} (id at : ℕ) (entry gate : List ℕ) (old new : Medium) (r : Result T DiskFault)
     → at ≡ clip_at id → gate ≡ 165 ∷ []
     → StoresInTurn (at + 1) entry at gate old new r → StoresInTurn (clip_at id + 1) entry (clip_at id) (165 ∷ []) old new r

@@ -103,7 +103,7 @@ closed-more id image none closed = λ i l e. go i (cases_lt i id) l e
 pub present : (old new : Medium) (P : List ℕ → Type 0) → IsSound new → LeavesOnly old new P → P new.bytes
 present old new P sound run = each_now old new P sound run new.bytes sound.present
 
--- a write of zeros behind it, done or failed
+-- a write of zeros after it, done or failed
 pub clearing : {T : Type 0} (id : ℕ) (old mid new : Medium) (r : Result T DiskFault) → id < 64
     → is_open old.bytes (clip_at id) ≡ true → IsSound mid → LeavesOnly old mid (SameButTags old.bytes)
     → Writes (clip_at id + 24) (replicate 8 0) mid new r → LeavesOnly old new (SameButTags old.bytes)
@@ -113,7 +113,7 @@ clearing id old mid new r l gate sound run writes =
 
 -- ---- the loop
 
--- zeros stand in the place of each tag of the ids below this one, and nothing else was written
+-- the tag of each id below this one is zeros, and nothing else was written
 pub record IsCleared (count : ℕ) (old new : Medium) : Type 0 where
   pub moments : old.honest → LeavesOnly old new (SameButTags old.bytes)
   pub none : old.honest → HasNoTags count new.bytes
@@ -126,12 +126,12 @@ cleared-none m sound settled = record {
   called = record { size = refl; honest = (λ honest. honest, λ honest. honest); failures = refl };
 }
 
--- an id whose clip stands has an open entry
+-- an id that has a clip has an open entry
 pub known-open : (clips : List (Option Span)) (id : ℕ) (image : List ℕ) → id < 64 → AreOpen clips image
     → is_some (get_or clips id None) ≡ true → is_open image (clip_at id) ≡ true
 known-open clips id image l known stands = known id l ∙ stands
 
--- an id whose clip stands
+-- an id that has a clip
 pub cleared-more : {T : Type 0} (id : ℕ) (old mid new : Medium) (r : Result T DiskFault) → id < 64 → 2560 ≤ mid.size
     → (mid.honest → IsSound mid) → (old.honest → is_open old.bytes (clip_at id) ≡ true) → IsCleared id old mid
     → (mid.honest → Writes (clip_at id + 24) (replicate 8 0) mid new r)

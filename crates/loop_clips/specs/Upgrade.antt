@@ -5,7 +5,7 @@ use Rattle.loop_record.specs.Change.{KeepsClips}
 use Rattle.loop_record.specs.Geometry.{clip_at}
 use Rattle.loop_record.specs.Layout.{clip_in, is_open, version_in}
 
--- the old image in version 2, where each id has the clip that it had, and what stands in an entry without one stays
+-- the old image in version 2, where each id has the clip that it had, and an entry without one is unchanged
 pub record IsUpgraded (old new : List ℕ) : Type 0 where
   pub clips : KeepsClips old new
   pub closed : (id k : ℕ) → id < 64 → k < 32 → clip_in old id ≡ None

@@ -16,10 +16,10 @@ use loop_record::{CLIP_SIZE, Geometry, SUPER_SIZE, Span, encode_clip, is_locked}
 use std::alloc::{AllocError, Allocator};
 use std::marker::Model;
 
-/// How many clips a store has at most.
+/// The most clips that a store has.
 pub const CLIPS: usize = 64;
 
-/// The clips of a store. In contracts it is the list of what stands under each id, from 0 to 63.
+/// The clips of a store. In contracts it is a list: the clip of each id, from 0 to 63, or none.
 #[derive(Drop)]
 pub struct ClipTable {
     clips: [Option<Span>; CLIPS],
@@ -34,7 +34,7 @@ impl Model for ClipTable {
 }
 
 impl ClipTable {
-    /// No clip stands.
+    /// A table without a clip.
     pub fn empty() -> ClipTable
         ensures { result ≡ replicate 64 None }
     {
@@ -43,14 +43,14 @@ impl ClipTable {
         }
     }
 
-    /// Clips that were read before: the place of each is its id.
+    /// A table of clips that were read before: the place of each is its id.
     pub fn of(clips: [Option<Span>; CLIPS]) -> ClipTable
         ensures { result ≡ clips }
     {
         ClipTable { clips }
     }
 
-    /// What stands under each id.
+    /// The clip of each id, or none.
     pub fn as_slice(&self) -> &[Option<Span>]
         ensures clips { result.now ≡ self.now }
         ensures count { length result.now ≡ 64 }
@@ -58,7 +58,7 @@ impl ClipTable {
         &self.clips
     }
 
-    /// The clip of an id, if one stands.
+    /// The clip of an id, if it has one.
     pub fn get(&self, id: u32) -> Option<Span>
         ensures clip { result ≡ slice_index_or self.now id None }
         ensures within { IfSome result (λ span. id < 64) }
@@ -70,7 +70,7 @@ impl ClipTable {
         }
     }
 
-    /// The least id that has no clip, if one has none.
+    /// The least id that has no clip, if there is one.
     pub fn free_id(&self) -> Option<u32>
         ensures { IsFirstFree self.now result }
     {
@@ -81,8 +81,8 @@ impl ClipTable {
     }
 
     /// Writes a clip under an id that has none, with a tag other than 0 only in version 2 of the layout: the entry
-    /// behind its gate, a sync, the gate, a sync. At Ok it stands; after a failure, as at each moment before, it stands
-    /// on the disk or it doesn't. What the table has in memory is another call's: `set`.
+    /// without its gate, a sync, the gate, a sync. At Ok the clip is on the disk; after a failure, as at each moment
+    /// before, it is there or it isn't. It doesn't change the table in memory: that is what `set` is for.
     pub fn lock<D: Disk>(&self, disk: &mut D, id: u32, span: Span) -> Result<(), DiskFault>
         requires extent { 2560 ≤ (D.medium disk.old).size }
         requires id { id < 64 }
@@ -100,8 +100,8 @@ impl ClipTable {
         store_in_turn(disk, at + 1, &entry[1..], at, &entry[..1])
     }
 
-    /// Takes away the clip of an id: the entry's gate is closed, and a sync. At Ok it is gone; after a failure, as
-    /// at each moment before, it stands on the disk or it doesn't.
+    /// Removes the clip of an id: closes the entry's gate, and syncs. At Ok the clip is gone; after a failure, as at
+    /// each moment before, it is on the disk or it isn't.
     pub fn unlock<D: Disk>(&self, disk: &mut D, id: u32) -> Result<(), DiskFault>
         requires extent { 2560 ≤ (D.medium disk.old).size }
         requires id { id < 64 }
@@ -113,7 +113,7 @@ impl ClipTable {
         store(disk, entry_place(id), &[0])
     }
 
-    /// Notes what stands under an id now: a clip, or none. It takes no memory.
+    /// Notes the clip of an id, or that it has none. It takes no memory.
     pub fn set(&mut self, id: u32, clip: Option<Span>)
         requires { id < 64 }
         ensures { self.new ≡ slice_set self.old id clip }
@@ -129,7 +129,7 @@ impl ClipTable {
         is_locked(geometry, block, &self.clips)
     }
 
-    /// The clips that stand, by rising id. Its only error is want of memory.
+    /// The clips, by rising id. Its only error is want of memory.
     pub fn list<A: Allocator>(&self, alloc: A) -> Result<Vec<Clip, A>, AllocError>
         ensures { IfOk result (λ list. list.items ≡ clip_list 0 self.now) }
     {

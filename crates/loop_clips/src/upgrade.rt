@@ -1,4 +1,4 @@
-// The layout of a store becomes version 2, in which clips have tags. docs/layout.md says why it is so.
+// The upgrade of a store's layout to version 2, in which clips have tags. docs/layout.md says why it is so.
 ghost use Rattle.std.specs.Prelude.{◌≡◌, ◌+◌, ◌≤◌, ◌<◌, ℕ, IfErr, None, OnOk, length, replicate, slice_index_or, true};
 ghost use Rattle.loop_clips.specs.Upgrade.{AreOpen, IsUpgraded};
 ghost use Rattle.loop_disk.specs.Calls.{Called, Writes, failed_call, is_write_or_sync};
@@ -13,10 +13,10 @@ use crate::table::entry_place;
 use loop_disk::{Disk, DiskFault, store};
 use loop_record::{OPEN, Span, VERSION_GATE};
 
-// Where the tag stands in an entry.
+// Where the tag lies in an entry.
 const TAG: u64 = 24;
 
-// Writes zeros in the place of the tag of an id.
+// Overwrites the tag of an id with zeros.
 fn clear_tag<D: Disk>(disk: &mut D, id: u32) -> Result<(), DiskFault>
     requires extent { 2560 ≤ (D.medium disk.old).size }
     requires id { id < 64 }
@@ -28,7 +28,7 @@ fn clear_tag<D: Disk>(disk: &mut D, id: u32) -> Result<(), DiskFault>
     disk.write_at(entry_place(id) + TAG, &[0; 8])
 }
 
-// Writes zeros in the place of the tag of each clip.
+// Overwrites the tag of each clip with zeros.
 fn clear_tags<D: Disk>(disk: &mut D, clips: &[Option<Span>]) -> Result<(), DiskFault>
     requires extent { 2560 ≤ (D.medium disk.old).size }
     requires count { length clips.now ≡ 64 }
@@ -48,7 +48,7 @@ fn clear_tags<D: Disk>(disk: &mut D, clips: &[Option<Span>]) -> Result<(), DiskF
     Ok(())
 }
 
-// The same between two syncs.
+// Does the same between two syncs.
 fn settle_tags<D: Disk>(disk: &mut D, clips: &[Option<Span>]) -> Result<(), DiskFault>
     requires extent { 2560 ≤ (D.medium disk.old).size }
     requires count { length clips.now ≡ 64 }
@@ -63,9 +63,9 @@ fn settle_tags<D: Disk>(disk: &mut D, clips: &[Option<Span>]) -> Result<(), Disk
 }
 
 impl ClipTable {
-    /// Makes version 2 of a layout of version 1: a sync, zeros in the place of the tag of each clip, one write a clip,
-    /// a sync, the version's gate, a sync. At Ok the layout has version 2, and the entries without a clip are as they
-    /// were; after a failure, as at each moment before, it has version 1 or 2, and the same clips without tags.
+    /// Makes version 2 of the layout from version 1: a sync, zeros over the tag of each clip, one write each, a sync,
+    /// the version's gate, a sync. At Ok the layout has version 2, and the entries without a clip are as they were.
+    /// After a failure, as at each moment before, it has version 1 or 2, and the same clips without tags.
     pub fn upgrade<D: Disk>(&self, disk: &mut D) -> Result<(), DiskFault>
         requires extent { 2560 ≤ (D.medium disk.old).size }
         requires settled { (D.medium disk.old).honest → IsSettled (D.medium disk.old) }

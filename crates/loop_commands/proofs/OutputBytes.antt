@@ -1,4 +1,4 @@
--- What is known of the bytes that were written, one call behind the other.
+-- What is known of the bytes that were written, one call after the other.
 use Rattle.std.proofs.Common.{◌≡◌, ℕ, Option, Some, None, List, [], ◌++◌, ap, sym, subst, append_assoc, append-nil, ◌∙◌}
 use Rattle.std.specs.Io.Buffered.{writer_buffer, writer_contents, writer_inner}
 use Rattle.std.specs.Io.KnownBytes.{Appends, Keeps, append_known}
@@ -15,7 +15,7 @@ beneath (Some x) (Some y) (Some z) before after bytes none empty first kept =
     sym (append-nil z) ∙ ap (λ l. z ++ l) (sym empty) ∙ kept ∙ first ∙ ap (λ l. (x ++ l) ++ bytes) none ∙ ap (λ l. l ++ bytes) (append-nil x)
 
 module _ {W A : Type 0} (contents : W → Option (List ℕ)) where
-  -- So it is where the buffer is made over a writer, written to and flushed, and the writer taken out of it again.
+  -- So it is where the buffer is made over a writer, written to and flushed, and the writer is taken out of it again.
   pub through : (out back : W) (made start end taken done : BufWriter W A) (bytes : List ℕ) → writer_inner made ≡ out
       → writer_buffer made ≡ [] → start ≡ made → Appends (writer_contents contents start)
       (writer_contents contents end) bytes → taken ≡ end → Keeps (writer_contents contents taken)
@@ -33,16 +33,16 @@ module _ {W A : Type 0} (contents : W → Option (List ℕ)) where
       subst (λ (w : W). Appends (contents w) (contents back) bytes) inner
       (subst (λ (w : W). Appends (contents (writer_inner made)) (contents w) bytes) (sym gone) whole)
 
--- a text, and a line behind it where that could be printed
-pub behind : {E : Type 0} (old now new : Option (List ℕ)) (bytes line : List ℕ) (printed : Result (Unit {0}) E)
+-- a text, and a line after it where that could be printed
+pub followed_by_line : {E : Type 0} (old now new : Option (List ℕ)) (bytes line : List ℕ) (printed : Result (Unit {0}) E)
     → Appends old now bytes → OnOk printed (Appends now new line) → OnOk printed (Appends old new (bytes ++ line))
-behind old now new bytes line (Err fault) first then = tt
-behind None now new bytes line (Ok done) first then = tt
-behind (Some x) None new bytes line (Ok done) first then = absurd first
-behind (Some x) (Some y) None bytes line (Ok done) first then = absurd then
-behind (Some x) (Some y) (Some z) bytes line (Ok done) first then = then ∙ ap (λ l. l ++ line) first ∙ append_assoc x bytes line
+followed_by_line old now new bytes line (Err fault) first then = tt
+followed_by_line None now new bytes line (Ok done) first then = tt
+followed_by_line (Some x) None new bytes line (Ok done) first then = absurd first
+followed_by_line (Some x) (Some y) None bytes line (Ok done) first then = absurd then
+followed_by_line (Some x) (Some y) (Some z) bytes line (Ok done) first then = then ∙ ap (λ l. l ++ line) first ∙ append_assoc x bytes line
 
--- what was appended behind what was kept
+-- what was appended after what was kept
 pub kept_first : (old now new : Option (List ℕ)) (bytes : List ℕ) → Keeps old now → Appends now new bytes
     → Appends old new bytes
 kept_first None now new bytes kept then = tt

@@ -1,4 +1,4 @@
-// Cameras that are filmed into stores in files, each by threads of its own.
+// Cameras whose frames are recorded into stores in files, each by threads of its own.
 ghost use Rattle.std.specs.Prelude.{◌≡◌, ◌<◌};
 ghost use Rattle.loop_script.specs.Pattern.{timestamp_of};
 
@@ -26,11 +26,11 @@ use std::time::Clock;
 pub enum Unrecorded {
     /// The buffers of the camera of this number need more pages than a ledger has.
     TooLarge(u32),
-    /// A store that must be reopened; or memory was refused, or a thread.
+    /// A store must be reopened, or memory or a thread was refused.
     Refused(StoreFault),
 }
 
-// Want of memory, or of threads.
+// Memory or a thread was refused.
 const NO_MEMORY: Unrecorded = Unrecorded::Refused(StoreFault::NoMemory);
 
 impl From<AllocError> for Unrecorded {
@@ -39,29 +39,29 @@ impl From<AllocError> for Unrecorded {
     }
 }
 
-// A camera of a source before a store in a file.
-type FileCamera = Camera<RecordSource, FileDisk, MmapPlane>;
+// A camera with a source to record from and a store in a file.
+type RecordCamera = Camera<RecordSource, FileDisk, MmapPlane>;
 
-// What came of filming it.
-type Filmed = Result<
+// What filming it returned.
+type Recorded = Result<
     Ended<RecordSource, FileDisk, MmapPlane>,
     Unfilmed<RecordSource, FileDisk, MmapPlane>,
 >;
 
-// Where the cameras wait until each has begun.
+// Where the cameras wait until all of them have begun.
 #[derive(Drop)]
-struct Gate {
+struct StartBarrier {
     cameras: u32,
     begun: Mutex<u32>,
     changed: Condvar,
-    // One of them can't be filmed.
+    // One of them can't be filmed, so none is.
     stopped: AtomicBool,
 }
 
-impl Gate {
-    // None of so many has begun.
-    fn new(cameras: u32) -> Gate {
-        Gate {
+impl StartBarrier {
+    // For so many cameras, none of which has begun.
+    fn new(cameras: u32) -> StartBarrier {
+        StartBarrier {
             cameras,
             begun: Mutex::new(0),
             changed: Condvar::new(),
@@ -69,17 +69,18 @@ impl Gate {
         }
     }
 
-    // One has begun, and waits until each has; whether they have.
-    fn pass<R: Wait>(&self, rt: &R) -> bool {
+    // One has begun, and waits for the others. Returns whether all are filmed.
+    fn wait<R: Wait>(&self, rt: &R) -> bool {
         let cameras = self.cameras;
         let mut begun = self.begun.lock(rt);
         *begun = begun.saturating_add(1);
         self.changed.notify_all();
+        // The guard, whose count nobody reads any more.
         let _begun = self.changed.wait_while(rt, begun, |begun| *begun < cameras);
         !self.stopped.load(Ordering::SeqCst)
     }
 
-    // One can't be filmed: none is.
+    // One can't be filmed: the others end at once.
     fn stop<R: Wait>(&self, rt: &R) {
         self.stopped.store(true, Ordering::SeqCst);
         *self.begun.lock(rt) = u32::MAX;
@@ -88,16 +89,16 @@ impl Gate {
 }
 
 // What the threads of a camera share: so many ticks at the rate of its store, once each camera has begun, and no flush
-// behind one that was refused.
+// after one that was refused.
 #[derive(Drop)]
 struct Post {
     link: Link,
     frames: u32,
     geometry: Geometry,
-    gate: Arc<Gate>,
+    barrier: Arc<StartBarrier>,
 }
 
-// When tick `n` of a camera is, in microseconds, at the rate of its store.
+// The time of tick `n` of a camera, in microseconds, at the rate of its store.
 fn tick_time(n: u64, geometry: &Geometry) -> u64
     ensures { 0 < geometry.now.rate_num
         → result ≡ timestamp_of n geometry.now.rate_num geometry.now.rate_den }
@@ -110,7 +111,7 @@ fn tick_time(n: u64, geometry: &Geometry) -> u64
 
 impl Guide for Post {
     fn next_tick<R: Wait + Clock>(&self, rt: &R, n: u64) -> Option<u64> {
-        if n == 0 && !self.gate.pass(rt) || n >= u64::from(self.frames) {
+        if n == 0 && !self.barrier.wait(rt) || n >= u64::from(self.frames) {
             return None;
         }
         let Geometry {
@@ -126,13 +127,13 @@ impl Guide for Post {
     }
 }
 
-// The camera of this number, whose queue of four buffers of mapped memory, from pages of its own, streams.
+// The camera of this number. Its queue streams: four buffers of mapped memory, from pages of its own.
 fn camera_before(
     alloc: Global,
     number: u32,
     source: RecordSource,
     store: Store<FileDisk>,
-) -> Result<FileCamera, Unrecorded> {
+) -> Result<RecordCamera, Unrecorded> {
     if store.must_reopen() {
         return Err(Unrecorded::Refused(StoreFault::MustReopen));
     }
@@ -153,7 +154,7 @@ fn camera_before(
     }
 }
 
-// Puts one behind others.
+// Adds one to a list.
 fn add<T: Drop>(list: &mut Vec<T>, one: T) -> Result<(), AllocError> {
     match list.push(one) {
         Ok(()) => Ok(()),
@@ -161,33 +162,33 @@ fn add<T: Drop>(list: &mut Vec<T>, one: T) -> Result<(), AllocError> {
     }
 }
 
-// Films a camera, and answers the number of its next frame. Where it can't be filmed, none is.
+// Films a camera, and returns the number of its next frame. Where it can't be filmed, no camera is.
 fn film<R: Threads + Wait + Clock + Sync>(
     rt: &R,
     alloc: Global,
     post: &Post,
-    camera: FileCamera,
+    camera: RecordCamera,
 ) -> Option<u64> {
     let (rt, post) = (&*rt, &*post);
-    let filmed = thread::scope(thread::scope_env(), rt, move |scope| -> Filmed {
+    let filmed = thread::scope(thread::scope_env(), rt, move |scope| -> Recorded {
         film_camera(rt, alloc, scope, &post.link, post, camera)
     });
     match filmed {
         Ok(ended) => Some(ended.desk.status().next),
         Err(_refused) => {
-            post.gate.stop(rt);
+            post.barrier.stop(rt);
             None
         }
     }
 }
 
-// Films each camera by a thread of its own, and answers the number of its next frame.
+// Films each camera by a thread of its own, and returns the number of each one's next frame.
 fn film_all<'s, E, R: Threads + Wait + Clock + Sync>(
     rt: &'s R,
     alloc: Global,
     scope: &Scope<'s, E>,
     posts: &'s [Post],
-    cameras: Vec<FileCamera>,
+    cameras: Vec<RecordCamera>,
 ) -> Result<Vec<u64>, Unrecorded> {
     let mut handles = Vec::with_capacity(alloc, cameras.len())?;
     let mut next = Vec::with_capacity(alloc, cameras.len())?;
@@ -199,9 +200,10 @@ fn film_all<'s, E, R: Threads + Wait + Clock + Sync>(
                     continue;
                 }
             }
+            // No thread for this camera: none is filmed.
             Err(_refused) => {}
         }
-        post.gate.stop(rt);
+        post.barrier.stop(rt);
         all = false;
         break;
     }
@@ -214,12 +216,12 @@ fn film_all<'s, E, R: Threads + Wait + Clock + Sync>(
     if all { Ok(next) } else { Err(NO_MEMORY) }
 }
 
-/// Records from each source into the store at its place, so many frame periods or until it has ended, at the script's
-/// limits, and answers the number of each store's next frame.
+/// Records from each source into the store at its place, for so many frame periods or until the source has ended, at
+/// the script's limits. Returns the number of each store's next frame.
 ///
 /// `TooLarge` where the buffers of a camera need more than 1,024 pages; `NoMemory` where memory or a thread is refused.
 /// Then nothing is recorded: no camera ticks before each has begun. What a store refuses is counted by its camera, and
-/// no refusal of the recording.
+/// doesn't refuse the recording.
 pub(crate) fn record_stores<R: Threads + Wait + Clock + Sync>(
     rt: &R,
     alloc: Global,
@@ -230,7 +232,7 @@ pub(crate) fn record_stores<R: Threads + Wait + Clock + Sync>(
     let mut posts = Vec::with_capacity(alloc, stores.len())?;
     let mut cameras = Vec::with_capacity(alloc, stores.len())?;
     let count = u32::try_from(stores.len().min(sources.len())).unwrap_or(u32::MAX);
-    let Ok(gate) = Arc::new(alloc, Gate::new(count)) else {
+    let Ok(barrier) = Arc::new(alloc, StartBarrier::new(count)) else {
         return Err(NO_MEMORY);
     };
     let mut number = 0u32;
@@ -243,7 +245,7 @@ pub(crate) fn record_stores<R: Threads + Wait + Clock + Sync>(
             link: Link::new(alloc)?,
             frames,
             geometry,
-            gate: Arc::try_clone(&gate)?,
+            barrier: Arc::try_clone(&barrier)?,
         };
         add(&mut posts, post)?;
     }

@@ -1,11 +1,11 @@
-// A writer whose writes end at even places.
+// A writer whose writes end at multiples of one size.
 ghost use Rattle.std.specs.Prelude.{◌≡◌};
 
 use std::io::{Result, Write};
 
-/// Hands on at most as many bytes a write as lead to the next multiple of so many, counted from the first. Over a
-/// `BufWriter` of that size, which writes its bytes out when more don't fit, each write of a file then has just
-/// that size, and begins where a page of it does.
+/// Passes on at most as many bytes in a write as lead to the next multiple of one size, counted from the first byte.
+/// A `BufWriter` of that size writes its bytes out when more don't fit. So over one, each write to a file has just that
+/// size, and begins where a page of the file does.
 #[derive(Drop)]
 pub struct EvenWriter<W> {
     inner: W,
@@ -15,7 +15,7 @@ pub struct EvenWriter<W> {
 }
 
 impl<W> EvenWriter<W> {
-    /// Nothing was written yet. Multiples of 0 are taken as those of 1.
+    /// Over a writer, with nothing written yet. A size of 0 counts as 1.
     pub fn new(inner: W, at_once: usize) -> Self
         ensures { result.inner ≡ inner }
     {
@@ -26,7 +26,7 @@ impl<W> EvenWriter<W> {
         }
     }
 
-    /// The writer beneath. It may have gathered what isn't written yet.
+    /// The writer beneath. It may hold bytes that aren't written yet.
     pub(crate) fn into_inner(self) -> W
         ensures { result ≡ self.inner }
     {

@@ -3,7 +3,7 @@ ghost use Rattle.std.specs.Prelude.{IsTrue};
 ghost use Rattle.loop_record.specs.Geometry.{is_good};
 
 use crate::on_store::{
-    Beneath, Target, Told, export_along, export_apart, list, lock, unlock, upgrade,
+    Beneath, ExportTarget, Reported, export_along, export_apart, list, lock, unlock, upgrade,
 };
 use loop_ahead::AheadDisk;
 use loop_disk::Disk;
@@ -19,22 +19,22 @@ use std::os::unix::fs::MetadataExt;
 use std::rt::Files;
 use std::{fs, io};
 
-// How many bytes of a store are fetched at once where an export reads on.
+// How many bytes of a store are fetched at once where an export reads on in sequence.
 const READ_AHEAD: usize = 65_536;
 
 // The program's own output as a path.
 const OWN_OUTPUT: &str = "/dev/stdout";
 
-// Where the text of an export goes.
+// Where the text of an export is written to, once it is open.
 #[derive(Drop)]
-enum Opened {
-    // Through the program's own output, in front of what is printed. Where that is a file, its lock is held.
+enum OpenTarget {
+    // Through the program's own output, before what is printed. Where that is a file, its lock is held.
     Own(Option<TextFile>),
     // Elsewhere.
     Apart(TextFile),
 }
 
-impl Target for TextFile {
+impl ExportTarget for TextFile {
     fn empty(&mut self) -> io::Result<()> {
         TextFile::empty(self)
     }
@@ -53,12 +53,12 @@ impl Beneath for Option<TextFile> {
     }
 }
 
-// Why a command wasn't done, or not to its end.
+// Why a command wasn't done, or not completely.
 #[derive(Drop)]
 enum Undone<'a> {
-    // The file of this path can't be opened, or not made.
+    // The file of this path can't be opened or made.
     CannotOpen(&'a str),
-    // The file or pipe of this path can't be opened for the text, or it can't be written to its end.
+    // The file or pipe of this path can't be opened for the text, or the text can't be written to it completely.
     CannotWrite(&'a str),
     // The store refused.
     Refused(StoreFault),
@@ -78,8 +78,8 @@ impl From<Error> for Undone<'_> {
     }
 }
 
-/// Does a command on the store in the file of this path, and answers the program's status: 0; 1 where the file
-/// can't be had or the store refuses, which `err` then names, and where `out` or `err` fails.
+/// Does a command on the store in the file of this path, and returns the program's status: 0; 1 where the file can't be
+/// opened or the store refuses, which is then printed on `err`, and where `out` or `err` fails.
 pub fn run_on_file<R: AllocGlobal + Files<File = File>, W: Write, E: Write>(
     rt: &R,
     path: &str,
@@ -93,9 +93,9 @@ pub fn run_on_file<R: AllocGlobal + Files<File = File>, W: Write, E: Write>(
     }
 }
 
-// Says why a command wasn't done, and answers the program's status.
+// Prints why a command wasn't done, and returns the program's status.
 fn tell<E: Write>(undone: Undone<'_>, err: &mut E) -> u8 {
-    // The status is the same where this can't be said.
+    // Dropped: the status is the same where this can't be printed.
     let _ = match undone {
         Undone::CannotOpen(path) => print_path(err, "cannot open ", path),
         Undone::CannotWrite(path) => print_path(err, "cannot write ", path),
@@ -111,7 +111,7 @@ pub(crate) fn print_path<E: Write>(err: &mut E, what: &str, path: &str) -> io::R
     print_line(err, path, &[])
 }
 
-// Does a command, and writes what it prints at once. Memory for that comes first.
+// Does a command, and writes all that it prints at once. Memory for that is taken first.
 fn perform<'a, R: AllocGlobal + Files<File = File>, W: Write>(
     rt: &R,
     path: &'a str,
@@ -143,7 +143,7 @@ fn print_command<'a, R: AllocGlobal + Files<File = File>, W: Write>(
     }
 }
 
-// Makes the file anew, and prints so.
+// Makes the file anew, and prints that.
 fn print_format<'a, R: AllocGlobal + Files<File = File>, W: Write>(
     rt: &R,
     path: &'a str,
@@ -155,10 +155,10 @@ fn print_format<'a, R: AllocGlobal + Files<File = File>, W: Write>(
     Ok(())
 }
 
-// What a command on a store told, as far as it was done.
-fn ended<'a, T: Drop>(told: Told<T>) -> Result<(), Undone<'a>> {
-    told.answer?;
-    told.printed?;
+// The first error of a command on a store: its refusal, or a failed print.
+fn ended<'a, T: Drop>(reported: Reported<T>) -> Result<(), Undone<'a>> {
+    reported.answer?;
+    reported.printed?;
     Ok(())
 }
 
@@ -173,22 +173,22 @@ fn print_export<'a, R: AllocGlobal + Files<File = File>, W: Write>(
     let Ok(disk) = FileDisk::open(rt, path) else {
         return Err(Undone::CannotOpen(path));
     };
-    let opened = target_of(rt, target)?;
+    let opened = open_target(rt, target)?;
     let mut store = find_ahead(rt.alloc(), disk)?;
     match opened {
-        Opened::Own(beneath) => {
-            let told = export_along(rt.alloc(), &mut store, from, to, out, &beneath);
-            is_exported(told.answer.err(), told.printed, target)
+        OpenTarget::Own(beneath) => {
+            let reported = export_along(rt.alloc(), &mut store, from, to, out, &beneath);
+            is_exported(reported.answer.err(), reported.printed, target)
         }
-        Opened::Apart(text) => {
-            let told = export_apart(rt.alloc(), &mut store, from, to, text, out);
-            let fault = told.answer.err().map(|refused| refused.fault);
-            is_exported(fault, told.printed, target)
+        OpenTarget::Apart(text) => {
+            let reported = export_apart(rt.alloc(), &mut store, from, to, text, out);
+            let fault = reported.answer.err().map(|refused| refused.fault);
+            is_exported(fault, reported.printed, target)
         }
     }
 }
 
-// Whether frames were exported to where a path leads, and that told.
+// Ok where frames were exported to where a path leads, and that was printed.
 fn is_exported<'a>(
     fault: Option<ExportFault>,
     printed: io::Result<()>,
@@ -204,7 +204,7 @@ fn is_exported<'a>(
     }
 }
 
-// Makes the file anew, with a store in it. A bad geometry is refused before the file is looked for.
+// Makes the file anew, with a store in it. A bad geometry is refused before the path is looked at.
 fn format<'a, R: AllocGlobal + Files<File = File>>(
     rt: &R,
     path: &'a str,
@@ -257,17 +257,17 @@ fn find_ahead<'a>(alloc: Global, disk: FileDisk) -> Result<Store<AheadDisk<FileD
     }
 }
 
-// Opens what a text goes to. Nothing of it is changed. A file that has a lock is a store that is in use, the one that
-// is exported perhaps.
-fn target_of<'a, R: AllocGlobal + Files<File = File>>(
+// Opens what a text is written to, and changes nothing of it. A file that is locked is a store in use, perhaps the one
+// that is exported.
+fn open_target<'a, R: AllocGlobal + Files<File = File>>(
     rt: &R,
     target: &'a str,
-) -> Result<Opened, Undone<'a>> {
+) -> Result<OpenTarget, Undone<'a>> {
     if is_own_output(rt, target) {
         return own_output(rt, target);
     }
     match TextFile::open(rt, target) {
-        Ok(text) => Ok(Opened::Apart(text)),
+        Ok(text) => Ok(OpenTarget::Apart(text)),
         Err(_) => Err(Undone::CannotWrite(target)),
     }
 }
@@ -283,21 +283,21 @@ fn is_own_output<R: Files<File = File>>(rt: &R, target: &str) -> bool {
     }
 }
 
-// The program's own output, whatever that is. Where it is a file its lock is taken as of any other: it may be the store
-// that is exported. One that can't be opened anew is written all the same.
+// The program's own output, whatever that is. Where it is a file, its lock is taken as that of any other: it may be the
+// store that is exported. A file that can't be opened anew is written nevertheless.
 fn own_output<'a, R: AllocGlobal + Files<File = File>>(
     rt: &R,
     target: &'a str,
-) -> Result<Opened, Undone<'a>> {
+) -> Result<OpenTarget, Undone<'a>> {
     match fs::metadata(rt, target) {
         Ok(data) if data.is_file() => (),
-        _ => return Ok(Opened::Own(None)),
+        _ => return Ok(OpenTarget::Own(None)),
     }
     match TextFile::open(rt, target) {
-        Ok(text) => Ok(Opened::Own(Some(text))),
-        // Whether someone has it can't be told, or someone has.
+        Ok(text) => Ok(OpenTarget::Own(Some(text))),
+        // It is in use, or it can't be seen whether it is.
         Err(FileFault::Busy | FileFault::Failed) => Err(Undone::CannotWrite(target)),
-        Err(_) => Ok(Opened::Own(None)),
+        Err(_) => Ok(OpenTarget::Own(None)),
     }
 }
 
@@ -312,7 +312,7 @@ fn open<'a, R: AllocGlobal + Files<File = File>>(
     }
 }
 
-// The store on an open file, which may be read ahead.
+// The store on an open file, or on one that is read ahead.
 fn find<'a, D: Disk + Drop>(alloc: Global, disk: D) -> Result<Store<D>, Undone<'a>> {
     match Store::open(alloc, disk) {
         Err(OpenRefused { fault, disk: _ }) => Err(Undone::Refused(fault)),

@@ -1,5 +1,5 @@
-//! Commands on an open store, over any disk and any writers: what becomes of the store, and what is written. Which
-//! files are opened, and how, is `files`.
+//! Commands on an open store, over any disk and any writers: what becomes of the store, and what is written. `files`
+//! decides which files are opened, and how.
 
 ghost use Rattle.std.specs.Prelude.{◌≡◌, ◌++◌, ◌∷◌, ◌⊎◌, ℕ, List, None, Option, [], codes, map};
 ghost use Rattle.std.specs.Prelude.{IfErr, IfOk, IfSome, IsSome, OnErr, OnOk};
@@ -12,7 +12,7 @@ ghost use Rattle.loop_store.specs.Seen.{StandsFor};
 ghost use Rattle.loop_y4m.specs.Export.{OnlyRead, failed_export, frames_between};
 ghost use Rattle.loop_y4m.specs.Text.{text};
 ghost use Rattle.loop_script.specs.Upgrade.{told_of_upgrade};
-ghost use Rattle.loop_commands.specs.Told.{HoldsNone, IsUntouched, IsText, IsPrinted, fault_of, line_of};
+ghost use Rattle.loop_commands.specs.Printed.{HoldsNone, IsUntouched, IsText, IsPrinted, fault_of, line_of};
 
 use crate::even::EvenWriter;
 use loop_disk::Disk;
@@ -27,29 +27,28 @@ use std::io::{BufWriter, Write};
 // How many bytes of a text are gathered before they are written to its file.
 const TEXT_AT_ONCE: usize = 262_144;
 
-/// What a command answered, and whether what tells it could be printed. Of a refusal nothing is printed.
+/// What a command returned, and whether its line could be printed. For a refusal nothing is printed.
 #[derive(Drop)]
-pub struct Told<T, E = StoreFault> {
-    /// The answer.
+pub struct Reported<T, E = StoreFault> {
+    /// What it returned.
     pub answer: Result<T, E>,
-    /// Whether it could be printed.
+    /// Whether its line could be printed.
     pub printed: io::Result<()>,
 }
 
-/// What the text of an export is written to, apart from the line that tells of it.
-pub trait Target: Write {
-    // What it has once it is emptied, where that is known.
+/// What the text of an export is written to, where the line that reports it is printed elsewhere.
+pub trait ExportTarget: Write {
+    // What it holds once it is emptied, where that is known.
     ghost emptied: { Self → Option (List ℕ) } = { λ _. None };
 
     // What a loss of power leaves of it, where that is known.
     ghost settled: { Self → Option (List ℕ) } = { λ _. None };
 
-    /// Takes from it what it has. Where nothing can be taken, as from a pipe, nothing is done.
+    /// Empties it. Where nothing can be removed, as from a pipe, nothing is done.
     fn empty(&mut self) -> io::Result<()>
         ensures { OnOk result (Keeps (emptied self.old) (Self.contents self.new)) };
 
-    /// Returns once the disk has been asked to keep all that it has, and its name where that is new. Of a pipe nothing
-    /// can be kept.
+    /// Returns once all that it has, and its name where that is new, is synced to the disk. A pipe has nothing to sync.
     fn settle(&mut self) -> io::Result<()>
         ensures kept { OnOk result (Keeps (Self.contents self.old) (Self.contents self.new)) }
         ensures settled { OnOk result (Keeps (Self.contents self.new) (settled self.new)) };
@@ -57,7 +56,7 @@ pub trait Target: Write {
 
 /// What lies beneath a writer through which a text is written, and perhaps other lines.
 pub trait Beneath {
-    /// Returns once the disk has been asked to keep what was written. Of a pipe nothing can be kept.
+    /// Returns once what was written is synced to the disk. A pipe has nothing to sync.
     fn settle(&self) -> io::Result<()>;
 }
 
@@ -73,7 +72,7 @@ pub fn list<D: Disk + Drop, A: Allocator + Copy, W: Write>(
     store: &Store<D, A>,
     alloc: A,
     out: &mut W,
-) -> Told<Listing<A>>
+) -> Reported<Listing<A>>
     ensures next { IfOk result.answer (λ listing. listing.next ≡ store.now.next) }
     ensures numbers { (r : Recording) → StandsFor D.medium store.now r
         → IfOk result.answer (λ listing. listing.numbers.items ≡ map (λ f. f.0) r.frames) }
@@ -85,12 +84,12 @@ pub fn list<D: Disk + Drop, A: Allocator + Copy, W: Write>(
     match Listing::of(store, alloc) {
         Ok(listing) => {
             let printed = listing.print(out);
-            Told {
+            Reported {
                 answer: Ok(listing),
                 printed,
             }
         }
-        Err(fault) => Told {
+        Err(fault) => Reported {
             answer: Err(fault),
             printed: Ok(()),
         },
@@ -102,16 +101,16 @@ pub fn lock<D: Disk + Drop, A: Allocator, W: Write>(
     store: &mut Store<D, A>,
     span: Span,
     out: &mut W,
-) -> Told<u32>
+) -> Reported<u32>
     ensures goes { Goes D.medium store.old store.new (locked span result.answer ∷ []) }
     ensures told { IsPrinted W.contents out.old out.new (line_of (codes "locked")) result.answer result.printed }
 {
     match store.lock(span.from, span.to, span.tag) {
-        Ok(id) => Told {
+        Ok(id) => Reported {
             answer: Ok(id),
             printed: print_number(out, "locked", u64::from(id)),
         },
-        Err(fault) => Told {
+        Err(fault) => Reported {
             answer: Err(fault),
             printed: Ok(()),
         },
@@ -123,38 +122,38 @@ pub fn unlock<D: Disk + Drop, A: Allocator, W: Write>(
     store: &mut Store<D, A>,
     id: u32,
     out: &mut W,
-) -> Told<()>
+) -> Reported<()>
     ensures goes { Goes D.medium store.old store.new (unlocked id result.answer ∷ []) }
     ensures told { IsPrinted W.contents out.old out.new (λ _. line_of (codes "unlocked") id)
         result.answer result.printed }
 {
     match store.unlock(id) {
-        Ok(()) => Told {
+        Ok(()) => Reported {
             answer: Ok(()),
             printed: print_number(out, "unlocked", u64::from(id)),
         },
-        Err(fault) => Told {
+        Err(fault) => Reported {
             answer: Err(fault),
             printed: Ok(()),
         },
     }
 }
 
-/// Makes version 2 of a layout of version 1, as `Store::upgrade`, and prints whether it did or that it was there.
+/// Makes version 2 of a layout of version 1, as `Store::upgrade`, and prints whether it did so or that it was there.
 pub fn upgrade<D: Disk + Drop, A: Allocator, W: Write>(
     store: &mut Store<D, A>,
     out: &mut W,
-) -> Told<bool>
+) -> Reported<bool>
     ensures goes { Goes D.medium store.old store.new (upgraded result.answer ∷ []) }
     ensures told { IsPrinted W.contents out.old out.new (λ made. told_of_upgrade made ++ 10 ∷ [])
         result.answer result.printed }
 {
     match store.upgrade() {
-        Ok(made) => Told {
+        Ok(made) => Reported {
             answer: Ok(made),
             printed: print_upgrade(out, made),
         },
-        Err(fault) => Told {
+        Err(fault) => Reported {
             answer: Err(fault),
             printed: Ok(()),
         },
@@ -174,11 +173,11 @@ fn print_upgrade<W: Write>(out: &mut W, made: bool) -> io::Result<()>
 pub struct NotExported<T> {
     /// What refused.
     pub fault: ExportFault,
-    /// What they were to be written to, where nothing was done with it.
+    /// The target, where nothing was done with it.
     pub target: Option<T>,
 }
 
-// Why no frame is to be written: a call of the store that writes has failed, or none has a number from one to another.
+// Why no frame can be written: a writing call of the store has failed, or no frame has a number of the range.
 fn refused_before<D: Disk + Drop, A: Allocator>(
     store: &Store<D, A>,
     from: u64,
@@ -196,9 +195,9 @@ fn refused_before<D: Disk + Drop, A: Allocator>(
     }
 }
 
-/// Writes the held frames from a number to another as a text, as `loop_y4m::export`, and answers how many, with the
-/// writer. They are gathered, so that each write but the last has the same size. Ok says that the last write and the
-/// flush behind it were Ok too; how many they are, it says on every disk.
+/// Writes the held frames from a number to another as a text, as `loop_y4m::export`, and returns their count, with the
+/// writer. Their bytes are gathered, so that each write but the last has the same size. Ok says that the last write and
+/// the flush after it succeeded too; the count is right on every disk.
 pub fn export_text<D: Disk + Drop, A: Allocator + Copy, W: Write + Drop>(
     alloc: A,
     store: &mut Store<D, A>,
@@ -223,7 +222,7 @@ pub fn export_text<D: Disk + Drop, A: Allocator + Copy, W: Write + Drop>(
 }
 
 // A target that was emptied, if it could be.
-fn emptied<T: Target + Drop>(target: T) -> Option<T>
+fn emptied<T: ExportTarget + Drop>(target: T) -> Option<T>
     ensures { IfSome result (λ t. Keeps (T.emptied target) (T.contents t)) }
 {
     let mut target = target;
@@ -234,7 +233,7 @@ fn emptied<T: Target + Drop>(target: T) -> Option<T>
 }
 
 // A target that was settled, if it could be.
-fn settled<T: Target + Drop>(target: T) -> Option<T>
+fn settled<T: ExportTarget + Drop>(target: T) -> Option<T>
     ensures kept { IfSome result (λ t. Keeps (T.contents target) (T.contents t)) }
     ensures settled { IfSome result (λ t. Keeps (T.contents t) (T.settled t)) }
 {
@@ -245,9 +244,8 @@ fn settled<T: Target + Drop>(target: T) -> Option<T>
     }
 }
 
-// Writes the held frames from a number to another into a target, as `export_text`, and settles it. The target is
-// emptied before.
-fn export_into<D: Disk + Drop, A: Allocator + Copy, T: Target + Drop>(
+// Empties a target, writes the held frames from a number to another into it, as `export_text`, and settles it.
+fn export_into<D: Disk + Drop, A: Allocator + Copy, T: ExportTarget + Drop>(
     alloc: A,
     store: &mut Store<D, A>,
     from: u64,
@@ -291,16 +289,16 @@ fn export_into<D: Disk + Drop, A: Allocator + Copy, T: Target + Drop>(
     }
 }
 
-/// Writes the held frames from a number to another into a target, as `export_text`, and prints how many once the disk
-/// was asked to keep them. The target is emptied before; it comes back as it was where no frame has such a number.
-pub fn export_apart<D: Disk + Drop, A: Allocator + Copy, T: Target + Drop, W: Write>(
+/// Empties a target, writes the held frames from a number to another into it, as `export_text`, and prints their count
+/// once it has settled. The target comes back as it was where no frame has such a number.
+pub fn export_apart<D: Disk + Drop, A: Allocator + Copy, T: ExportTarget + Drop, W: Write>(
     alloc: A,
     store: &mut Store<D, A>,
     from: u64,
     to: u64,
     target: T,
     out: &mut W,
-) -> Told<(u64, T), NotExported<T>>
+) -> Reported<(u64, T), NotExported<T>>
     ensures text { (r : Recording) → StandsFor D.medium store.old r
         → IfOk result.answer (λ done. IsText (D.medium store.old.disk).honest store.old.geometry
         (frames_between from to r.frames) (T.emptied target) (T.contents done.1) done.0) }
@@ -311,19 +309,19 @@ pub fn export_apart<D: Disk + Drop, A: Allocator + Copy, T: Target + Drop, W: Wr
         result.answer result.printed }
 {
     match export_into(alloc, store, from, to, target) {
-        Ok((count, target)) => Told {
+        Ok((count, target)) => Reported {
             answer: Ok((count, target)),
             printed: print_number(out, "exported", count),
         },
-        Err(refused) => Told {
+        Err(refused) => Reported {
             answer: Err(refused),
             printed: Ok(()),
         },
     }
 }
 
-/// Writes the held frames from a number to another, as `export_text`, through the writer that then tells how many: the
-/// line stands after the text. It is written once what lies beneath the writer has settled.
+/// Writes the held frames from a number to another, as `export_text`, and then their count, through the same writer:
+/// the line follows the text. It is written once what lies beneath the writer has settled.
 pub fn export_along<D: Disk + Drop, A: Allocator + Copy, W: Write + Drop, B: Beneath>(
     alloc: A,
     store: &mut Store<D, A>,
@@ -331,7 +329,7 @@ pub fn export_along<D: Disk + Drop, A: Allocator + Copy, W: Write + Drop, B: Ben
     to: u64,
     out: W,
     beneath: &B,
-) -> Told<(u64, W), ExportFault>
+) -> Reported<(u64, W), ExportFault>
     ensures text { (r : Recording) → StandsFor D.medium store.old r → (D.medium store.old.disk).honest
         → IfOk result.answer (λ done. OnOk result.printed (Appends (W.contents out) (W.contents done.1)
         (text store.old.geometry (frames_between from to r.frames) ++ line_of (codes "exported") done.0))) }
@@ -340,19 +338,19 @@ pub fn export_along<D: Disk + Drop, A: Allocator + Copy, W: Write + Drop, B: Ben
     match export_text(alloc, store, from, to, out) {
         Ok((count, out)) => {
             if beneath.settle().is_err() {
-                return Told {
+                return Reported {
                     answer: Err(ExportFault::Write),
                     printed: Ok(()),
                 };
             }
             let mut out = out;
             let printed = print_number(&mut out, "exported", count);
-            Told {
+            Reported {
                 answer: Ok((count, out)),
                 printed,
             }
         }
-        Err(fault) => Told {
+        Err(fault) => Reported {
             answer: Err(fault),
             printed: Ok(()),
         },

@@ -28,10 +28,9 @@ const COMMANDS: [&str; 8] = [
     "simulate", "format", "record", "list", "lock", "unlock", "upgrade", "export",
 ];
 
-/// Does what the words behind the program's name ask for, and answers the status with which the program ends:
-/// 0; 1 for a script that can't be read to its end, for a file that can't be had, for a refusal of a command on a
-/// file, for a failed write and for want of memory; 2 for words that can't be read. No words are the same as
-/// `simulate`.
+/// Does what the words after the program's name ask for, and returns the status with which the program ends: 0; 1 for a
+/// script that can't be read to its end, a file that can't be opened, a refusal of a command on a file, a failed write
+/// and want of memory; 2 for words that can't be read. No words mean the same as `simulate`.
 pub fn run_words<
     R: AllocGlobal + Files<File = File> + Threads + Wait + Clock + Sync,
     S: AsStr,
@@ -54,7 +53,7 @@ pub fn run_words<
     }
 }
 
-// Does a task, and answers the program's status.
+// Does a task, and returns the program's status.
 fn perform<
     R: AllocGlobal + Files<File = File> + Threads + Wait + Clock + Sync,
     I: Read + Drop,
@@ -68,7 +67,7 @@ fn perform<
     }
 }
 
-/// Tells on `err` why the words couldn't be had, and answers the program's status.
+/// Prints on `err` why the words couldn't be had, and returns the program's status.
 pub fn words_refused<E: Write>(error: &io::Error, err: &mut E) -> u8 {
     if error.kind() == io::ErrorKind::OutOfMemory {
         no_memory(err)
@@ -77,7 +76,7 @@ pub fn words_refused<E: Write>(error: &io::Error, err: &mut E) -> u8 {
     }
 }
 
-// The task that the words were found to name, if they name one.
+// The task that the parsed words name, if they name one.
 fn task_of<'a>(matches: &'a ArgMatches<'_>) -> Option<Task<'a>> {
     match matches.subcommand() {
         None => Some(Task::Simulate),
@@ -103,7 +102,7 @@ fn command<'a>(alloc: Global, name: &'a str) -> Result<Command<'a>, AllocError> 
 }
 
 fn no_memory<E: Write>(err: &mut E) -> u8 {
-    // Where standard error is closed, the status alone tells.
+    // Dropped: where standard error is closed, only the status reports it.
     let _ = print_refusal(err, StoreFault::NoMemory);
     FAILED
 }

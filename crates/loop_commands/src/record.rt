@@ -8,7 +8,7 @@ use loop_disk::Disk;
 use loop_file::{FileDisk, open_to_read};
 use loop_record::Geometry;
 use loop_script::{
-    Likeness, Recording, compare_frames, print_line, print_other_geometry, print_other_rate,
+    Likeness, RecordTask, compare_frames, print_line, print_other_geometry, print_other_rate,
     print_refusal,
 };
 use loop_store::{OpenRefused, Store, StoreFault};
@@ -22,16 +22,16 @@ use std::sync::Wait;
 use std::thread::Threads;
 use std::time::Clock;
 
-// The source that is a pattern, and no file.
+// The word for the pattern, where other sources have a path.
 const PATTERN: &str = "-";
 
 // How many bytes of a source are fetched at once: as many as a pipe holds.
 const SOURCE_AT_ONCE: usize = 65_536;
 
-// Why nothing was recorded, or what was recorded not printed.
+// Why nothing was recorded, or why what was recorded couldn't be printed.
 #[derive(Drop)]
 enum NotRecorded<'a> {
-    // The file or pipe of this path can't be opened, or what it begins with isn't the header of a source.
+    // The file or pipe of this path can't be opened, or it doesn't begin with the header of a source.
     CannotOpen(&'a str),
     // The buffers of a camera of the store in this file need more pages than there are.
     CannotRecord(&'a str),
@@ -58,7 +58,7 @@ impl From<Error> for NotRecorded<'_> {
 pub(crate) enum RecordSource {
     /// The pattern.
     Pattern(Pattern),
-    /// A file or pipe, and what its header says its frames are, with a ring of any size.
+    /// A file or pipe, and the geometry that its header gives, with a ring of any size.
     Footage(Y4mSource<BufReader<File>>, Geometry),
 }
 
@@ -79,23 +79,23 @@ impl FrameSource for RecordSource {
     }
 }
 
-/// Records into the stores in files, prints each camera's next number, and answers the program's status: 0; 1 where a
-/// file can't be had, a store can't be opened or can't keep so many blocks, or a camera can't be set up, which `err`
-/// then names, and where `out` or `err` fails. What a store refuses meanwhile leaves it at 0.
+/// Records into the stores in files, prints each camera's next number, and returns the program's status: 0; 1 where a
+/// file can't be opened, a store can't be opened or can't keep so many blocks, or a camera can't be set up, which is
+/// then printed on `err`, and where `out` or `err` fails. What a store refuses during the recording leaves it at 0.
 pub(crate) fn run_record<
     R: AllocGlobal + Files<File = File> + Threads + Wait + Clock + Sync,
     W: Write,
     E: Write,
->(rt: &R, recording: Recording<'_>, out: &mut W, err: &mut E) -> u8 {
+>(rt: &R, recording: RecordTask<'_>, out: &mut W, err: &mut E) -> u8 {
     match perform(rt, &recording, out, err) {
         Ok(()) => 0,
         Err(undone) => tell(undone, err),
     }
 }
 
-// Says why nothing was recorded, and answers the program's status.
+// Prints why nothing was recorded, and returns the program's status.
 fn tell<E: Write>(undone: NotRecorded<'_>, err: &mut E) -> u8 {
-    // The status is the same where this can't be said.
+    // Dropped: the status is the same where this can't be printed.
     let _ = match undone {
         NotRecorded::CannotOpen(path) => print_path(err, "cannot open ", path),
         NotRecorded::CannotRecord(path) => print_path(err, "cannot record ", path),
@@ -105,14 +105,15 @@ fn tell<E: Write>(undone: NotRecorded<'_>, err: &mut E) -> u8 {
     1
 }
 
-// Opens each file in the order of the words, records, and prints what came of it. Memory to print comes first. A source
-// that has other frames than a store is told before it is recorded from; where that can't be told, the run has failed.
+// Opens each file in the order of the words, records, and prints each camera's next number. Memory to print is taken
+// first. That a source has other frames than a store is printed before the recording; where it can't be printed, the
+// run has failed.
 fn perform<
     'a,
     R: AllocGlobal + Files<File = File> + Threads + Wait + Clock + Sync,
     W: Write,
     E: Write,
->(rt: &R, recording: &Recording<'a>, out: &mut W, err: &mut E) -> Result<(), NotRecorded<'a>> {
+>(rt: &R, recording: &RecordTask<'a>, out: &mut W, err: &mut E) -> Result<(), NotRecorded<'a>> {
     let paths = recording.paths.words();
     let Ok(mut out) = BufWriter::new(rt.alloc(), &mut *out) else {
         return Err(NotRecorded::Refused(StoreFault::NoMemory));
@@ -131,7 +132,7 @@ fn perform<
     Ok(())
 }
 
-// Says that the source has frames of another size or format than one of the stores, or of another rate, once.
+// Prints, once, that the source has frames of another size or format than one of the stores, or of another rate.
 fn tell_others<D: Disk + Drop, E: Write>(
     name: &str,
     sources: &[RecordSource],
@@ -155,7 +156,7 @@ fn tell_others<D: Disk + Drop, E: Write>(
     }
 }
 
-// Why nothing was recorded, with the path of the camera that is to blame.
+// Why nothing was recorded, with the path of the camera that caused it.
 fn blame<'a>(unrecorded: Unrecorded, paths: &[&'a str]) -> NotRecorded<'a> {
     match unrecorded {
         Unrecorded::TooLarge(camera) => match paths.get(camera as usize) {
@@ -204,7 +205,7 @@ fn open_source<'a, R: AllocGlobal + Files<File = File>>(
     }
 }
 
-// What the header of a source says its frames are, with a ring of any size. A rate that it doesn't say is 0:0.
+// The geometry that the header of a source gives, with a ring of any size. A rate that it doesn't give is 0:0.
 fn geometry_of<I: Read + Drop>(reader: &Y4mReader<I>) -> Geometry {
     let (rate_num, rate_den) = reader.rate();
     Geometry {

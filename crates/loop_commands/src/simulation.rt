@@ -23,7 +23,7 @@ const SHOWN_BYTES: usize = 8;
 enum ScriptFault {
     // The line of this number, from 1, can't be read.
     BadLine(u32),
-    // What was printed couldn't be written.
+    // A line couldn't be written.
     Write(Error),
 }
 
@@ -33,10 +33,10 @@ impl From<Error> for ScriptFault {
     }
 }
 
-/// Runs a script on a disk in memory and answers the program's status: 0 where each line was run, refused or
-/// not; 1 where a line can't be read, which `err` then names, where `out` or `err` fails, and where there is no
-/// memory for the buffers of input and output. Each line is run, and what it prints is printed, before the next
-/// one is read; and before the program waits for input, `out` has all of it.
+/// Runs a script on a disk in memory and returns the program's status: 0 where each line was run, refused or not; 1
+/// where a line can't be read, whose number is then printed on `err`, where `out` or `err` fails, and where memory for
+/// the buffers of input and output is refused. Each line is run, and its lines are printed, before the next one is
+/// read; and before the program waits for input, `out` has all of them.
 pub fn simulate<A: Allocator + Copy, R: Read, W: Write, E: Write>(
     alloc: A,
     input: R,
@@ -56,19 +56,19 @@ where
             status_of(ran, written, err)
         }
         _ => {
-            // Where standard error is closed, the status alone tells.
+            // Dropped: where standard error is closed, only the status reports it.
             let _ = print_refusal(err, StoreFault::NoMemory);
             1
         }
     }
 }
 
-// The status of a run, and of the last write of what it printed. A line that can't be read is told.
+// The status of a run, and of the last write of what it printed. A line that can't be read is reported.
 fn status_of<E: Write>(ran: Result<(), ScriptFault>, written: io::Result<()>, err: &mut E) -> u8 {
     match (ran, written) {
         (Ok(()), Ok(())) => 0,
         (Err(ScriptFault::BadLine(number)), Ok(())) => {
-            // So here.
+            // Dropped: the status is the same where this can't be printed.
             let _ = print_bad_line(number, err);
             1
         }
@@ -76,7 +76,7 @@ fn status_of<E: Write>(ran: Result<(), ScriptFault>, written: io::Result<()>, er
     }
 }
 
-// Tells which line can't be read.
+// Prints which line can't be read.
 fn print_bad_line<E: Write>(number: u32, err: &mut E) -> io::Result<()> {
     print_parts(err, "line", &[(" ", u64::from(number))])?;
     print_line(err, ": bad command", &[])
@@ -128,8 +128,8 @@ fn command_in(line: &[u8], number: u32) -> Result<ScriptCommand, ScriptFault> {
     read_command(text).ok_or(ScriptFault::BadLine(number))
 }
 
-// Hands on what was printed, where no whole line of input is there and the next read may wait. Lines that are there
-// already are answered first, in one write.
+// Writes out what was printed, where the buffer has no whole line of input and the next read may wait. Lines that are
+// there already are answered first, in one write.
 fn show_before_waiting<A: Allocator, R: Read, W: Write>(
     input: &BufReader<R, A>,
     out: &mut W,
@@ -180,7 +180,7 @@ impl<A: Allocator + Copy> Simulation<A> {
         }
     }
 
-    // Takes a fresh store in place of the one that is there; refused, it keeps that one.
+    // Takes a fresh store in place of the present one; where it was refused, the present one stays.
     fn begin<W: Write>(
         &mut self,
         formatted: Result<ScriptDesk<A>, StoreFault>,
@@ -195,8 +195,8 @@ impl<A: Allocator + Copy> Simulation<A> {
         }
     }
 
-    // Opens the store's disk again, with so many of the newest blocks kept; where they can't be, with the newest kept,
-    // and that is refused. Refused for want of memory, it leaves no store.
+    // Opens the store's disk again, with so many of the newest blocks kept. Where so many can't be, it is opened with
+    // the newest one kept, and that is refused. An opening that is refused for want of memory leaves no store.
     fn reopen<W: Write>(&mut self, keep: u32, out: &mut W) -> io::Result<()> {
         let Some(session) = self.session.take() else {
             return print_refusal(out, StoreFault::NotFormatted);
@@ -304,7 +304,7 @@ fn since<A: Allocator + Copy>(before: u64, session: &ScriptDesk<A>) -> Option<(u
     }
 }
 
-// Submits and flushes so many frames; answers the refusal that stopped it, if one did.
+// Submits and flushes so many frames; returns the refusal that stopped it, if one did.
 fn store_up_to<A: Allocator + Copy>(
     session: &mut ScriptDesk<A>,
     alloc: A,
@@ -312,6 +312,7 @@ fn store_up_to<A: Allocator + Copy>(
 ) -> Option<StoreFault> {
     for _ in 0..count {
         match session.store_next(alloc) {
+            // What was stored shows in the store's next number.
             Ok(_) => (),
             Err(fault) => return Some(fault),
         }
@@ -367,7 +368,7 @@ fn print_frame<A: Allocator, W: Write>(
     print_bytes(&frame.bytes, out)
 }
 
-// Ends the line of a frame by its first bytes.
+// Ends the line of a frame with its first bytes.
 fn print_bytes<W: Write>(bytes: &[u8], out: &mut W) -> io::Result<()> {
     print_parts(out, " bytes ", &[])?;
     for byte in bytes.iter().take(SHOWN_BYTES) {
@@ -400,7 +401,7 @@ fn unlock<A: Allocator + Copy, W: Write>(
     }
 }
 
-// Makes version 2 of the layout, and prints whether it did or that it was there.
+// Makes version 2 of the layout, and prints whether it did so or that it was there.
 fn upgrade<A: Allocator + Copy, W: Write>(
     session: &mut ScriptDesk<A>,
     out: &mut W,

@@ -129,7 +129,7 @@ shots_same sh bs cs (k ∷ ks) h =
     let rest = shots_same sh bs cs ks (λ i l. h i (or_right (k == i) (lists ks i) l)) in
     λ i. here i ++ rest i
 
--- who hasn't ended isn't in the line
+-- a buffer that hasn't ended isn't in the line
 apart_of : (s : QueueState) (line : List ℕ) → Runs s line → (x : ℕ) → is_ended (state_at s.body.buffers x) ≡ false
     → (i : ℕ) → lists line i ≡ true → i ≡ x → ⊥
 apart_of s line r x off i there e = not_both (lists line i) there (r.shows.done.listed i ∙ (ap (λ j. is_ended (state_at s.body.buffers j)) e ∙ off))
@@ -140,7 +140,7 @@ shots_beside : (s : QueueState) (line : List ℕ) → Runs s line → (f : Buffe
 shots_beside s line r f x off = shots_same s.body.shape s.body.buffers (change_at f x s.body.buffers) line
     (λ i there. ap (bare s.body.shape) (got_other f s.body.buffers x i (apart_of s line r x off i there)))
 
--- ---- who waits for a frame holds planes
+-- ---- a buffer that waits for a frame holds planes
 
 held_changed : (f : Buffer Plane → Buffer Plane) (bs : List (Buffer Plane)) (x : ℕ)
     → ((b : Buffer Plane) → slice_get bs x ≡ Some b → IsHeld b → IsHeld (f b)) → AllHeld bs → AllHeld (change_at f x bs)
@@ -297,7 +297,7 @@ kept_held s (model.fail index stamp (Some x)) a held = held
 kept_held s model.fatal a held = held
 kept_held s (model.take_fresh fresh) a held = held
 
--- a queue's frames are of this shape, each set in a buffer fits, and who waits for a frame holds planes
+-- a queue's frames are of this shape, each set in a buffer fits, and a buffer that waits for a frame holds planes
 pub record IsHolding (sh : Shape) (s : QueueState) : Type 0 where
   pub shaped : s.body.shape ≡ sh
   pub fit : AllFit s.body
@@ -504,7 +504,7 @@ frames_along format width height s (e ∷ es) line r c on each =
           (sym (map-append without_flags (dequeued_frame s e) (frames_dequeued t es)));
     }
 
--- ---- behind a stop
+-- ---- after a stop
 
 pub stopped_waits : (s : QueueState) (e : Event) → stops e ≡ true → (i : ℕ)
     → waits (state_at (model.after_event s e).body.buffers i) ≡ false

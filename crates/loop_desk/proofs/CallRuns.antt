@@ -11,7 +11,7 @@ use Rattle.loop_desk.specs.Desk.{DeskCall, DeskState, IsDeskTold, Rules, desk_af
 use Rattle.loop_desk.specs.Seen.{DeskGoes, SeenDesk, TellsDesk, rules_of}
 use Rattle.loop_desk.proofs.Short.{desk_model}
 
--- the state of a desk that tells of a recording
+-- the state of a desk whose answers fit a recording
 abbrev pub state-of : {D : Type 0} (d : SeenDesk D) → TellsOne d.store → DeskState
 state-of d one =
     record {
@@ -33,12 +33,12 @@ module _ {D : Type 0} (medium : D → Medium) where
       → Goes medium old.store new.store (store_calls_in (rules_of old) (state-of old goes.one) calls)
   store-goes old new calls goes = goes.store (state-of old goes.one) (state-told old goes.one)
 
-  -- the state of which it tells then
+  -- the state that the new desk's answers fit
   pub told-then : (old new : SeenDesk D) (calls : List DeskCall) (goes : DeskGoes medium old new calls)
       → TellsDesk new (desk_after_calls (rules_of old) (state-of old goes.one) calls)
   told-then old new calls goes = (goes.plays (state-of old goes.one) (state-told old goes.one)).1
 
-  -- what one call was told
+  -- what one call was answered
   pub told-one : (old new : SeenDesk D) (c : DeskCall) (goes : DeskGoes medium old new (c ∷ []))
       → IsDeskTold (rules_of old) (state-of old goes.one) c
   told-one old new c goes = (goes.plays (state-of old goes.one) (state-told old goes.one)).0.0
@@ -61,7 +61,7 @@ module _ {D : Type 0} (medium : D → Medium) where
     limits = refl;
   }
 
-  -- calls, and calls behind them
+  -- calls, and calls after them
   pub desk-joined : (old mid new : SeenDesk D) (xs ys : List DeskCall) → DeskGoes medium old mid xs
       → DeskGoes medium mid new ys → DeskGoes medium old new (xs ++ ys)
   desk-joined old mid new xs ys first second =

@@ -32,7 +32,7 @@ full_part (Some p) n bytes h = take-take n n (take n bytes) (same_size n) ∙ ta
 last_size : (n a b c : ℕ) → n ≡ a + b + c → n - (a + b) ≤ c
 last_size n a b c e = omega (arith, e)
 
--- the pieces of a frame, one behind the other
+-- the pieces of a frame, one after the other
 pieces : (a b c : ℕ) (bytes : List ℕ) → length bytes ≡ a + b + c → take a bytes
     ++ (take b (drop a bytes) ++ take c (drop (a + b) bytes)) ≡ bytes
 pieces a b c bytes e =
@@ -61,7 +61,7 @@ is_there : (plane : Option Plane) → alike (is_some plane) true ≡ true → is
 is_there None e = e
 is_there (Some p) e = refl
 
--- the planes that a set of so many has
+-- the planes that a set has, by their number
 record HasThree (set : PlaneSet Plane) : Type 0 where
   y : is_some set.planes.y ≡ true
   cb : is_some set.planes.cb ≡ true

@@ -1,4 +1,4 @@
--- That a desk, over a disk that may, and what it tells may go to another thread, and be looked at by several: each alone, and (`in`) as what holds it has it.
+-- A desk, over a disk that may, and what it returns may go to another thread, and be shared by several: each alone, and (`in`) as a field of what holds it.
 use denote.RattleType.{RattleType}
 use denote.Param.Send.{IsSend, IsSync, sendable}
 use denote.Builtin.{u8}
@@ -25,9 +25,6 @@ status_in_send = search sendable depth 40
 
 pub outline_in_send : IsSend (Outline.the_field heap.the_row ghosts).row
 outline_in_send = search (sendable, crosses) depth 20
-
-pub outline_send : IsSend (Outline.the_row heap.the_row ghosts)
-outline_send = let a = outline_in_send in search (sendable, crosses) depth 20
 
 module _ (T : RattleType) where
   places_in_send : IsSend T → IsSend (Places.the_field T heap.the_row ghosts).row

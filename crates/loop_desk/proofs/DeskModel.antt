@@ -11,7 +11,7 @@ use Rattle.loop_desk.specs.Desk.{AreDeskAnswers, AreTold, DeskCall, DeskState, R
 use Rattle.loop_desk.specs.Seen.{DeskGoes, SeenDesk, StandsAt, TellsDesk, rules_of}
 use Rattle.loop_desk.proofs.Frames.{each-parts}
 
--- Calls that were told so, over calls of the store that were answered so, are answers of the model.
+-- Calls whose own part is answered so, over calls of the store that were answered so, are answers of the model.
 record AreModelled (k : Rules) (s : DeskState) (list : List DeskCall) : Type 0 where
   answers : AreDeskAnswers k s list
   store : (desk_after_calls k s list).store ≡ after_calls (ring_of k.geometry) s.store (store_calls_in k s list)
@@ -30,7 +30,7 @@ modelled k s (c ∷ list) told said =
           ∙ sym (after-behind (after_store_call (ring_of g)) s.store (store_calls k s c) (store_calls_in k t list));
     }
 
--- a desk tells what the state says for which it stands
+-- a desk's answers fit the state for which it stands
 pub desk-told : {D : Type 0} (medium : D → Medium) (d : SeenDesk D) (s : DeskState) → StandsAt medium d s
     → TellsDesk d s
 desk-told medium d s stands = record { store = told-of medium d.store s.store stands.store; pending = stands.pending }

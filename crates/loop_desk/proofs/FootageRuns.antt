@@ -20,7 +20,7 @@ use Rattle.loop_desk.proofs.Frames.{none-lost}
 use Rattle.loop_desk.proofs.Whole.{clips-whole, formed-below}
 use Rattle.loop_store.proofs.Names.{HoldsSome}
 
--- what reads as a beginning of steps has each clip whole
+-- what reads as the recording after a prefix of the steps has each clip whole
 reads-whole : (g : Geometry) (r : Recording) (steps : List Step) (start image : List ℕ) → Holds g r start
     → HoldsSome g r steps image → HoldsWhole g r steps image
 reads-whole g r steps start image was some = record {

@@ -1,5 +1,5 @@
 -- The bytes of a frame, copied out of planes.
-use Rattle.std.proofs.Common.{◌≡◌, ℕ, zero, suc, ◌+◌, ◌<◌, ◌≤◌, inl, inr, Bool, true, false, nat_le, nat_lt, List, [], ◌∷◌, ◌++◌, length, take, drop, min, Option, Some, None, Err, refl, sym, ◌∙◌, ap, subst, arith, rules, ◌-◌, length-append, length-take, length-drop, append_assoc}
+use Rattle.std.proofs.Common.{◌≡◌, ℕ, zero, suc, ◌+◌, ◌<◌, ◌≤◌, inl, inr, Bool, true, false, nat_le, nat_lt, List, [], ◌∷◌, ◌++◌, length, take, drop, min, Option, Some, None, Err, refl, sym, ◌∙◌, ap, subst, arith, rules, ◌-◌, length-take, length-drop}
 use Rattle.std.specs.Prelude.{slice_get, option_map, is_some}
 use Rattle.std.proofs.lemmas.Option.{slice_get_within}
 use Rattle.std.proofs.lemmas.List.{take-take, take_all, append-nil}
@@ -20,27 +20,12 @@ use Rattle.loop_vb2.proofs.Short.{has_plane_at, kept}
 use Rattle.loop_vb2.specs.Refusals.{copy_refusal}
 use Rattle.loop_vb2.specs.Errnos.{errno}
 use Rattle.loop_vb2.specs.Owner.{is_dequeued}
-use Rattle.loop_vb2.specs.Planes.{number_at, bytes_in, plane_in, plane_of_set, read_set, frame_size}
+use Rattle.loop_vb2.specs.Planes.{number_at, bytes_in, plane_in, plane_of_set, read_set}
 use Rattle.loop_vb2.specs.State.{Body, QueueState, Lined}
 use Rattle.loop_vb2.specs.Events.{Happens, copy_plane}
 use Rattle.loop_desk.specs.Front.{part}
 use Rattle.loop_desk.proofs.Short.{taken_bytes}
-use Rattle.loop_desk.specs.Parts.{Appends, begin_of, begin_at, begins_of, begins_at, count_of, IsOwn, StaysIn, CopiesFrame, AppendsOwn, AppendsAllOwn}
-
--- ---- one behind the other
-
-three_ends : (a b c : ℕ) (x y z : ℕ) → x ≡ 0 + a → y ≡ x + b → z ≡ y + c → z ≡ 0 + (a + (b + c))
-three_ends a b c x y z e f g = omega (arith, e, f, g)
-
--- three pieces, each behind the one before
-pub three : (p0 p1 p2 : List ℕ) (o0 o1 o2 o3 : List ℕ) (x y z : ℕ) → Appends p0 0 o0 x o1 → Appends p1 x o1 y o2
-    → Appends p2 y o2 z o3 → Appends (p0 ++ (p1 ++ p2)) 0 o0 z o3
-three p0 p1 p2 o0 o1 o2 o3 x y z a b c = record {
-  ends = three_ends (length p0) (length p1) (length p2) x y z a.ends b.ends c.ends
-      ∙ ap (λ n. 0 + n) (ap (λ n. length p0 + n) (sym (length-append p1 p2)) ∙ sym (length-append p0 (p1 ++ p2)));
-  text = c.text ∙ (ap (λ l. l ++ p2) (b.text ∙ ap (λ l. l ++ p1) a.text) ∙ append_assoc p0 p1 p2);
-  long = c.long ∙ (b.long ∙ a.long);
-}
+use Rattle.loop_desk.specs.Parts.{Appends, begin_of, begin_at, begins_of, begins_at, IsOwn, StaysIn, CopiesFrame, AppendsOwn, AppendsAllOwn}
 
 -- ---- the buffer of an index
 
@@ -81,9 +66,6 @@ below_first a b e = omega (arith, e)
 first_below : (a b : ℕ) → a ≤ b → min a b ≡ a
 first_below a b e = omega (arith, e)
 
-shorter : (a b n : ℕ) → a < b → n ≡ min a b → n ≤ b
-shorter a b n e f = omega (arith, e, f)
-
 taken_short : (a b : ℕ) (l : List ℕ) → b < a → length (take b l) ≤ a
 taken_short a b l e = let f : length (take b l) ≡ min b (length l) = length-take b l in omega (arith, e, f)
 
@@ -117,21 +99,6 @@ counts_in shape used =
     ∷ min (number_at shape.sizes 1) (number_at used 1)
     ∷ min (number_at shape.sizes 2) (number_at used 2) ∷ []
 
-least_sum : (a b c x y z : ℕ) → min a x + min b y + min c z ≤ a + b + c
-least_sum a b c x y z = omega arith
-
--- there is room for what is copied
-pub room_for : (shape : Shape) (used counts : List ℕ) (n : ℕ) → counts ≡ counts_in shape used → frame_size shape ≤ n
-    → count_of counts ≤ n
-room_for shape used counts n is fits =
-    let a = number_at shape.sizes 0 in
-    let b = number_at shape.sizes 1 in
-    let c = number_at shape.sizes 2 in
-    let e : count_of counts ≡ min a (number_at used 0) + min b (number_at used 1) + min c (number_at used 2) = ap count_of is in
-    let l : min a (number_at used 0) + min b (number_at used 1) + min c (number_at used 2) ≤ a + b + c =
-    least_sum a b c (number_at used 0) (number_at used 1) (number_at used 2) in
-    omega (arith, e, l, fits)
-
 nothing_more : (at : ℕ) → at ≡ at + 0
 nothing_more at = omega arith
 
@@ -148,7 +115,7 @@ mid_kept k n p e = omega (arith, e)
 mid_there : (at k most n : ℕ) → k ≡ most → at + most ≤ n → k ≤ n - at
 mid_there at k most n e f = omega (arith, e, f)
 
--- so many bytes lie in the middle
+-- the bytes between two places
 pub mid_long : (at k most : ℕ) (xs : List ℕ) → k ≡ most → at + most ≤ length xs → length (take k (drop at xs)) ≡ most
 mid_long at k most xs e f =
     length-take k (drop at xs) ∙ (ap (min k) (length-drop at xs) ∙ (mid_kept k (length xs) at (mid_there at k most (length xs) e f) ∙ e))

@@ -40,7 +40,7 @@ frames-steps ring keep r group some =
 frames-both : (a b : List Step) → frames_stored (a ++ b) ≡ frames_stored a ++ frames_stored b
 frames-both a b = flat_map-append stored_by a b
 
--- a group and the frames behind it
+-- a group and the frames after it
 group-and-rest : (most : ℕ) (waiting : List Picture) → take most waiting
     ++ drop (length (take most waiting)) waiting ≡ waiting
 group-and-rest most waiting =

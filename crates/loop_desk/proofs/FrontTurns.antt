@@ -6,11 +6,9 @@ use Rattle.loop_plane.specs.Fds.{Fds}
 use Rattle.loop_plane.specs.declared.memory.Memory.{Memory}
 use Rattle.loop_plane.specs.declared.memory.Memory.TheVariants.{Mmap, UserPtr, DmaBuf}
 use Rattle.loop_store.specs.declared.fault.StoreFault.{StoreFault}
-use Rattle.loop_store.specs.declared.fault.StoreFault.TheVariants.{NoMemory, WrongSize, HandFull, HandEmpty}
 use Rattle.loop_vb2.specs.declared.buffer.Buffer.{Buffer}
 use Rattle.loop_vb2.specs.declared.buffer.Dequeued.{Dequeued}
 use Rattle.loop_vb2.specs.declared.planes.PlaneSet.{PlaneSet}
-use Rattle.loop_vb2.specs.declared.reason.Errno.{Errno}
 use Rattle.loop_vb2.specs.declared.reason.Refused.{Refused}
 use Rattle.loop_vb2.specs.Buffers.{change_at, handed_over, dequeued_from}
 use Rattle.loop_vb2.specs.Refusals.{queue_refusal}
@@ -20,7 +18,6 @@ use Rattle.loop_vb2.specs.State.{Body, QueueState, Lined, StandsQueue}
 use Rattle.loop_vb2.specs.Planes.{read_given}
 use Rattle.loop_vb2.specs.Events.{Event, Happens, MayHappen, read_frame, qbuf, dqbuf}
 use Rattle.loop_vb2.proofs.FrameOrder.{not_refused}
-use Rattle.loop_record.specs.declared.frame.Frame.{Frame}
 use Rattle.loop_ioctl.specs.declared.call.Ioctl.TheVariants as call
 use Rattle.loop_ioctl.specs.declared.events.QueueEvent.{QueueEvent}
 use Rattle.loop_ioctl.specs.declared.events.QueueEvent.TheVariants as event
@@ -36,7 +33,7 @@ use Rattle.loop_ioctl.proofs.LeavingPlanes.{planes_got, out_count}
 use Rattle.loop_ioctl.proofs.QueueSteps.{stays}
 use Rattle.loop_desk.specs.declared.hand.Hand.{Hand}
 use Rattle.loop_desk.specs.declared.hand.Hand.TheVariants as hand
-use Rattle.loop_desk.specs.declared.hand.LaneFault.TheVariants.{Store, Queue}
+use Rattle.loop_desk.specs.declared.hand.LaneFault.TheVariants.{Queue}
 use Rattle.loop_desk.specs.Front.{dequeued, empty, forbids, Front, FrontTurns, full, hand_given, hand_of, hand_state, HandState, index_in, IsDequeue, IsForbidden, IsOneEvent, IsRequeue, kind_of, on_queue, planes_held, requeue_event, requeued, spent, StandsFront, taken_frame, TurnsBeside, was_given_up, with_hand}
 use Rattle.loop_desk.proofs.Short.{hand_with}
 use Rattle.loop_desk.specs.FrontLaws.{NewFrontsStand}
@@ -93,19 +90,6 @@ module _ {P A : Type 0} (m : P → Plane) where
   forbids_read : (e : QueueEvent P A) (b : Bool) (h : Hand P A) (f : HandState)
       → forbids (index_in (hand_state m h)) e ≡ b → hand_state m h ≡ f → forbids (index_in f) e ≡ b
   forbids_read e b h f is same = ap (λ x. forbids (index_in x) e) (sym same) ∙ is
-
-  pub wrong_size : (e : QueueEvent P A) (q : Lined P) (t : Fds P) (h : Hand P A) → is_whole q.body.shape e ≡ false
-      → FrontTurns m q t h (on_queue e (Err (Store WrongSize))) q t h
-  wrong_size e q t h is f stands = ((whole_read e false q t f.queue is stands.queue, refl), stands)
-
-  pub held_back : (e : QueueEvent P A) (r : QueueReply P A) (q : Lined P) (t : Fds P) (h : Hand P A)
-      → is_whole q.body.shape e ≡ true → forbids (index_in (hand_state m h)) e ≡ true → IsForbidden e r
-      → FrontTurns m q t h (on_queue e (Ok r)) q t h
-  held_back e r q t h whole holds is f stands =
-      let x : forbids (index_in f.hand) e ≡ true = forbids_read e true h f.hand holds stands.hand in (
-        (whole_read e true q t f.queue whole stands.queue, subst (λ b. MatchBool b (IsForbidden e r) (IsTold m e r f.queue)) (sym x) is),
-        subst (λ b. StandsFront m q t h (record f { queue = cond b f.queue (state_after m e r f.queue) })) (sym x) stands,
-      )
 
   pub told : (e : QueueEvent P A) (r : QueueReply P A) (q q' : Lined P) (t t' : Fds P) (h : Hand P A)
       → is_whole q.body.shape e ≡ true → forbids (index_in (hand_state m h)) e ≡ false → Reacts m e r q t q' t'
@@ -170,22 +154,6 @@ abbrev pub taken_event : Memory → ℕ → Option (Buffer Plane) → List Event
 taken_event kind index o = map (λ b. dqbuf (Ok (buffer_answer kind index b))) (option_to_list o)
 
 module _ {P A : Type 0} (m : P → Plane) where
-  pub full_hand : (q : Lined P) (index : ℕ) (h : Hand P A) → index_in (hand_state m h) ≡ Some index
-      → TurnsBeside m q h (dequeued (Err (Store HandFull))) q h
-  full_hand q index hand.Empty is table f stands = absurd (cc)
-  full_hand q index (hand.Frame i frame planes) is table f stands = (subst (λ x. IsDequeue f.queue x (Err (Store HandFull))) stands.hand refl, stands)
-  full_hand q index (hand.Spent i planes) is table f stands = (subst (λ x. IsDequeue f.queue x (Err (Store HandFull))) stands.hand refl, stands)
-
-  pub no_room : (q : Lined P) → TurnsBeside {A = A} m q hand.Empty (dequeued (Err (Store NoMemory))) q hand.Empty
-  no_room q table f stands = (subst (λ x. IsDequeue f.queue x (Err (Store NoMemory))) stands.hand refl, stands)
-
-  pub took_none : (e : Errno) (q q' : Lined P) → Happens m q q' (dqbuf (Err e)) → TurnsBeside {A = A} m q hand.Empty (dequeued (Err (Queue e))) q' hand.Empty
-  took_none e q q' step table f stands =
-      let t = step f.queue.queue stands.queue.queue in (
-        subst (λ x. IsDequeue f.queue x (Err (Queue e))) stands.hand t.0,
-        record { queue = stays m q q' table f.queue stands.queue t.1; hand = stands.hand; out = stands.out },
-      )
-
   pub took : (d : Dequeued P) (index : ℕ) (q q' : Lined P) (h : Hand P A) → index ≡ d.index
       → Happens m q q' (dqbuf (read_frame m (Ok d))) → GetsBuffer m q' d h
       → TurnsBeside m q hand.Empty (dequeued (Ok index)) q' h
@@ -278,13 +246,6 @@ back_linked s index planes out n is e linked =
     refl (linked fd)
 
 module _ {P A : Type 0} (m : P → Plane) where
-  pub nothing_spent : (q : Lined P) → TurnsBeside {A = A} m q hand.Empty (requeued (Err (Store HandEmpty))) q hand.Empty
-  nothing_spent q table f stands = (subst (λ x. IsRequeue f.queue x (Err (Store HandEmpty))) stands.hand refl, stands)
-
-  pub not_spent : (q : Lined P) (i : ℕ) (frame : Frame A) (planes : Option (PlaneSet P))
-      → TurnsBeside m q (hand.Frame i frame planes) (requeued (Err (Store HandFull))) q (hand.Frame i frame planes)
-  not_spent q i frame planes table f stands = (subst (λ x. IsRequeue f.queue x (Err (Store HandFull))) stands.hand refl, stands)
-
   pub put_none : (r : Refused P A) (kind : Memory) (i : ℕ) (planes : Option (PlaneSet P)) (q q' : Lined P)
       → kind ≡ q.body.kind → r.planes ≡ planes → Happens m q q' (qbuf i kind (read_given m planes) (Some r.errno))
       → TurnsBeside {A = A} m q (hand.Spent i planes) (requeued (Err (Queue r.errno))) q' (hand.Spent i r.planes)

@@ -2,7 +2,7 @@
 use Rattle.std.proofs.Common.{◌≡◌, ◌≢◌, ℕ, suc, ◌+◌, ◌<◌, inl, inr, Option, Some, None, Result, Ok, Err, List, [], ◌∷◌, ◌++◌, length, map, take, drop, get_or, refl, sym, ap, ◌∙◌, subst, arith}
 use Rattle.std.specs.Prelude.{IsOk}
 use Rattle.std.specs.Result.{result_err}
-use Rattle.std.proofs.lemmas.List.{append-nil, map-append, take-append-drop, take_all, take_more}
+use Rattle.std.proofs.lemmas.List.{append-nil, map-append, take-append-drop, take_more}
 use Rattle.std.proofs.lemmas.Option.{none-some}
 use Rattle.std.proofs.Math.Seq.{drop-cons}
 use Rattle.loop_clips.specs.declared.clip.Clip.{Clip}
@@ -39,14 +39,7 @@ module _ (tag : ℕ) (runs : List Span) (clips : List Clip) where
       ∙ sym (map-append (with_tag tag) (take count runs) (get_or runs count r ∷ []))
       ∙ ap (map (with_tag tag)) (sym (take_more runs count r below))
 
-  -- all of them
-  pub locked-all : (count : ℕ) → count ≡ length runs → map clip_span clips ≡ map (with_tag tag) (take count runs)
-      → map (with_tag tag) runs ≡ map clip_span clips ++ []
-  locked-all count all first =
-      ap (map (with_tag tag)) (sym (take_all count runs (omega (arith, all)))) ∙ sym first
-      ∙ sym (append-nil (map clip_span clips))
-
-  -- all but one and those behind it
+  -- all but one, and those after it
   pub locked-until : (count : ℕ) (r : Span) → count < length runs
       → map clip_span clips ≡ map (with_tag tag) (take count runs)
       → map (with_tag tag) runs
@@ -80,7 +73,7 @@ abbrev pub lock_at : List Span → ℕ → Span → ℕ → Result ℕ StoreFaul
 lock_at runs count r tag result =
     clip_locked (record { from = (get_or runs count r).from; to = (get_or runs count r).to; tag = tag }) result
 
--- so many runs are locked, all without a refusal
+-- the first n runs are locked, all without a refusal
 pub record LocksFirst {D : Type 0} (medium : D → Medium) (tag count : ℕ) (runs : List Span) (clips : List Clip)
     (old new : SeenDesk D) : Type 0 where
   pub goes : DeskGoes medium old new (map lock_of clips)
@@ -113,23 +106,6 @@ module _ {D : Type 0} (medium : D → Medium) (tag : ℕ) where
         locked = locked-more tag runs clips count id r below first.locked;
       }
 
-  -- all of them
-  pub lock-all : (runs : List Span) (count : ℕ) (clips : List Clip) (old new : SeenDesk D) → count ≡ length runs
-      → LocksFirst medium tag count runs clips old new → LocksRuns medium tag runs clips old new (Ok tt)
-  lock-all runs count clips old new all first = (
-    map lock_of clips,
-    (
-      first.goes,
-      record {
-        left = [];
-        locked = locked-all tag runs clips count all first.locked;
-        refusal = [];
-        ended = refl;
-        calls_are = sym (append-nil (map lock_of clips));
-      },
-    ),
-  )
-
   -- one was refused
   pub lock-refused : (count : ℕ) (fault : StoreFault) (runs : List Span) (r : Span) (clips : List Clip)
       (old mid new : SeenDesk D) → count < length runs → LocksFirst medium tag count runs clips old mid
@@ -160,7 +136,7 @@ not-none (Ok x) fault n succeeds is none = absurd cc
 not-none (Err e) fault n succeeds is none = let never = succeeds none in absurd cc
 
 module _ {D A : Type 0} (medium : D → Medium) (times : Times) (tag : ℕ) where
-  -- nothing was told
+  -- the desk returned no runs
   pub keeps-none : (desk : SeenDesk D) (kept : Kept A) (fault : StoreFault) → TellsOne desk.store
       → ((medium desk.store.disk).honest → IsSound (medium desk.store.disk)) → kept.clips.items ≡ []
       → kept.fault ≡ Some fault → OutlineRefuses desk fault → KeepsTime medium times tag desk desk kept
@@ -170,7 +146,7 @@ module _ {D A : Type 0} (medium : D → Medium) (times : Times) (tag : ℕ) wher
     keeps = inl (record { uncalled = refl; clips = empty; fault = fault; told = told; refused = refused });
   }
 
-  -- the runs were told, and there was no memory for clips
+  -- the desk returned the runs, and there was no memory for clips
   pub keeps-crammed : (runs : List Span) (desk : SeenDesk D) (kept : Kept A) → runs ≢ []
       → DeskGoes medium desk desk (runs_told times 0 runs) → kept.clips.items ≡ [] → kept.fault ≡ Some NoMemory
       → KeepsTime medium times tag desk desk kept
@@ -198,7 +174,7 @@ module _ {D A : Type 0} (medium : D → Medium) (times : Times) (tag : ℕ) wher
 
 -- ---- a keep is whole
 
--- where no fault is told, no run is left
+-- where no fault is returned, no run is left
 none-refused : (left : List Span) (fault : Option StoreFault) (calls : List DeskCall) → LocksEnd left fault calls
     → fault ≡ None → left ≡ []
 none-refused [] fault calls ends none = refl

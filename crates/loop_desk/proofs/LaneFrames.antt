@@ -25,7 +25,6 @@ use Rattle.loop_vb2.specs.State.{Body, QueueState}
 use Rattle.loop_vb2.proofs.Short.{AllFit}
 use Rattle.loop_vb2.proofs.Lines.{InOrder-none}
 use Rattle.loop_vb2.proofs.FrameOrder.{Runs, runs_stopped}
-use Rattle.loop_ioctl.specs.declared.call.BufferType.{BufferType}
 use Rattle.loop_ioctl.specs.declared.call.Ioctl.{Ioctl}
 use Rattle.loop_ioctl.specs.declared.call.Ioctl.TheVariants as call
 use Rattle.loop_ioctl.specs.declared.call.IoctlReply.{IoctlReply}
@@ -147,33 +146,6 @@ module _ {P A : Type 0} (m : P → Plane) where
   quiet-event queue_event.Fatal answer.Fatal j other whole = ((tt, tt), refl)
   quiet-event e r j other whole = (tt, refl)
 
--- ---- an event that completes a frame completes a whole one
-
-whole-unless : (s : QueueState) (why : Option Reason) (es : List Event) → EachIn model.after_event BringsWhole s es
-    → EachIn model.after_event BringsWhole s (cond (is_some why) [] es)
-whole-unless s None es whole = whole
-whole-unless s (Some reason) es whole = tt
-
-module _ {P A : Type 0} (m : P → Plane) where
-  whole-dqbuf : (type : BufferType) (result : Result (IoctlReply P A) (Refused P A)) (j : IoctlState)
-      → EachIn model.after_event BringsWhole j.queue (option_to_list (call_event m (call.DqBuf type) result j))
-  whole-dqbuf type (Ok (reply_to.Dequeued d)) j = (tt, tt)
-  whole-dqbuf type (Ok r) j = tt
-  whole-dqbuf type (Err r) j = (tt, tt)
-
-  whole-call : (c : Ioctl P A) (result : Result (IoctlReply P A) (Refused P A)) (j : IoctlState)
-      → EachIn model.after_event BringsWhole j.queue (event_of m (queue_event.Ioctl c) (answer.Ioctl result) j)
-  whole-call (call.DqBuf type) result j =
-      whole-unless j.queue (refusal_before {P = P} {A = A} (call.DqBuf type) j)
-      (option_to_list (call_event m (call.DqBuf type) result j)) (whole-dqbuf type result j)
-  whole-call c result j = (quiet-call m c result j refl).0
-
-  pub whole-event : (e : QueueEvent P A) (r : QueueReply P A) (j : IoctlState)
-      → is_whole j.queue.body.shape e ≡ true → EachIn model.after_event BringsWhole j.queue (event_of m e r j)
-  whole-event (queue_event.Ioctl c) (answer.Ioctl result) j whole = whole-call c result j
-  whole-event (queue_event.Ioctl c) r j whole = tt
-  whole-event e r j whole = (quiet-event m e r j refl whole).0
-
 -- ---- one turn
 
 taken-tells : (f : Front) (index : ℕ) (o : Option (Buffer Plane)) → slice_get f.queue.queue.body.buffers index ≡ o
@@ -260,11 +232,11 @@ module _ {P A : Type 0} (m : P → Plane) where
       ∙ (ap (λ (t : QueueState). frames_dequeued s (event_at m f x) ++ frames_dequeued t (queue_events m next xs)) moved
       ∙ sym (told-behind model.after_event dequeued_frame s (event_at m f x) (queue_events m next xs)))
 
-  -- the front behind turns
+  -- the front after turns
   abbrev front_behind : Front → List (LaneEvent P A × LaneReply P A) → Front
   front_behind f turns = after_all (lane_after m) f turns
 
-  -- turns from a front on: what was taken is a beginning of what the device completed
+  -- turns from a front on: what was taken is a prefix of what the device completed
   abbrev TakesCompleted : Front → List (LaneEvent P A × LaneReply P A) → Type 0
   TakesCompleted f part = (others : List Picture) × (flat_map completed_frame (queue_events m f part)
       ≡ map without_flags (frames_taken m f part) ++ others)

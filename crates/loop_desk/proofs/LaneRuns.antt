@@ -64,7 +64,7 @@ module _ {D P A : Type 0} (m : P → Plane) (medium : D → Medium) where
     are = λ f stands. refl;
   }
 
-  -- events, and events behind them
+  -- events, and events after them
   pub ran-joined : (old mid new : Lane D P A) (es fs : List (LaneEvent P A)) (ps qs : List (LaneReply P A))
       → LaneRan m medium old mid es ps → LaneRan m medium mid new fs qs → LaneRan m medium old new (es ++ fs) (ps ++ qs)
   ran-joined old mid new es fs ps qs first second =

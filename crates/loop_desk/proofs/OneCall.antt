@@ -4,19 +4,18 @@ use Rattle.std.proofs.lemmas.List.{append-nil, length-append, length-take-le, ta
 use Rattle.std.proofs.lemmas.Option.{same_Some, slice_get_past}
 use Rattle.circular_buffer.proofs.Places.{slice_get-append_right}
 use Rattle.std.proofs.Math.Seq.{take-nil}
-use Rattle.std.specs.Prelude.{◌%◌, ◌==◌, IfErr, IfOk, slice_get}
+use Rattle.std.specs.Prelude.{◌%◌, IfErr, IfOk, slice_get}
 use Rattle.std.specs.Result.{result_map_both}
 use Rattle.loop_disk.specs.Medium.{Medium, IsSound}
 use Rattle.loop_record.specs.declared.clip.Span.{Span}
 use Rattle.loop_record.specs.declared.frame.FrameHead.{FrameHead}
 use Rattle.loop_record.specs.declared.times.Times.{Times}
-use Rattle.loop_record.specs.Geometry.{frame_bytes}
-use Rattle.loop_record.specs.Recording.{Picture, last_number, ring_of}
+use Rattle.loop_record.specs.Recording.{Picture, ring_of}
 use Rattle.loop_record.specs.Times.{AreRuns, numbers_in_time}
 use Rattle.loop_record.specs.Turns.{EachIn, after_all}
 use Rattle.loop_store.specs.declared.fault.StoreFault.{StoreFault}
-use Rattle.loop_store.specs.declared.fault.StoreFault.TheVariants.{MustReopen, NoMemory, NumbersSpent, PendingFull, WrongSize}
-use Rattle.loop_store.specs.Calls.{AnswersDue, AnswersOtherwise, Call, StoreState, after_calls, appended, checks, due, first_of, locked, runs_with, sought, unlocked, upgraded, was_read}
+use Rattle.loop_store.specs.declared.fault.StoreFault.TheVariants.{MustReopen, NoMemory}
+use Rattle.loop_store.specs.Calls.{AnswersDue, AnswersOtherwise, Call, StoreState, after_calls, appended, checks, due, first_of, runs_with, sought, was_read}
 use Rattle.loop_store.specs.Goes.{Goes, Stands, TellsState}
 use Rattle.loop_store.specs.Reopen.{TellsOne}
 use Rattle.loop_store.specs.Seen.{Seen}
@@ -24,7 +23,7 @@ use Rattle.loop_store.proofs.CheckAnswers.{due-none}
 use Rattle.loop_store.proofs.CallRuns.{goes-none}
 use Rattle.loop_store.proofs.AppendAnswers.{answered-fine, answered-number}
 use Rattle.loop_desk.specs.declared.limits.Flushed.{Flushed}
-use Rattle.loop_desk.specs.Desk.{DeskCall, DeskState, IsFlush, IsDeskTold, append_of, clip_locked, clip_unlocked, desk_after, flushed, frame_read, group_of, layout_upgraded, pending_after, status_told, store_calls, store_calls_in, submit_answer, run_told, runs_told, submitted}
+use Rattle.loop_desk.specs.Desk.{DeskCall, DeskState, IsFlush, IsDeskTold, append_of, desk_after, flushed, frame_read, group_of, pending_after, status_told, store_calls, store_calls_in, submit_answer, run_told, runs_told, submitted}
 use Rattle.loop_desk.specs.declared.limits.Status.{Status}
 use Rattle.loop_desk.specs.Seen.{DeskGoes, OutlineRefuses, SeenDesk, TellsDesk, TellsStatus, rules_of}
 
@@ -37,7 +36,7 @@ abbrev pub with_store : {D : Type 0} → SeenDesk D → Seen D → List Picture 
 with_store d store pending = record { store = store; pending = pending; limits = d.limits }
 
 module _ {D : Type 0} (medium : D → Medium) (d : SeenDesk D) where
-  -- a call that makes these calls of the store, and is told so
+  -- a call that makes these calls of the store, and is answered so
   pub called : (new : Seen D) (pending : List Picture) (c : DeskCall) (calls : List Call)
       → Goes medium d.store new calls → ((s : DeskState) → TellsDesk d s → (store_calls (rules_of d) s c ≡ calls)
       × IsDeskTold (rules_of d) s c) → pending ≡ pending_after d.pending c
@@ -67,21 +66,6 @@ module _ {D : Type 0} (medium : D → Medium) (d : SeenDesk D) where
 
   -- ---- calls of the store alone
 
-  pub goes-locked : (new : Seen D) (span : Span) (result : Result ℕ StoreFault)
-      → Goes medium d.store new (locked span result ∷ []) → DeskGoes medium d (with_store d new d.pending)
-      (clip_locked span result ∷ [])
-  goes-locked new span result goes = called new d.pending (clip_locked span result) (locked span result ∷ []) goes (λ s at. (refl, tt)) refl
-
-  pub goes-unlocked : (new : Seen D) (id : ℕ) (result : Result (Unit {0}) StoreFault)
-      → Goes medium d.store new (unlocked id result ∷ []) → DeskGoes medium d (with_store d new d.pending)
-      (clip_unlocked id result ∷ [])
-  goes-unlocked new id result goes = called new d.pending (clip_unlocked id result) (unlocked id result ∷ []) goes (λ s at. (refl, tt)) refl
-
-  pub goes-upgraded : (new : Seen D) (result : Result Bool StoreFault)
-      → Goes medium d.store new (upgraded result ∷ []) → DeskGoes medium d (with_store d new d.pending)
-      (layout_upgraded result ∷ [])
-  goes-upgraded new result goes = called new d.pending (layout_upgraded result) (upgraded result ∷ []) goes (λ s at. (refl, tt)) refl
-
   pub goes-read : (new : Seen D) (number : ℕ) (result : Result (FrameHead × List ℕ) StoreFault)
       → Goes medium d.store new (was_read number result ∷ []) → DeskGoes medium d (with_store d new d.pending)
       (frame_read number result ∷ [])
@@ -94,7 +78,7 @@ module _ {D : Type 0} (medium : D → Medium) (d : SeenDesk D) where
   none-called s times place [] = refl
   none-called s times place (r ∷ rs) = none-called (desk_after (rules_of d) s (run_told times place (Some r))) times (place + 1) rs
 
-  -- what a store told as runs, a desk tells one by one
+  -- the runs that a store returned, a desk returns one by one
   runs-play : (times : Times) (all before runs : List Span) (place : ℕ) (s : DeskState) → TellsDesk d s
       → ((s : DeskState) → TellsDesk d s → AreRuns (numbers_in_time times s.store.recording) all)
       → before ++ runs ≡ all → place ≡ length before
@@ -138,7 +122,7 @@ module _ {D : Type 0} (medium : D → Medium) (d : SeenDesk D) where
   goes-sought items times (Ok runs) goes sound = goes-runs times (items runs) goes sound
   goes-sought items times (Err fault) goes sound = tt
 
-  -- why a store told none
+  -- why a store returned none
   refused-one : (times : Times) (fault : StoreFault)
       → Goes medium d.store d.store (sought times (Err fault) ∷ []) → OutlineRefuses d fault
   refused-one times fault goes = go s.must_reopen refl (goes.answers s tells).0
@@ -196,11 +180,6 @@ module _ {D : Type 0} (medium : D → Medium) (d : SeenDesk D) where
         subst (λ (l : List Picture). IsFlush s l result)
             (sym empty) (told s at),
       )) waits
-
-  pub flush-must : d.pending ≡ [] → d.store.must_reopen ≡ true → TellsOne d.store
-      → ((medium d.store.disk).honest → IsSound (medium d.store.disk))
-      → DeskGoes medium d d (flushed (Err MustReopen) ∷ [])
-  flush-must none must one sound = flush-nothing (Err MustReopen) none one sound (λ s at. (refl, sym at.store.must_reopen ∙ must)) refl
 
   pub flush-none : (number : ℕ) → number ≡ d.store.next → d.pending ≡ [] → d.store.must_reopen ≡ false
       → TellsOne d.store → ((medium d.store.disk).honest → IsSound (medium d.store.disk))
@@ -272,40 +251,3 @@ module _ {D : Type 0} (medium : D → Medium) (d : SeenDesk D) where
         flush-calls s at most count (Ok f) group,
         (answered-fine H d.store.geometry s.store (take count d.pending) first said, λ i. record { first = number i; stored = size i; left = left i - size i }),
       )) refl
-
--- ---- the answer to a submit, case by case
-
-module _ {D : Type 0} (d : SeenDesk D) (s : DeskState) (at : TellsDesk d s) (n : ℕ) where
-  pub answers-must : d.store.must_reopen ≡ true → Err MustReopen ≡ submit_answer (rules_of d) s n
-  answers-must must = let m = sym at.store.must_reopen ∙ must in rw m refl
-
-  pub answers-size : d.store.must_reopen ≡ false → (n == frame_bytes d.store.geometry) ≡ false
-      → Err WrongSize ≡ submit_answer (rules_of d) s n
-  answers-size fine other = let m = sym at.store.must_reopen ∙ fine in rw (m, other) refl
-
-  pub answers-full : d.store.must_reopen ≡ false → (n == frame_bytes d.store.geometry) ≡ true
-      → (length d.pending == d.limits.pending) ≡ true → Err PendingFull ≡ submit_answer (rules_of d) s n
-  answers-full fine right all =
-      let m = sym at.store.must_reopen ∙ fine in
-      let full = ap (λ (ps : List Picture). length ps == d.limits.pending) (sym at.pending) ∙ all in
-      rw (m, right, full) refl
-
-  pub answers-spent : d.store.must_reopen ≡ false → (n == frame_bytes d.store.geometry) ≡ true
-      → (length d.pending == d.limits.pending) ≡ false
-      → ((d.store.next + length d.pending) == last_number (ring_of d.store.geometry)) ≡ true
-      → Err NumbersSpent ≡ submit_answer (rules_of d) s n
-  answers-spent fine right some last =
-      let m = sym at.store.must_reopen ∙ fine in
-      let room = ap (λ (ps : List Picture). length ps == d.limits.pending) (sym at.pending) ∙ some in
-      let spent = (λ i. (sym at.store.recording.next_is i + length (sym at.pending i)) == last_number (ring_of d.store.geometry)) ∙ last in
-      rw (m, right, room, spent) refl
-
-  pub answers-number : d.store.must_reopen ≡ false → (n == frame_bytes d.store.geometry) ≡ true
-      → (length d.pending == d.limits.pending) ≡ false
-      → ((d.store.next + length d.pending) == last_number (ring_of d.store.geometry)) ≡ false
-      → Ok (d.store.next + length d.pending) ≡ submit_answer (rules_of d) s n
-  answers-number fine right some low =
-      let m = sym at.store.must_reopen ∙ fine in
-      let room = ap (λ (ps : List Picture). length ps == d.limits.pending) (sym at.pending) ∙ some in
-      let unspent = (λ i. (sym at.store.recording.next_is i + length (sym at.pending i)) == last_number (ring_of d.store.geometry)) ∙ low in
-      (λ i. Ok (at.store.recording.next_is i + length (at.pending i))) ∙ (rw (m, right, room, unspent) refl)

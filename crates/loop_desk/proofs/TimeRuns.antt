@@ -1,4 +1,4 @@
--- What a desk tells as the runs of a time, one by one, are all of them.
+-- The runs of a time that a desk returns, one by one, are all of them.
 use Rattle.std.proofs.Common.{◌≡◌, ℕ, zero, suc, ◌+◌, ◌-◌, ◌≤◌, Option, Some, None, List, [], ◌∷◌, ◌++◌, drop, refl, sym, ap, ◌∙◌, subst, arith}
 use Rattle.std.specs.Prelude.{slice_get}
 use Rattle.std.specs.List.{range_with_len}
@@ -21,7 +21,7 @@ head-above low (s ∷ ss) x h there = go (s.to + 1 - s.from) refl there
     go zero none at = absurd (omega (arith, none, h.1.0))
     go (suc n) some at = omega (arith, h.0, same_Some s.from x at)
 
--- two ranges from one number, and what doesn't go on with the next
+-- two ranges from one number, each with a rest that doesn't continue it
 ranges-part : (a n m : ℕ) (R S : List ℕ) → (slice_get R 0 ≡ Some (a + n) → ⊥) → (slice_get S 0 ≡ Some (a + m) → ⊥)
     → range_with_len a n ++ R ≡ range_with_len a m ++ S → (n ≡ m) × (R ≡ S)
 ranges-part a zero zero R S r s e = (refl, e)
@@ -39,7 +39,7 @@ ranges-part a (suc n) (suc m) R S r s e =
     (subst (λ (k : ℕ). slice_get S 0 ≡ Some k → ⊥) other s) rest in
     (ap suc parts.0, parts.1)
 
--- two runs, and others behind them
+-- two runs, and others after them
 runs-part : (s t : Span) (R S : List ℕ) → s.from ≤ s.to → t.from ≤ t.to → (slice_get R 0 ≡ Some (s.to + 1) → ⊥)
     → (slice_get S 0 ≡ Some (t.to + 1) → ⊥) → numbers_of_span s ++ R ≡ numbers_of_span t ++ S
     → (s.from ≡ t.from) × ((s.to ≡ t.to) × (R ≡ S))
@@ -80,9 +80,9 @@ same-runs low high (s ∷ ss) (t ∷ ts) h k e =
     behind : (s : Span) (ss : List Span) → RunsFrom (s.to + 2) ss → slice_get (numbers_of_spans ss) 0 ≡ Some (s.to + 1) → ⊥
     behind s ss h at = absurd (omega (arith, head-above (s.to + 2) ss (s.to + 1) h at))
 
--- ---- what a desk tells
+-- ---- what a desk returns
 
--- the run that is told of a place is the one there
+-- the run that is returned for a place is the one there
 told-run : (numbers : List ℕ) (all : List Span) (place : ℕ) (run : Option Span) → AreRuns numbers all
     → (runs : List Span) × (AreRuns numbers runs × (slice_get runs place ≡ run))
     → slice_get all place ≡ run
@@ -101,7 +101,7 @@ one-left all place run there =
     drop-cons all place run (slice_get_within all place run there)
     ∙ (λ i. get_or_from_slice_get all place run run there i ∷ drop (at i) all)
 
--- what was told from a place on, until there was no more, is all that is left from there
+-- what was returned from a place on, until there was no more, is all that is left from there
 told-rest : (k : Rules) (times : Times) (all runs : List Span) (place : ℕ) (s : DeskState)
     → AreRuns (numbers_in_time times s.store.recording) all
     → AreTold k s (runs_told times place runs)

@@ -51,7 +51,7 @@ below-rising low high n (f ∷ fs) rises held = go (eqb f.0 n) refl (below-risin
 pub formed-below : (r : Recording) → IsWellFormed r → AreBelow r
 formed-below r formed = λ n held. below-rising 0 r.next n r.frames formed.rising held
 
--- frames of a block that goes are gone
+-- frames of a block that is removed are gone
 under-gone : (ring : Ring) (b n : ℕ) (fs : List (ℕ × Picture)) → eqb (block ring n) b ≡ true
     → frame_under (filter (λ f. not (eqb (block ring f.0) b)) fs) n ≡ None
 under-gone ring b n [] same = refl
@@ -93,7 +93,7 @@ below-after ring r (recycle b) below = λ n held. go n (eqb (block ring n) b) re
 below-after ring r (lock span) below = below
 below-after ring r (unlock id) below = below
 
--- of what is there after a block has gone, it is all the same whether it has
+-- the removal of a block doesn't change what is found under a number that is still there
 ever-recycled : (ring : Ring) (r : Recording) (b n : ℕ) (later : List (ℕ × Picture)) → AreBelow r
     → (n < r.next → frame_under later n ≡ None)
     → is_some (frame_under ((after_step ring r (recycle b)).frames ++ later) n) ≡ true

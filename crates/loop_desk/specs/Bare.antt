@@ -40,7 +40,7 @@ bare_call (status_told status) = status_told status
 bare_call (layout_upgraded result) = layout_upgraded result
 bare_call (run_told times place run) = run_told times place run
 
--- Calls that were answered so, were so without pixels too, and end in the same state without them.
+-- Calls that were answered so are answered so without pixels too, and end in the same state without them.
 pub record IsBlind (k : Rules) (s : DeskState) (calls : List DeskCall) : Type 0 where
   pub answers : AreDeskAnswers k s calls → AreDeskAnswers k (bare_state s) (map bare_call calls)
   pub state : desk_after_calls k (bare_state s) (map bare_call calls) ≡ bare_state (desk_after_calls k s calls)

@@ -1,5 +1,5 @@
--- The desk: frames that wait before a store, and what each call makes of them. What a call makes of the store is
--- said by the store's own calls.
+-- The desk: frames that wait before a store, and what each call makes of them. The store's own calls say what a call
+-- makes of the store.
 use Rattle.std.specs.Prelude.{◌≡◌, ℕ, ◌+◌, ◌-◌, ◌%◌, ◌==◌, not, min, Bool, true, false, if◌then◌else◌, Option, Some, None, Result, Ok, Err, List, [], ◌∷◌, ◌++◌, length, slice_get, take, drop}
 use Rattle.std.specs.List.{flat_map}
 use Rattle.std.specs.Result.{result_map_both}
@@ -25,8 +25,9 @@ pub record Rules : Type 0 where
   pub geometry : Geometry
   pub limits : DeskLimits
 
--- A call and its answer. A submitted frame comes with the count of its bytes, so that a history without pixels says
--- the same of it. Of the held frames of a time each call tells one run, by its place, so that an answer has one size.
+-- A call and its answer. A submitted frame comes with the count of its bytes, so that a history without pixels says the
+-- same of it. Each call returns one run of the held frames of a time, by its place, so that all answers have the same
+-- size.
 pub data DeskCall : Type 0 where
   submitted : Picture → ℕ → Result ℕ StoreFault → DeskCall
   flushed : Result Flushed StoreFault → DeskCall
@@ -45,13 +46,13 @@ pub record DeskState : Type 0 where
 
 -- ---- the calls of the store
 
--- the frames that a flush stores: the first that wait, as many as a group may have and the block of the next number
--- takes
+-- the frames that a flush stores: the first that wait, as many as a group may have and the block of the next number has
+-- room for
 abbrev pub group_of : Rules → DeskState → List Picture
 group_of k s =
     take (min k.limits.group (k.geometry.slots - s.store.recording.next % k.geometry.slots)) s.pending
 
--- a flush of a group appends it, where it has a frame; the append answered the first number, or that refusal
+-- a flush appends its group, if that has a frame; the append answered with the first number, or with that refusal
 abbrev pub append_of : List Picture → Result Flushed StoreFault → List Call
 append_of [] result = []
 append_of (p ∷ ps) result = appended (p ∷ ps) (result_map_both (λ f. f.first) (λ fault. fault) result) ∷ []
@@ -77,7 +78,7 @@ desk_failed_for _ = None
 
 -- ---- a desk after a call
 
--- a submitted frame waits behind the others, and those that were stored wait no more
+-- a submitted frame waits after the others, and those that were stored no longer wait
 abbrev pub pending_after : List Picture → DeskCall → List Picture
 pending_after pending (submitted p size (Ok number)) = pending ++ p ∷ []
 pending_after pending (flushed (Ok f)) = drop f.stored pending
@@ -91,7 +92,7 @@ desk_after k s call = record {
 
 -- ---- the answers
 
--- the answer to a submit of so many bytes: the number that the frame will have, or the first refusal that is due
+-- the answer to a submit of this many bytes: the number that the frame will have, or the first refusal that is due
 abbrev pub submit_answer : Rules → DeskState → ℕ → Result ℕ StoreFault
 submit_answer k s size =
     if s.store.must_reopen then Err MustReopen
@@ -100,23 +101,23 @@ submit_answer k s size =
     else if (s.store.recording.next + length s.pending) == last_number (ring_of k.geometry) then Err NumbersSpent
     else Ok (s.store.recording.next + length s.pending)
 
--- the answer to a flush of a group: all of it was stored; where it has no frame it is refused only because the store
--- must be reopened, and otherwise as the append was
+-- the answer to a flush of a group: all of it was stored, or a refusal; an empty group is refused only because the
+-- store must be reopened, any other as the append was
 abbrev pub IsFlush : DeskState → List Picture → Result Flushed StoreFault → Type 0
 IsFlush s group (Ok f) = (s.store.must_reopen ≡ false)
     × (f ≡ record { first = s.store.recording.next; stored = length group; left = length s.pending - length group })
 IsFlush s [] (Err fault) = (fault ≡ MustReopen) × (s.store.must_reopen ≡ true)
 IsFlush s (p ∷ ps) (Err fault) = Unit {0}
 
--- a status tells how far the store is, and how many frames are held and wait
+-- a status: the store's next number, and how many frames are held and wait
 pub record IsStatus (s : DeskState) (status : Status) : Type 0 where
   pub next : status.next ≡ s.store.recording.next
   pub held : status.held ≡ length s.store.recording.frames
   pub pending : status.pending ≡ length s.pending
   pub must_reopen : status.must_reopen ≡ s.store.must_reopen
 
--- The desk's own part of an answer; all else is the answer of the store's call. A time's run is that of its place, from
--- 0, and none where they are no more.
+-- The desk's own part of an answer; all else is the answer of the store's call. A time's run is the one at its place,
+-- from 0; none if there are no more.
 abbrev pub IsDeskTold : Rules → DeskState → DeskCall → Type 0
 IsDeskTold k s (submitted p size result) = result ≡ submit_answer k s size
 IsDeskTold k s (flushed result) = IsFlush s (group_of k s) result
@@ -132,11 +133,11 @@ IsDeskAnswer k s call =
 
 -- ---- lists of calls
 
--- the calls of the store, one behind the other
+-- the calls of the store, one after the other
 abbrev pub store_calls_in : Rules → DeskState → List DeskCall → List Call
 store_calls_in k s calls = told_in (desk_after k) (store_calls k) s calls
 
--- each was told so at its point
+-- the desk's own part of each answer is right at its point
 abbrev pub AreTold : Rules → DeskState → List DeskCall → Type 0
 AreTold k s calls = EachIn (desk_after k) (IsDeskTold k) s calls
 
@@ -149,7 +150,7 @@ AreDeskAnswers k s calls = EachIn (desk_after k) (IsDeskAnswer k) s calls
 
 -- ---- the runs of a time
 
--- runs are told one by one, from a place on, and then that there is no more
+-- the calls that return runs one by one, from a place on, and then that there are no more
 abbrev pub runs_told : Times → ℕ → List Span → List DeskCall
 runs_told times place [] = run_told times place None ∷ []
 runs_told times place (run ∷ runs) = run_told times place (Some run) ∷ runs_told times (place + 1) runs

@@ -13,7 +13,7 @@ use Rattle.loop_desk.specs.Seen.{SeenDesk, rules_of}
 
 -- ---- a clip, and all its frames
 
--- every frame under its number: those that are held, and those that steps store, in order
+-- each frame with its number: those that are held, and those that steps store, in order
 abbrev pub ever : Recording → List Step → List (ℕ × Picture)
 ever r steps = r.frames ++ enumerate_from r.next (frames_stored steps)
 
@@ -44,7 +44,7 @@ steps_begun d s calls = begun_in (ring_of d.store.geometry) s (stored_calls d s 
 -- What calls leave of the footage of a desk whose store stood for a state, with an honest disk.
 pub record KeepsFootage {D : Type 0} (medium : D → Medium) (old new : SeenDesk D) (calls : List DeskCall)
     (s : StoreState) : Type 0 where
-  -- whatever the moment at which the power fails, the image reads as the recording after a beginning of the steps, and
+  -- whatever the moment at which the power fails, the image reads as the recording after a prefix of the steps, and
   -- there each clip has all its frames, each the one that was given for its number
   pub moments : s.must_reopen ≡ false → LeavesOnly (medium old.store.disk) (medium new.store.disk)
       (HoldsWhole old.store.geometry s.recording (steps_made old s calls ++ steps_begun old s calls))

@@ -37,7 +37,8 @@ use Rattle.loop_desk.specs.declared.hand.LaneFault.TheVariants.{Store, Queue}
 
 -- ---- the hand
 
--- nothing, a buffer with its frame, or a buffer whose frame is gone; each with the planes that aren't the queue's
+-- nothing, a buffer with its frame, or a buffer whose frame is gone; a buffer with those of its planes that aren't the
+-- queue's
 pub data HandState : Type 0 where
   empty : HandState
   full : ℕ → Picture → Option (PlaneSet Plane) → HandState
@@ -80,7 +81,7 @@ pub record StandsFront {P A : Type 0} (meaning : P → Plane) (code : Lined P) (
 
 -- ---- the frame of a buffer
 
--- its part in a plane: the bytes that were used, as far as they are there, and no more than the shape has
+-- its part in a plane: the bytes that were used, as far as they are there, and no more than the shape gives it
 abbrev pub part : Shape → Buffer Plane → ℕ → List ℕ
 part shape b i = take (number_at shape.sizes i) (take (number_at b.used i) (bytes_in (plane_in b.planes i)))
 
@@ -119,7 +120,7 @@ module _ {P A : Type 0} where
   forbids held (event.Ioctl c) = option_map_or (λ b. option_map_or (λ i. i == b.0) held false) (memory_given c) false
   forbids held e = false
 
-  -- what is answered then: all that the call brought goes back
+  -- the answer then: all that the call brought comes back
   abbrev pub IsForbidden : QueueEvent P A → QueueReply P A → Type 0
   IsForbidden (event.Ioctl c) (answer.Ioctl (Err r)) =
       (r.errno ≡ errno HandHolds) × HandsBack (planes_given c) (supply_given c) r
@@ -134,7 +135,7 @@ dequeue_event j (Ok index) =
 dequeue_event j (Err (Queue e)) = dqbuf (Err e) ∷ []
 dequeue_event j (Err (Store fault)) = []
 
--- and where it gives its buffer back
+-- and where it queues its buffer again
 abbrev pub requeue_event : Memory → HandState → Result ℕ LaneFault → List Event
 requeue_event kind (spent index planes) (Ok i) = qbuf index kind planes None ∷ []
 requeue_event kind (spent index planes) (Err (Queue e)) = qbuf index kind planes (Some e) ∷ []
@@ -166,8 +167,8 @@ module _ {P A : Type 0} (meaning : P → Plane) where
   front_after f (offered result) = record f { hand = hand_given f.hand result }
   front_after f t = f
 
-  -- Which event of the queue's own model a turn is: none where the hand forbids it, or what it has or want of memory
-  -- refuses it.
+  -- Which event of the queue's own model a turn is: none if the hand forbids it, or if the state of the hand or want of
+  -- memory refuses it.
   abbrev pub front_event : Front → Turn P A → List Event
   front_event f (on_queue e (Ok r)) = cond (forbids (index_in f.hand) e) [] (event_of meaning e r f.queue)
   front_event f (dequeued result) = dequeue_event f.queue result
@@ -200,8 +201,8 @@ IsSubmit (full i p planes) result = Unit {0}
 IsSubmit h result = result ≡ Err HandEmpty
 
 module _ {P A : Type 0} (meaning : P → Plane) where
-  -- the reply is the model's; a Complete of another length than a frame's is refused before all else, then what the
-  -- hand forbids
+  -- the reply is the model's; a Complete whose length isn't a frame's is refused before all else, then what the hand
+  -- forbids
   abbrev pub IsFrontTurn : Front → Turn P A → Type 0
   IsFrontTurn f (on_queue e (Ok r)) =
       (is_whole f.queue.queue.body.shape e ≡ true)

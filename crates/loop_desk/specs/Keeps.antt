@@ -15,7 +15,7 @@ use Rattle.loop_desk.specs.declared.keep.Kept.{Kept}
 abbrev pub clip_span : Clip → Span
 clip_span c = record { from = c.from; to = c.to; tag = c.tag }
 
--- the numbers of clips, one clip behind the other
+-- the numbers of clips, one clip after the other
 abbrev pub numbers_of_clips : List Clip → List ℕ
 numbers_of_clips clips = numbers_of_spans (map clip_span clips)
 
@@ -27,15 +27,15 @@ with_tag tag run = record run { tag = tag }
 abbrev pub lock_of : Clip → DeskCall
 lock_of c = clip_locked (clip_span c) (Ok c.id)
 
--- The locks end where no run is left, and no fault is told; or with the first run that is left, whose lock was refused
--- with the fault that is told.
+-- The locks end with no run left and no fault; or with the first run that is left, whose lock was refused with the
+-- fault that is returned.
 abbrev pub LocksEnd : List Span → Option StoreFault → List DeskCall → Type 0
 LocksEnd [] None calls = calls ≡ []
 LocksEnd (run ∷ left) (Some fault) calls = calls ≡ clip_locked run (Err fault) ∷ []
 LocksEnd _ _ calls = ⊥
 
--- Each of the first runs was locked with the tag, in order, and is told as a clip. Nothing else was called, but for a
--- lock that was refused.
+-- Each of the first runs was locked with the tag, in order, and is returned as a clip. No other call was made, except
+-- for a lock that was refused.
 pub record AreLocks (tag : ℕ) (runs : List Span) (clips : List Clip) (fault : Option StoreFault)
     (calls : List DeskCall) : Type 0 where
   pub left : List Span
@@ -46,7 +46,7 @@ pub record AreLocks (tag : ℕ) (runs : List Span) (clips : List Clip) (fault : 
 
 -- ---- a keep
 
--- the desk told no run, and it is told why
+-- the desk refused to list the runs, and the fault is returned
 pub record KeepsNone {D A : Type 0} (desk : SeenDesk D) (calls : List DeskCall) (kept : Kept A) : Type 0 where
   pub uncalled : calls ≡ []
   pub clips : kept.clips.items ≡ []
@@ -54,7 +54,7 @@ pub record KeepsNone {D A : Type 0} (desk : SeenDesk D) (calls : List DeskCall) 
   pub told : kept.fault ≡ Some fault
   pub refused : OutlineRefuses desk fault
 
--- there are runs of the time, which were told, and memory for their clips was refused
+-- the desk listed the runs of the time, there are some, and memory for their clips was refused
 pub record KeepsCrammed {A : Type 0} (times : Times) (calls : List DeskCall) (kept : Kept A) : Type 0 where
   pub runs : List Span
   pub some : runs ≢ []
@@ -62,7 +62,7 @@ pub record KeepsCrammed {A : Type 0} (times : Times) (calls : List DeskCall) (ke
   pub clips : kept.clips.items ≡ []
   pub told : kept.fault ≡ Some NoMemory
 
--- the runs of the time were told, and were locked
+-- the desk listed the runs of the time, and they were locked
 pub record KeepsRuns {A : Type 0} (times : Times) (tag : ℕ) (calls : List DeskCall) (kept : Kept A) : Type 0 where
   pub runs : List Span
   pub locks : List DeskCall
@@ -81,7 +81,7 @@ pub record KeepsTime {D A : Type 0} (medium : D → Medium) (times : Times) (tag
   pub goes : DeskGoes medium old new calls
   pub keeps : Keeps times tag old calls kept
 
--- the clips have just the held frames of a time, in each state of which the desk tells
+-- the clips have just the held frames of a time, in each state that the desk's answers fit
 abbrev pub HaveTime : {D : Type 0} → Times → SeenDesk D → List Clip → Type 0
 HaveTime times desk clips =
     (s : DeskState) → TellsDesk desk s

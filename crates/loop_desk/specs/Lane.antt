@@ -1,5 +1,5 @@
--- A lane: the front, which is a queue, its table of fds and a hand, and behind it a desk. What the front does never
--- depends on the desk's state, and what the desk is asked for is said by the events, the replies and the hand.
+-- A lane: the front, which is a queue, its table of fds and a hand, and after it a desk. What the front does never
+-- depends on the desk's state; events, replies and the hand say which calls the desk gets.
 use Rattle.std.specs.Prelude.{◌≡◌, ℕ, Bool, true, false, if◌then◌else◌, None, Result, Ok, List, [], ◌∷◌, ◌++◌, length, map}
 use Rattle.std.specs.List.{flat_map, list_any, zip}
 use Rattle.loop_plane.specs.Plane.{Plane}
@@ -75,8 +75,8 @@ module _ {P A : Type 0} where
   calls_of_turn h t = []
 
 module _ {P A : Type 0} (meaning : P → Plane) where
-  -- the reply is the model's, as far as the front says it: what the desk answers is said of its calls, and a frame is
-  -- taken in by a submit of the hand's alone
+  -- the reply is the model's, as far as the front says it. The desk's calls say what the desk answers; and a frame is
+  -- accepted only by a submit of the hand's.
   abbrev pub IsAtFront : Front → LaneTurn P A → Type 0
   IsAtFront f (at_front t) = IsFrontTurn meaning f t
   IsAtFront f (at_desk c) = frame_accepted c ≡ []
@@ -96,7 +96,7 @@ module _ {P A : Type 0} (meaning : P → Plane) where
 -- ---- which calls of the desk events and replies show, whatever the front
 
 module _ {P A : Type 0} where
-  -- these are a turn's calls where the hand is so: a submit that isn't HandEmpty is one of the hand's frame
+  -- these are a turn's calls with this hand: a submit that isn't HandEmpty is one of the hand's frame
   abbrev pub AreCallsAt : HandState → LaneTurn P A → List DeskCall → Type 0
   AreCallsAt h (at_front (offered result)) calls = IsSubmit h result × (calls ≡ submit_calls h result)
   AreCallsAt h mixed calls = ⊥
@@ -167,7 +167,7 @@ module _ {P A : Type 0} (meaning : P → Plane) where
   abbrev pub queue_events : Front → List (LaneEvent P A × LaneReply P A) → List Event
   queue_events f turns = told_in (lane_after meaning) event_at f turns
 
--- Turns, each told as the front has it, are events of the queue's own model, and leave its state.
+-- Turns, each as the front has it, are events of the queue's own model, and lead to its state.
 abbrev pub LaneTurnsAreEvents : {P : Type 0} → Type 0 → (P → Plane) → Type 0
 LaneTurnsAreEvents {P} A meaning =
     (f : Front) (xs : List (LaneEvent P A × LaneReply P A)) → EachIn (lane_after meaning) (IsLaneTurn meaning) f xs
@@ -177,7 +177,7 @@ LaneTurnsAreEvents {P} A meaning =
 
 -- ---- the device's frames
 
--- a frame but for its flags, which tell whether its buffer was mapped as it was dequeued
+-- a frame without its flags, which show whether its buffer was mapped when it was dequeued
 abbrev pub without_flags : Picture → Picture
 without_flags p = record p { flags = 0 }
 
@@ -194,8 +194,8 @@ module _ {P A : Type 0} (meaning : P → Plane) where
   StartsAnew f (stop ∷ []) = (e : Event) × (event_at meaning f stop ≡ e ∷ []) × (stops e ≡ true)
   StartsAnew f (x ∷ turns) = StartsAnew (lane_after meaning f x) turns
 
-  -- In a list of turns, from where the stream is new up to its next stop, the frames that were taken are a beginning
-  -- of those that the device completed, each with its bytes.
+  -- In a list of turns, from where the stream is new up to its next stop, the frames that were taken are a prefix of
+  -- those that the device completed, each with its bytes.
   abbrev pub TakesFrames : Front → List (LaneEvent P A × LaneReply P A) → Type 0
   TakesFrames f turns =
       (before part behind : List (LaneEvent P A × LaneReply P A)) (now : Front) → turns ≡ before ++ (part ++ behind)

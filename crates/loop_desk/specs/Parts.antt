@@ -14,29 +14,29 @@ use Rattle.loop_ioctl.specs.declared.events.QueueEvent.TheVariants as event
 use Rattle.loop_desk.specs.declared.hand.Hand.{Hand}
 use Rattle.loop_desk.specs.Front.{hand_state, hand_of, taken_frame}
 
--- ---- bytes copied behind others
+-- ---- bytes copied after others
 
--- bytes stand behind the first ones of a slice, which stay, and end at `stop`
+-- these bytes follow the first ones of a slice, which stay, and end at `stop`
 pub record Appends (bytes : List ℕ) (at : ℕ) (before : List ℕ) (stop : ℕ) (after : List ℕ) : Type 0 where
   pub ends : stop ≡ at + length bytes
   pub text : take stop after ≡ take at before ++ bytes
   pub long : length after ≡ length before
 
--- the beginning of a plane of a set
+-- the first bytes of a plane of a set
 abbrev pub begin_of : PlaneSet Plane → ℕ → ℕ → List ℕ
 begin_of set most plane = take most (bytes_in (plane_of_set set plane))
 
--- the beginning of a plane of a buffer in a queue
+-- the first bytes of a plane of a buffer in a queue
 abbrev pub begin_at : List (Buffer Plane) → ℕ → ℕ → ℕ → List ℕ
 begin_at bs index most plane = take most (bytes_at bs index plane)
 
--- a buffer is the application's, and so many bytes of a plane were used
+-- a buffer is the application's, and at least so many bytes of a plane were used
 pub record IsOwn (bs : List (Buffer Plane)) (index most plane : ℕ) : Type 0 where
   pub within : index < length bs
   pub free : is_dequeued (state_at bs index) ≡ true
   pub used : most ≤ used_at bs index plane
 
--- the first bytes of the planes of a set, one behind the other
+-- the first bytes of the planes of a set, one after the other
 abbrev pub begins_of : PlaneSet Plane → List ℕ → List ℕ
 begins_of set counts =
     begin_of set (number_at counts 0) 0 ++ (begin_of set (number_at counts 1) 1 ++ begin_of set (number_at counts 2) 2)
@@ -68,7 +68,7 @@ AppendsAllOwn meaning code index counts before stop after =
 abbrev pub StaysIn : Body Plane → ℕ → Buffer Plane → Type 0
 StaysIn body index b = slice_get body.buffers index ≡ Some (dequeued_from body.kind b)
 
--- its frame is copied to the beginning of a slice, and ends at `stop`
+-- its frame is copied to the start of a slice, and ends at `stop`
 abbrev pub CopiesFrame : {P : Type 0} → (P → Plane) → Lined P → ℕ → List ℕ → Option (PlaneSet P) → List ℕ → ℕ
     → List ℕ → Type 0
 CopiesFrame meaning code index used planes before stop after =

@@ -32,7 +32,7 @@ answer_of (Err refused) = Err refused.0
 abbrev pub rules_of : {D : Type 0} → SeenDesk D → Rules
 rules_of d = record { geometry = d.store.geometry; limits = d.limits }
 
--- the desk tells what a state says
+-- a desk's answers fit a state
 pub record TellsDesk {D : Type 0} (d : SeenDesk D) (s : DeskState) : Type 0 where
   pub store : TellsState d.store s.store
   pub pending : d.pending ≡ s.pending
@@ -48,19 +48,19 @@ pub record Opens {D : Type 0} (medium : D → Medium) (d : SeenDesk D) : Type 0 
   pub stands : (now : (medium d.store.disk).honest) → StandsFor medium d.store (recording now)
   pub writable : d.store.must_reopen ≡ false
 
--- What calls, one after the other, make of a desk, whatever its disk, from each state of which it tells, and it tells
--- of one. All that they leave on the disk, and what they are answered of it, is said by the store's calls.
+-- What calls, one after the other, make of a desk, whatever its disk, from each state that its answers fit; they fit
+-- one. The store's calls say what is left on the disk, and what is answered of it.
 pub record DeskGoes {D : Type 0} (medium : D → Medium) (old new : SeenDesk D) (calls : List DeskCall) : Type 0 where
   pub one : TellsOne old.store
-  -- the store went on by its own calls
+  -- the store's own calls lead from the old store to the new one
   pub store : (s : DeskState) → TellsDesk old s
       → Goes medium old.store new.store (store_calls_in (rules_of old) s calls)
-  -- each answer is the model's, and the desk tells of the state after them
+  -- each answer is the model's, and the new desk's answers fit the state after the calls
   pub plays : Plays (record { after = desk_after (rules_of old); May = IsDeskTold (rules_of old) }) (TellsDesk old)
       (TellsDesk new) calls
   pub limits : new.limits ≡ old.limits
 
--- ---- what a desk tells without a call of the disk
+-- ---- what a desk answers without a call of the disk
 
 pub record TellsStatus {D : Type 0} (medium : D → Medium) (d : SeenDesk D) (status : Status) : Type 0 where
   pub next : status.next ≡ d.store.next
@@ -84,8 +84,8 @@ OutlineRefuses d fault =
 
 -- ---- what only the desk's own code looks at
 
--- the numbers of the frames that wait are given out, these have the geometry's size, and the buffer has room for as
--- many as may wait
+-- there are numbers for the frames that wait, these have the geometry's size, and the buffer has room for as many as
+-- may wait
 pub record IsDesk {D A : Type 0} (store : Seen D) (limits : DeskLimits) (buffer : Buffer (Frame A)) : Type 0 where
   pub capacity : buffer.capacity ≡ limits.pending
   pub most : (1 ≤ limits.pending) × (limits.pending ≤ 64)

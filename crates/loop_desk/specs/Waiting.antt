@@ -67,7 +67,7 @@ pub record IsSoundQueue {P : Type 0} (code : Lined P) (s : QueueState) : Type 0 
 -- ---- what follows
 
 -- Events from a state on: the frames that waited, and then those that the device completed, are those that were
--- dequeued, in that order and with their bytes, and then those that wait.
+-- dequeued, in that order and with their bytes, and then those that wait now.
 abbrev pub KeepsFrames : List Picture → QueueState → List Event → List Picture → Type 0
 KeepsFrames waited s events wait =
     map without_flags waited ++ flat_map completed_frame events

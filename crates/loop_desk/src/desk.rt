@@ -24,8 +24,8 @@ use loop_store::{ReadFrame, Store, StoreFault};
 use std::alloc::{Allocator, Global};
 use std::marker::Model;
 
-/// A store, and the frames that wait to be stored. What waits is lost when the desk is, or the power. The memory of
-/// frames that were stored is kept for later ones.
+/// A store, and the frames that wait to be stored. Those are lost if the desk is dropped or the power fails. The memory
+/// of stored frames is kept for later ones.
 #[derive(Drop)]
 pub struct Desk<D: Disk + Drop, A: Allocator = Global> {
     store: Store<D, A>,
@@ -42,7 +42,7 @@ impl<D: Disk + Drop, A: Allocator> Model for Desk<D, A> {
     ghost invariant = { λ d. IsDesk d.store d.limits d.pending };
 }
 
-// Takes out the first `count` frames that wait, and puts their memory aside.
+// Removes the first `count` frames that wait, and keeps their memory for later ones.
 fn set_aside<A: Allocator>(
     pending: &mut HeapCircularBuffer<Frame<A>, A>,
     spare: &mut HeapCircularBuffer<Vec<u8, A>, A>,
@@ -58,8 +58,8 @@ fn set_aside<A: Allocator>(
 }
 
 impl<D: Disk + Drop, A: Allocator + Copy> Desk<D, A> {
-    /// A desk at which nothing waits. It takes the room for all frames that may wait, and for a list of as much memory
-    /// to use again; where there is none, the store comes back.
+    /// A desk at which nothing waits. It allocates the lists of the frames that may wait and of the memory that is
+    /// kept. If memory is refused, the store comes back.
     pub fn new(alloc: A, store: Store<D, A>, limits: DeskLimits) -> Result<Self, Store<D, A>>
         requires pending { (1 ≤ limits.pending) × (limits.pending ≤ 64) }
         requires group { (1 ≤ limits.group) × (limits.group ≤ 8) }
@@ -83,21 +83,21 @@ impl<D: Disk + Drop, A: Allocator + Copy> Desk<D, A> {
 }
 
 impl<D: Disk + Drop, A: Allocator> Desk<D, A> {
-    /// Memory of a frame that was stored, to be filled again by a later one; None where there is none.
+    /// Memory of a stored frame, to be filled again by a later one; None if there is none.
     pub fn spare_memory(&mut self) -> Option<Vec<u8, A>>
         ensures { self.new ≡ self.old }
     {
         self.spare.pop_back()
     }
 
-    /// Keeps memory for a later frame; where there is no room for it, the oldest that is kept goes.
+    /// Keeps memory for a later frame; if there is no room for it, the oldest that is kept is dropped.
     pub fn return_memory(&mut self, bytes: Vec<u8, A>)
         ensures { self.new ≡ self.old }
     {
         self.spare.push_back(bytes);
     }
 
-    // Memory for the frame of a number, where that is held and there is some to spare.
+    // Spare memory for reading the frame of a number; None if that isn't held, or there is none.
     fn spare_for(&mut self, number: u64) -> Option<Vec<u8, A>>
         ensures { self.new ≡ self.old }
     {
@@ -107,7 +107,7 @@ impl<D: Disk + Drop, A: Allocator> Desk<D, A> {
         None
     }
 
-    /// A desk tells what some recording says; and where it needn't be reopened and its disk is honest, its store stands
+    /// A law: a desk answers by some recording; and unless it must be reopened, if its disk is honest, its store stands
     /// for the recording that the disk holds. The function does nothing: its contract is the law.
     pub fn opens(&self)
         ensures tells { TellsOne self.now.store }
@@ -124,14 +124,14 @@ impl<D: Disk + Drop, A: Allocator> Desk<D, A> {
         self.store.geometry()
     }
 
-    /// How much the desk takes in.
+    /// The desk's limits.
     pub fn limits(&self) -> DeskLimits
         ensures { result ≡ self.now.limits }
     {
         self.limits
     }
 
-    // The number that a frame will have, or why it isn't taken in.
+    // The number that a frame will have, or why it isn't accepted.
     fn number_for(&self, frame: &Frame<A>) -> Result<u64, StoreFault>
         ensures answer { (s : DeskState) → TellsDesk self.now s
             → result ≡ submit_answer (rules_of self.now) s (length frame.now.bytes.items) }
@@ -156,12 +156,12 @@ impl<D: Disk + Drop, A: Allocator> Desk<D, A> {
         Ok(number)
     }
 
-    /// Takes a frame in behind the others that wait, and answers the number that it will have if it is stored in
-    /// this session.
+    /// Accepts a frame, to wait after the others, and returns the number that it will have if it is stored in this
+    /// session.
     ///
-    /// `MustReopen` where a call that writes has failed; otherwise `WrongSize` where the frame hasn't the bytes of
-    /// the geometry's; then `PendingFull` where as many wait as may; then `NumbersSpent` where no number is left.
-    /// Each hands the frame back. It takes no memory and makes no call of the disk.
+    /// `MustReopen` if a call that writes has failed; otherwise `WrongSize` if the frame hasn't the length that the
+    /// geometry asks; then `PendingFull` if as many frames wait as may; then `NumbersSpent` if no number is left. Each
+    /// hands the frame back. It takes no memory and makes no call of the disk.
     pub fn submit(&mut self, frame: Frame<A>) -> Result<u64, (StoreFault, Frame<A>)>
         ensures goes { DeskGoes D.medium self.old self.new
             (submitted (picture frame) (length frame.bytes.items) (answer_of result) ∷ []) }
@@ -178,11 +178,11 @@ impl<D: Disk + Drop, A: Allocator> Desk<D, A> {
         }
     }
 
-    /// Stores the first frames that wait, all or none: as many as a group may have and the block of the next
-    /// number takes. It takes no memory and copies no pixel but into the group.
+    /// Stores the first frames that wait, all or none: as many as a group may have and the block of the next number has
+    /// room for. It takes no memory and copies no pixel but into the group.
     ///
-    /// Where nothing waits it makes no call of the disk. `MustReopen` comes before that; all else is as
-    /// `Store::append` has it. A refusal keeps every frame that waits.
+    /// If nothing waits, it makes no call of the disk. `MustReopen` comes before that; all else is as `Store::append`
+    /// has it. A refusal keeps every frame that waits.
     pub fn flush(&mut self) -> Result<Flushed, StoreFault>
         ensures goes { DeskGoes D.medium self.old self.new (flushed result ∷ []) }
         ensures refused { Refused self.old.store self.new.store result }
@@ -215,7 +215,7 @@ impl<D: Disk + Drop, A: Allocator> Desk<D, A> {
         }
     }
 
-    /// Locks the frames from a number to another, with a tag, as `Store::lock`, and answers the clip's id. A frame that
+    /// Locks the frames from a number to another, with a tag, as `Store::lock`, and returns the clip's id. A frame that
     /// waits isn't held yet.
     pub fn lock_clip(&mut self, from: u64, to: u64, tag: u64) -> Result<u32, StoreFault>
         ensures goes { DeskGoes D.medium self.old self.new
@@ -251,15 +251,15 @@ impl<D: Disk + Drop, A: Allocator> Desk<D, A> {
         self.store.version()
     }
 
-    /// How many of the newest blocks of held frames never go, as `Store::keep`.
+    /// How many of the newest blocks of held frames are never removed, as `Store::keep`.
     pub fn keep(&self) -> u32
         ensures { result ≡ self.now.store.keep }
     {
         self.store.keep()
     }
 
-    /// Makes version 2 of a layout of version 1, as `Store::upgrade`, and answers whether it did. What waits isn't
-    /// looked at.
+    /// Upgrades the layout from version 1 to version 2, as `Store::upgrade`, and returns whether it did. Frames that
+    /// wait play no part.
     pub fn upgrade(&mut self) -> Result<bool, StoreFault>
         ensures goes { DeskGoes D.medium self.old self.new (layout_upgraded result ∷ []) }
         ensures refused { Refused self.old.store self.new.store result }
@@ -268,8 +268,8 @@ impl<D: Disk + Drop, A: Allocator> Desk<D, A> {
         self.store.upgrade()
     }
 
-    /// How the desk stands. It takes no memory, makes no call of the disk and is never refused; where the store
-    /// must be reopened it tells of the recording from before the call that failed.
+    /// The counts of the desk. It takes no memory, makes no call of the disk and is never refused. If the store must be
+    /// reopened, the counts are those from before the call that failed.
     pub fn status(&self) -> Status
         ensures { TellsStatus D.medium self.now result }
     {
@@ -281,7 +281,7 @@ impl<D: Disk + Drop, A: Allocator> Desk<D, A> {
         }
     }
 
-    /// The disk, as the calls left it. What waits is lost.
+    /// The disk, as the calls left it. Frames that wait are lost.
     pub fn into_disk(self) -> D
         ensures { result ≡ self.store.disk }
     {
@@ -297,8 +297,8 @@ impl<D: Disk + Drop, A: Allocator> Desk<D, A> {
 
 impl<D: Disk + Drop, A: Allocator + Copy> Desk<D, A> {
     /// Reads a stored frame, into memory of a frame that was stored or new: `MustReopen`, `NotHeld`, `NoMemory`, then
-    /// `Disk` or `Damaged`, as `Store::read_frame`. A frame that waits isn't held yet. Who is done with the frame may
-    /// give its memory back (`return_memory`).
+    /// `Disk` or `Damaged`, as `Store::read_frame`. A frame that waits isn't held yet. A caller that is done with the
+    /// frame may give its memory back (`return_memory`).
     pub fn read_frame(&mut self, alloc: A, number: u64) -> Result<ReadFrame<A>, StoreFault>
         ensures goes { DeskGoes D.medium self.old self.new (frame_read number (read_of result) ∷ []) }
         ensures same { self.new.store ≡ record self.old.store { disk = self.new.store.disk } }
@@ -308,7 +308,7 @@ impl<D: Disk + Drop, A: Allocator + Copy> Desk<D, A> {
     }
 
     /// The held frames whose times are among these, as runs of their numbers, from memory, as `Store::sought`. A frame
-    /// that waits isn't held yet. `MustReopen` where a call that writes has failed; otherwise `NoMemory`.
+    /// that waits isn't held yet. `MustReopen` if a call that writes has failed; otherwise `NoMemory`.
     pub fn sought(&self, alloc: A, times: Times) -> Result<Vec<Span, A>, StoreFault>
         ensures goes { IfOk result (λ runs. DeskGoes D.medium self.now self.now (runs_told times 0 runs.items)) }
         ensures refused { IfErr result (λ fault. OutlineRefuses self.now fault) }
@@ -319,7 +319,7 @@ impl<D: Disk + Drop, A: Allocator + Copy> Desk<D, A> {
     /// Locks the held frames of a time with a tag: a clip for each run of their numbers, in order, until one is
     /// refused. The clips before it stay locked. A frame that waits isn't held yet.
     ///
-    /// `MustReopen` where a call that writes has failed; then `NoMemory`; both before anything is locked. A lock is
+    /// `MustReopen` if a call that writes has failed; then `NoMemory`; both before anything is locked. A lock is
     /// refused as by `lock_clip`.
     pub fn keep_time(&mut self, alloc: A, times: Times, tag: u64) -> Kept<A>
         ensures goes { KeepsTime D.medium times tag self.old self.new result }
@@ -328,9 +328,9 @@ impl<D: Disk + Drop, A: Allocator + Copy> Desk<D, A> {
         keep_at(alloc, self, times, tag)
     }
 
-    /// What the desk holds: the version of the layout, how many of the newest blocks never go, the next number, the
-    /// numbers of the held frames, the clips, and how many frames wait.
-    /// `MustReopen` where a call that writes has failed; otherwise `NoMemory`.
+    /// What the desk holds: the version of the layout, how many of the newest blocks are never removed, the next
+    /// number, the numbers of the held frames, the clips, and how many frames wait. `MustReopen` if a call that writes
+    /// has failed; otherwise `NoMemory`.
     pub fn outline(&self, alloc: A) -> Result<Outline<A>, StoreFault>
         ensures outline { IfOk result (TellsOutline D.medium self.now) }
         ensures refused { IfErr result (λ fault. OutlineRefuses self.now fault) }

@@ -28,10 +28,10 @@ pub enum LaneEvent<P = Box<dyn PlaneMemory + Send>, A: Allocator = Global> {
     Read(u64),
 }
 
-/// What an event's own call answers. Planes and frames that the hand has aren't in it.
+/// What an event's own call returns. Planes and frames in the hand aren't part of it.
 #[derive(Drop)]
 pub enum LaneReply<P = Box<dyn PlaneMemory + Send>, A: Allocator = Global> {
-    /// The queue's reply, or `WrongSize` for a Complete of another length than a frame's.
+    /// The queue's reply, or `WrongSize` for a Complete whose length isn't that of a frame.
     Queue(Result<QueueReply<P, A>, LaneFault>),
     /// The index of the buffer that was taken.
     Dequeue(Result<u32, LaneFault>),

@@ -7,8 +7,7 @@ use loop_plane::PlaneMemory;
 use loop_vb2::{PlaneSet, Queue, Shape};
 use std::alloc::Allocator;
 
-// Copies the first bytes in use of a plane, `most` or as many as there are, to place `at` of a slice; answers
-// where they end.
+// Copies the first bytes in use of a plane, at most `most`, to place `at` of a slice; returns where they end.
 fn append_given<P: PlaneMemory>(
     set: &PlaneSet<P>,
     plane: u32,
@@ -25,7 +24,7 @@ fn append_given<P: PlaneMemory>(
     stop
 }
 
-// The same of a buffer's plane that stays in the queue, of which `most` bytes were used; nothing where there is
+// The same of a buffer's plane that stays in the queue, of which `most` bytes were used. It copies nothing if there is
 // no such plane.
 fn append_own<P: PlaneMemory, A: Allocator + Copy>(
     queue: &Queue<P, A>,
@@ -46,7 +45,7 @@ fn append_own<P: PlaneMemory, A: Allocator + Copy>(
     }
 }
 
-// Copies the first bytes of the planes of a set, one behind the other.
+// Copies the first bytes of the planes of a set, one after the other.
 fn copy_given<P: PlaneMemory>(set: &PlaneSet<P>, counts: [u32; 3], out: &mut [u8]) -> usize
     requires { count_of counts ≤ length out.old }
     ensures { Appends (begins_of (read_set P.plane set.now) counts) 0 out.old result out.new }
@@ -83,8 +82,8 @@ fn counts_of(shape: &Shape, used: &[u32; 3]) -> [u32; 3]
     [y.min(used[0]), cb.min(used[1]), cr.min(used[2])]
 }
 
-/// Copies the frame of a buffer that was dequeued to the beginning of a slice, which has room for a frame, its
-/// planes one behind the other; answers how many bytes it has. `used` and `planes` are what DQBUF answered.
+/// Copies the frame of a dequeued buffer to the start of a slice, which has room for a frame: its planes, one after the
+/// other. Returns how many bytes the frame has. `used` and `planes` are what DQBUF answered.
 pub(crate) fn copy_frame<P: PlaneMemory, A: Allocator + Copy>(
     queue: &Queue<P, A>,
     index: u32,

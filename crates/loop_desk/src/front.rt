@@ -16,7 +16,7 @@ use loop_vb2::{BufferFlags, Dequeued, Queue, Reason};
 use std::alloc::Allocator;
 use std::mem;
 
-// The buffer that the hand has.
+// The index of the buffer in the hand.
 fn index_in<P: PlaneMemory, A: Allocator>(hand: &Hand<P, A>) -> Option<u32>
     ensures { result ≡ index_in (hand_state P.plane hand.now) }
 {
@@ -26,7 +26,7 @@ fn index_in<P: PlaneMemory, A: Allocator>(hand: &Hand<P, A>) -> Option<u32>
     }
 }
 
-// Whether the hand, which has this buffer or none, forbids an event.
+// Whether the hand, with this buffer or none in it, forbids an event.
 fn forbids<P, A: Allocator>(held: Option<u32>, event: &QueueEvent<P, A>) -> bool
     ensures { result ≡ forbids held event.now }
 {
@@ -58,10 +58,10 @@ fn refuse_held<P: PlaneMemory, A: Allocator + Copy>(
     }
 }
 
-/// One event of the queue. A Complete whose bytes aren't one whole frame is WrongSize before any other check.
-/// While the hand has a buffer, REQBUFS, and QBUF and PREPARE_BUF of that buffer, are HandHolds before any other
-/// check, and all planes that they brought come back. A refused event changes nothing. (A lane doesn't send DQBUF
-/// here: that is `dequeue`.)
+/// One event of the queue. A Complete whose bytes aren't one whole frame is refused as `WrongSize` before any other
+/// check. While the hand has a buffer, REQBUFS, and QBUF and PREPARE_BUF of that buffer, are refused as `HandHolds`
+/// before any other check, and all planes that they brought come back. A refused event changes nothing. (A lane sends
+/// DQBUF to `dequeue` instead.)
 pub(crate) fn on_queue<P: PlaneMemory, A: Allocator + Copy>(
     queue: &mut Queue<P, A>,
     table: &mut FdTable<P, A>,
@@ -110,11 +110,11 @@ fn hold<P: PlaneMemory, A: Allocator + Copy>(
     }
 }
 
-/// DQBUF into the hand; answers the buffer's index. `HandFull` unless the hand is empty, `NoMemory` where there is no
-/// room for the bytes of a frame, then the queue's refusals (NotStreaming, FatalError, NothingDone); a refusal
-/// leaves queue and hand as they were. The buffer's planes go with it, unless they are mapped memory, and their fds
-/// stay attached. A buffer that the device gave up has no frame: it is spent at once. The frame's memory is what is
-/// spare, where that has its length; what isn't needed is left.
+/// DQBUF into the hand; returns the buffer's index. `HandFull` unless the hand is empty, `NoMemory` if there is no
+/// memory for the bytes of a frame, then the queue's refusals (NotStreaming, FatalError, NothingDone); a refusal leaves
+/// queue and hand as they were. The buffer's planes are taken with it, unless they are mapped memory, and their fds
+/// stay attached. A buffer that the device gave up has no frame: it is spent at once. The frame's memory is `spare`, if
+/// that has its length; memory that isn't needed stays there.
 ///
 /// While the hand has a buffer, the caller sends the queue no REQBUFS, and no QBUF or PREPARE_BUF of that buffer: the
 /// contracts here speak of queues whose planes are in their buffers or in the hand.
@@ -149,9 +149,9 @@ pub fn dequeue<P: PlaneMemory, A: Allocator + Copy>(
     }
 }
 
-/// QBUF of the hand's buffer, whose frame is gone, with its planes; answers its index, and the hand is empty.
-/// `HandFull` where the hand has a frame, `HandEmpty` where it has nothing, then as `Queue::queue`, and then the hand
-/// keeps buffer and planes: it may be tried again.
+/// QBUF of the hand's buffer, whose frame is gone, with its planes; returns its index, and leaves the hand empty.
+/// `HandFull` if the hand has a frame, `HandEmpty` if it has nothing, then as `Queue::queue`: then the hand keeps
+/// buffer and planes, and the call may be tried again.
 pub fn requeue<P: PlaneMemory, A: Allocator + Copy>(
     queue: &mut Queue<P, A>,
     hand: &mut Hand<P, A>,

@@ -5,8 +5,8 @@ use loop_store::StoreFault;
 use loop_vb2::{Errno, PlaneSet};
 use std::alloc::{Allocator, Global};
 
-/// What the application has taken from a queue: nothing, or one buffer. Planes of USERPTR and DMA-BUF memory go
-/// with it (the fds of the latter stay attached); those of MMAP stay in the queue, and None stands for them.
+/// What the application has taken from a queue: nothing, or one buffer. Planes of USERPTR and DMA-BUF memory are taken
+/// with it (the fds of the latter stay attached); those of MMAP stay in the queue, and are None here.
 #[derive(Drop)]
 pub enum Hand<P = Box<dyn PlaneMemory + Send>, A: Allocator = Global> {
     /// Nothing.

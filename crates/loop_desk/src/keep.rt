@@ -18,11 +18,11 @@ use std::alloc::{Allocator, Global};
 pub struct Kept<A: Allocator = Global> {
     /// The clips that were locked, in the order of their numbers.
     pub clips: Vec<Clip, A>,
-    /// Why no further one was locked; None where each frame of the time is in a clip.
+    /// Why no further one was locked; None if each frame of the time is in a clip.
     pub fault: Option<StoreFault>,
 }
 
-// Locks runs with a tag, from the first on, and tells each clip.
+// Locks runs with a tag, from the first on, until one is refused; collects their clips.
 fn lock_runs<D: Disk + Drop, A: Allocator + Copy>(
     desk: &mut Desk<D, A>,
     tag: u64,
@@ -43,7 +43,7 @@ fn lock_runs<D: Disk + Drop, A: Allocator + Copy>(
     Ok(())
 }
 
-// What was locked before a refusal.
+// The clips that were locked before a refusal.
 fn refused<A: Allocator>(clips: Vec<Clip, A>, fault: StoreFault) -> Kept<A>
     ensures { result ≡ record { clips = clips; fault = Some fault } }
 {

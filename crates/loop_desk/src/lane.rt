@@ -18,8 +18,8 @@ use loop_vb2::Queue;
 use std::alloc::{Allocator, Global};
 use std::mem;
 
-/// A queue with its table of fds, what was taken from it, and the desk that its frames go to. The queue's format
-/// and size are those of the desk's store; a frame of another size is refused at the desk.
+/// A queue with its table of fds, what was taken from it, and the desk to which its frames go. The queue's format and
+/// size should be those of the desk's store; the desk refuses a frame of another size.
 #[derive(Drop)]
 pub struct Lane<D: Disk + Drop, P = Box<dyn PlaneMemory + Send>, A: Allocator + Copy = Global> {
     /// The queue.
@@ -42,7 +42,7 @@ fn is_dequeue<P, A: Allocator>(format: PixelFormat, event: &QueueEvent<P, A>) ->
     }
 }
 
-// Gives the hand's frame to the desk; a refused one stays in the hand. `HandEmpty` where there is none.
+// Gives the hand's frame to the desk; a refused one stays in the hand. `HandEmpty` if there is none.
 fn submit<D: Disk + Drop, P: PlaneMemory, A: Allocator + Copy>(
     hand: &mut Hand<P, A>,
     desk: &mut Desk<D, A>,
@@ -95,7 +95,7 @@ fn dequeues<D: Disk + Drop, P: PlaneMemory, A: Allocator + Copy>(
     answer
 }
 
-// Does one event.
+// Applies one event.
 fn answer<D: Disk + Drop, P: PlaneMemory, A: Allocator + Copy>(
     alloc: A,
     lane: &mut Lane<D, P, A>,
@@ -121,16 +121,16 @@ fn answer<D: Disk + Drop, P: PlaneMemory, A: Allocator + Copy>(
     }
 }
 
-/// Does events one after the other, and answers each by its own call's answer; a refused one doesn't end the list.
-/// Its memory for the replies is taken first: where there is none, the events come back with `NoMemory`, and nothing
-/// was done.
+/// Applies events one after the other, and returns the answer of each one's own call. A refused event doesn't end the
+/// list. Memory for the replies is taken first: if there is none, the events come back with `NoMemory`, and nothing was
+/// done.
 ///
-/// Each reply is the model's at its point, and the desk makes the calls that events and replies show. Of these
-/// calls `headline` says: whenever the power fails in the run, before, between or within any writes, the disk reads
-/// as the recording after a beginning of the steps of the events that were answered Ok, and then of the one that was
-/// under way or failed; at the end it has all steps of those answered Ok; each clip that stands there has all its
-/// frames, each the one that was given; buffers are taken from the queue in the order in which the device ended
-/// them, each with the frame that the device completed; and frames keep their order from the queue to the desk.
+/// Each reply is the model's at its point, and the desk makes the calls that events and replies show. Of these calls
+/// `headline` says: whenever the power fails in the run, before, between or within any writes, the disk reads as the
+/// recording after a prefix of the steps of the events that were answered Ok, followed by those of the one that was
+/// under way or failed. At the end it has all steps of those answered Ok. Each clip there has all its frames, each the
+/// one that was given. Buffers are taken from the queue in the order in which the device ended them, each with the
+/// frame that the device completed. Frames keep their order from the queue to the desk.
 pub fn lane_run<D: Disk + Drop, P: PlaneMemory, A: Allocator + Copy>(
     alloc: A,
     lane: &mut Lane<D, P, A>,

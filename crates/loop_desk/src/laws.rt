@@ -1,4 +1,4 @@
-//! What calls leave, one after the other. The functions do nothing: their contracts are the laws.
+//! What holds of lists of calls. The functions do nothing: their contracts are the laws.
 
 ghost use Rattle.std.specs.Prelude.{◌++◌, List};
 ghost use Rattle.loop_store.specs.Calls.{StoreState};
@@ -29,7 +29,7 @@ pub fn whole_frames_are_taken()
     ensures { WholeFramesAreTaken }
 {}
 
-/// Some calls of a desk, and others behind them, are one list of calls.
+/// Some calls of a desk, and others after them, are one list of calls.
 pub fn calls_join<D: Disk + Drop, A: Allocator>(
     before: &Desk<D, A>,
     between: &Desk<D, A>,
@@ -48,7 +48,7 @@ pub fn calls_keep_footage<D: Disk + Drop, A: Allocator>(before: &Desk<D, A>, aft
         → KeepsFootage D.medium before.now after.now calls s }
 {}
 
-/// Turns of a lane, each told as its front has it, are events of the queue's own model, and leave its state.
+/// Turns of a lane, each as its front has it, are events of the queue's own model, and lead to its state.
 pub fn turns_are_events<P: PlaneMemory, A: Allocator>()
     ensures { LaneTurnsAreEvents A P.plane }
 {}
@@ -66,7 +66,7 @@ pub fn queues_stay_sound<P: PlaneMemory>()
     ensures { QueuesStaySound P.plane }
 {}
 
-/// Two runs of a lane, one behind the other, are one run of both lists of events, and it keeps what one run does.
+/// Two runs of a lane, one after the other, are one run of both lists of events, and it keeps what one run does.
 pub fn runs_join<D: Disk + Drop, P: PlaneMemory, A: Allocator + Copy>(
     before: &Lane<D, P, A>,
     between: &Lane<D, P, A>,
@@ -87,14 +87,14 @@ pub fn calls_are_the_models<D: Disk + Drop, A: Allocator>(before: &Desk<D, A>, a
         × StandsAt D.medium after.now (desk_after_calls (rules_of before.now) s calls) }
 {}
 
-/// Nothing that a desk answers, and no state that it comes to, depends on pixels: calls that were answered as the model
-/// has it are so without pixels too. So one model serves a desk and a history of its calls that holds none.
+/// No answer of a desk, and no state that it reaches, depends on pixels: calls that were answered as the model has it
+/// are so without pixels too. So one model serves a desk and a history of its calls that holds none.
 pub fn model_is_blind()
     ensures { (k : Rules) (s : DeskState) (calls : List DeskCall) → IsBlind k s calls }
 {}
 
-/// What a desk's outline says is the state for which the desk stands, and that state without pixels: an outline doesn't
-/// depend on them either.
+/// A desk's outline is that of the state for which the desk stands, and of that state without pixels: an outline
+/// doesn't depend on them either.
 pub fn outlines_are_blind<D: Disk + Drop, A: Allocator>(desk: &Desk<D, A>)
     ensures { (outline : Outline A) (s : DeskState) → TellsOutline D.medium desk.now outline
         → StandsAt D.medium desk.now s → (D.medium desk.now.store.disk).honest

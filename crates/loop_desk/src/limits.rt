@@ -1,9 +1,9 @@
-//! The limits of a desk, and what its calls answer.
+//! The limits of a desk, and what its calls return.
 
 use loop_store::Clip;
 use std::alloc::{Allocator, Global};
 
-/// How much a desk takes in.
+/// The limits of a desk.
 #[derive(Clone, Copy, Debug, PartialEq, Eq)]
 pub struct DeskLimits {
     /// How many frames may wait: 1 to 64.
@@ -17,7 +17,7 @@ pub struct DeskLimits {
 /// What a flush stored.
 #[derive(Clone, Copy, Debug, PartialEq, Eq)]
 pub struct Flushed {
-    /// The number of the first frame that was stored; where none was, the next one.
+    /// The number of the first frame that was stored; if none was, the next number.
     pub first: u64,
     /// How many frames were stored.
     pub stored: u32,
@@ -25,7 +25,7 @@ pub struct Flushed {
     pub left: u32,
 }
 
-/// How a desk stands, in counts.
+/// The counts of a desk.
 #[derive(Clone, Copy, Debug, PartialEq, Eq)]
 pub struct Status {
     /// The number that the next stored frame gets.
@@ -34,7 +34,7 @@ pub struct Status {
     pub held: u64,
     /// How many frames wait.
     pub pending: u32,
-    /// Whether a call that writes has failed, so that the disk is to be taken out and opened again.
+    /// Whether a call that writes has failed: then the disk has to be taken out and opened again.
     pub must_reopen: bool,
 }
 
@@ -43,13 +43,13 @@ pub struct Status {
 pub struct Outline<A: Allocator = Global> {
     /// The version of the layout.
     pub version: u32,
-    /// How many of the newest blocks never go.
+    /// How many of the newest blocks are never removed.
     pub keep: u32,
     /// The number that the next stored frame gets.
     pub next: u64,
-    /// The numbers of the held frames, which rise.
+    /// The numbers of the held frames, in rising order.
     pub frames: Vec<u64, A>,
-    /// The clips that stand, by rising id.
+    /// The clips, by rising id.
     pub clips: Vec<Clip, A>,
     /// How many frames wait.
     pub pending: u32,

@@ -31,7 +31,7 @@ pub kept_outside : (at : ℕ) (bytes image : List ℕ) (i : ℕ) → at + length
 kept_outside at bytes image i fits (inl below) = get_or-written_before at bytes image i (omega (arith, fits)) below
 kept_outside at bytes image i fits (inr above) = get_or-written_behind at bytes image i (omega (arith, fits)) above
 
--- What a crash may leave after a write, it might have left before but for the range.
+-- Outside the range, what a crash may leave after a write is what it might have left before.
 write_images : (f : Failures) (now : Moment) (earlier : List Moment) (v c : List ℕ) (at : ℕ)
     → at + length v ≤ length now.bytes
     → IsLeft (after_write at v now) c → TornAt at (length v) (medium_of f now earlier) c
@@ -89,7 +89,7 @@ leaves_torn f now earlier v at fits c torn =
           same_outside at n torn.0 c i torn.2 out ∙ torn.1.kept i parts.1 ∙ sym (kept_outside at v now.bytes i fits out);
     }
 
--- one moment more, at which a crash leaves what has P
+-- one more moment, at which a crash leaves what has P
 one_more : (f : Failures) (old now : Moment) (earlier : List Moment) (P : List ℕ → Type 0)
     → ((c : List ℕ) → IsLeft now c → P c)
     → Meanwhile (medium_of f old earlier) (medium_of f now (old ∷ earlier)) P
@@ -125,7 +125,7 @@ syncs f now earlier = record {
   settled = λ c left. ext_get_or 0 c now.bytes left.size (λ i within. left.kept i refl);
 }
 
--- a call that changes nothing, and yet is a moment
+-- a call that changes nothing, and still adds a moment
 pub looks : (f : Failures) (now : Moment) (earlier : List Moment) → Stays (medium_of f now earlier)
     (medium_of f now (now ∷ earlier))
 looks f now earlier = record {
@@ -136,7 +136,7 @@ looks f now earlier = record {
   keeps = λ t c le left. inr left;
 }
 
--- what is behind a disk after a write of so many bytes
+-- the past of a disk after a write of so many bytes
 abbrev pub behind_write : ℕ → ℕ → Behind → List ℕ → Behind
 behind_write at n past bytes = record past { loose = (at, n) ∷ past.loose; moments = moment_now past bytes ∷ past.moments }
 

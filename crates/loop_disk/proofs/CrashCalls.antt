@@ -36,10 +36,6 @@ medium-more : (t later : Tape) (c : DeviceCall (List ℕ)) → later ≡ record 
 medium-more t later c more =
     ap medium_after more ∙ (λ i. medium_of t.failures (after-more t.start t.calls c i) (moments-more (at_rest t.start) [] t.calls c i))
 
-pub mapped : {V : Type 0} (f : V → List ℕ) (calls later : List (DeviceCall V)) (c : DeviceCall V) → later ≡ calls ++ c
-    ∷ [] → map (call_of f) later ≡ map (call_of f) calls ++ call_of f c ∷ []
-mapped f calls later c more = ap (map (call_of f)) more ∙ map-append (call_of f) calls (c ∷ [])
-
 -- what a call of the record keeps
 all-one : {X : Type 0} (P : X → Type 0) (x : X) → P x → All P (x ∷ [])
 all-one {X} P x is k d within = subst (λ (i : ℕ). P (slice_index_or (x ∷ []) i d)) (sym first) is
@@ -58,7 +54,7 @@ recorded-more start calls later bytes next c more fits is size done = record {
       (All-append (IsWithin (length start)) calls (c ∷ []) done.within (all-one (IsWithin (length start)) c fits));
 }
 
--- what is seen of the fields, with a call more
+-- what is seen of the fields, with one more call
 pub view-more : {V : Type 0} (f : V → List ℕ) (t : Tape) (start : List ℕ) (calls : List (DeviceCall V))
     (later : List (DeviceCall (List ℕ))) (failures : Failures) (c : DeviceCall (List ℕ))
     → record { start = start; calls = map (call_of f) calls; failures = failures } ≡ t → later ≡ map (call_of f) calls ++ c ∷ []
@@ -142,7 +138,7 @@ old-there m bytes image i done within = by_loose (is_loose m.loose i) refl
 or_skips : (a b : Bool) → a ≡ false → (a || b) ≡ true → b ≡ true
 or_skips a b out is = sym (ap (λ (x : Bool). x || b) out) ∙ is
 
--- what a crash leaves of a byte doesn't depend on what stood in its place
+-- what a crash leaves of a byte doesn't depend on what was in its place before
 spoils-alike : (s : Spoil) (m : Moment) (bytes image : List ℕ) (i present : ℕ) → IsReplayed s m bytes image
     → i < length image
     → spoiled_byte s i (get_or image i 0) present ≡ spoiled_byte s i (get_or m.settled i 0) present
@@ -231,7 +227,7 @@ replay-wrote f s m bytes image next later v u it at w is same_v same_u whole put
     subst (λ (c : DeviceCall _). IsReplayed s (after_call m (call_of f c)) next later) (sym is)
     (subst (λ (l : List ℕ). IsReplayed s (after_write at (f w) m) l later) (sym all) (replay-writes s m bytes image later (f w) at fits done there))
 
--- the call in a loop's turn
+-- the call of one turn of the loop
 pub within-at : {V : Type 0} (f : V → List ℕ) (size : ℕ) (bytes : List ℕ) (calls : List (DeviceCall V)) (k : ℕ)
     (it : DeviceCall V) → length bytes ≡ size → k < length calls
     → it ≡ get_or calls k it → All (IsWithin size) (map (call_of f) calls) → IsWithin (length bytes) (call_of f it)

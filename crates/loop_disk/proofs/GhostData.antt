@@ -1,4 +1,4 @@
--- A struct of proofs' data alone: the machine has no byte of it, and to own it is to own nothing.
+-- A struct that holds only data for proofs: it has no byte at run time, and to own it is to own nothing.
 use Rattle.std.proofs.Common.{List, [], ◌∷◌, refl}
 use denote.RattleType.{RattleType, Valss}
 use denote.Steps.{nothing}
@@ -8,14 +8,14 @@ use seplogic.Ra.Ura.{Ura}
 use types.Kit.{Goal, Item, Step, fjoin, feq_i, fpack, step, ‵, ◌$◌}
 use types.Logic.{Logic}
 
--- its value on the machine, and the list of values that it stands for
+-- its value at run time, and the list of values that it stands for
 abbrev pub no_bytes : Val
 no_bytes = vstruct vnil
 
 abbrev just_it : List Val
 just_it = no_bytes ∷ []
 
--- a type whose fields are none
+-- a type without fields
 abbrev pub no_fields : RattleType
 no_fields = Struct (record { name = []; args = []; types = []; fields = [] })
 

@@ -40,7 +40,7 @@ called_on old mid new failed first second = record {
 pub started : (m : Medium) (P : List ℕ → Type 0) → IsSound m → ((c : List ℕ) → m.may_leave c → P c) → LeavesOnly m m P
 started m P sound here = record { each = λ c left. here c (sound.only_now c left); time = at_first m P }
 
--- one call more, during which a crash leaves what has P
+-- one more call, during which a crash leaves what has P
 pub goes_on : (old mid new : Medium) (P during : List ℕ → Type 0) → LeavesOnly old mid P → Meanwhile mid new during
     → ((c : List ℕ) → during c → P c) → LeavesOnly old new P
 goes_on old mid new P during so_far time here = record {
@@ -79,7 +79,7 @@ pub of_bytes : (old new : Medium) (P : List ℕ → Type 0) → IsSound new → 
 of_bytes old new P sound stays gives =
     subst P stays.bytes (gives new.bytes (record { size = sound.length_is; agrees = sound.shown }))
 
--- what a read of an honest disk gave is what stands on it
+-- what a read of an honest disk gave is what is stored on it
 pub read_present : (at n : ℕ) {bytes : List ℕ} {old new : Medium} → IsSound new → Stays old new
     → ((image : List ℕ) → MayBe new image → MayBe old image × (bytes ≡ piece at n image)) → bytes ≡ piece at n old.bytes
 read_present at n {bytes} {old} {new} sound stays gives =

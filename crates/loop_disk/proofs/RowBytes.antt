@@ -1,4 +1,4 @@
--- Rows put in their places, one behind the other.
+-- Rows put in their places, one after the other.
 use Rattle.std.proofs.lemmas.Bool.{cases_lt}
 use Rattle.std.proofs.Common.{◌≡◌, ◌⊎◌, inl, inr, ℕ, ◌+◌, ◌-◌, ◌<◌, ◌≤◌, List, [], ◌∷◌, ◌++◌, length, take, drop, Result, Ok, IsErr, sym, ◌∙◌, ap, arith, length-append}
 use Rattle.std.proofs.lemmas.List.{append_assoc, append-nil, drop-drop, length-take-le, take-append-drop, take-append-le, take_all}
@@ -16,7 +16,7 @@ written_none at image =
     ap (λ (k : ℕ). take at image ++ [] ++ drop k image) (omega arith)
     ∙ (λ i. append-nil (take at image) i ++ drop at image) ∙ take-append-drop at image
 
--- the bytes of one row and of those behind it
+-- the bytes of one row and of those after it
 pub written_on : (at : ℕ) (front others image : List ℕ) → at + length front ≤ length image
     → with_bytes_at (at + length front) others (with_bytes_at at front image) ≡ with_bytes_at at (front ++ others) image
 written_on at front others image fits =
@@ -42,7 +42,7 @@ written_on at front others image fits =
     place : at + length front + length others ≡ at + length (front ++ others)
     place = omega (arith, length-append front others)
 
--- the first `keep` bytes of one row and of those behind it
+-- the first `keep` bytes of one row and of those after it
 pub kept_on : (at keep : ℕ) (front others image : List ℕ) → at + length front ≤ length image
     → with_bytes_at (at + length front) (take (keep - length front) others) (with_bytes_at at (take keep front) image)
     ≡ with_bytes_at at (take keep (front ++ others)) image

@@ -41,7 +41,7 @@ tears_within a n at m bytes old new r low high tears = record {
   keeps = tears.keeps;
 }
 
--- where a later call failed, nothing is said of what is done
+-- where a later call failed, nothing is claimed of the bytes
 pub tears_failed : {T U : Type 0} (at n : ℕ) (bytes other : List ℕ) (old new : Medium) (r : Result T DiskFault)
     (failed : Result U DiskFault) → IsErr failed → Tears at n bytes old new r → Tears at n other old new failed
 tears_failed at n bytes other old new r failed is tears = record {
@@ -91,7 +91,7 @@ read_and_written at n seen old mid new r fits is stays writes =
     } in
     tears_then at n old.bytes old.bytes old mid new tt r first second
 
--- the first bytes are written, and then the present ones behind them
+-- the first bytes are written, and then the present ones after them
 pub kept_and_rewritten : {T : Type 0} (at keep : ℕ) (bytes front : List ℕ) (old mid new : Medium) (x : Unit {0})
     (r : Result T DiskFault)
     → front ≡ take (min keep (length bytes)) bytes → Writes at front old mid (Ok x) → Tears at (length bytes) mid.bytes mid new r
@@ -108,7 +108,7 @@ kept_and_rewritten at keep bytes front old mid new x r is writes rest =
 
 -- ---- each image of a torn write may be left
 
--- of no place there is nothing to tear
+-- in an empty range there is nothing to tear
 pub torn_none : (a n : ℕ) (m : Medium) → n ≡ 0 → LeavesEachTorn a n m m
 torn_none a n m none c torn =
     subst m.may_leave (ext_get_or 0 torn.0 c (sym torn.2.size) (λ i l. sym (go i (cases_lt i a)))) torn.1
@@ -117,7 +117,7 @@ torn_none a n m none c torn =
     go i (inl below) = torn.2.before i below
     go i (inr above) = torn.2.behind i (omega (arith, above, none))
 
--- two ranges, one behind the other
+-- two ranges, one after the other
 pub torn_joined : (a m n : ℕ) (old mid new : Medium) → IsSound old → a + m + n ≤ old.size → LeavesEachTorn a m old mid
     → LeavesEachTorn (a + m) n mid new → LeavesEachTorn a (m + n) old new
 torn_joined a m n old mid new sound room first second c torn = second c (e, first e (d, torn.1, here), rest)

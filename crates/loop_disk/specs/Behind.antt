@@ -1,4 +1,4 @@
--- What a memory disk has behind it.
+-- The past of a memory disk.
 use Rattle.std.specs.Prelude.{ℕ, List, [], ◌∷◌}
 use Rattle.loop_disk.specs.declared.past.Event.{Event}
 use Rattle.loop_disk.specs.declared.past.Event.TheVariants.{Began, Wrote, Synced}
@@ -18,7 +18,7 @@ nothing_yet = record { settled = []; loose = []; moments = [] }
 abbrev pub moment_now : Behind → List ℕ → Moment
 moment_now behind bytes = record { settled = behind.settled; loose = behind.loose; bytes = bytes }
 
--- what is behind the disk after an event, which tells the bytes from before it
+-- the disk's past after an event, which has the bytes from before it
 abbrev pub behind_after : Behind → Event → Behind
 behind_after behind (Began bytes) = record { settled = bytes.now; loose = []; moments = [] }
 behind_after behind (Wrote bytes at count) =

@@ -1,4 +1,4 @@
--- What the calls of an honest disk do, and what each call keeps of every disk.
+-- What the calls of an honest disk do, and what each call of any disk keeps.
 use Rattle.std.specs.Prelude.{◌≡◌, ◌↔◌, ℕ, ◌+◌, ◌-◌, ◌^◌, Bool, true, false, min, max, List, length, Option, Some, None, Result, Ok, Err, OnOk}
 use Rattle.loop_disk.specs.declared.fault.Failures.{Failures}
 use Rattle.loop_disk.specs.declared.fault.DiskFault.{DiskFault}
@@ -38,7 +38,7 @@ pub record Called (old new : Medium) (failed : Option DiskFault) : Type 0 where
   pub honest : old.honest ↔ new.honest
   pub failures : new.failures ≡ with_failed failed old.failures
 
--- the disk is as it was, though time went on
+-- the disk is as it was, though time passed
 pub record Stays (old new : Medium) : Type 0 where
   pub bytes : new.bytes ≡ old.bytes
   pub images : (c : List ℕ) → new.may_leave c → old.may_leave c

@@ -1,4 +1,4 @@
--- A disk in memory that remembers its calls, and what it gives back as the disk after a crash.
+-- A disk in memory that remembers its calls, and the disk that it returns as the one after a crash.
 use Rattle.std.specs.Prelude.{◌≡◌, ℕ, ◌+◌, ◌*◌, ◌%◌, ◌<◌, ◌≤◌, true, List, [], ◌∷◌, length, fold, get_or}
 use Rattle.loop_disk.specs.declared.fault.Failures.{Failures}
 use Rattle.loop_disk.specs.declared.crash.DeviceCall.{DeviceCall}
@@ -35,12 +35,12 @@ abbrev pub moments_from : Moment → List Moment → List (DeviceCall (List ℕ)
 moments_from m earlier [] = earlier
 moments_from m earlier (c ∷ calls) = moments_from (after_call m c) (m ∷ earlier) calls
 
--- the medium of such a disk: it has one moment more after each call, a read too
+-- the medium of such a disk: each call adds a moment, a read too
 abbrev pub medium_after : Tape → Medium
 medium_after tape =
     medium_of tape.failures (moment_after tape.start tape.calls) (moments_from (at_rest tape.start) [] tape.calls)
 
--- the call is one of a disk of this size
+-- the call is within a disk of this size
 abbrev pub IsWithin : ℕ → DeviceCall (List ℕ) → Type 0
 IsWithin size call.Read = Unit {0}
 IsWithin size (call.Write at bytes) = at + length bytes ≤ size
@@ -56,7 +56,7 @@ spoiled_byte spoil.Ones i settled present = 255
 spoiled_byte spoil.Gate i settled present = 165
 spoiled_byte (spoil.Mix m) i settled present = (167 * i + m) % 256
 
--- the image that a crash leaves at this moment, where it spoils so what was written since the last sync
+-- the image that a crash leaves at this moment, where it spoils in this way what was written since the last sync
 pub record IsSpoiled (s : Spoil) (m : Moment) (image : List ℕ) : Type 0 where
   pub left : IsLeft m image
   pub loose : (i : ℕ) → i < length image → is_loose m.loose i ≡ true

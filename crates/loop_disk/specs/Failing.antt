@@ -33,14 +33,14 @@ pub record Tears {T : Type 0} (at n : ℕ) (bytes : List ℕ) (old new : Medium)
   pub time : Meanwhile old new (TornAt at n old)
   pub keeps : Remembers old new
 
--- one failure more changes the counts
+-- one more failure changes the counts
 pub record IsCounting (failures : Failures) : Type 0 where
   pub reads : failures.reads < 2 ^ 64 - 1
   pub writes : failures.writes < 2 ^ 64 - 1
   pub syncs : failures.syncs < 2 ^ 64 - 1
 
--- A torn write: it fails, and unless the inner disk failed too, the first bytes are there and those behind them
--- are as they were; and over a harsh disk a crash may leave any bytes in the whole range.
+-- A torn write: it fails. Unless the inner disk failed too, the first bytes are there and those after them are as they
+-- were, and over a harsh disk a crash may leave any bytes in the whole range.
 pub record IsTorn {T : Type 0} (harsh : Type 0) (at : ℕ) (bytes : List ℕ) (keep : ℕ) (old new : Medium)
     (result : Result T DiskFault) : Type 0 where
   pub fails : IsErr result

@@ -1,5 +1,5 @@
--- What a crash may leave of a disk in memory: its moments, and the images of each. Such a disk has one moment
--- more after each write and each sync.
+-- What a crash may leave of a disk in memory: its moments, and the images of each. Each write and each sync adds one
+-- moment to such a disk.
 use Rattle.std.specs.Prelude.{◌≡◌, ◌⊎◌, ℕ, ◌+◌, ◌≤◌, Bool, false, ◌&&◌, ◌||◌, nat_le, nat_lt, List, [], ◌∷◌, length, get_or}
 use Rattle.loop_disk.specs.declared.fault.Failures.{Failures}
 use Rattle.loop_disk.specs.Medium.{Medium, piece, with_bytes_at}
@@ -63,7 +63,7 @@ abbrev pub HasAll : List ℕ → List (ℕ × List ℕ) → Type 0
 HasAll image [] = Unit {0}
 HasAll image (read ∷ reads) = (read.1 ≡ piece read.0 (length read.1) image) × HasAll image reads
 
--- what is said of a disk of which nothing is known but its size, its failures and what its reads gave
+-- the medium of a disk of which only its size, its failures and what its reads gave are known
 abbrev pub unknown : ℕ → Failures → List (ℕ × List ℕ) → Medium
 unknown size failures given = record (medium_of failures (at_rest []) []) {
   size = size;

@@ -1,4 +1,4 @@
--- What stands on a disk, and what a crash may leave of it. An image is all the bytes of a disk.
+-- What is stored on a disk, and what a crash may leave of it. An image is all the bytes of a disk.
 use Rattle.std.specs.Prelude.{◌≡◌, ◌⊎◌, ℕ, ◌+◌, ◌<◌, ◌≤◌, List, ◌++◌, length, take, drop, get_or}
 use Rattle.loop_disk.specs.declared.fault.Failures.{Failures}
 
@@ -47,7 +47,7 @@ pub record IsFresh (image : List ℕ) (m : Medium) : Type 0 where
   pub bytes : m.bytes ≡ image
   pub settled : (c : List ℕ) → m.may_leave c → c ≡ image
 
--- From old to new time went on: a crash since t might have left what it might have left before, or what has P.
+-- Time passed from old to new: a crash since t might have left what it might have left before, or what has P.
 pub record Meanwhile (old new : Medium) (P : List ℕ → Type 0) : Type 0 where
   pub later : old.moment ≤ new.moment
   pub nothing_else : (t : ℕ) (c : List ℕ) → t ≤ old.moment → new.left_since t c → old.left_since t c ⊎ P c
@@ -56,7 +56,7 @@ pub record Meanwhile (old new : Medium) (P : List ℕ → Type 0) : Type 0 where
 abbrev pub Remembers : Medium → Medium → Type 0
 Remembers old new = (t : ℕ) (c : List ℕ) → t ≤ old.moment → old.left_since t c → new.left_since t c
 
--- by what its reads gave, this may be the disk's image
+-- given what its reads gave, this may be the disk's image
 pub record MayBe (m : Medium) (image : List ℕ) : Type 0 where
   pub size : length image ≡ m.size
   pub agrees : m.agrees image
@@ -82,7 +82,7 @@ pub record LeavesOnly (old new : Medium) (P : List ℕ → Type 0) : Type 0 wher
 abbrev pub LeavesEachTorn : ℕ → ℕ → Medium → Medium → Type 0
 LeavesEachTorn at n old new = (c : List ℕ) → TornAt at n old c → new.may_leave c
 
--- what a crash might have left it still may leave
+-- what a crash might have left, it still may leave
 abbrev pub LeavesEach : Medium → Medium → Type 0
 LeavesEach old new = (c : List ℕ) → old.may_leave c → new.may_leave c
 

@@ -1,4 +1,4 @@
--- Calls that are recorded and made again, as far as private contracts and a crash disk's invariant speak of them.
+-- Calls that are recorded and made again, for private contracts and a crash disk's invariant.
 use Rattle.std.specs.Prelude.{◌≡◌, ℕ, ◌+◌, ◌<◌, false, List, length, get_or}
 use Rattle.std.specs.List.{All}
 use Rattle.loop_disk.specs.declared.crash.DeviceCall.{DeviceCall}
@@ -7,7 +7,7 @@ use Rattle.loop_disk.specs.Medium.{SameOutside}
 use Rattle.loop_disk.specs.History.{Moment, is_loose}
 use Rattle.loop_disk.specs.Crashing.{moment_after, IsWithin, IsSpoiled, spoiled_byte}
 
--- the disk that began so holds these bytes after these calls, each within its size
+-- a disk that began with `start` holds `bytes` after these calls, each within its size
 pub record IsRecorded (start : List ℕ) (calls : List (DeviceCall (List ℕ))) (bytes : List ℕ) : Type 0 where
   pub whole : bytes ≡ (moment_after start calls).bytes
   pub size : length bytes ≡ length start
@@ -21,7 +21,7 @@ pub record IsReplayed (s : Spoil) (m : Moment) (bytes image : List ℕ) : Type 0
   pub size : length m.settled ≡ length m.bytes
   pub steady : (i : ℕ) → is_loose m.loose i ≡ false → get_or m.bytes i 0 ≡ get_or m.settled i 0
 
--- in the places of these bytes, from `at` on, stands what a crash leaves of them
+-- the places of these bytes, from `at` on, hold what a crash leaves of them
 pub record PutsSpoiled (s : Spoil) (at : ℕ) (bytes old new : List ℕ) : Type 0 where
   pub outside : SameOutside at (length bytes) old new
   pub there : (i : ℕ) → i < length bytes

@@ -1,4 +1,4 @@
--- Rows of bytes, one behind the other.
+-- Rows of bytes, one after the other.
 use Rattle.std.specs.Prelude.{ℕ, List, flat_map}
 use Rattle.std.specs.Borrow.{Bor}
 

@@ -12,7 +12,7 @@ pub record Stores {T : Type 0} (at : ℕ) (bytes : List ℕ) (old new : Medium) 
   pub images : (c : List ℕ) → new.may_leave c → TornAt at (length bytes) old c
   pub moments : LeavesOnly old new (TornAt at (length bytes) old)
 
--- the image before with any bytes in the first range, or with the first bytes and any in the second range
+-- the old image with any bytes in the first range, or with the first bytes there and any in the second range
 abbrev pub TornInTurn : ℕ → List ℕ → ℕ → ℕ → List ℕ → List ℕ → Type 0
 TornInTurn a first b n old new = SameOutside a (length first) old new ⊎ SameOutside b n (with_bytes_at a first old) new
 
@@ -23,8 +23,8 @@ pub record StoresInTurn {T : Type 0} (a : ℕ) (first : List ℕ) (b : ℕ) (sec
   pub settled : OnOk result (IsSettled new)
   pub moments : LeavesOnly old new (TornInTurn a first b (length second) old.bytes)
 
--- What a call that writes and reads nothing changed: whatever the moment of a stop, the image is one of the first; at
--- Ok it is one of the second, and a crash leaves nothing else. It fails for a write or a sync.
+-- What a call changed that writes and reads nothing. A stop at any moment leaves an image of the first kind. At Ok the
+-- image is of the second kind, and a crash leaves nothing else. It fails only for a write or a sync.
 pub record Changes {T : Type 0} (IsLeft IsSuch : List ℕ → Type 0) (old new : Medium)
     (result : Result T DiskFault) : Type 0 where
   pub moments : old.honest → LeavesOnly old new IsLeft

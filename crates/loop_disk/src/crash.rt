@@ -24,7 +24,7 @@ pub enum DeviceCall<B> {
     Read,
     /// These bytes were written from this place on.
     Write(u64, B),
-    /// What was written before is on the disk.
+    /// What was written before was put on the disk.
     Sync,
 }
 
@@ -47,7 +47,7 @@ pub enum Spoil {
 
 /// A disk in memory, honest, that remembers its calls: each read, write and sync. `size` isn't one of them.
 ///
-/// A call for which its record can't grow fails as a device's call does; it changes nothing, and isn't remembered.
+/// A call for which its record can't grow fails, as a device's call may. It changes nothing, and isn't remembered.
 #[derive(Drop)]
 pub struct CrashDisk<A: Allocator = Global> {
     alloc: A,
@@ -84,8 +84,8 @@ impl<A: Allocator + Copy> CrashDisk<A> {
         CrashDisk::of(alloc, vec![in alloc; 0; size as usize]?)
     }
 
-    /// A disk that holds an image, all of it on the disk. It keeps a second copy of it. Its only error is want
-    /// of memory.
+    /// A disk that holds an image, all of it synced. It keeps a second copy of the image. Its only error is want of
+    /// memory.
     pub fn of(alloc: A, bytes: Vec<u8, A>) -> Result<Self, AllocError>
         ensures { IfOk result (λ disk. disk ≡ record { start = bytes.items; calls = []; failures = no_failures }) }
     {
@@ -113,7 +113,7 @@ impl<A: Allocator + Copy> CrashDisk<A> {
         &self.bytes
     }
 
-    /// The disk after a crash that came when so many calls were made, the first ones. Its only error is want of memory.
+    /// The disk after a crash that came once the first so many calls were made. Its only error is want of memory.
     pub fn crash(&self, calls: usize, spoil: Spoil) -> Result<MemDisk<A>, AllocError>
         requires { calls ≤ length self.now.calls }
         ensures left { IfOk result (λ disk.
@@ -193,7 +193,7 @@ impl<A: Allocator + Copy> Disk for CrashDisk<A> {
         }
     }
 
-    /// It takes memory for the joined bytes, too.
+    /// It takes memory for the joined bytes too.
     fn write_rows(&mut self, at: u64, rows: &[&[u8]]) -> Result<(), DiskFault>
         requires { at + length (joined rows.now) ≤ (medium_after self.old).size }
         ensures disk { (medium_after self.old).honest
@@ -237,7 +237,7 @@ impl<A: Allocator + Copy> Disk for CrashDisk<A> {
     }
 }
 
-// Puts a call behind the others, or changes nothing where there is no room.
+// Adds a call after the others, or changes nothing where memory is refused.
 fn remember<A: Allocator>(
     calls: &mut Vec<DeviceCall<Vec<u8, A>>, A>,
     call: DeviceCall<Vec<u8, A>>,
@@ -251,7 +251,7 @@ fn remember<A: Allocator>(
     Ok(())
 }
 
-// Remembers a write, and makes it; or changes nothing where there is no room.
+// Remembers a write, and makes it; or changes nothing where memory is refused.
 fn remember_write<A: Allocator>(
     alloc: A,
     calls: &mut Vec<DeviceCall<Vec<u8, A>>, A>,
@@ -272,8 +272,8 @@ fn remember_write<A: Allocator>(
     Ok(())
 }
 
-// Makes the calls again: whole on one image, and on the other with what a crash leaves of what was written
-// since the last sync.
+// Makes the calls again on two images. On the first they are whole; on the second what was written since the last sync
+// is as a crash leaves it.
 fn replay<A: Allocator>(
     bytes: &mut Vec<u8, A>,
     image: &mut Vec<u8, A>,
@@ -313,7 +313,7 @@ fn replay_call<A: Allocator>(
     }
 }
 
-// Puts in the place of bytes what a crash leaves of them.
+// Puts what a crash leaves of bytes in their place.
 fn put_spoiled<A: Allocator>(image: &mut Vec<u8, A>, at: u64, bytes: &[u8], spoil: Spoil)
     requires { at + length bytes.now ≤ length image.old.items }
     ensures { PutsSpoiled spoil at bytes.now image.old.items image.new.items }
@@ -323,7 +323,7 @@ fn put_spoiled<A: Allocator>(image: &mut Vec<u8, A>, at: u64, bytes: &[u8], spoi
     spoil_range(&mut image[start..end], start, bytes, spoil);
 }
 
-// The same in the range itself, which begins at this place of the disk.
+// The same on the range itself, which begins at this place of the disk.
 fn spoil_range(range: &mut [u8], start: usize, bytes: &[u8], spoil: Spoil)
     requires same { length range.old ≡ length bytes.now }
     requires fits { start + length bytes.now < 2 ^ 64 }

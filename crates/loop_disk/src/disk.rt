@@ -9,19 +9,18 @@ use crate::DiskFault;
 
 /// A disk of fixed size, in bytes. The model is this project's own.
 ///
-/// What is written may be lost in part until a sync has answered Ok: a crash leaves any bytes in each range
-/// written since the last such sync, and the present bytes elsewhere. A crash may come before, within or after
-/// a call.
+/// What is written may be lost in part until a sync has answered Ok: a crash leaves any bytes in each range written
+/// since the last such sync, and the present bytes elsewhere. A crash may come before, within or after a call.
 ///
-/// What `read`, `write_at` and `sync` say of bytes and images holds of an honest disk. `called` holds of every
-/// disk: it keeps its size, honesty is neither gained nor lost, and each failed call is counted. So does `gives`:
-/// until the next write, an image that agrees with what was read has those bytes there.
+/// What `read`, `write_at` and `sync` say of bytes and images holds of an honest disk. `called` holds of every disk: it
+/// keeps its size, honesty is neither gained nor lost, and each failed call is counted. `gives` holds of every disk
+/// too: until the next write, an image that agrees with what was read has those bytes there.
 pub trait Disk {
-    /// What it is: its size, whether it is honest, which calls have failed, what stands on it, which images agree with
-    /// what was read, and what a crash may leave.
+    /// What it is: its size, whether it is honest, which calls have failed, what is stored on it, which images agree
+    /// with what was read, and what a crash may leave.
     ghost medium: { Self → Medium };
 
-    /// Whether it is as bad as the rules allow: a crash may leave each image that they name, and not only some.
+    /// Whether it is as bad as the rules allow: a crash may leave every image that they name, and not only some.
     ghost harsh: { Self → Type 0 };
 
     /// How many bytes it has. This isn't counted as a call, and can't fail.
@@ -48,7 +47,7 @@ pub trait Disk {
         ensures fault { IfErr result (λ fault. fault ≡ Write) }
         ensures called { Called (medium self.old) (medium self.new) (failed_call result) };
 
-    /// Writes rows of bytes from `at` on, one behind the other: one write of all their bytes.
+    /// Writes rows of bytes from `at` on, one after the other: one write of all their bytes.
     fn write_rows(&mut self, at: u64, rows: &[&[u8]]) -> Result<(), DiskFault>
         requires { at + length (joined rows.now) ≤ (medium self.old).size }
         ensures disk { (medium self.old).honest

@@ -9,7 +9,7 @@ pub enum DiskFault {
     /// Nothing is known of the buffer's bytes.
     #[error("a read failed")]
     Read,
-    /// Any beginning of the bytes may be on the disk, and any part of them after a crash.
+    /// Any prefix of the bytes may be on the disk, and any part of them after a crash.
     #[error("a write failed")]
     Write,
     /// What was written since the last sync may be lost by a crash, as before.
@@ -51,7 +51,7 @@ impl Failures {
         }
     }
 
-    /// Hands on the answer of a call, and counts it if it failed: for a disk that wraps another.
+    /// Returns the answer of a call, and counts it if it failed: for a disk that wraps another.
     pub fn note(&mut self, outcome: Result<(), DiskFault>) -> Result<(), DiskFault>
         ensures same { result ≡ outcome }
         ensures counted { self.new ≡ with_failed (failed_call outcome) self.old }

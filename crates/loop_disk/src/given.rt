@@ -1,5 +1,5 @@
-// What the reads of a disk gave, as data of its proofs. It takes no memory, and its calls do nothing when the
-// program runs.
+// What the reads of a disk gave, as data for proofs. It takes no memory, and its calls do nothing when the program
+// runs.
 ghost use Rattle.std.specs.Prelude.{◌≡◌, ◌∷◌, [], ℕ, List};
 ghost use Rattle.std.specs.Borrow.{ftrue};
 
@@ -14,7 +14,7 @@ pub struct Gave<'a> {
     pub bytes: &'a [u8],
 }
 
-/// What the reads of a disk gave since its last write, for contracts alone: it is empty when the program runs.
+/// What the reads of a disk gave since its last write, only for contracts: it is empty when the program runs.
 #[derive(Drop)]
 pub struct Given {
     ghost reads: { List (ℕ × List ℕ) },

@@ -1,14 +1,14 @@
 //! Disks of fixed size whose contracts say what a crash may leave.
 //!
-//! `disk` has the trait: what a call does to the bytes, to the images that a crash now may leave, and to those
-//! of every moment since. What a call does to bytes and images is promised of an honest disk alone; that size
-//! and honesty stay, and that a failed call is counted by its kind, of every disk. `steps` has the stores that
-//! everything above is made of: a write and then a sync, and two of these in turn. `memory` is a disk in
-//! memory, honest, whose crashes are as bad as the model allows: `past` keeps its calls as ghost data, as `given`
-//! keeps what the reads of a disk gave. `crash` is a disk in memory that keeps its calls for tests, and gives back
-//! the image that a crash leaves at a call of choice. `fuse` and `once` fail calls on purpose, over another disk.
-//! `specs/` has the definitions, `proofs/` the lemmas for callers: `Moments` joins runs of calls, `Images` has parts
-//! of images. A disk over a file is a crate of its own (loop_file).
+//! `disk` has the trait: what a call does to the bytes, to the images that a crash now may leave, and to those of every
+//! moment since. What a call does to bytes and images is promised only of an honest disk. That size and honesty stay,
+//! and that a failed call is counted by its kind, is promised of every disk. `steps` has the stores that everything
+//! above is made of: a write and then a sync, and two of these in turn. `memory` is a disk in memory, honest, whose
+//! crashes are as bad as the model allows: `past` keeps its calls as ghost data, as `given` keeps what the reads of a
+//! disk gave. `crash` is a disk in memory that keeps its calls for tests, and returns the image that a crash leaves at
+//! a chosen call. `fuse` and `once` fail calls on purpose, over another disk. `specs/` has the definitions, `proofs/`
+//! the lemmas for callers: `Moments` joins runs of calls, `Images` has parts of images. A disk over a file is a crate
+//! of its own (loop_file).
 //!
 //! docs/disk-model.md says why it is so.
 #![tactic(auto)]

@@ -17,12 +17,12 @@ use std::alloc::{AllocError, Allocator, Global};
 #[derive(Drop)]
 pub struct MemDisk<A: Allocator = Global> {
     bytes: Vec<u8, A>,
-    /// Its writes and syncs. It takes no memory: proofs alone read it.
+    /// Its writes and syncs. It takes no memory: only proofs read it.
     past: Past,
 }
 
 impl<A: Allocator> MemDisk<A> {
-    /// A disk of so many bytes of zero. Its only error is want of memory, for a size that memory can't hold too.
+    /// A disk of so many bytes of zero. Its only error is want of memory, also for a size that no memory can have.
     pub fn new(alloc: A, size: u64) -> Result<Self, AllocError>
         ensures fresh { IfOk result (λ disk. IsFresh (replicate size 0) (⟦<MemDisk<A> as Disk>⟧.medium disk)) }
         ensures size { IfOk result (λ disk. (⟦<MemDisk<A> as Disk>⟧.medium disk).size ≡ size) }
@@ -32,7 +32,7 @@ impl<A: Allocator> MemDisk<A> {
         Ok(MemDisk::of(vec![in alloc; 0; size as usize]?))
     }
 
-    /// A disk that holds an image, all of it on the disk.
+    /// A disk that holds an image, all of it synced.
     pub fn of(bytes: Vec<u8, A>) -> Self
         ensures fresh { IsFresh bytes.items (⟦<MemDisk<A> as Disk>⟧.medium result) }
         ensures size { (⟦<MemDisk<A> as Disk>⟧.medium result).size ≡ length bytes.items }

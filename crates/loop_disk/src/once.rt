@@ -67,7 +67,7 @@ impl<D> OnceDisk<D> {
         inner
     }
 
-    // Whether the next call is the one that fails, which it then no longer is.
+    // Counts a call. Returns whether it is the one that fails; later calls then pass.
     fn counts_down(&mut self) -> bool
         ensures due { result ≡ is_due self.old.left }
         ensures left { self.new.left ≡ left_after self.old.left }
@@ -154,7 +154,7 @@ impl<D: Disk> Disk for OnceDisk<D> {
             return self.failures.note(outcome);
         }
         if let Some(keep) = self.torn {
-            // This write fails in any case, and says so.
+            // Dropped: this write fails in any case, and that is what it answers.
             match tear(&mut self.inner, at, bytes, keep) {
                 Ok(()) | Err(_) => (),
             }
@@ -189,7 +189,7 @@ impl<D: Disk> Disk for OnceDisk<D> {
             return self.failures.note(outcome);
         }
         if let Some(keep) = self.torn {
-            // This write fails in any case, and says so.
+            // Dropped: this write fails in any case, and that is what it answers.
             match tear_rows(&mut self.inner, at, rows, keep) {
                 Ok(()) | Err(_) => (),
             }
@@ -217,8 +217,8 @@ impl<D: Disk> Disk for OnceDisk<D> {
     }
 }
 
-// Writes the first bytes of a write, and the present bytes again in the places of the others: all of them then
-// count as written.
+// Writes the first bytes of a write, and the present bytes again in the places of the others. So all of them count as
+// written.
 fn tear<D: Disk>(disk: &mut D, at: u64, bytes: &[u8], keep: usize) -> Result<(), DiskFault>
     requires { at + length bytes.now ≤ (D.medium disk.old).size }
     ensures disk { (D.medium disk.old).honest
@@ -278,7 +278,7 @@ fn rewrite<D: Disk>(disk: &mut D, at: u64, from: usize, count: usize) -> Result<
     Ok(())
 }
 
-// Writes the present bytes again in as many places as the buffer has.
+// Writes the present bytes again, as many as the buffer holds.
 fn rewrite_chunk<D: Disk>(disk: &mut D, at: u64, chunk: &mut [u8]) -> Result<(), DiskFault>
     requires { at + length chunk.old ≤ (D.medium disk.old).size }
     ensures disk { (D.medium disk.old).honest

@@ -1,16 +1,16 @@
-// What a memory disk has behind it, as data of its proofs. It takes no memory, and its calls do nothing when
-// the program runs.
+// What happened to a memory disk before, as data for proofs. It takes no memory, and its calls do nothing when the
+// program runs.
 ghost use Rattle.std.specs.Prelude.{◌≡◌};
 ghost use Rattle.std.specs.Borrow.{ftrue};
 ghost use Rattle.loop_disk.specs.Behind.{Behind, nothing_yet, behind_after};
 
 use std::marker::Model;
 
-/// What happens to a memory disk, with its bytes from before that.
+/// What happens to a memory disk, with the bytes that it had before.
 #[derive(Clone, Copy, Drop)]
 pub(crate) enum Event<'a> {
     Began(&'a [u8]),
-    /// From this place on so many bytes are written.
+    /// So many bytes are written from this place on.
     Wrote(&'a [u8], u64, usize),
     Synced(&'a [u8]),
 }

@@ -1,4 +1,4 @@
-// Rows of bytes, one behind the other.
+// Rows of bytes, one after the other.
 ghost use Rattle.std.specs.Prelude.{◌≡◌, ◌+◌, ◌<◌, ◌≤◌, ◌^◌, IfOk, length};
 ghost use Rattle.loop_disk.specs.Medium.{with_bytes_at};
 ghost use Rattle.loop_disk.specs.Rows.{joined};
@@ -17,7 +17,7 @@ pub fn length_of(rows: &[&[u8]]) -> usize
     }
 }
 
-/// The bytes of rows, one behind the other, in memory of their own.
+/// The bytes of rows, one after the other, in memory of their own.
 pub fn join_rows<A: Allocator>(alloc: A, rows: &[&[u8]]) -> Result<Vec<u8, A>, AllocError>
     ensures { IfOk result (λ bytes. bytes.items ≡ joined rows.now) }
 {
@@ -28,7 +28,7 @@ pub fn join_rows<A: Allocator>(alloc: A, rows: &[&[u8]]) -> Result<Vec<u8, A>, A
     Ok(bytes)
 }
 
-/// Puts rows in their place.
+/// Puts the bytes of rows into an image, from `at` on.
 pub(crate) fn put_rows<A: Allocator>(image: &mut Vec<u8, A>, at: u64, rows: &[&[u8]])
     requires { at + length (joined rows.now) ≤ length image.old.items }
     ensures { image.new.items ≡ with_bytes_at at (joined rows.now) image.old.items }

@@ -7,8 +7,8 @@ ghost use Rattle.loop_disk.specs.Steps.{Stores, StoresInTurn};
 
 use crate::{Disk, DiskFault};
 
-/// Writes the bytes from `at` on, and syncs: two device calls. At Ok the bytes are on the disk.
-/// After a failure, as at each moment before, their place may hold any bytes, and everything else is as it was.
+/// Writes the bytes from `at` on, and syncs: two device calls. At Ok the bytes are on the disk. After a failure, as at
+/// each moment during the call, their place may hold any bytes, and everything else is as it was.
 pub fn store<D: Disk>(disk: &mut D, at: u64, bytes: &[u8]) -> Result<(), DiskFault>
     requires { at + length bytes.now ≤ (D.medium disk.old).size }
     ensures disk { (D.medium disk.old).honest → Stores at bytes.now (D.medium disk.old) (D.medium disk.new) result }
@@ -19,7 +19,7 @@ pub fn store<D: Disk>(disk: &mut D, at: u64, bytes: &[u8]) -> Result<(), DiskFau
     disk.sync()
 }
 
-// Does the same with rows of bytes, one behind the other.
+// Does the same with rows of bytes, one after the other.
 fn store_rows<D: Disk>(disk: &mut D, at: u64, rows: &[&[u8]]) -> Result<(), DiskFault>
     requires { at + length (joined rows.now) ≤ (D.medium disk.old).size }
     ensures disk { (D.medium disk.old).honest
@@ -31,9 +31,9 @@ fn store_rows<D: Disk>(disk: &mut D, at: u64, rows: &[&[u8]]) -> Result<(), Disk
     disk.sync()
 }
 
-/// Stores bytes and then, once they are on the disk, others: such as the gates that say that the first are there.
-/// Four device calls on a disk where a crash leaves the present bytes and nothing else, as it does again at Ok.
-/// The two places may overlap.
+/// Stores bytes and then, once they are on the disk, others, such as the gates that say that the first are there: four
+/// device calls. Before it a crash must leave the present bytes and nothing else; at Ok it does so again. The two
+/// places may overlap.
 pub fn store_in_turn<D: Disk>(
     disk: &mut D,
     at: u64,
@@ -53,7 +53,7 @@ pub fn store_in_turn<D: Disk>(
     store(disk, gate, gates)
 }
 
-/// Does the same with rows of bytes in the place of the first.
+/// Does the same with rows of bytes as the first.
 pub fn store_rows_in_turn<D: Disk>(
     disk: &mut D,
     at: u64,

@@ -1,9 +1,9 @@
--- A file's answers as a disk's, and a disk to begin with.
+-- A file's answers as those of a disk, and a disk that was not used yet.
 use Rattle.std.specs.Prelude.{◌≡◌, ℕ, Result, Ok, Err, List}
 use Rattle.loop_disk.specs.Calls.{no_failures}
 use Rattle.loop_disk.specs.Medium.{Medium}
 
--- the file's Ok is the disk's, and whatever else the file answers is this fault
+-- the file's Ok is the disk's, and each error of the file is this fault
 abbrev pub failing_as : {T E F : Type 0} → F → Result T E → Result T F
 failing_as fault (Ok x) = Ok x
 failing_as fault (Err error) = Err fault

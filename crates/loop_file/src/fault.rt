@@ -1,14 +1,14 @@
-// Why a file can't be had.
+// Why a file can't be opened or made.
 
 use std::alloc::AllocError;
 use std::io;
 use std::io::ErrorKind;
 use thiserror::Error;
 
-/// Why a file can't be had as a disk.
+/// Why a file can't be opened as a disk, or made.
 #[derive(Clone, Copy, Debug, PartialEq, Eq, Error)]
 pub enum FileFault {
-    /// Another program, or another part of this one, holds the file's lock; or it makes the file at the same time.
+    /// Another program, or another part of this one, holds the file's lock or is making the file.
     #[error("the file is in use")]
     Busy,
     /// The path names a folder.
@@ -17,19 +17,19 @@ pub enum FileFault {
     /// There is no such file, or no such folder for it.
     #[error("there is no such file")]
     Missing,
-    /// The file's or the folder's rights don't allow it.
+    /// The permissions of the file or of its folder don't allow it.
     #[error("the rights for the file are missing")]
     Denied,
     /// The path names a device or a pipe.
     #[error("this is not a regular file")]
     NotRegular,
-    /// The file system is full, or the owner's share of it is.
+    /// The file system is full, or the owner's quota is used up.
     #[error("there is no room for the file")]
     NoRoom,
-    /// There is no memory for the name of what a link names.
+    /// Memory for the path that a link names was refused.
     #[error("out of memory")]
     NoMemory,
-    /// The system refused for another cause: a size that no file may have, for one.
+    /// The system refused for another reason: a size that no file may have, for example.
     #[error("the file can't be opened")]
     Failed,
 }

@@ -23,14 +23,14 @@ use std::rt::Files;
 
 /// A disk over a file: as many bytes as the file had when it was opened.
 ///
-/// Reads and writes are positioned and go on after a short count or an interruption; a sync is the file's `sync_data`.
-/// The file's lock (advisory, as `flock` gives it) is held until the disk is dropped.
+/// Reads and writes are positioned, and continue after a short count or an interruption. A sync is the file's
+/// `sync_data`. The file's lock (advisory, as `flock` gives it) is held until the disk is dropped.
 #[derive(Drop)]
 pub struct FileDisk<F = File> {
     file: F,
     size: u64,
     failures: Failures,
-    /// What its reads gave since its last write. It takes no memory: proofs alone read it.
+    /// What its reads gave since its last write. It takes no memory: only proofs read it.
     given: Given,
 }
 
@@ -48,7 +48,7 @@ impl FileDisk {
         place.create(rt, size)
     }
 
-    /// Opens a file that is there, for reading and writing. Its length is the disk's size.
+    /// Opens an existing file, for reading and writing. Its length is the disk's size.
     pub fn open<R: Files<File = File>, P: AsPath>(rt: &R, path: P) -> Result<Self, FileFault>
         ensures { IfOk result (λ disk. IsUnused (⟦<FileDisk<File> as Disk>⟧.medium disk)) }
     {
@@ -72,9 +72,9 @@ impl<F: OpenFile + FileExt + Drop> FileDisk<F> {
         Ok(FileDisk::of_size(file, size))
     }
 
-    /// Makes an open file, which nobody else may use, a disk of so many bytes of zero, each written, and syncs
-    /// the folder in which it stands, and then the file. It takes no lock. A file that can't have that size or
-    /// has no room to grow to it keeps its bytes; one that can't be written over begins with a zero.
+    /// Makes an open file, which nobody else may use, a disk of so many bytes of zero, each written, and syncs the
+    /// file's folder, and then the file. It takes no lock. A file that can't have that size or has no room to grow to
+    /// it keeps its bytes; one that can't be written over begins with a zero.
     pub fn fresh_over<G: OpenFile>(file: F, folder: &G, size: u64) -> Result<Self, FileFault>
         ensures size { IfOk result (λ disk. (⟦<FileDisk<F> as Disk>⟧.medium disk).size ≡ size) }
         ensures unused { IfOk result (λ disk. IsUnused (⟦<FileDisk<F> as Disk>⟧.medium disk)) }
@@ -95,7 +95,7 @@ impl<F: OpenFile + FileExt + Drop> FileDisk<F> {
         }
     }
 
-    // The answer of a call of the disk, which is counted if the file's call failed.
+    // What a call of the disk answers. It is counted if the file's call failed.
     fn answer(&mut self, outcome: io::Result<()>, fault: DiskFault) -> Result<(), DiskFault>
         ensures answer { result ≡ failing_as fault outcome }
         ensures counted { self.new.failures ≡ with_failed (failed_call result) self.old.failures }
@@ -119,7 +119,7 @@ impl<F: OpenFile + FileExt + Drop> Disk for FileDisk<F> {
         self.size
     }
 
-    /// An image agrees afterwards just where it did before and has these bytes there.
+    /// An image agrees afterwards exactly if it did before and has these bytes there.
     fn read(&mut self, at: u64, buf: &mut [u8]) -> Result<(), DiskFault>
         requires { at + length buf.old ≤ (⟦<FileDisk<F> as Disk>⟧.medium self.old).size }
         ensures gives { (image : List ℕ) → MayBe (⟦<FileDisk<F> as Disk>⟧.medium self.new) image

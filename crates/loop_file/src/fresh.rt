@@ -1,4 +1,4 @@
-// A file that is made anew, in place: what a stop leaves of it at any moment is what it was, or begins with a zero.
+// A file that is made anew, in place: at any moment a stop leaves what it was, or a file that begins with a zero.
 
 use crate::fault::FileFault;
 use std::fs::OpenFile;
@@ -10,10 +10,10 @@ const PIECE: usize = 1 << 20;
 
 static ZEROS: [u8; PIECE] = [0; PIECE];
 
-/// Gives a file so many bytes of zero, each written, and syncs it; its folder is synced before anything is changed.
+/// Gives a file so many bytes of zero, each written, and syncs it. Its folder is synced before anything is changed.
 ///
-/// The first byte comes first: it is zero on the disk before any other byte, or the length, is changed. Then comes the
-/// room. Up to there a refusal gives back what the file was; behind it the first byte stays zero.
+/// The first byte is cleared first: it is zero on the disk before any other byte, or the length, is changed. Then the
+/// file grows. A refusal up to that point restores what the file was; after it the first byte stays zero.
 pub(crate) fn make_fresh<F: OpenFile + FileExt, G: OpenFile>(
     file: &F,
     folder: &G,
@@ -23,12 +23,12 @@ pub(crate) fn make_fresh<F: OpenFile + FileExt, G: OpenFile>(
     folder.sync_all()?;
     let first = first_byte(file, kept)?;
     if let Err(error) = set_first(file, first, 0) {
-        // What failed may fail again: the refusal that is told is the first one.
+        // What failed may fail again: only the first refusal is returned.
         let _ = set_first(file, first, first);
         return Err(FileFault::from(error));
     }
     if let Err(error) = grow(file, kept, size) {
-        // What has no room is told, and not what fails here.
+        // The want of room is returned, and not what fails while the file is cut back.
         let _ = cut_back(file, kept, first);
         return Err(FileFault::from(error));
     }
@@ -51,7 +51,7 @@ fn first_byte<F: FileExt>(file: &F, kept: u64) -> io::Result<u8> {
     Ok(first[0])
 }
 
-// Writes the first byte, and syncs it. One that was zero stays.
+// Writes the first byte, and syncs it. A byte that was zero is left alone.
 fn set_first<F: OpenFile + FileExt>(file: &F, was: u8, byte: u8) -> io::Result<()> {
     if was == 0 {
         return Ok(());
@@ -60,7 +60,7 @@ fn set_first<F: OpenFile + FileExt>(file: &F, was: u8, byte: u8) -> io::Result<(
     file.sync_data()
 }
 
-// Writes what is new of a file that grows, so that the file system has to find room for it, and syncs it.
+// Grows a file, writes its new bytes, so that the file system has to find room for them, and syncs it.
 fn grow<F: OpenFile + FileExt>(file: &F, kept: u64, size: u64) -> io::Result<()> {
     if size <= kept {
         return Ok(());
@@ -70,14 +70,14 @@ fn grow<F: OpenFile + FileExt>(file: &F, kept: u64, size: u64) -> io::Result<()>
     file.sync_all()
 }
 
-// Takes from a file what it has grown by, and then gives its first byte back: with that byte it has its own length.
+// Cuts a file back to its old length, and then restores its first byte: so with that byte it has its own length.
 fn cut_back<F: OpenFile + FileExt>(file: &F, kept: u64, first: u8) -> io::Result<()> {
     file.set_len(kept)?;
     file.sync_all()?;
     set_first(file, first, first)
 }
 
-// Writes over a file's old bytes, takes those that are too many, and syncs it.
+// Cuts off the bytes that a file has too many, writes zeros over its other old bytes, and syncs it.
 fn clear<F: OpenFile + FileExt>(file: &F, kept: u64, size: u64) -> io::Result<()> {
     if kept == 0 {
         return Ok(());

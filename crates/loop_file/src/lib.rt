@@ -1,10 +1,10 @@
-//! A disk over a file. No contract says what the file holds: `FileDisk` never claims to be honest. What is promised of
-//! it is its size, that each call that the file failed is counted by its kind, and that no other is.
+//! A disk over a file. No contract says what the file holds: `FileDisk` never claims to be honest. Its contracts give
+//! its size, and say that each call that the file failed is counted by its kind, and that no other is.
 //!
-//! `file` has the disk; `rows` how rows become writes of whole pages; `place` where a path's file stands, and how it is
+//! `file` has the disk; `rows` how rows become writes of whole pages; `place` where a path's file is, and how it is
 //! made there or given up; `fresh` the order in which an old file is made anew; `text` a file or pipe that a text is
 //! written to; `opened` how each of them is opened, never with the number of a standard stream; `fault` why a file
-//! can't be had. `specs/Outcomes` says how a file's answer is the disk's.
+//! can't be opened. `specs/Outcomes` says how a file's answer becomes the disk's.
 //!
 //! docs/store.md says why it is so.
 #![tactic(auto)]

@@ -15,11 +15,11 @@ const STREAMS: i32 = 3;
 // A folder that every process sees.
 const ROOT: &str = "/";
 
-/// Opens a file, pipe or device as is asked for. Its descriptor is never 0, 1 or 2, also where the program was started
-/// with one of these closed: what the program prints would go into that file.
+/// Opens a file, pipe or device with these options. Its descriptor is never 0, 1 or 2, even where the program was
+/// started with one of these closed: what the program prints would go into that file.
 ///
-/// Each of the three that is closed is taken first, for as long as the program runs, by a folder that is open for
-/// reading alone: so a write to a standard output that was closed fails, as it did before.
+/// Each of the three that is closed is taken first, for as long as the program runs, by a folder that is open only for
+/// reading. So a write to a standard output that was closed fails, as it did before.
 pub fn open_file<R: Files<File = File>, P: AsPath>(
     rt: &R,
     how: &OpenOptions,
@@ -29,7 +29,7 @@ pub fn open_file<R: Files<File = File>, P: AsPath>(
 {
     take_streams(rt)?;
     let file = how.open(rt, path)?;
-    // Only where someone has closed a standard stream meanwhile.
+    // It is so only where a standard stream was closed meanwhile.
     if file.as_raw_fd() < STREAMS {
         return Err(io::Error::from(ErrorKind::Other));
     }
@@ -43,14 +43,14 @@ pub fn open_to_read<R: Files<File = File>, P: AsPath>(rt: &R, path: P) -> io::Re
     open_file(rt, OpenOptions::new().read(true), path)
 }
 
-// Takes the numbers of the standard streams that are closed. The system gives the lowest number that is free.
+// Takes the descriptors of the standard streams that are closed. The system gives the lowest one that is free.
 fn take_streams<R: Files<File = File>>(rt: &R) -> io::Result<()> {
     for _ in 0..STREAMS {
         let folder = File::open(rt, ROOT)?;
         if folder.as_raw_fd() >= STREAMS {
             break;
         }
-        // It stays open as long as the program runs: the stream's number is taken by it.
+        // It stays open as long as the program runs, since it has the stream's descriptor.
         let _taken = folder.into_raw_fd();
     }
     Ok(())

@@ -1,4 +1,4 @@
-// Where a file stands, and how it is made anew there.
+// Where a file is, and how it is made anew there.
 ghost use Rattle.std.specs.Prelude.{◌≡◌, IfOk};
 ghost use Rattle.loop_file.specs.Outcomes.{IsUnused};
 
@@ -15,14 +15,14 @@ use std::path::{Path, PathBuf};
 use std::rt::Files;
 use std::{fs, io};
 
-// The most links, one behind the other, that are followed from a path to a file.
+// The most links that are followed, one after the other, from a path to a file.
 const MAX_LINKS: u32 = 40;
 
 // What is added to a file's name, after a dot, while the file is being made.
 const UNFINISHED: &str = "new";
 
-/// Where the file of a path stands, or is to stand: what a link at the path's end names, and not the link. Its folder
-/// is held open.
+/// Where the file of a path is, or will be: where the path ends in a link, what the link names, and not the link. Its
+/// folder is held open.
 #[derive(Drop)]
 pub struct FilePlace {
     path: PathBuf,
@@ -32,7 +32,7 @@ pub struct FilePlace {
 }
 
 impl FilePlace {
-    /// Looks for the place of a path's file, and changes nothing. It takes memory for the names of what links name.
+    /// Looks for the place of a path's file, and changes nothing. It takes memory for the paths that links name.
     pub fn of<R: AllocGlobal + Files<File = File>>(rt: &R, path: &str) -> Result<Self, FileFault> {
         let mut path = PathBuf::from_str(rt.alloc(), path)?;
         for _ in 0..MAX_LINKS {
@@ -52,12 +52,12 @@ impl FilePlace {
     }
 
     /// Makes the file, or makes an old one anew, with so many bytes of zero. At Ok its name is on the disk, and each of
-    /// its bytes has its place there: later writes find room on a full file system too. That takes as long as to write
-    /// so many bytes, and as much room as the larger of both.
+    /// its bytes has its place there: later writes find room even on a full file system. It takes as long as writing so
+    /// many bytes, and as much room as the larger of the old size and the new one.
     ///
-    /// A refused new file is gone. Of an old one that is in use, can't have that size or has no room to grow to it,
-    /// each byte and the length are kept; one that can't be written over is left with a zero as its first byte. What a
-    /// stop leaves is what was there, or begins with a zero.
+    /// A new file that is refused is removed. An old file that is in use, can't have that size or has no room to grow
+    /// to it keeps each byte and its length; one that can't be written over is left with a zero as its first byte. A
+    /// stop leaves what was there, or a file that begins with a zero.
     pub fn create<R: Files<File = File>>(
         &mut self,
         rt: &R,
@@ -71,7 +71,7 @@ impl FilePlace {
         match self.make(rt, &file, size) {
             Ok(()) => Ok(FileDisk::of_size(file, size)),
             Err(fault) => {
-                // Whoever has the lock of a file that was made just now goes on with it.
+                // Whoever holds the lock of a file that was just made continues with it.
                 if fault != FileFault::Busy {
                     self.remove(rt, &file);
                 }
@@ -80,20 +80,20 @@ impl FilePlace {
         }
     }
 
-    /// Gives up what `create` made, for who has no use of the disk: a new file is removed, and an old one, whose bytes
-    /// are gone, is left with a zero as its first byte. What fails of that is left as it is.
+    /// Gives up what `create` made, for a caller that has no use for the disk: a new file is removed, and an old one,
+    /// whose bytes are gone, is left with a zero as its first byte. A step of this that fails is not tried again.
     pub fn give_up<R: Files<File = File>>(self, rt: &R, disk: FileDisk) {
         let file = disk.into_file();
         if self.is_new {
             self.remove(rt, &file);
         } else {
-            // Who gives up has a refusal of its own to tell.
+            // Dropped: a caller that gives up has a refusal of its own to report.
             let _ = close(&file);
         }
     }
 
-    /// The place of a file that is to get this place's name once it is finished: NAME.new, in the same folder. What an
-    /// earlier try left may stand there.
+    /// The place of a file that gets this place's name once it is finished: NAME.new, in the same folder. What an
+    /// earlier try left may still be there.
     pub fn unfinished<R: AllocGlobal + Files<File = File>>(
         &self,
         rt: &R,
@@ -113,8 +113,8 @@ impl FilePlace {
         FileDisk::open(rt, self.path.as_path())
     }
 
-    /// Gives a finished file of another place this place's name. At Ok that is on the disk. `Busy` where this place has
-    /// a file: nothing is changed then.
+    /// Gives a finished file of another place this place's name. At Ok that name is on the disk. `Busy` where this
+    /// place has a file: nothing is changed then.
     pub fn finish<R: Files<File = File>>(&self, rt: &R, made: &FilePlace) -> Result<(), FileFault> {
         match fs::symlink_metadata(rt, self.path.as_path()) {
             Ok(_) => return Err(FileFault::Busy),
@@ -126,8 +126,8 @@ impl FilePlace {
         Ok(())
     }
 
-    // Takes the lock of an open file, and gives it so many bytes of zero. Two programs may make one path at a time, and
-    // the one that is refused removes its file: so the path has to name this file once the lock is had.
+    // Takes the lock of an open file, and gives it so many bytes of zero. Two programs may make the file of one path at
+    // the same time, and the one that is refused removes its file. So the path has to name this file once it is locked.
     fn make<R: Files<File = File>>(&self, rt: &R, file: &File, size: u64) -> Result<(), FileFault> {
         take(file)?;
         if !names(rt, self.path.as_path(), file)? {
@@ -136,11 +136,11 @@ impl FilePlace {
         make_fresh(file, &self.folder, size)
     }
 
-    // Removes a file that is new, unless the path names another one by now. The refusal that led to it is told, and not
-    // what fails here.
+    // Removes a file that is new, unless the path names another one by now. Where that can't be seen, it is removed.
     fn remove<R: Files<File = File>>(&self, rt: &R, file: &File) {
         let path = self.path.as_path();
         if self.is_new && names(rt, path, file).unwrap_or(true) {
+            // Both answers are dropped: the caller reports the refusal that led here, and not what fails now.
             let _ = fs::remove_file(rt, path);
             let _ = self.folder.sync_all();
         }
@@ -168,7 +168,7 @@ pub(crate) fn lock(file: &File) -> Result<(), FileFault> {
     }
 }
 
-// Opens a file that is there, or makes one; tells whether it was made.
+// Opens an existing file, or makes one; returns also whether it was made.
 fn open_or_make<R: Files<File = File>>(rt: &R, path: Path<'_>) -> Result<(File, bool), FileFault> {
     let mut options = OpenOptions::new();
     options.read(true).write(true);
@@ -182,7 +182,7 @@ fn open_or_make<R: Files<File = File>>(rt: &R, path: Path<'_>) -> Result<(File, 
     }
 }
 
-// What a link names, seen from where it stands; nothing where the path names no link, or nothing at all.
+// What a link names, seen from the link's folder; `None` where the path names no link, or nothing at all.
 fn target_of<R: AllocGlobal + Files<File = File>>(
     rt: &R,
     path: Path<'_>,
@@ -198,7 +198,7 @@ fn target_of<R: AllocGlobal + Files<File = File>>(
     }
 }
 
-/// The folder in which a path's file stands.
+/// The folder of a path's file.
 pub(crate) fn folder_of(path: Path<'_>) -> Path<'_> {
     match path.parent() {
         Some(folder) if !folder.as_os_str().is_empty() => folder,

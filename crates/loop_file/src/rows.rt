@@ -1,23 +1,23 @@
-// Rows written to a file, one behind the other.
+// Rows written to a file, one after the other.
 ghost use Rattle.std.specs.Prelude.{◌≡◌, ◌++◌, ◌+◌, ◌≤◌, ◌<◌, ◌^◌, length};
 ghost use Rattle.loop_disk.specs.Rows.{joined};
 
 use std::io;
 use std::os::unix::fs::FileExt;
 
-// Where a write ends within one of these, the system reads the rest of it from the disk first.
+// A page of a file. Where a write ends within one, the system first reads the rest of it from the disk.
 const PAGE: usize = 4096;
 
 // How many bytes of short rows are put together. A function that takes more than 24 KiB of the stack may be compiled
 // wrongly (docs/working.md, "A fault of the compiler").
 const TOGETHER: usize = 12 * 1024;
 
-// Memory for these, and for what is missing of a page behind them.
-type Memory = [u8; TOGETHER + PAGE];
+// Memory for these, and for what completes the last page.
+type RowMemory = [u8; TOGETHER + PAGE];
 
-/// Writes rows from a place on. Short ones are put together first. Of a long one whole pages are written from where
-/// they are; what stands before the first and behind the last goes with the rows before and behind it. So each write
-/// but the first begins at a page, and each but the last ends at one.
+/// Writes rows from a place on. Short ones are put together first. Of a long one, whole pages are written from where
+/// they are; what lies before the first page and after the last goes with the rows before and after it. So each write
+/// but the first begins at a page boundary, and each but the last ends at one.
 pub(crate) fn write_rows<F: FileExt>(file: &F, at: u64, rows: &[&[u8]]) -> io::Result<()>
     requires { at + length (joined rows.now) < 2 ^ 64 }
 {
@@ -43,7 +43,7 @@ pub(crate) fn write_rows<F: FileExt>(file: &F, at: u64, rows: &[&[u8]]) -> io::R
     file.write_all_at(&memory[..held], at)
 }
 
-// A row that is to stand at this place: what comes before the next page, whole pages, and the rest.
+// A row that is to be written at this place: what comes before the next page, whole pages, and the rest.
 fn parts(at: u64, row: &[u8]) -> (&[u8], &[u8], &[u8])
     ensures whole { row.now ≡ result.0.now ++ result.1.now ++ result.2.now }
     ensures front { length result.0.now ≤ 4096 }
@@ -55,8 +55,8 @@ fn parts(at: u64, row: &[u8]) -> (&[u8], &[u8], &[u8])
     (front, pages, tail)
 }
 
-// Puts bytes into the memory, behind as many.
-fn hold(memory: &mut Memory, held: usize, bytes: &[u8])
+// Puts bytes into the memory, after so many that it holds.
+fn hold(memory: &mut RowMemory, held: usize, bytes: &[u8])
     requires { held + length bytes.now ≤ 16384 }
 {
     memory[held..held + bytes.len()].copy_from_slice(bytes);

@@ -21,8 +21,8 @@ pub struct TextFile {
 }
 
 impl TextFile {
-    /// Opens what a path leads to, or makes a file there. Nothing that it has is changed. `Busy` where another program,
-    /// or another part of this one, has the file: a store that is recorded into, for one.
+    /// Opens what a path leads to, or makes a file there. Its contents stay as they are. `Busy` where another program,
+    /// or another part of this one, has the file: a store that is being recorded into, for example.
     pub fn open<R: AllocGlobal + Files<File = File>>(
         rt: &R,
         path: &str,
@@ -52,18 +52,18 @@ impl TextFile {
         })
     }
 
-    /// Takes from a file what it has. A pipe or a device is left as it is.
+    /// Empties a file. A pipe or a device is left as it is.
     pub fn empty(&mut self) -> io::Result<()> {
-        // One that has nothing is left alone, since some file systems write a file that was cut to nothing through to
-        // the disk when it is closed.
+        // An empty file is left alone, since some file systems flush a file that was cut to length 0 to the disk when
+        // it is closed.
         if self.is_file && self.file.metadata()?.len() > 0 {
             self.file.set_len(0)?;
         }
         Ok(())
     }
 
-    /// Returns once the disk was asked to keep all that a file has, and its name if it was made here. Of a pipe or a
-    /// device nothing can be kept.
+    /// Returns once a file's bytes, and its name if it was made here, are synced to the disk. A pipe or a device has
+    /// nothing to sync.
     pub fn settle(&self) -> io::Result<()> {
         if self.is_file {
             sync_through(&self.file)?;

@@ -26,9 +26,6 @@ none_last n = omega arith
 moved : (a b c d : ℕ) → b ≡ c + d → a + b ≡ (a + c) + d
 moved a b c d e = omega arith
 
-swapped : (a b c d : ℕ) → b ≡ c + d → a + b ≡ c + (a + d)
-swapped a b c d e = omega arith
-
 regrouped : (n a b c : ℕ) → n + (c + (b + a)) ≡ ((n + a) + b) + c
 regrouped n a b c = omega arith
 
@@ -55,7 +52,7 @@ out_first : (a b n : ℕ) → a ≡ 0 → b + n ≡ (a + n) + b
 out_first a b n e = omega arith
 
 module _ {T : Type 0} where
-  -- one list and nothing behind it
+  -- one list and nothing after it
   pub last_none : (vs : List (ℕ × T)) → vs ++ [] ≡ vs
   last_none [] = refl
   last_none (v ∷ vs) = ap (λ l. v ∷ l) (last_none vs)
@@ -139,7 +136,7 @@ module _ {T : Type 0} where
 
   -- ---- names
 
-  -- each fd is there so often, and is attached where it is there
+  -- how often each fd is there, and that it is attached where it is there
   abbrev pub AreOnce : (ℕ → ℕ) → Names T → Type 0
   AreOnce count before = (fd : ℕ) → IsOnce (count fd) (before fd)
 

@@ -9,11 +9,11 @@ use Rattle.loop_vb2.specs.declared.planes.PlaneSet.{PlaneSet}
 use Rattle.loop_vb2.specs.declared.planes.Shape.{Shape}
 use Rattle.loop_vb2.specs.declared.reason.Errno.{Errno}
 use Rattle.loop_vb2.specs.Buffers.{failed_with}
-use Rattle.loop_vb2.proofs.Short.{completed_with, body_fatal}
+use Rattle.loop_vb2.proofs.Short.{completed_with}
 use Rattle.loop_vb2.specs.Planes.{number_at, slot_filled, set_by, frame_size}
 use Rattle.loop_vb2.specs.State.{QueueState, Lined}
-use Rattle.loop_vb2.specs.Effects.{end_buffer, on_body}
-use Rattle.loop_vb2.specs.Events.{Happens, complete, fail, fatal}
+use Rattle.loop_vb2.specs.Effects.{end_buffer}
+use Rattle.loop_vb2.specs.Events.{Happens, complete, fail}
 use Rattle.loop_ioctl.specs.declared.events.QueueEvent.TheVariants as event
 use Rattle.loop_ioctl.specs.declared.events.QueueReply.TheVariants as answer
 use Rattle.loop_ioctl.specs.Names.{Names, value_with_fd, values_in}
@@ -84,9 +84,6 @@ module _ {P : Type 0} (A : Type 0) (m : P → Plane) where
             (failed_linked index stamp j.queue j.out j.names stands.linked),
       )
   fail_reacts index stamp (Err e) q q' table step j stands = let t = step j.queue stands.queue in (t.0, stays m q q' table j stands t.1)
-
-  pub fatal_reacts : (q q' : Lined P) (table : Fds P) → Happens m q q' fatal → Reacts {A = A} m event.Fatal answer.Fatal q table q' table
-  fatal_reacts q q' table step j stands = let t = step j.queue stands.queue in (t.0, moves m q q' table j (on_body body_fatal j.queue) stands t.1 stands.linked)
 
 pub whole_bytes : {P A : Type 0} (shape : Shape) (e : QueueEvent P A) (index : ℕ) (stamp : Stamp) (bytes : Vec ℕ A)
     → is_whole shape e ≡ true → e ≡ event.Complete index stamp bytes → length bytes.items ≡ frame_size shape

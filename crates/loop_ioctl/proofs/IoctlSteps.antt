@@ -1,11 +1,10 @@
 -- Each ioctl is a step of queue and table.
-use Rattle.std.proofs.Common.{◌≡◌, ℕ, Bool, true, false, cond, List, [], Some, None, Ok, Err, refl, sym, ◌∙◌, ap, subst}
+use Rattle.std.proofs.Common.{◌≡◌, ℕ, Bool, true, false, cond, List, [], Some, None, Ok, Err, refl, sym, ◌∙◌, ap}
 use Rattle.std.specs.Prelude.{Result, IfErr, IfOk, OnErr}
 use Rattle.std.specs.Result.{result_err}
 use Rattle.loop_plane.specs.Plane.{Plane}
 use Rattle.loop_plane.specs.Fds.{Fds}
 use Rattle.loop_vb2.specs.declared.reason.Errno.{Errno}
-use Rattle.loop_vb2.specs.declared.reason.Reason.TheVariants.{BadType}
 use Rattle.loop_vb2.specs.declared.buffer.BufferInfo.{BufferInfo}
 use Rattle.loop_vb2.specs.declared.reason.Refused.{Refused}
 use Rattle.loop_vb2.specs.Buffers.{stop_buffer}
@@ -15,14 +14,12 @@ use Rattle.loop_vb2.specs.Errnos.{errno}
 use Rattle.loop_vb2.specs.State.{Body, QueueState, Lined}
 use Rattle.loop_vb2.specs.Events.{Happens, refusal_in, streamon, streamoff, querybuf, mmap, munmap}
 use Rattle.loop_ioctl.specs.declared.call.BufferType.{BufferType}
-use Rattle.loop_ioctl.specs.declared.call.Ioctl.{Ioctl}
 use Rattle.loop_ioctl.specs.declared.call.Ioctl.TheVariants as call
 use Rattle.loop_ioctl.specs.declared.call.IoctlReply.{IoctlReply}
 use Rattle.loop_ioctl.specs.declared.call.IoctlReply.TheVariants as reply
-use Rattle.loop_ioctl.specs.Types.{named_type, type_of, same_type}
 use Rattle.loop_ioctl.specs.Names.{Names}
 use Rattle.loop_ioctl.specs.Attached.{IsLinked}
-use Rattle.loop_ioctl.specs.Calls.{IoctlState, StandsIoctl, HandsBack, planes_given, supply_given, fds_refusal, IsAnsweredFor, Applies}
+use Rattle.loop_ioctl.specs.Calls.{HandsBack}
 use Rattle.loop_ioctl.specs.Parts.{AppliesTyped}
 use Rattle.loop_ioctl.proofs.AttachedFds.{kept_changed, kept_mapped, in_buffers}
 use Rattle.loop_ioctl.proofs.QueueSteps.{settled_fds, settled_kind, still_linked, moves, plain_applies}
@@ -75,38 +72,6 @@ pub query_applies : {P : Type 0} (A : Type 0) (m : P → Plane) (type : BufferTy
 query_applies A m type index info q table step j stands = (((step j.queue stands.queue).0, tt), stands)
 
 module _ {P A : Type 0} (m : P → Plane) where
-  type_read : (c : Ioctl P A) (b : Bool) (q : Lined P) (t : Fds P) (j : IoctlState) → StandsIoctl m q t j
-      → same_type (named_type c) (type_of q.body.format) ≡ b → same_type (named_type c) (type_of j.queue.body.format) ≡ b
-  type_read c b q t j stands is =
-      ap (λ f. same_type (named_type c) (type_of f)) (sym (ap (λ x. x.format) stands.queue.shown.body)) ∙ is
-
-  -- the buffer type is the queue's
-  pub of_type : (c : Ioctl P A) (result : Result (IoctlReply P A) (Refused P A)) (q q' : Lined P) (t t' : Fds P)
-      → same_type (named_type c) (type_of q.body.format) ≡ true → AppliesTyped m c result q t q' t'
-      → Applies m c result q t q' t'
-  of_type c result q q' t t' same then j stands =
-      let h = then j stands in (
-        (
-          subst (λ t. IsAnsweredFor m (cond t (fds_refusal c j) (Some BadType)) c j result)
-              (sym (type_read c true q t j stands same)) h.0.0,
-          h.0.1,
-        ),
-        h.1,
-      )
-
-  -- it is another
-  pub of_other_type : (c : Ioctl P A) (r : Refused P A) (q : Lined P) (t : Fds P)
-      → same_type (named_type c) (type_of q.body.format) ≡ false → r.errno ≡ errno BadType
-      → HandsBack (planes_given c) (supply_given c) r → Applies m c (Err r) q t q t
-  of_other_type c r q t other is back j stands = (
-    (
-      subst (λ t. IsAnsweredFor m (cond t (fds_refusal c j) (Some BadType)) c j (Err r))
-          (sym (type_read c false q t j stands other)) (ap Some is),
-      back,
-    ),
-    stands,
-  )
-
   -- ---- calls that answer nothing but Done, and leave the table
 
   pub stream_on_applies : (type : BufferType) (result : Result (IoctlReply P A) (Refused P A)) (q q' : Lined P)

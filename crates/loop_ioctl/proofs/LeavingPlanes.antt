@@ -99,7 +99,7 @@ apart a b c o e = omega arith
 nothing_apart : (o : ℕ) → (0 + o) + 0 ≡ 0 + o
 nothing_apart o = omega arith
 
--- the planes of a buffer that goes to the application are the queue's no more
+-- the planes of a buffer that goes to the application are no longer the queue's
 pub out_count : (bs : List (Buffer Plane)) (kind : Memory) (index o fd : ℕ)
     → (fd_times fd (values_held kind (change_at (dequeued_from kind) index bs)) + o) + fd_times fd
     (values_by_fd kind (option_to_list (planes_at bs index))) ≡ fd_times fd (values_held kind bs) + o

@@ -23,7 +23,7 @@ use Rattle.loop_ioctl.specs.Calls.{IoctlState, call_event, refusal_before, IsAns
 use Rattle.loop_ioctl.specs.Events.{IsTold, IsTurn, device_event, state_after, after_reply, turns}
 use Rattle.loop_ioctl.specs.Modelled.{event_of, events_of, events_in, TurnsAreEvents, RunsAreInOrder}
 
--- ---- machines: a state is looked at as that of another machine, and each turn is told as turns of that one
+-- ---- machines: a state is looked at as that of another machine, and each turn is read as turns of that one
 
 pub all_told : {S X T Y : Type 0} (after : S → X → S) (P : S → X → Type 0) (next : T → Y → T) (Q : T → Y → Type 0)
     (view : S → T) (told : S → X → List Y)

@@ -24,9 +24,6 @@ tested x y e = grind (arith, nat_tests)
 pub differ : (x y : ℕ) → (x ≡ y → ⊥) → (x == y) ≡ false
 differ x y e = grind (arith, nat_tests)
 
-refusal_none : (a b c : Option Reason) → a ≡ None → b ≡ None → c ≡ None → option_or a (option_or b c) ≡ None
-refusal_none a b c e f g = ap (λ x. option_or x (option_or b c)) e ∙ (ap (λ x. option_or x c) f ∙ g)
-
 pub else_first : (a b : Option Reason) → option_or a b ≡ None → a ≡ None
 else_first None b e = refl
 else_first (Some r) b e = absurd (cc)
@@ -139,44 +136,6 @@ module _ {T : Type 0} where
       ∙ (ap (λ p. given_back (value_with_fd fd p) (place_taken due fd (names_in a))) took.1 ∙ r.back))
 
   -- ---- sets
-
-  pub set_took : (named : PlaneFds) (y cb cr : Option T) (a b c d : Fds T) → TakesPlace (nat_lt 0 named.count)
-      (number_at named.fds 0) (Ok y) a b → TakesPlace (nat_lt 1 named.count) (number_at named.fds 1) (Ok cb) b c
-      → TakesPlace (nat_lt 2 named.count) (number_at named.fds 2) (Ok cr) c d
-      → TakesSet named (Ok (record {
-        count = named.count;
-        planes = record { y = y; cb = cb; cr = cr };
-        fds =
-            named.fds;
-      })) a d
-  set_took named y cb cr a b c d first second third =
-      let d1 = nat_lt 1 named.count in
-      let d2 = nat_lt 2 named.count in
-      let f1 = number_at named.fds 1 in
-      let f2 = number_at named.fds 2 in
-      let n1 = first_taken named 1 (names_in a) in
-      let n2 = first_taken named 2 (names_in a) in
-      let e2 : names_in c ≡ n2 = second.2 ∙ ap (place_taken d1 f1) first.2 in (
-        refusal_none (place_refusal (nat_lt 0 named.count) (number_at named.fds 0) (names_in a)) (place_refusal d1 f1 n1) (place_refusal d2 f2 n2) first.0
-            (sym (ap (place_refusal d1 f1) first.2) ∙ second.0)
-            (sym (ap (place_refusal d2 f2) e2) ∙ third.0),
-        (λ i. record {
-          count = named.count;
-          planes = record { y = first.1 i; cb = (second.1 ∙ ap (place_value d1 f1) first.2) i; cr = (third.1 ∙ ap (place_value d2 f2) e2) i };
-          fds = named.fds;
-        }),
-        third.2 ∙ ap (place_taken d2 f2) e2,
-      )
-
-  pub set_fails_first : (named : PlaneFds) (reason : Reason) (a b : Fds T) → TakesPlace {T = T} (nat_lt 0 named.count)
-      (number_at named.fds 0) (Err reason) a b → TakesSet {T = T} named (Err reason) a b
-  set_fails_first named reason a b first =
-      let n1 = first_taken named 1 (names_in a) in
-      let n2 = first_taken named 2 (names_in a) in (
-        ap (λ x. option_or x (option_or (place_refusal (nat_lt 1 named.count) (number_at named.fds 1) n1)
-            (place_refusal (nat_lt 2 named.count) (number_at named.fds 2) n2))) first.0,
-        same_values a b (ap names_in first.1),
-      )
 
   pub set_fails_second : (named : PlaneFds) (reason : Reason) (y : Option T) (a b c d : Fds T)
       → TakesPlace (nat_lt 0 named.count) (number_at named.fds 0) (Ok y) a b

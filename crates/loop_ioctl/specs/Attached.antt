@@ -20,7 +20,7 @@ module _ {T : Type 0} where
   abbrev pub values_by_fd : Memory → List (PlaneSet T) → List (ℕ × T)
   values_by_fd kind sets = cond (same_memory kind DmaBuf) (flat_map values_in sets) []
 
-  -- an fd is there not at all, or once, and then it is attached
+  -- an fd is not there, or there once and attached
   abbrev pub IsOnce : ℕ → Option (Option T) → Type 0
   IsOnce count name = (count ≡ 0) ⊎ ((count ≡ 1) × (name ≡ Some None))
 

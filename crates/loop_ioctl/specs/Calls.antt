@@ -40,8 +40,8 @@ pub record IoctlState : Type 0 where
 abbrev pub read_names : {P : Type 0} → (P → Plane) → Names P → Names Plane
 read_names meaning before = λ fd. option_map (option_map meaning) (before fd)
 
--- a queue and a table stand for a state, in which each fd of a plane in the queue or out of it is attached, and
--- stands there once
+-- a queue and a table stand for a state, in which each fd of a plane in the queue or out of it is attached, and occurs
+-- once
 pub record StandsIoctl {P : Type 0} (meaning : P → Plane) (code : Lined P) (table : Fds P) (j : IoctlState)
     : Type 0 where
   pub queue : StandsQueue meaning code j.queue

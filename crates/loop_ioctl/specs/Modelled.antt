@@ -34,7 +34,7 @@ module _ {P A : Type 0} (meaning : P → Plane) where
       (j : IoctlState) → StandsIoctl meaning queue table j
       → KeepsOrder queue new_queue (events_in j (turns events replies))
 
--- Turns, each told as the model of the ioctls has it, are events of the queue's model, and leave its state.
+-- Turns, each as the model of the ioctls has it, are events of the queue's model, and lead to its state.
 abbrev pub TurnsAreEvents : {P : Type 0} → Type 0 → (P → Plane) → Type 0
 TurnsAreEvents {P} A meaning =
     (j : IoctlState) (xs : List (QueueEvent P A × QueueReply P A)) → EachIn (after_reply meaning) (IsTurn meaning) j xs

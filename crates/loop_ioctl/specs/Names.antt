@@ -52,7 +52,7 @@ module _ {T : Type 0} where
 
   -- ---- a set by fd: the first `count` values are taken, one after the other
 
-  -- the names once so many are taken
+  -- the names once the first n are taken
   abbrev pub first_taken : PlaneFds → ℕ → Names T → Names T
   first_taken named zero before = before
   first_taken named (suc place) before =

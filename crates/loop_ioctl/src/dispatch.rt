@@ -18,7 +18,7 @@ use loop_record::PixelFormat;
 use loop_vb2::{Dequeued, Errno, Granted, PlaneSet, Queue, Reason, Refused};
 use std::alloc::Allocator;
 
-// The answer of a call of the queue that tells nothing but its refusal.
+// The reply to a call of the queue that returns nothing but a refusal.
 fn done_unless<P, A: Allocator>(
     alloc: A,
     told: Result<(), Errno>,

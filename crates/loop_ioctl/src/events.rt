@@ -94,13 +94,12 @@ pub fn react<P: PlaneMemory, A: Allocator + Copy>(
     }
 }
 
-/// Each event in turn, with its reply. A refused event changes nothing, and the next one follows. NoMemory,
-/// where there is no room for the replies, comes before the first event: then nothing has changed, and the
-/// events come back.
+/// Each event in turn, with its reply. A refused event changes nothing, and the next one follows. NoMemory, where there
+/// is no room for the replies, comes before the first event: then nothing has changed, and the events come back.
 ///
 /// Buffers are dequeued in the order in which they were completed or failed (`in_order`): from any stop of the stream
-/// on, up to the next, those dequeued are a beginning of those that ended; from the start on, if the queue streamed
-/// then or nothing was done, they are a beginning of those that were done at the start and of those that ended since.
+/// on, up to the next, those dequeued are a prefix of those that ended; from the start on, if the queue streamed then
+/// or nothing was done, they are a prefix of those that were done at the start, followed by those that ended since.
 pub fn run_events<P: PlaneMemory, A: Allocator + Copy>(
     queue: &mut Queue<P, A>,
     table: &mut FdTable<P, A>,

@@ -41,7 +41,7 @@ fn give_place<P: Drop, A: Allocator>(table: &mut FdTable<P, A>, fd: u32, place: 
 {
     match place {
         Some(plane) => {
-            // It can't be refused, since the fd is attached.
+            // `detach` can't refuse it, since the fd is attached.
             let _ = table.detach(fd, plane);
         }
         None => {}

@@ -12,12 +12,12 @@ pub fn runs_join<P: PlaneMemory, A: Allocator>()
     ensures { RunsJoin A P.plane }
 {}
 
-/// A queue without buffers and any table stand for a state: no fd is attached by it.
+/// A queue without buffers and any table stand for a state: the queue holds no fd.
 pub fn new_queues_stand<P: PlaneMemory>()
     ensures { NewQueuesStand P.plane }
 {}
 
-/// Turns, each told as the model of the ioctls has it, are events of the queue's own model, and leave its state.
+/// Turns, each as the model of the ioctls has it, are events of the queue's own model, and lead to its state.
 pub fn turns_are_events<P: PlaneMemory, A: Allocator>()
     ensures { TurnsAreEvents A P.plane }
 {}

@@ -1,4 +1,4 @@
--- What a power loss left is opened as a recording after a beginning of the steps.
+-- What a power loss left is opened as a recording after a prefix of the steps.
 use Rattle.std.proofs.Common.{◌≡◌, false, List, ◌++◌, take, ap, subst}
 use Rattle.loop_disk.specs.Medium.{Medium}
 use Rattle.loop_plane.specs.Plane.{Plane}
@@ -21,7 +21,7 @@ use Rattle.loop_lane_text.specs.Reopened.{IsForWant, IsLeftBehind, Reopens}
 
 module _ {D E P A : Type 0} (meaning : P → Plane) (medium : D → Medium) (other : E → Medium) (old new : Lane D P A)
     (events : List (LaneEvent P A)) (replies : List (LaneReply P A)) (s : StoreState) (left : E) where
-  -- what was left holds a beginning of the steps, each clip whole
+  -- what was left holds a prefix of the steps, each clip whole
   left-whole : (keeps : LaneKeeps meaning medium old new events replies) → Stands medium old.desk.store s
       → s.must_reopen ≡ false
       → IsLeftBehind medium other old.desk new.desk left

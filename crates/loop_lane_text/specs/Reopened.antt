@@ -16,7 +16,7 @@ use Rattle.loop_desk.specs.Seen.{SeenDesk}
 use Rattle.loop_lane_text.specs.declared.TextFault.{TextFault}
 use Rattle.loop_lane_text.specs.declared.TextFault.TheVariants as fault
 
--- The store that is opened on the image stands for the recording after a beginning of the run's steps, none skipped,
+-- The store that is opened on the image stands for the recording after a prefix of the run's steps, none skipped,
 -- those that were answered first; and there each clip is whole.
 pub record Reopens {D E P A : Type 0} (meaning : P → Plane) (medium : D → Medium) (other : E → Medium)
     (old new : Lane D P A) (events : List (LaneEvent P A)) (replies : List (LaneReply P A)) (image : List ℕ)
@@ -27,7 +27,7 @@ pub record Reopens {D E P A : Type 0} (meaning : P → Plane) (medium : D → Me
   pub geometry : store.geometry ≡ old.desk.store.geometry
   pub stands : StandsFor other store (plain (ring_of old.desk.store.geometry) s.recording
       (take left.held.count (steps_made old.desk s ran.calls ++ steps_begun old.desk s ran.calls)))
-  -- where the power failed once the run was over, that beginning has all that were answered
+  -- where the power failed once the run was over, that prefix has all that were answered
   pub over : (medium new.desk.store.disk).may_leave image
       → (all : HoldsFrom old.desk.store.geometry s.recording (length (steps_made old.desk s ran.calls))
       (steps_made old.desk s ran.calls ++ steps_begun old.desk s ran.calls) image)

@@ -1,10 +1,11 @@
 //! From a lane to a text, and to what is found after a power loss.
 //!
 //! - `record_and_export`: what was recorded is found again on the disk, and written as YUV4MPEG2;
-//! - `run_and_reopen`: whatever a power loss left of a run's disk is opened, and is the recording after a beginning of
-//!   the run's steps.
+//! - `run_and_reopen`: whatever a power loss left of a run's disk is opened, and is the recording after a prefix of the
+//!   run's steps.
 //!
-//! Both call nothing but what a program would, one after the other; their contracts follow from theirs alone.
+//! Both only make the calls that a program would, one after the other; their contracts follow from the contracts of
+//! these calls alone.
 //!
 //! docs/lane.md says why it is so.
 #![tactic(auto)]
@@ -29,20 +30,20 @@ use loop_y4m::{ExportFault, export};
 use std::alloc::Allocator;
 use std::io::Write;
 
-/// Where a recording didn't become a text, and why.
+/// At which step a recording didn't become a text, and why.
 #[derive(Clone, Copy, Debug, PartialEq, Eq)]
 pub enum TextFault {
     /// In the run: there was no room for the replies, or a call that writes failed.
     Run(StoreFault),
-    /// As the store was opened again.
+    /// While the store was opened again.
     Open(StoreFault),
     /// In the export.
     Export(ExportFault),
 }
 
 /// Runs a lane through events, opens the store on its disk again, and writes the held frames whose numbers are from
-/// `from` to `to`. Where that is answered Ok, the text is that of the plain recorder's frames after all steps of the
-/// events that were answered Ok.
+/// `from` to `to`. At Ok the text is that of the plain recorder's frames after all steps of the events that were
+/// answered Ok.
 pub fn record_and_export<D: Disk + Drop, P: PlaneMemory, A: Allocator + Copy, W: Write>(
     alloc: A,
     lane: Lane<D, P, A>,
@@ -83,9 +84,9 @@ pub fn record_and_export<D: Disk + Drop, P: PlaneMemory, A: Allocator + Copy, W:
 }
 
 /// Runs a lane through events, and opens a disk that has what a power loss may have left of the lane's: the image of
-/// any moment since the run began, before, between or within any writes. It opens, but for want of memory or a failed
-/// call of that disk; and what it holds is the recording after a beginning of the run's steps, in which each clip has
-/// all its frames. Where the power failed once the run was over, that beginning has all steps that were answered.
+/// any moment since the run began, before, between or within any writes. It opens, except where memory is refused or a
+/// call of that disk fails. What it holds is the recording after a prefix of the run's steps, in which each clip has
+/// all its frames. Where the power failed once the run was over, that prefix has all steps that were answered.
 pub fn run_and_reopen<D: Disk + Drop, E: Disk + Drop, P: PlaneMemory, A: Allocator + Copy>(
     alloc: A,
     lane: &mut Lane<D, P, A>,

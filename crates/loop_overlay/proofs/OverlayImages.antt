@@ -7,16 +7,16 @@ use Rattle.loop_disk.specs.declared.fault.Failures.{Failures}
 use Rattle.loop_disk.specs.Medium.{Medium, SameOutside, TornAt, with_bytes_at}
 use Rattle.loop_disk.specs.Calls.{Stays, Syncs, Writes}
 use Rattle.loop_disk.proofs.Images.{length-written, written_outside}
-use Rattle.loop_overlay.specs.Layers.{KeptWrite, laid, laid_on, overlaid}
+use Rattle.loop_overlay.specs.Layers.{LaidWrite, laid, laid_on, overlaid}
 use Rattle.loop_overlay.specs.Sound.{length-laid}
 
 -- one write more
-pub laid_more : (writes : List KeptWrite) (w : KeptWrite) (image : List ℕ) → laid (writes ++ w ∷ []) image ≡ laid_on
+pub laid_more : (writes : List LaidWrite) (w : LaidWrite) (image : List ℕ) → laid (writes ++ w ∷ []) image ≡ laid_on
     (laid writes image) w
 laid_more writes w image = fold-append laid_on image writes (w ∷ [])
 
 -- one that fits
-laid_fits : (writes : List KeptWrite) (w : KeptWrite) (image : List ℕ) → w.at + length w.bytes ≤ length image
+laid_fits : (writes : List LaidWrite) (w : LaidWrite) (image : List ℕ) → w.at + length w.bytes ≤ length image
     → laid (writes ++ w ∷ []) image ≡ with_bytes_at w.at w.bytes (laid writes image)
 laid_fits writes w image fits =
     let size = length-laid writes image in
@@ -24,15 +24,15 @@ laid_fits writes w image fits =
     ∙ take_all (length (laid writes image)) (with_bytes_at w.at w.bytes (laid writes image))
     (omega (arith, length-written w.at w.bytes (laid writes image) (omega (arith, fits, size))))
 
-torn_now : (m : Medium) (writes : List KeptWrite) (f : Failures) (at n : ℕ) (c : List ℕ)
+torn_now : (m : Medium) (writes : List LaidWrite) (f : Failures) (at n : ℕ) (c : List ℕ)
     → SameOutside at n (laid writes m.bytes) c → TornAt at n (overlaid m writes f) c
 torn_now m writes f at n c outside = (laid writes m.bytes, refl, outside)
 
--- a write that is kept
-pub kept_write : (m : Medium) (writes : List KeptWrite) (f : Failures) (w : KeptWrite)
+-- one more write that fits
+pub write_laid : (m : Medium) (writes : List LaidWrite) (f : Failures) (w : LaidWrite)
     → w.at + length w.bytes ≤ length m.bytes
     → Writes {T = Unit {0}} w.at w.bytes (overlaid m writes f) (overlaid m (writes ++ w ∷ []) f) (Ok tt)
-kept_write m writes f w fits =
+write_laid m writes f w fits =
     let now = laid writes m.bytes in
     let n = length w.bytes in
     let done : laid (writes ++ w ∷ []) m.bytes ≡ with_bytes_at w.at w.bytes now = laid_fits writes w m.bytes fits in
@@ -42,7 +42,7 @@ kept_write m writes f w fits =
     λ c left. torn_now m writes f w.at n c (subst (λ (l : List ℕ). SameOutside w.at n now l) (sym (left ∙ done)) outside) in
     let longer : length (writes ++ w ∷ []) ≡ length writes + 1 = length-append writes (w ∷ []) in
     let before : (k : ℕ) → k ≤ length writes → laid (take k (writes ++ w ∷ [])) m.bytes ≡ laid (take k writes) m.bytes =
-    λ k few. ap (λ (ws : List KeptWrite). laid ws m.bytes) (take-append-le k writes (w ∷ []) few) in record {
+    λ k few. ap (λ (ws : List LaidWrite). laid ws m.bytes) (take-append-le k writes (w ∷ []) few) in record {
       done = done;
       elsewhere = subst (λ (l : List ℕ). SameOutside w.at n now l) (sym done) outside;
       images = torn;
@@ -50,7 +50,7 @@ kept_write m writes f w fits =
         later = omega (arith, longer);
         nothing_else = λ t c le left. ⊎_elim
             (λ (new : length writes < left.0). inr
-            (torn c (left.3 ∙ ap (λ (ws : List KeptWrite). laid ws m.bytes)
+            (torn c (left.3 ∙ ap (λ (ws : List LaidWrite). laid ws m.bytes)
             (take_all left.0 (writes ++ w ∷ []) (omega (arith, new, longer))))))
             (λ (old : left.0 ≤ length writes). inl (left.0, left.1, old, left.3 ∙ before left.0 old))
             (cases_lt (length writes) left.0);
@@ -58,7 +58,7 @@ kept_write m writes f w fits =
       keeps = λ t c le left. (left.0, left.1, omega (arith, left.2, longer), left.3 ∙ sym (before left.0 left.2));
     }
 
-pub synced : (m : Medium) (writes : List KeptWrite) (f : Failures) → Syncs {T = Unit {0}} (overlaid m writes f) (overlaid m writes f) (Ok tt)
+pub synced : (m : Medium) (writes : List LaidWrite) (f : Failures) → Syncs {T = Unit {0}} (overlaid m writes f) (overlaid m writes f) (Ok tt)
 synced m writes f = record {
   stays = record {
     bytes = refl;
@@ -71,10 +71,10 @@ synced m writes f = record {
 }
 
 -- a read of the disk beneath
-pub looked : (old new : Medium) (writes : List KeptWrite) (f g : Failures) → Stays old new
+pub looked : (old new : Medium) (writes : List LaidWrite) (f g : Failures) → Stays old new
     → Stays (overlaid old writes f) (overlaid new writes g)
 looked old new writes f g stays =
-    let same : (ws : List KeptWrite) → laid ws new.bytes ≡ laid ws old.bytes = λ ws. ap (λ (l : List ℕ). laid ws l) stays.bytes in record {
+    let same : (ws : List LaidWrite) → laid ws new.bytes ≡ laid ws old.bytes = λ ws. ap (λ (l : List ℕ). laid ws l) stays.bytes in record {
       bytes = same writes;
       images = λ c left. left ∙ same writes;
       time = record { later = omega arith; nothing_else = λ t c le left. inl (left.0, left.1, left.2, left.3 ∙ same (take left.0 writes)) };
@@ -82,9 +82,9 @@ looked old new writes f g stays =
     }
 
 -- the next write of some
-pub laid_next : (writes : List KeptWrite) (i : ℕ) (w : KeptWrite) (image : List ℕ) → i < length writes
+pub laid_next : (writes : List LaidWrite) (i : ℕ) (w : LaidWrite) (image : List ℕ) → i < length writes
     → w ≡ get_or writes i w
     → laid (take (i + 1) writes) image ≡ laid_on (laid (take i writes) image) w
 laid_next writes i w image within is =
-    ap (λ (ws : List KeptWrite). laid ws image) (take_more writes i w within ∙ ap (λ (v : KeptWrite). take i writes ++ v ∷ []) (sym is))
+    ap (λ (ws : List LaidWrite). laid ws image) (take_more writes i w within ∙ ap (λ (v : LaidWrite). take i writes ++ v ∷ []) (sym is))
     ∙ laid_more (take i writes) w image

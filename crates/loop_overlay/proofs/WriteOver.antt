@@ -4,12 +4,12 @@ use Rattle.std.proofs.lemmas.Bool.{cases_lt}
 use Rattle.std.proofs.lemmas.List.{ext_get_or, get_or-take, get_or_append_left}
 use Rattle.loop_disk.specs.Medium.{piece, with_bytes_at}
 use Rattle.loop_disk.proofs.Images.{length-piece, length-written, get_or-piece, get_or-written_there, get_or-written_before, get_or-written_behind, same_piece}
-use Rattle.loop_overlay.specs.Layers.{KeptWrite, laid_on}
+use Rattle.loop_overlay.specs.Layers.{LaidWrite, laid_on}
 use Rattle.loop_overlay.specs.Sound.{length-laid_on}
 use Rattle.loop_overlay.specs.Parts.{IsBufferOf}
 
 -- a byte before the write
-laid_before : (image : List ℕ) (w : KeptWrite) (i : ℕ) → i < length image → i < w.at
+laid_before : (image : List ℕ) (w : LaidWrite) (i : ℕ) → i < length image → i < w.at
     → get_or (laid_on image w) i 0 ≡ get_or image i 0
 laid_before image w i within before =
     let front : length (take w.at image) ≡ min w.at (length image) = length-take w.at image in
@@ -19,22 +19,22 @@ laid_before image w i within before =
     ∙ get_or-take w.at image i 0 before
 
 -- a byte of the write
-laid_there : (image : List ℕ) (w : KeptWrite) (i : ℕ) → i < length image → w.at ≤ i → i < w.at + length w.bytes
+laid_there : (image : List ℕ) (w : LaidWrite) (i : ℕ) → i < length image → w.at ≤ i → i < w.at + length w.bytes
     → get_or (laid_on image w) i 0 ≡ get_or w.bytes (i - w.at) 0
 laid_there image w i within from to =
     get_or-take (length image) (with_bytes_at w.at w.bytes image) i 0 within
     ∙ ap (λ (k : ℕ). get_or (with_bytes_at w.at w.bytes image) k 0) (omega (arith, from))
     ∙ get_or-written_there w.at w.bytes image (i - w.at) (omega (arith, within, from)) (omega (arith, from, to))
 
--- a byte behind the write
-laid_behind : (image : List ℕ) (w : KeptWrite) (i : ℕ) → i < length image → w.at + length w.bytes ≤ i
+-- a byte after the write
+laid_behind : (image : List ℕ) (w : LaidWrite) (i : ℕ) → i < length image → w.at + length w.bytes ≤ i
     → get_or (laid_on image w) i 0 ≡ get_or image i 0
 laid_behind image w i within behind =
     get_or-take (length image) (with_bytes_at w.at w.bytes image) i 0 within
     ∙ get_or-written_behind w.at w.bytes image i (omega (arith, within, behind)) behind
 
 -- a byte from `at` on, where the write has none from there on
-laid_beyond : (at : ℕ) (image : List ℕ) (w : KeptWrite) (i : ℕ) → i < length image → at ≤ i
+laid_beyond : (at : ℕ) (image : List ℕ) (w : LaidWrite) (i : ℕ) → i < length image → at ≤ i
     → length w.bytes ≤ at - w.at → get_or (laid_on image w) i 0 ≡ get_or image i 0
 laid_beyond at image w i within low behind = ⊎_elim
     (λ (before : i < w.at). laid_before image w i within before)
@@ -42,7 +42,7 @@ laid_beyond at image w i within low behind = ⊎_elim
     (cases_lt i w.at)
 
 -- a write that touches no byte of the part
-pub part_outside : (at to from : ℕ) (image buf : List ℕ) (w : KeptWrite) → to ≡ w.at - at → from ≡ at - w.at
+pub part_outside : (at to from : ℕ) (image buf : List ℕ) (w : LaidWrite) → to ≡ w.at - at → from ≡ at - w.at
     → (length buf ≤ to) ⊎ (length w.bytes ≤ from) → IsBufferOf at image buf → IsBufferOf at (laid_on image w) buf
 part_outside at to from image buf w to_is from_is outside part =
     let same : (i : ℕ) → at ≤ i → i < at + length buf → get_or (laid_on image w) i 0 ≡ get_or image i 0 = λ i low high. ⊎_elim
@@ -54,7 +54,7 @@ part_outside at to from image buf w to_is from_is outside part =
     }
 
 -- the bytes that the write has in the part, written over it
-pub part_laid : (at to from count : ℕ) (image buf : List ℕ) (w : KeptWrite) → to ≡ w.at - at → from ≡ at - w.at
+pub part_laid : (at to from count : ℕ) (image buf : List ℕ) (w : LaidWrite) → to ≡ w.at - at → from ≡ at - w.at
     → count ≡ min (length buf - to) (length w.bytes - from)
     → to < length buf → from < length w.bytes → IsBufferOf at image buf → IsBufferOf at (laid_on image w) (with_bytes_at to (piece from count w.bytes) buf)
 part_laid at to from count image buf w to_is from_is count_is inside has part =

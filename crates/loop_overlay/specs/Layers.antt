@@ -3,37 +3,37 @@ use Rattle.std.specs.Prelude.{◌≡◌, ℕ, ◌≤◌, List, fold, length, tak
 use Rattle.loop_disk.specs.declared.fault.Failures.{Failures}
 use Rattle.loop_disk.specs.Medium.{MayBe, Medium, with_bytes_at}
 
--- a write that is kept: the place that it begins at, and its bytes
-pub record KeptWrite : Type 0 where
+-- a write that lies over an image: where it begins, and its bytes
+pub record LaidWrite : Type 0 where
   pub at : ℕ
   pub bytes : List ℕ
 
 -- the image with a write over it, and no longer than it was
-abbrev pub laid_on : List ℕ → KeptWrite → List ℕ
+abbrev pub laid_on : List ℕ → LaidWrite → List ℕ
 laid_on image w = take (length image) (with_bytes_at w.at w.bytes image)
 
 -- the image with writes over it, the first one first
-abbrev pub laid : List KeptWrite → List ℕ → List ℕ
+abbrev pub laid : List LaidWrite → List ℕ → List ℕ
 laid writes image = fold laid_on image writes
 
--- an image that a read gave when the first t writes were made, or after a later one
-abbrev pub ShownSince : List KeptWrite → List ℕ → ℕ → List ℕ → Type 0
+-- an image that a read gave once the first t writes were made, or after a later one
+abbrev pub ShownSince : List LaidWrite → List ℕ → ℕ → List ℕ → Type 0
 ShownSince writes image t c = (k : ℕ) × (t ≤ k) × (k ≤ length writes) × (c ≡ laid (take k writes) image)
 
--- by what the reads of the disk beneath gave, this may be what shows with the writes over it
-pub record MayShow (m : Medium) (writes : List KeptWrite) (image : List ℕ) : Type 0 where
+-- given what the reads of the disk beneath gave, this may be what shows with the writes over it
+pub record MayShow (m : Medium) (writes : List LaidWrite) (image : List ℕ) : Type 0 where
   pub base : List ℕ
   pub may : MayBe m base
   pub is : image ≡ laid writes base
 
--- a disk, the writes over it, and which calls have failed of those that were made by way of the overlay
+-- a disk, the writes over it, and which of the calls that were made through the overlay have failed
 pub record Layered (D : Type 0) : Type 0 where
   pub disk : D
-  pub writes : List KeptWrite
+  pub writes : List LaidWrite
   pub failures : Failures
 
 -- The disk that shows these writes over another. A crash leaves what a read gives.
-abbrev pub overlaid : Medium → List KeptWrite → Failures → Medium
+abbrev pub overlaid : Medium → List LaidWrite → Failures → Medium
 overlaid m writes failures = record m {
   failures = failures;
   bytes = laid writes m.bytes;

@@ -3,9 +3,9 @@ use Rattle.std.proofs.Common.{◌≡◌, ℕ, ◌+◌, ◌≤◌, List, [], ◌�
 use Rattle.std.proofs.lemmas.List.{take_all}
 use Rattle.loop_disk.specs.declared.fault.Failures.{Failures}
 use Rattle.loop_disk.specs.Medium.{IsSound, Medium, with_bytes_at}
-use Rattle.loop_overlay.specs.Layers.{KeptWrite, laid, laid_on, overlaid}
+use Rattle.loop_overlay.specs.Layers.{LaidWrite, laid, laid_on, overlaid}
 
-pub length-laid_on : (image : List ℕ) (w : KeptWrite) → length (laid_on image w) ≡ length image
+pub length-laid_on : (image : List ℕ) (w : LaidWrite) → length (laid_on image w) ≡ length image
 length-laid_on image w =
     let end = w.at + length w.bytes in
     let front = length-append (take w.at image) w.bytes in
@@ -13,16 +13,16 @@ length-laid_on image w =
     let cut = length-take (length image) (with_bytes_at w.at w.bytes image) in
     omega (arith, cut, whole, front, length-take w.at image, length-drop end image)
 
-pub length-laid : (writes : List KeptWrite) (image : List ℕ) → length (laid writes image) ≡ length image
+pub length-laid : (writes : List LaidWrite) (image : List ℕ) → length (laid writes image) ≡ length image
 length-laid [] image = refl
 length-laid (w ∷ writes) image = length-laid writes (laid_on image w) ∙ length-laid_on image w
 
-pub sound_overlaid : (m : Medium) (writes : List KeptWrite) (failures : Failures) → IsSound m
+pub sound_overlaid : (m : Medium) (writes : List LaidWrite) (failures : Failures) → IsSound m
     → IsSound (overlaid m writes failures)
 sound_overlaid m writes failures sound =
     let whole : length (laid writes m.bytes) ≡ m.size = length-laid writes m.bytes ∙ sound.length_is in
     let all : (k : ℕ) → length writes ≤ k → laid (take k writes) m.bytes ≡ laid writes m.bytes =
-    λ k many. ap (λ (ws : List KeptWrite). laid ws m.bytes) (take_all k writes many) in record {
+    λ k many. ap (λ (ws : List LaidWrite). laid ws m.bytes) (take_all k writes many) in record {
       length_is = whole;
       images_length = λ c left. ap (λ (l : List ℕ). length l) left ∙ whole;
       present = refl;

@@ -7,24 +7,24 @@ ghost use Rattle.loop_disk.specs.Calls.{Called, Stays, Syncs, Writes, failed_cal
 ghost use Rattle.loop_overlay.specs.Layers.{Layered, above};
 ghost use Rattle.loop_overlay.specs.Sound.{sound_overlaid};
 
-use crate::kept::{Kept, add_write, lay_all};
+use crate::overlaid_write::{OverlaidWrite, add_write, lay_all};
 use loop_disk::{Disk, DiskFault, Failures, join_rows};
 use std::alloc::{Allocator, Global};
 use std::marker::Model;
 
-/// A disk over another that is never written to or synced: its writes are kept in memory, and a read gives the bytes
-/// of the disk beneath with these over them, the later over the earlier. Nothing is merged, so that each write takes
-/// the memory of its bytes until the disk goes, and a read passes over all of them: it is for looks and trials of few
+/// A disk over another that is never written to or synced: its writes stay in memory, and a read gives the bytes of
+/// the disk beneath with these over them, the later over the earlier. Nothing is merged. So each write takes the memory
+/// of its bytes until the overlay is dropped, and a read passes over all of them: it is for looks and trials of few
 /// writes.
 ///
-/// It stands for a disk held in memory, and a loss of power isn't meant: what its contracts say that a crash leaves is
-/// what a read gives, without a sync too. In truth a stop of the program leaves the disk beneath, as it was. So it
-/// tells nothing of what a loss of power would leave of that one.
+/// It models a disk held in memory, and no loss of power: by its contracts a crash leaves what a read gives, without a
+/// sync too. In truth a stop of the program leaves the disk beneath, as it was. So it says nothing about what a loss of
+/// power would leave of that disk.
 #[derive(Drop)]
 pub struct OverlayDisk<D, A: Allocator = Global> {
     alloc: A,
     inner: D,
-    writes: Vec<Kept<A>, A>,
+    writes: Vec<OverlaidWrite<A>, A>,
     failures: Failures,
 }
 
@@ -48,14 +48,14 @@ impl<D, A: Allocator + Copy> OverlayDisk<D, A> {
         }
     }
 
-    /// How many writes it keeps.
+    /// How many writes it holds.
     pub fn written(&self) -> usize
         ensures { result ≡ length self.now.writes }
     {
         self.writes.len()
     }
 
-    /// The disk beneath, as it was but for the reads. What was written is gone.
+    /// The disk beneath, as it was but for the reads. The writes are gone.
     pub fn into_inner(self) -> D
         ensures { result ≡ self.disk }
     {
@@ -100,7 +100,7 @@ impl<D: Disk, A: Allocator + Copy> Disk for OverlayDisk<D, A> {
         Ok(())
     }
 
-    /// It fails where memory for the write can't be had, and then nothing has changed but the count of failed calls.
+    /// It fails where memory for the write is refused. Then nothing has changed but the count of failed calls.
     fn write_at(&mut self, at: u64, bytes: &[u8]) -> Result<(), DiskFault>
         requires { at + length bytes.now ≤ (D.medium self.old.disk).size }
         ensures disk { (D.medium self.old.disk).honest
@@ -119,7 +119,7 @@ impl<D: Disk, A: Allocator + Copy> Disk for OverlayDisk<D, A> {
         }
     }
 
-    /// It keeps the joined bytes as one write. It fails where memory for them can't be had.
+    /// It holds the joined bytes as one write. It fails where memory for them is refused.
     fn write_rows(&mut self, at: u64, rows: &[&[u8]]) -> Result<(), DiskFault>
         requires { at + length (joined rows.now) ≤ (D.medium self.old.disk).size }
         ensures disk { (D.medium self.old.disk).honest

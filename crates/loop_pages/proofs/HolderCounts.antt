@@ -1,4 +1,4 @@
--- The rule counts; here is what its counts say of who holds a page.
+-- The rule counts; this is what its counts say of who holds a page.
 use Rattle.std.proofs.Common.{◌≡◌, ◌≢◌, inl, inr, ℕ, zero, suc, ◌+◌, ◌≤◌, ◌<◌, List, [], ◌∷◌, sym, refl, ap, ◌∙◌, arith, Contains}
 use mathlib.Core.Logic.{dite}
 use mathlib.Core.Option.{some, some-injective, some-ne-none}
@@ -10,7 +10,7 @@ use Rattle.loop_pages.specs.Words.{times, times_listed, IsLedgerKept}
 use Rattle.loop_pages.specs.Holders.{ListsPage, OneHolder}
 use Rattle.loop_pages.proofs.Times.{one_same, one_other}
 
--- a page that a list contains stands in it at least once
+-- a page that a list contains is in it at least once
 counts : (pages : List ℕ) (page : ℕ) → Contains pages page → 0 < times page pages
 counts [] page (k, within, is) = absurd (omega arith)
 counts (p ∷ ps) page (zero, within, is) = let here = one_same page p (sym is) in omega arith

@@ -1,11 +1,11 @@
--- How often a page stands in lists, and how often views list it.
+-- How often lists contain a page, and how often views list it.
 use Rattle.std.proofs.Common.{◌≡◌, ◌≢◌, ℕ, zero, suc, ◌+◌, Bool, eqb, if◌then◌else◌, List, [], ◌∷◌, ◌++◌, set, sym, refl, ap, arith, eq-eqb, ne_eqb}
 use mathlib.Core.Option.{some, some-injective, some-ne-none}
 use lib.ListN.{get_elem?}
 use Rattle.loop_pages.specs.declared.rule.Holding.{Holding}
 use Rattle.loop_pages.specs.Words.{holding, times, times_listed}
 
--- how often a page stands in a list of just one
+-- how often a list of just one contains a page
 abbrev pub one : ℕ → ℕ → ℕ
 one page other = if eqb page other then 1 else 0
 

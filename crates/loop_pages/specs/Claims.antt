@@ -4,7 +4,7 @@ use Rattle.std.specs.List.{All, AllPairs, range_with_len}
 use Rattle.loop_pages.specs.declared.fault.PageFault.{PageFault}
 use Rattle.loop_pages.specs.declared.fault.PageFault.TheVariants.{NoPages, NoMemory, BadCount}
 
--- a count that may be asked where there are so many at most
+-- a count that may be asked for: 1 up to this many
 abbrev pub IsCount : ℕ → ℕ → Type 0
 IsCount most count = (0 < count) × (count ≤ most)
 
@@ -13,8 +13,8 @@ pub record IsRising (limit : ℕ) (pages : List ℕ) : Type 0 where
   pub below : All (λ page. page < limit) pages
   pub rise : AllPairs (λ page later. page < later) pages
 
--- each page below a limit was tried once, from page 0 upward, after those that were tried before: some were
--- got, and the others missed
+-- each page below a limit was tried once, from page 0 upward, after those that were tried before: the claim got some,
+-- and missed the others
 pub record IsTried (limit : ℕ) (got missed before tried : List ℕ) : Type 0 where
   pub order : tried ≡ before ++ range_with_len 0 limit
   pub got_rise : IsRising limit got
@@ -33,7 +33,7 @@ pub record IsShort (most count : ℕ) (got missed before tried : List ℕ) : Typ
   pub few : length got < count
   pub tries : IsTried most got missed before tried
 
--- why a claim was refused: BadCount is the answer to a count that may not be asked, and to no other
+-- why a claim was refused: BadCount is the answer to a count that may not be asked for, and to no other
 abbrev pub FaultOfClaim : PageFault → Type 0 → Type 0
 FaultOfClaim BadCount good = ¬ good
 FaultOfClaim NoMemory good = good

@@ -28,6 +28,6 @@ place_code =
 abbrev pub IsIdle : TableId → Place → Type 0
 IsIdle ledger seat = (seat.ledger ≡ ledger) × (seat.pages ≡ [])
 
--- the page stands last in the list
+-- the page is the last of the list
 abbrev pub EndsWith : List ℕ → ℕ → Type 0
 EndsWith pages page = (before : List ℕ) × (pages ≡ before ++ page ∷ [])

@@ -7,7 +7,7 @@ use Rattle.loop_pages.specs.declared.rule.Holding.{Holding}
 abbrev pub holding : List ℕ → List ℕ → List ℕ → Holding
 holding pages missed tried = record { pages = pages; missed = missed; tried = tried }
 
--- how often a page stands in a list
+-- how often a list contains a page
 abbrev pub times : ℕ → List ℕ → ℕ
 times page [] = 0
 times page (other ∷ others) = (if page == other then 1 else 0) + times page others
@@ -38,7 +38,7 @@ tries step before found after =
     (after.0 ≡ holding before.0.pages (missed_before step.word before.0.missed ++ step.word ∷ [])
     (before.0.tried ++ step.word ∷ []))
 
--- a page given back: the view loses the page, which it times_listed last
+-- a page given back: the view loses the page, which it listed last
 abbrev pub frees : Step (Unit {0}) → Me (Unit {0}) Holding → ℕ → Me (Unit {0}) Holding → Type 0
 frees step before _ after =
     (before.0.pages ≡ after.0.pages ++ step.word ∷ [])

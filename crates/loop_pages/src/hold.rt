@@ -32,7 +32,7 @@ impl<A: Allocator> Model for PageHold<A> {
         × All (λ page. page < (arc_value h.ledger).words) h.pages.items × (length h.pages.items ≤ 1024) };
 }
 
-// Tries each page once, from page 0 upward, until there are `count`. Says whether there are.
+// Tries each page once, from page 0 upward, until there are `count`. Returns whether there are.
 fn try_each<A: Allocator>(
     ledger: &PageLedger<A>,
     seat: &mut PageSeat,
@@ -72,12 +72,12 @@ fn give_back<A: Allocator>(ledger: &PageLedger<A>, seat: &mut PageSeat, pages: &
 }
 
 impl<A: Allocator> PageLedger<A> {
-    /// Claims `count` free pages: it tries page 0, 1, 2, .. once each until it has as many. The seat is this
-    /// ledger's and holds no page; it goes into the hold. The allocator is that of the hold's list of pages.
+    /// Claims `count` free pages: it tries page 0, 1, 2, .. once each until it has as many. The seat is this ledger's
+    /// and holds no page; it goes into the hold. The allocator is that of the hold's list of pages.
     ///
-    /// BadCount where `count` is 0 or above the ledger's number of pages, NoMemory where a growth was refused,
-    /// and NoPages where each page was tried, and those that it got, which are given back, are fewer. A refusal
-    /// gives the seat back.
+    /// BadCount where `count` is 0 or above the ledger's number of pages, NoMemory where a growth was refused, and
+    /// NoPages where each page was tried and fewer than `count` were free: those that it got are given back. A refusal
+    /// returns the seat.
     pub fn claim(
         alloc: A,
         ledger: &Arc<PageLedger<A>, A>,

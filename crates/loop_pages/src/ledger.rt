@@ -80,7 +80,8 @@ impl<A: Allocator> PageLedger<A> {
         (PageSeat { seat }, PageSeat { seat: other })
     }
 
-    /// The one step that takes a page: a compare-exchange of its word from 0 to 1. Says whether the seat got the page.
+    /// The one step that takes a page: a compare-exchange of its word from 0 to 1. Returns whether the seat got the
+    /// page.
     pub(crate) fn take_page(&self, seat: &mut PageSeat, page: u32) -> bool
         requires ledger { seat.old.ledger ≡ self.now }
         requires page { page < self.now.words }

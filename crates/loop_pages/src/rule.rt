@@ -2,9 +2,9 @@
 use atomic_table::{Play, Split, TableRule};
 use std::collections::LinkedList;
 
-/// What a seat knows: the pages that it holds, in the order in which it got them, the pages that its last claim
-/// tried and missed, since another seat held them, and all pages that it ever tried, one after the other. No
-/// value of it is made.
+/// What a seat knows: the pages that it holds, in the order in which it got them, the pages that its last claim tried
+/// and missed, since another seat held them, and all pages that it ever tried, one after the other. No value of this
+/// type is ever made.
 pub struct Holding {
     pub pages: LinkedList<u32>,
     pub missed: LinkedList<u32>,

@@ -3,9 +3,9 @@ use crate::rule::Holding;
 use atomic_table::Seat;
 use std::marker::Model;
 
-/// The right to make steps on the words of one ledger. It takes no bytes, and a thread of its own can have it.
-/// Contracts see the ledger that it belongs to, the pages that its view lists, those that its last claim
-/// missed, and all that it ever tried.
+/// The right to make steps on the words of one ledger. It takes no bytes, and can be given to another thread. Contracts
+/// see the ledger that it belongs to, the pages that its view lists, those that its last claim missed, and all that it
+/// ever tried.
 #[derive(Drop)]
 pub struct PageSeat {
     pub(crate) seat: Seat<(), Holding>,

@@ -64,17 +64,6 @@ module _ {D A : Type 0} (medium : D → Medium) where
 
   module _ (began old new : SeenDesk D) (before from up : Consumer (Frame A) A AnyItems) (given_up : ℕ)
       (keeps : BackKeeps medium (record { began = began; from = before; desk = old }) from given_up) where
-    -- the ring was looked at, and nothing came out of it
-    pub looked : SameConsumer from up → received up ≡ received from
-        → BackKeeps medium (record { began = began; from = before; desk = old }) up given_up
-    looked same got = record {
-      ring = same-ring before from up keeps.ring same;
-      calls = keeps.calls;
-      goes = keeps.goes;
-      came = keeps.came;
-      fed = subst (λ l. IsFed (map picture l) keeps.calls given_up keeps.came) (sym got) keeps.fed;
-    }
-
     -- calls that submit nothing
     pub called : (more : List DeskCall) → filter is_submit more ≡ [] → DeskGoes medium old new more
         → BackKeeps medium (record { began = began; from = before; desk = new }) from given_up

@@ -1,5 +1,5 @@
--- That what a front leaves, of a source and planes that may, may go to another thread, and what two threads tell each
--- other be looked at by both.
+-- What a front leaves, over a source and planes that may, may go to another thread; and the link of two threads may be
+-- shared by both.
 use denote.RattleType.{RattleType}
 use denote.Param.Send.{IsSend, IsSync, sendable}
 use Rattle.std.proofs.Crossing.{crosses}

@@ -25,11 +25,11 @@ use Rattle.loop_desk.specs.declared.hand.Hand.TheVariants as hand
 use Rattle.loop_desk.specs.Front.{Front, StandsFront, empty, hand_state, kind_of, planes_held}
 use Rattle.loop_desk.specs.Lane.{completed_frame, hand_frame, without_flags}
 use Rattle.loop_desk.specs.Waiting.{FramesAreKept, IsCounted, IsSoundQueue, QueuesStaySound, dequeued_frame, frames_dequeued, frames_waiting}
-use Rattle.loop_pipeline.specs.Fronts.{FrontKeeps, Given, GoesOn, HasMoved, IsOpen, SeenFront, shown, shown_given}
+use Rattle.loop_pipeline.specs.Fronts.{FrontKeeps, TickRecord, GoesOn, HasMoved, IsOpen, SeenFront, shown, shown_given}
 
 module _ {S : Type 0} (gives : S → Next → List ℕ → S → Type 0) where
   -- ticks, and others after them
-  pub goes-behind : (d b e : SeenDevice S) (xs ys : List Given) → GoesOn gives d xs b → GoesOn gives b ys e
+  pub goes-behind : (d b e : SeenDevice S) (xs ys : List TickRecord) → GoesOn gives d xs b → GoesOn gives b ys e
       → GoesOn gives d (xs ++ ys) e
   goes-behind d b e [] ys first second = subst (λ x. GoesOn gives x ys e) first second
   goes-behind d b e (x ∷ xs) ys first second =
@@ -49,7 +49,7 @@ pub record Adds {S P A : Type 0} (gives : S → Next → List ℕ → S → Type
   pub free : hand_frame now.hand ≡ []
   pub ring : SameProducer to up
   pub went : map picture (sent up) ≡ map picture (sent to) ++ frames_dequeued s events
-  pub given : List Given
+  pub given : List TickRecord
   pub source : GoesOn gives d given e
   pub shows : map shown (flat_map completed_frame events) ≡ flat_map shown_given given
 

@@ -29,7 +29,7 @@ use Rattle.loop_desk.specs.declared.hand.Hand.{Hand}
 use Rattle.loop_desk.specs.Front.{Front, StandsFront, planes_held}
 use Rattle.loop_desk.specs.Lane.{completed_frame, hand_frame}
 use Rattle.loop_desk.specs.Waiting.{IsCounted, frames_dequeued}
-use Rattle.loop_pipeline.specs.Fronts.{GaveBy, Given, IsToldBy, shown, shown_given}
+use Rattle.loop_pipeline.specs.Fronts.{GaveBy, TickRecord, IsToldBy, shown, shown_given}
 use Rattle.loop_pipeline.proofs.FrontRuns.{Adds}
 
 -- for such a tick the source was asked
@@ -38,7 +38,7 @@ Asks Idle = ⊥
 Asks WrongSize = ⊥
 Asks tick = Unit {0}
 
--- what a tick tells of the source's answer
+-- what a tick says of the source's answer
 told-by : (tick : Tick) (answer : Next) (active : Option ℕ) → tick ≡ tick_of answer active → Asks tick
     → IsToldBy tick answer
 told-by (Completed i) More active is asks = refl
@@ -121,7 +121,7 @@ end-kind WrongSize stamp bytes s = refl
 
 module _ {S P A : Type 0} (gives : S → Next → List ℕ → S → Type 0) (m : P → Plane) (table : Fds P) (now : ℕ)
     (d e : SeenDevice S) (before after : Lined P) (h : Hand P A) (to : Producer (Frame A) A AnyItems) where
-  abbrev given-at : Tick → List ℕ → Given
+  abbrev given-at : Tick → List ℕ → TickRecord
   given-at tick bytes = record { now = now; tick = tick; bytes = bytes }
 
   -- a tick that changes nothing

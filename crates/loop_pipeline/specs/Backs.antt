@@ -11,7 +11,7 @@ use Rattle.loop_store.specs.declared.fault.StoreFault.{StoreFault}
 use Rattle.loop_desk.specs.Desk.{DeskCall, submitted}
 use Rattle.loop_desk.specs.Seen.{DeskGoes, SeenDesk}
 
--- What came out of the ring: the desk was asked for it and answered so, or it was given up unasked.
+-- A frame that came out of the ring: it was submitted to the desk, with this answer, or it was given up without that.
 pub data Came : Type 0 where
   asked : Picture → Result ℕ StoreFault → Came
   unasked : Picture → Came
@@ -36,19 +36,21 @@ is_submit (submitted p size result) = true
 is_submit call = false
 
 -- a back as its callers see it: its desk and the end of its ring as they were when it was made, and the desk as it is
+-- now
 pub record SeenBack (D A : Type 0) : Type 0 where
   pub began : SeenDesk D
   pub from : Consumer (Frame A) A AnyItems
   pub desk : SeenDesk D
 
--- Each frame of the ring came once, in order; each submit was of one of them; those that weren't accepted are counted.
+-- Each frame of the ring came out once, in order; each submit was of one of them; those that weren't accepted are
+-- counted.
 pub record IsFed (got : List Picture) (calls : List DeskCall) (given_up : ℕ) (came : List Came) : Type 0 where
   pub whole : map picture_of came ≡ got
   pub submits : flat_map calls_by came ≡ filter is_submit calls
   pub lost : length (flat_map lost_by came) ≡ given_up
 
--- The desk has gone on from the one that the back was made with, whatever its disk, by calls whose submits are of the
--- frames that came out of the ring.
+-- From the desk that the back was made with to the desk as it is, whatever its disk, there were just these calls; their
+-- submits are of the frames that came out of the ring.
 pub record BackKeeps {D A : Type 0} (medium : D → Medium) (seen : SeenBack D A)
     (from : Consumer (Frame A) A AnyItems) (given_up : ℕ) : Type 0 where
   pub ring : SameConsumer seen.from from

@@ -15,7 +15,7 @@ use Rattle.loop_desk.specs.Lane.{without_flags}
 use Rattle.loop_desk.specs.Waiting.{frames_waiting}
 use Rattle.loop_desk.specs.Seen.{DeskGoes, SeenDesk}
 use Rattle.loop_pipeline.specs.Backs.{Came, calls_by, is_submit, lost_by, picture_of}
-use Rattle.loop_pipeline.specs.Fronts.{Given, GoesOn, shown, shown_given}
+use Rattle.loop_pipeline.specs.Fronts.{TickRecord, GoesOn, shown, shown_given}
 
 -- a camera: its device, its queue and its desk
 pub record SeenCamera (S D P : Type 0) : Type 0 where
@@ -24,16 +24,17 @@ pub record SeenCamera (S D P : Type 0) : Type 0 where
   pub desk : SeenDesk D
 
 -- From one moment of a camera to another: the frames that waited in its queue, and those that its source gave at ticks
--- that completed a buffer, are in order and with all bytes those that came to the desk, and those that still wait. Each
--- that came was accepted, or is counted. And of those that were accepted the footage is kept, whenever the power fails.
+-- that completed a buffer, are, in order and with all bytes, those that came to the desk and those that still wait.
+-- Each that came was accepted, or is counted. The footage of those that were accepted is kept, whenever the power
+-- fails.
 pub record CameraKeeps {S D P : Type 0} (medium : D → Medium) (gives : S → Next → List ℕ → S → Type 0)
     (meaning : P → Plane) (old new : SeenCamera S D P) (given_up : ℕ) : Type 0 where
   -- the device, by its ticks
-  pub given : List Given
+  pub given : List TickRecord
   pub source : GoesOn gives old.device given new.device
   pub completed : List Picture
   pub shows : map shown completed ≡ flat_map shown_given given
-  -- the frames' way
+  -- the way of the frames
   pub first : QueueState
   pub last : QueueState
   pub stood : StandsQueue meaning old.queue first

@@ -32,12 +32,12 @@ use Rattle.loop_desk.specs.Waiting.{IsCounted, IsSoundQueue, frames_dequeued, fr
 -- ---- ticks of a device
 
 -- a tick: when it was, what it did, and the bytes that the source gave
-pub record Given : Type 0 where
+pub record TickRecord : Type 0 where
   pub now : ℕ
   pub tick : Tick
   pub bytes : List ℕ
 
--- what the source has answered where a tick did this
+-- what the source answered if a tick did this
 abbrev pub IsToldBy : Tick → Next → Type 0
 IsToldBy (Completed i) answer = answer ≡ More
 IsToldBy (Failed i) answer = answer ≡ Bad
@@ -46,7 +46,7 @@ IsToldBy Ended answer = answer ≡ End
 IsToldBy _ answer = ⊥
 
 module _ {S : Type 0} (gives : S → Next → List ℕ → S → Type 0) where
-  -- one tick: Idle and WrongSize change nothing, and for any other the source was asked, and gave these bytes
+  -- one tick: Idle and WrongSize change nothing; at any other the source was asked, and gave these bytes
   abbrev pub GaveBy : Tick → List ℕ → SeenDevice S → SeenDevice S → Type 0
   GaveBy Idle bytes d e = e ≡ d
   GaveBy WrongSize bytes d e = e ≡ d
@@ -54,7 +54,7 @@ module _ {S : Type 0} (gives : S → Next → List ℕ → S → Type 0) where
       (answer : Next) × IsToldBy tick answer × gives d.source answer bytes e.source × (e.size ≡ d.size)
 
   -- ticks, one after the other
-  abbrev pub GoesOn : SeenDevice S → List Given → SeenDevice S → Type 0
+  abbrev pub GoesOn : SeenDevice S → List TickRecord → SeenDevice S → Type 0
   GoesOn d [] e = e ≡ d
   GoesOn d (g ∷ gs) e = (between : SeenDevice S) × GaveBy g.tick g.bytes d between × GoesOn between gs e
 
@@ -67,7 +67,7 @@ abbrev pub shown_at : Tick → ℕ × List ℕ → List (ℕ × List ℕ)
 shown_at (Completed i) x = x ∷ []
 shown_at tick x = []
 
-abbrev pub shown_given : Given → List (ℕ × List ℕ)
+abbrev pub shown_given : TickRecord → List (ℕ × List ℕ)
 shown_given g = shown_at g.tick (g.now, g.bytes)
 
 -- ---- what a front keeps
@@ -92,8 +92,8 @@ pub record IsOpen {P : Type 0} (meaning : P → Plane) (queue : Lined P) (table 
   pub inside : state.out ≡ []
   pub shaped : IsShaped queue
 
--- What waited and then what the device completed is what went into the ring, in order and with all bytes, and then what
--- waits; and what it completed is what its source gave.
+-- What waited and then what the device completed is what was pushed into the ring, in order and with all bytes, and
+-- then what waits now. What the device completed is what its source gave.
 pub record FrontKeeps {S P A : Type 0} (gives : S → Next → List ℕ → S → Type 0) (meaning : P → Plane)
     (seen : SeenFront S P A) (device : SeenDevice S) (queue : Lined P) (to : Producer (Frame A) A AnyItems)
     : Type 0 where
@@ -102,7 +102,7 @@ pub record FrontKeeps {S P A : Type 0} (gives : S → Next → List ℕ → S �
   pub last : QueueState
   pub stood : StandsQueue meaning seen.queue first
   pub stands : StandsQueue meaning queue last
-  pub given : List Given
+  pub given : List TickRecord
   pub source : GoesOn gives seen.device given device
   pub completed : List Picture
   pub shows : map shown completed ≡ flat_map shown_given given
@@ -112,15 +112,15 @@ pub record FrontKeeps {S P A : Type 0} (gives : S → Next → List ℕ → S �
 abbrev pub made_of : {S P A : Type 0} → Begun S P A → SeenFront S P A
 made_of begun = record { queue = begun.queue.value; device = begun.device.value; to = begun.to.value }
 
--- So it is of the parts that a front leaves; and where no buffer is in its hand, another front may begin with them.
+-- So it is of the parts that a front leaves; and if no buffer is in its hand, another front may begin with them.
 pub record Leaves {S P A : Type 0} (gives : S → Next → List ℕ → S → Type 0) (meaning : P → Plane)
     (seen : SeenFront S P A) (parts : FrontParts S P A) : Type 0 where
   pub keeps : FrontKeeps gives meaning seen parts.device parts.queue parts.to
   pub again : parts.hand ≡ hand.Empty → IsOpen meaning parts.queue parts.table
 
--- ---- its way to another thread and back (private contracts alone)
+-- ---- to another thread and back (private contracts alone)
 
--- what came back is what a front leaves, with the end of the ring that is inside of what carried it
+-- what came back is what a front leaves, with the end of the ring that is inside the carrier
 abbrev pub LeavesCarried : {S P W : Type 0} → (W → Producer (Frame Global) Global AnyItems)
     → (S → Next → List ℕ → S → Type 0) → (P → Plane) → SeenFront S P Global → Left S P W → Type 0
 LeavesCarried inside gives meaning seen left = Leaves gives meaning seen (record {
@@ -145,8 +145,8 @@ emptied (full index p planes) = spent index planes
 emptied (spent index planes) = spent index planes
 emptied empty = empty
 
--- The queue's events since the front was made: each may be so at its point, none stops the stream, the frames that they
--- dequeued are in the ring, and those that they completed are the ticks'.
+-- The queue's events since the front was made: each may happen at its point, none stops the stream, the frames that
+-- they dequeued are in the ring, and those that they completed are the ticks'.
 pub record HasMoved {S P A : Type 0} (gives : S → Next → List ℕ → S → Type 0) (meaning : P → Plane)
     (seen : SeenFront S P A) (device : SeenDevice S) (queue : Lined P) (table : Fds P) (hand : Hand P A)
     (to : Producer (Frame A) A AnyItems) : Type 0 where
@@ -164,6 +164,6 @@ pub record HasMoved {S P A : Type 0} (gives : S → Next → List ℕ → S → 
   pub reached : now.queue.queue ≡ after_all after_event first events
   pub free : hand_frame now.hand ≡ []
   pub went : map picture (sent to) ≡ frames_dequeued first events
-  pub given : List Given
+  pub given : List TickRecord
   pub source : GoesOn gives seen.device given device
   pub shows : map shown (flat_map completed_frame events) ≡ flat_map shown_given given

@@ -1,4 +1,4 @@
-//! The end of a ring and a desk, in one hand.
+//! A desk, and the end of the ring from which its frames come: owned by one thread.
 
 ghost use Rattle.std.specs.Prelude.{◌≡◌, ◌∷◌, ℕ, List, IfErr, IfOk, None, []};
 ghost use Rattle.rtrb.specs.Ring.{received};
@@ -23,16 +23,16 @@ use std::snapshot::Snapshot;
 pub enum Brought {
     /// No frame is in the ring.
     Nothing,
-    /// As many frames wait at the desk as may; the frame stays in the ring.
+    /// The desk is full; the frame stays in the ring.
     DeskFull,
-    /// The desk took it in, under this number.
+    /// The desk accepted it, under this number.
     Submitted(u64),
     /// The desk refused it; it is given up and counted.
     GivenUp(StoreFault),
 }
 
-/// A camera's desk, and the end of a ring from which its frames come. Contracts see desk and ring as they were when it
-/// was made, and the desk as it is.
+/// A camera's desk, and the end of the ring from which its frames come. Contracts see desk and ring as they were when
+/// it was made, and the desk as it is now.
 #[derive(Drop)]
 pub struct Back<D: Disk + Drop, A: Allocator + Copy = Global> {
     desk: Desk<D, A>,
@@ -65,7 +65,7 @@ impl<D: Disk + Drop, A: Allocator + Copy> Model for Back<D, A> {
 }
 
 impl<D: Disk + Drop, A: Allocator + Copy> Back<D, A> {
-    /// A back of a desk, and the end of a ring out of which nothing came.
+    /// A back with this desk, and the end of a ring from which nothing was taken yet.
     pub fn new(desk: Desk<D, A>, from: Consumer<Frame<A>, A>) -> Self
         requires { received from ≡ [] }
         ensures { result ≡ record { began = desk; from = from; desk = desk } }
@@ -105,7 +105,7 @@ impl<D: Disk + Drop, A: Allocator + Copy> Back<D, A> {
         }
     }
 
-    /// Gives up the next frame of the ring, and counts it; whether there was one.
+    /// Gives up the next frame of the ring, and counts it; returns whether there was one.
     pub fn give_up(&mut self) -> bool
         ensures { self.new ≡ self.old }
     {
@@ -128,19 +128,19 @@ impl<D: Disk + Drop, A: Allocator + Copy> Back<D, A> {
         self.desk.flush()
     }
 
-    /// How the desk stands, as `Desk::status`.
+    /// The counts of the desk, as `Desk::status`.
     pub fn status(&self) -> Status
         ensures { TellsStatus D.medium self.now.desk result }
     {
         self.desk.status()
     }
 
-    /// Whether as many frames wait at the desk as may. It promises nothing.
+    /// Whether the desk is full. It promises nothing.
     pub fn is_full(&self) -> bool {
         self.desk.status().pending >= self.desk.limits().pending
     }
 
-    /// Memory of a frame that was stored, for a later one, as `Desk::spare_memory`.
+    /// Memory of a stored frame, for a later one, as `Desk::spare_memory`.
     pub fn spare_memory(&mut self) -> Option<Vec<u8, A>>
         ensures { self.new ≡ self.old }
     {

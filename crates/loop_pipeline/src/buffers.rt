@@ -20,7 +20,7 @@ const MOST_BYTES: u32 = 16_777_216;
 /// Memory for the buffers of a queue.
 pub(crate) type Supply<P> = Vec<PlaneSet<P>>;
 
-// A plane of so many bytes, in whole pages of a ledger, and a seat for the next one.
+// A plane of `bytes` bytes, in whole pages of a ledger, and a seat for the next plane.
 fn plane(
     alloc: Global,
     ledger: &Arc<PageLedger>,
@@ -40,7 +40,7 @@ fn plane(
     }
 }
 
-// The planes of one buffer, and a seat for the next one's.
+// The planes of one buffer, and a seat for those of the next.
 fn buffer(
     alloc: Global,
     ledger: &Arc<PageLedger>,
@@ -69,7 +69,8 @@ fn set_of<P>(y: P, cb: Option<P>, cr: Option<P>) -> PlaneSet<P> {
     }
 }
 
-// Memory for the buffers of a queue, from a ledger of its own. BadCount or NoPages: they need more pages than that has.
+// Memory for the buffers of a queue, from a ledger of its own. BadCount or NoPages if they need more pages than the
+// ledger has.
 fn supply_for(alloc: Global, shape: &Shape) -> Result<Supply<MmapPlane>, PageFault> {
     let (ledger, mut seat) = PageLedger::new(alloc, MOST_PAGES)?;
     let mut supply = Vec::new(alloc);
@@ -83,7 +84,7 @@ fn supply_for(alloc: Global, shape: &Shape) -> Result<Supply<MmapPlane>, PageFau
     Ok(supply)
 }
 
-// A plane of so many bytes in a row of its own. A frame may have no more, so no queue asks for more.
+// A plane of `bytes` bytes in a row of its own. No queue asks for more than `MOST_BYTES`, since no frame has more.
 fn heap_plane(alloc: Global, bytes: u32) -> Result<HeapPlane, AllocError> {
     if bytes > MOST_BYTES {
         return Err(AllocError);
@@ -103,7 +104,7 @@ fn heap_buffer(alloc: Global, shape: &Shape) -> Result<PlaneSet<HeapPlane>, Allo
     Ok(set_of(y, Some(cb), Some(cr)))
 }
 
-// Memory for so many buffers of a queue, each plane in a row of its own.
+// Memory for `count` buffers of a queue, each plane in a row of its own.
 fn heap_supply(alloc: Global, shape: &Shape, count: u32) -> Result<Supply<HeapPlane>, AllocError> {
     let mut supply = Vec::new(alloc);
     for _ in 0..count {
@@ -113,7 +114,8 @@ fn heap_supply(alloc: Global, shape: &Shape, count: u32) -> Result<Supply<HeapPl
 }
 
 /// What a queue is started with: its buffer type, how many buffers it gets, the kind of their memory, and the memory
-/// itself. REQBUFS brings what is to be the queue's own, and each QBUF what stays the application's.
+/// itself. REQBUFS brings the memory that becomes the queue's own, and each QBUF the memory that stays the
+/// application's.
 #[derive(Drop)]
 pub struct Start<P> {
     pub(crate) buf_type: BufferType,
@@ -123,7 +125,7 @@ pub struct Start<P> {
     pub(crate) brought: Supply<P>,
 }
 
-/// Four buffers of mapped memory, from a ledger of their own, for a queue. `BadCount` or `NoPages` where they need more
+/// Four buffers of mapped memory, from a ledger of their own, for a queue. `BadCount` or `NoPages` if they need more
 /// than 1,024 pages; `NoMemory`.
 pub fn mapped_start(
     alloc: Global,
@@ -138,8 +140,8 @@ pub fn mapped_start(
     })
 }
 
-/// So many buffers of the application's memory (USERPTR), each plane in a row of its own, for a queue with frames of
-/// any size. A queue has 32 at most.
+/// `count` buffers of the application's memory (USERPTR), each plane in a row of its own, for a queue with frames of
+/// any size. A queue has at most 32 buffers.
 pub fn heap_start(
     alloc: Global,
     queue: &Queue<HeapPlane>,

@@ -1,4 +1,4 @@
-//! A camera in one hand: its device, its queue and its desk.
+//! A camera: its device, its queue and its desk.
 
 ghost use Rattle.std.specs.Prelude.{◌≡◌};
 ghost use Rattle.loop_pipeline.specs.Fronts.{IsOpen};
@@ -10,8 +10,7 @@ use loop_plane::{FdTable, PlaneMemory};
 use loop_vb2::Queue;
 use std::marker::Model;
 
-/// A camera that may be filmed: its device, its queue, of which every buffer is in it, with what fds name, and its
-/// desk.
+/// A camera that can be filmed: its device, its queue with all planes in it, what fds name, and its desk.
 #[derive(Drop)]
 pub struct Camera<S: FrameSource + Drop, D: Disk + Drop, P: PlaneMemory> {
     pub(crate) device: Device<S>,
@@ -32,7 +31,7 @@ impl<S: FrameSource + Drop, D: Disk + Drop, P: PlaneMemory> Model for Camera<S, 
 }
 
 impl<S: FrameSource + Drop, D: Disk + Drop, P: PlaneMemory> Camera<S, D, P> {
-    /// A camera of these.
+    /// A camera with these parts.
     pub fn new(device: Device<S>, queue: Queue<P>, table: FdTable<P>, desk: Desk<D>) -> Self
         requires { IsOpen P.plane queue table }
         ensures { result ≡ record { device = device; queue = queue; desk = desk } }

@@ -1,4 +1,4 @@
-//! The end of a camera: its front and its back in one hand.
+//! The end of a camera: its front and its back, brought together.
 
 ghost use Rattle.std.specs.Prelude.{◌≡◌, ◌+◌};
 ghost use Rattle.rtrb.specs.Ring.{IsPair};
@@ -32,14 +32,14 @@ pub struct Ended<
     pub hand: Hand<P, A>,
     /// Its desk.
     pub desk: Desk<D, A>,
-    /// How many frames the desk refused, or were given up before it.
+    /// How many frames the desk refused, or were given up before they came to it.
     pub given_up: u64,
-    /// How many frames were in the ring, and are lost.
+    /// How many frames were still in the ring, and are lost.
     pub left: u64,
 }
 
-/// Ends a camera of which both threads have left: what it kept since its front and its back were made on the two ends
-/// of one ring. The front was made of these.
+/// Ends a camera, after both its threads have ended. `begun` is what its front was made of; front and back were made on
+/// the two ends of one ring. The contract says what the camera kept since then.
 pub fn end<S: FrameSource + Drop, D: Disk + Drop, P: PlaneMemory, A: Allocator + Copy>(
     begun: Begun<S, P, A>,
     front: FrontParts<S, P, A>,

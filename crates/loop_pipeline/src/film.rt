@@ -7,7 +7,7 @@ ghost use Rattle.rtrb.specs.Ring.{sent};
 ghost use Rattle.loop_pipeline.specs.Fronts.{IsOpen, Leaves, LeavesCarried, made_of};
 
 use crate::bell::Bell;
-use crate::{Back, Begun, Brought, Camera, Ended, Front, FrontParts, Guide, Took, end};
+use crate::{Back, Begun, Brought, Camera, Ended, Front, FrontParts, Guide, TakeOutcome, end};
 use loop_capture::{Device, FrameSource, Tick};
 use loop_desk::Hand;
 use loop_disk::Disk;
@@ -24,33 +24,33 @@ use std::time::{Clock, Duration};
 // How many frames the ring takes: as many as a flush stores at once.
 const RING: usize = 8;
 
-// How much memory of stored frames goes back to the front at most.
+// The memory of how many stored frames is kept for the front at most.
 const SPARES: usize = 16;
 
-// How many milliseconds a desk's thread sleeps at most before it looks what others ask of it, unless it is woken.
+// How many milliseconds a desk's thread sleeps at most, unless it is woken, before it serves what others ask of it.
 const LOOK_AGAIN: u64 = 250;
 
-// How many milliseconds a flush that was refused is left alone at most, unless the thread is woken.
+// How many milliseconds after a refused flush the next one is tried at the latest; earlier if the thread is woken.
 const FLUSH_AGAIN: u64 = 100;
 
-/// What the two threads of a camera tell each other, and how others wake them. It serves one filming after another.
+/// What the two threads of a camera share, and how others wake them. It can be used for one filming after another.
 #[derive(Drop)]
 pub struct Link {
-    /// Rings after each frame that went into the ring or was given up before it, when the front's thread has ended, and
-    /// when others ask something.
+    /// Rings after each frame that was pushed into the ring or given up before it, when the front's thread has ended,
+    /// and when others ask something.
     given: Bell,
-    /// Rings after frames were taken out of it.
+    /// Rings after frames were taken out of the ring.
     room: Bell,
     /// The front's thread has ended.
     over: AtomicBool,
-    /// No thread begins, since one couldn't be started.
+    /// The front's thread couldn't be started: the front doesn't tick.
     closed: AtomicBool,
     /// Memory of frames that were stored, for later ones.
     memory: Mutex<Vec<Vec<u8>>>,
 }
 
 impl Link {
-    /// One of which no thread has begun.
+    /// A link whose threads haven't begun.
     pub fn new(alloc: Global) -> Result<Link, AllocError> {
         Ok(Link {
             given: Bell::new(),
@@ -61,23 +61,23 @@ impl Link {
         })
     }
 
-    /// Wakes the desk's thread, so that it looks what others ask of it.
+    /// Wakes the desk's thread, so that it serves what others ask of it.
     pub fn wake<R: Wait>(&self, rt: &R) {
         self.given.ring(rt);
     }
 
-    // The threads of another filming begin.
+    // Resets it for another filming.
     fn begin(&self) {
         self.over.store(false, Ordering::SeqCst);
         self.closed.store(false, Ordering::SeqCst);
     }
 
-    // Memory of a frame that was stored, if there is some.
+    // Memory of a stored frame, if there is some.
     fn take_memory<R: Wait>(&self, rt: &R) -> Option<Vec<u8>> {
         self.memory.lock(rt).pop()
     }
 
-    // Keeps memory for a later frame, where there is a place for it.
+    // Keeps memory for a later frame, if there is a place for it.
     fn return_memory<R: Wait>(&self, rt: &R, bytes: Vec<u8>) {
         let mut memory = self.memory.lock(rt);
         if memory.len() < memory.capacity() {
@@ -85,13 +85,13 @@ impl Link {
         }
     }
 
-    // Lets no front begin to tick: its thread couldn't be started.
+    // Keeps the front from ticking: its thread couldn't be started.
     fn close(&self) {
         self.closed.store(true, Ordering::SeqCst);
     }
 }
 
-// Takes what waits in the queue into the ring, and waits for room there.
+// Moves the frames that wait in the queue into the ring, and waits for room there.
 fn take_all<R: Wait, S: FrameSource + Drop, P: PlaneMemory, G: Guide>(
     rt: &R,
     alloc: Global,
@@ -103,20 +103,21 @@ fn take_all<R: Wait, S: FrameSource + Drop, P: PlaneMemory, G: Guide>(
 {
     let mut spare = None;
     'frames: for _ in rt.forever() {
-        // A buffer that can't be queued again stays in the hand, and the next frame isn't taken.
+        // An empty hand has nothing to put back. A buffer that can't be queued again stays in the hand: then `take`
+        // refuses, and the loop ends.
         let _refused = front.put_back();
         if spare.is_none() {
             spare = link.take_memory(rt);
         }
         let seen = link.room.count(rt);
         match front.take(alloc, &mut spare) {
-            Took::Frame => link.given.ring(rt),
-            Took::NoFrame => {
+            TakeOutcome::Frame => link.given.ring(rt),
+            TakeOutcome::NoFrame => {
                 guide.gave_up();
                 link.given.ring(rt);
             }
-            Took::RingFull => link.room.wait(rt, seen),
-            Took::Refused(_) => break,
+            TakeOutcome::RingFull => link.room.wait(rt, seen),
+            TakeOutcome::Refused(_) => break,
         }
     }
     if let Some(bytes) = spare {
@@ -124,7 +125,7 @@ fn take_all<R: Wait, S: FrameSource + Drop, P: PlaneMemory, G: Guide>(
     }
 }
 
-// The front's thread: ticks as its guide has them, or until the source has ended.
+// The front's thread: ticks when its guide says so, until the guide or the source ends it.
 fn run_front<R: Wait + Clock, S: FrameSource + Drop, P: PlaneMemory, G: Guide>(
     rt: &R,
     alloc: Global,
@@ -153,8 +154,8 @@ fn run_front<R: Wait + Clock, S: FrameSource + Drop, P: PlaneMemory, G: Guide>(
     front
 }
 
-// Brings what is in the ring to the desk; whether a frame came out of it. Where the desk has no room and none comes,
-// frames are given up.
+// Brings the frames in the ring to the desk; returns whether one came out of it. If the desk is full and a flush was
+// refused for good, frames are given up.
 fn bring_all<R: Wait, D: Disk + Drop, G: Guide>(
     rt: &R,
     link: &Link,
@@ -185,7 +186,7 @@ fn bring_all<R: Wait, D: Disk + Drop, G: Guide>(
     some
 }
 
-// Gives memory of frames that were stored back to the front.
+// Gives the memory of stored frames back to the front.
 fn give_memory<R: Wait, D: Disk + Drop>(rt: &R, link: &Link, back: &mut Back<D>)
     ensures { back.new ≡ back.old }
 {
@@ -197,8 +198,8 @@ fn give_memory<R: Wait, D: Disk + Drop>(rt: &R, link: &Link, back: &mut Back<D>)
     }
 }
 
-/// The whole work of a back's thread: it brings, lets others ask, and flushes, until the front's thread has ended and
-/// nothing is left to flush.
+/// The whole work of a back's thread: it brings frames to the desk, serves what others ask, and flushes, until the
+/// front's thread has ended and nothing is left to flush.
 pub fn film_back<R: Wait + Clock, D: Disk + Drop, G: Guide>(
     rt: &R,
     alloc: Global,
@@ -235,13 +236,14 @@ pub fn film_back<R: Wait + Clock, D: Disk + Drop, G: Guide>(
             LOOK_AGAIN
         };
         if rest > 0 {
+            // Rung or not, the next turn looks again.
             link.given.wait_for(rt, seen, Duration::from_millis(rest));
         }
     }
     back
 }
 
-/// The whole work of a front's thread: a front is made, and ticks until its guide or its source ends it.
+/// The whole work of a front's thread: it makes a front, and ticks until its guide or its source ends it.
 pub fn film_front<R: Wait + Clock, S: FrameSource + Drop, P: PlaneMemory, G: Guide>(
     rt: &R,
     alloc: Global,
@@ -260,7 +262,8 @@ pub fn film_front<R: Wait + Clock, S: FrameSource + Drop, P: PlaneMemory, G: Gui
     run_front(rt, alloc, link, guide, front).into_parts()
 }
 
-// Carries the end of a ring to another thread and back: behind a type parameter it is one thing that may go there.
+// Carries the end of a ring to another thread and back. The toolchain lets an end of a ring cross only behind a type
+// parameter.
 trait Carrier: Drop {
     ghost use Rattle.std.specs.Global.{Global};
     ghost use Rattle.rtrb.specs.declared.AnyItems.{AnyItems};
@@ -276,7 +279,7 @@ trait Carrier: Drop {
         ensures { inside result ≡ to };
 }
 
-// It carries just that.
+// The one carrier: it holds just the end of the ring.
 #[derive(Drop)]
 struct Carried {
     to: Producer<Frame>,
@@ -305,14 +308,14 @@ struct Left<S: FrameSource + Drop, P: PlaneMemory, W: Carrier> {
     to: W,
 }
 
-// What comes back is what a front leaves that was made of these.
+// The thread returns what a front leaves that was made of these.
 impl<S: FrameSource + Drop, P: PlaneMemory, W: Carrier> Promise<Left<S, P, W>> for Begun<S, P> {
     ghost use Rattle.loop_pipeline.specs.Fronts.{LeavesCarried, made_of};
 
     ghost kept_by = { λ begun left. LeavesCarried W.inside S.next_gives P.plane (made_of begun) left };
 }
 
-// A front's whole life in one thread, from what was carried there to what is carried back.
+// The whole work of a front's thread, with the end of the ring carried there and back.
 fn film_carried<R: Wait + Clock, S: FrameSource + Drop, P: PlaneMemory, G: Guide, W: Carrier>(
     rt: &R,
     alloc: Global,
@@ -352,7 +355,7 @@ struct Both<S: FrameSource + Drop, D: Disk + Drop, P: PlaneMemory, W: Carrier> {
     began: bool,
 }
 
-// Runs a front in a thread of its own, and the back in this one. Where no thread can be had, neither begins.
+// Runs a front in a thread of its own, and the back in this one. If no thread can be started, neither begins.
 fn run_in<
     's,
     E,
@@ -409,12 +412,12 @@ fn run_in<
 pub enum Unfilmed<S: FrameSource + Drop, D: Disk + Drop, P: PlaneMemory> {
     /// Memory was refused before it began, and the camera comes back.
     NoMemory(Camera<S, D, P>),
-    /// A thread couldn't be started: what is left of the camera, of which nothing was filmed.
+    /// A thread couldn't be started: what is left of the camera. No frame was filmed.
     NoThread(Ended<S, D, P>),
 }
 
-/// Films a camera, by a thread of its own in this scope for the front and the caller's for the back, until its guide or
-/// its source ends it and nothing is left to flush. No other camera is filmed by the link meanwhile.
+/// Films a camera until its guide or its source ends it and nothing is left to flush. The front runs in a new thread of
+/// this scope, the back in the caller's thread. The link may serve no other camera meanwhile.
 pub fn film_camera<
     's,
     E,

@@ -1,4 +1,4 @@
-//! A device, its queue and the end of a ring, in one hand.
+//! A device, its queue, and the end of the ring to which its frames go: owned by one thread.
 
 ghost use Rattle.std.specs.Prelude.{◌≡◌, ◌<◌, ◌++◌, []};
 ghost use Rattle.rtrb.specs.Ring.{SameProducer, known_free, sent};
@@ -20,19 +20,19 @@ use std::snapshot::Snapshot;
 
 /// What came of taking the frame that waits first.
 #[derive(Drop)]
-pub enum Took {
+pub enum TakeOutcome {
     /// It is in the ring.
     Frame,
-    /// The buffer that was done first has no frame: the device had given it up.
+    /// The buffer that was done first has no frame: the device gave it up.
     NoFrame,
     /// The ring is full, and nothing changed.
     RingFull,
-    /// The hand has a buffer that isn't queued again yet, no buffer is done, or memory was refused.
+    /// The hand still has a buffer, no buffer is done, or memory was refused.
     Refused(LaneFault),
 }
 
-/// A camera's device, its queue with the table of fds, the hand that takes buffers out of it, and the end of a ring to
-/// which their frames go. Contracts see queue, device and ring as they were when it was made.
+/// A camera's device, its queue with the table of fds, the hand that takes buffers out of the queue, and the end of the
+/// ring to which their frames go. Contracts see queue, device and ring as they were when it was made.
 #[derive(Drop)]
 pub struct Front<S: FrameSource + Drop, P: PlaneMemory, A: Allocator + Copy = Global> {
     device: Device<S, A>,
@@ -57,7 +57,7 @@ pub struct Begun<S: FrameSource + Drop, P: PlaneMemory, A: Allocator + Copy = Gl
 }
 
 impl<S: FrameSource + Drop, P: PlaneMemory, A: Allocator + Copy> Begun<S, P, A> {
-    /// These, as they are now.
+    /// The record of these, as they are now.
     pub fn of(queue: &Queue<P, A>, device: &Device<S, A>, to: &Producer<Frame<A>, A>) -> Self
         ensures { made_of result ≡ record { queue = queue.now; device = device.now; to = to.now } }
     {
@@ -97,11 +97,11 @@ impl<S: FrameSource + Drop, P: PlaneMemory, A: Allocator + Copy> Model for Front
         f.device f.queue f.table f.hand f.to };
 }
 
-// Gives the hand's frame into a ring that has room; what came of it.
+// Pushes the hand's frame into a ring that has room; returns what came of it.
 fn give<P: PlaneMemory, A: Allocator + Copy>(
     hand: &mut Hand<P, A>,
     to: &mut Producer<Frame<A>, A>,
-) -> Took
+) -> TakeOutcome
     requires { 0 < known_free to.old }
     ensures hand { hand_state P.plane hand.new ≡ emptied (hand_state P.plane hand.old) }
     ensures ring { SameProducer to.old to.new }
@@ -115,17 +115,17 @@ fn give<P: PlaneMemory, A: Allocator + Copy>(
         } => {
             *hand = Hand::Spent { index, planes };
             to.push_reserved(frame);
-            Took::Frame
+            TakeOutcome::Frame
         }
         other => {
             *hand = other;
-            Took::NoFrame
+            TakeOutcome::NoFrame
         }
     }
 }
 
 impl<S: FrameSource + Drop, P: PlaneMemory, A: Allocator + Copy> Front<S, P, A> {
-    /// A front of a device, a queue with its table, and the end of a ring into which nothing was pushed.
+    /// A front with this device, this queue with its table, and the end of a ring into which nothing was pushed yet.
     pub fn new(
         device: Device<S, A>,
         queue: Queue<P, A>,
@@ -163,21 +163,21 @@ impl<S: FrameSource + Drop, P: PlaneMemory, A: Allocator + Copy> Front<S, P, A> 
         self.device.tick(&mut self.queue, now)
     }
 
-    /// Takes the frame that waits first into the ring. Its memory is what is spare, or new. The buffer stays in the
-    /// hand until `put_back`.
-    pub fn take(&mut self, alloc: A, spare: &mut Option<Vec<u8, A>>) -> Took
+    /// Moves the frame that waits first into the ring. Its memory is `spare`, or new. The buffer stays in the hand
+    /// until `put_back`.
+    pub fn take(&mut self, alloc: A, spare: &mut Option<Vec<u8, A>>) -> TakeOutcome
         ensures { self.new ≡ self.old }
     {
         if self.to.is_full() {
-            return Took::RingFull;
+            return TakeOutcome::RingFull;
         }
         match dequeue(alloc, &mut self.queue, &mut self.hand, spare) {
-            Err(fault) => Took::Refused(fault),
+            Err(fault) => TakeOutcome::Refused(fault),
             Ok(_) => give(&mut self.hand, &mut self.to),
         }
     }
 
-    /// Queues the hand's buffer again; answers its index. A refusal leaves it in the hand.
+    /// Queues the hand's buffer again; returns its index. A refusal leaves it in the hand.
     pub fn put_back(&mut self) -> Result<u32, LaneFault>
         ensures { self.new ≡ self.old }
     {

@@ -1,4 +1,4 @@
-//! What guides a camera's threads.
+//! What a camera's threads ask and report.
 
 ghost use Rattle.std.specs.Prelude.{◌≡◌};
 
@@ -10,29 +10,29 @@ use std::alloc::Global;
 use std::sync::Wait;
 use std::time::Clock;
 
-/// What guides the two threads of a camera. Each call may wait. What it is only told of does nothing, unless the guide
-/// says more.
+/// What the two threads of a camera ask and report. Each call may wait. The calls that only report do nothing by
+/// default.
 pub trait Guide {
-    /// When tick `n` of the camera's device is, in microseconds; None where the device ends.
+    /// When tick `n` of the camera's device is, in microseconds; None if the device is to end.
     fn next_tick<R: Wait + Clock>(&self, rt: &R, n: u64) -> Option<u64>;
 
     /// What a tick did.
     fn ticked<R: Wait>(&self, rt: &R, tick: Tick) {}
 
-    /// A frame was taken in by the desk.
+    /// The desk accepted a frame.
     fn brought(&self) {}
 
     /// A frame was given up.
     fn gave_up(&self) {}
 
-    /// A flush stored so many frames.
+    /// A flush stored `count` frames.
     fn stored(&self, count: u32) {}
 
-    /// A flush was refused so; whether it is tried again, after a while or once the desk's thread is woken. Where it
-    /// isn't, frames for which the desk has no room are given up.
+    /// Whether a flush that was refused with this fault is tried again, after a while or once the desk's thread is
+    /// woken. If not, frames for which the desk has no room are given up.
     fn flushes_again(&self, fault: StoreFault) -> bool;
 
-    /// What others ask of the desk. It is called between flushes, by the desk's own thread.
+    /// Serves what others ask of the desk. It is called between flushes, by the desk's own thread.
     fn visit<R: Wait + Clock, D: Disk + Drop>(&self, rt: &R, alloc: Global, back: &mut Back<D>)
         ensures { back.new ≡ record back.old { desk = back.new.desk } }
     {}

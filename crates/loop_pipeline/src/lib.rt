@@ -1,16 +1,15 @@
-//! A camera's frames on their way from its device to its disk, by two threads of which each has its half alone.
+//! The way of a camera's frames from its device to its disk, by two threads. Each owns its half.
 //!
-//! - `front`: a device, its queue with the buffers, and the end of a ring to which the frames go that come out of the
-//!   queue; `back`: the other end of the ring, and a desk before a store; `ending`: both halves in one hand; `camera`:
-//!   what is filmed;
-//! - `film`: `film_camera`, which runs both, and what each does; `guide`: what guides them; `bell`: where one sleeps
-//!   until the other has something for it;
+//! - `front`: a device, its queue with the buffers, and the end of the ring to which its frames go; `back`: the other
+//!   end of the ring, and a desk before a store; `ending`: both halves, brought together; `camera`: what is filmed;
+//! - `film`: `film_camera`, which runs both, and what each does; `guide`: what they ask and report; `bell`: where one
+//!   sleeps until the other has work for it;
 //! - `start`: a queue that a front may begin with, and how it is started; `buffers`: the memory of its buffers.
 //!
-//! What the halves keep is said where they end: `Front::into_parts`, `Back::into_parts`, and of both by `film_camera`
-//! (`specs/Cameras`, `CameraKeeps`): the frames that waited and those that the source gave at ticks that completed a
-//! buffer are, in order and with all bytes, those that came to the desk and those that still wait; each that came was
-//! accepted or is counted; and of those that were accepted the footage is kept, whenever the power fails.
+//! The contracts of `Front::into_parts` and `Back::into_parts` say what each half keeps, and that of `film_camera` what
+//! both do (`specs/Cameras`, `CameraKeeps`): the frames that waited and those that the source gave at ticks that
+//! completed a buffer are, in order and with all bytes, those that came to the desk and those that still wait; each
+//! that came was accepted or is counted; and of those that were accepted the footage is kept, whenever the power fails.
 //!
 //! Both programs film by it: `loop_cli record` and `loop_station`.
 //!
@@ -32,6 +31,6 @@ pub use buffers::{Start, heap_start, mapped_start};
 pub use camera::Camera;
 pub use ending::{Ended, end};
 pub use film::{Link, Unfilmed, film_back, film_camera, film_front};
-pub use front::{Begun, Front, FrontParts, Took};
+pub use front::{Begun, Front, FrontParts, TakeOutcome};
 pub use guide::Guide;
 pub use start::{new_queue, start_queue};

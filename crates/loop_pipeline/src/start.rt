@@ -37,7 +37,7 @@ pub fn new_queue<P: PlaneMemory>(alloc: Global, geometry: &Geometry) -> (Queue<P
     (queue, FdTable::new(alloc))
 }
 
-// An ioctl, of which no more than a refusal is told. What a reply hands out is given up.
+// One ioctl, by its success alone. Planes that a reply or a refusal hands back are dropped.
 fn ask<P: PlaneMemory>(
     queue: &mut Queue<P>,
     table: &mut FdTable<P>,
@@ -56,8 +56,8 @@ fn ask<P: PlaneMemory>(
     }
 }
 
-/// Gives a queue that has just been made its buffers, queues them and turns streaming on. If the start was made for
-/// this queue, it is refused for want of memory alone. Refused or not, a front may begin with the queue.
+/// Gives a new queue its buffers, queues them and turns streaming on. If the start was made for this queue, only want
+/// of memory refuses it. Refused or not, a front may begin with the queue.
 pub fn start_queue<P: PlaneMemory>(
     queue: &mut Queue<P>,
     table: &mut FdTable<P>,

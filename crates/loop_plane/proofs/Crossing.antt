@@ -1,4 +1,4 @@
--- That a table of fds, over planes that may, may go to another thread, and be looked at by several: each alone, and (`in`) as what holds it has it.
+-- A table of fds, over planes that may, may go to another thread, and be shared by several: each alone, and (`in`) as a field of what holds it.
 use denote.RattleType.{RattleType}
 use denote.Param.Send.{IsSend, sendable}
 use Rattle.std.proofs.Crossing.{crosses}

@@ -4,8 +4,8 @@ use Rattle.slab.specs.Slab.{Slab, get, HasRoomFor}
 use Rattle.loop_plane.specs.declared.table.FdFault.{FdFault}
 use Rattle.loop_plane.specs.declared.table.FdFault.TheVariants.{NoSuchFd, Attached, NotAttached, NoMemory, TableFull}
 
--- a table: each number has nothing, a value that is away, or a value; beside them its room, and the number that
--- comes next
+-- a table: each number has nothing, a value that is away, or a value; with them its room, and the number that comes
+-- next
 abbrev pub Fds : Type 0 → Type 0
 Fds T = Slab (Option T)
 

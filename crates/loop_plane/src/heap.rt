@@ -21,7 +21,7 @@ impl<A: Allocator> HeapPlane<A> {
     ghost use Rattle.loop_plane.specs.Kinds.{heap_plane};
     ghost use Rattle.loop_plane.specs.declared.memory.Memory.TheVariants.{UserPtr};
 
-    /// A plane of `size` bytes with none in use: at most 16,777,216, as a frame has.
+    /// A plane of `size` bytes with none in use: at most 16,777,216, as many as a frame may have.
     pub fn new(alloc: A, size: u32) -> Result<HeapPlane<A>, AllocError>
         requires { size ≤ 16777216 }
         ensures ok { IfOk result (λ p. heap_plane p ≡ plane_of UserPtr size [] []) }

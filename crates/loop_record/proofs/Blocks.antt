@@ -18,7 +18,7 @@ with-twice b (c ∷ cs) = go (eqb b c) refl
     go true is = ap (λ (u : Bool). cond u (c ∷ cs) (b ∷ c ∷ cs)) is
     go false is = ap (λ (u : Bool). cond u (b ∷ c ∷ cs) (b ∷ b ∷ c ∷ cs)) (itself b)
 
--- and another one is put in front
+-- and another one is put first
 with-apart : (b c : ℕ) (bs : List ℕ) → eqb c b ≡ false → with_block b (with_block c bs) ≡ b ∷ with_block c bs
 with-apart b c bs apart = to bs
   where

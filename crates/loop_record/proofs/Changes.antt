@@ -12,7 +12,8 @@ use Rattle.loop_record.specs.declared.geometry.Geometry.{Geometry}
 use Rattle.loop_record.specs.Geometry.{frame_bytes}
 use Rattle.loop_record.specs.Recording.{Recording, Ring, store, plain}
 use Rattle.loop_record.specs.Layout.{Slot, Segment}
-use Rattle.loop_record.specs.Reading.{frames_of, next_after, lacks_frame, is_high, repeats, is_bad_slot, recording_of, recording_or_damage, empty_segment}
+use Rattle.loop_record.specs.Reading.{frames_of, next_after, lacks_frame, repeats, is_bad_slot, recording_of, recording_or_damage, empty_segment}
+use Rattle.loop_record.specs.Parts.{is_high}
 use Rattle.loop_record.proofs.Growth.{AllBelow, grown, checked-grown}
 use Rattle.loop_record.proofs.Segments.{AllAbove, has_block, any_move, repeats_move}
 use Rattle.loop_record.proofs.TestFacts.{neither}

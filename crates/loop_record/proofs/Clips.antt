@@ -7,7 +7,8 @@ use Rattle.loop_record.specs.declared.geometry.Geometry.{Geometry}
 use Rattle.loop_record.specs.Geometry.{segment_at, segment_size, clip_at}
 use Rattle.loop_record.specs.Recording.{Recording, lock, unlock, after_step, may_lock, holds_all, clip_of, ring_of}
 use Rattle.loop_record.specs.Layout.{Segment, segment_in, clip_in}
-use Rattle.loop_record.specs.Reading.{parts_of, shown_by, recording_or_damage, recording_of, is_bad_clip, by_block, open_segments, Holds}
+use Rattle.loop_record.specs.Reading.{recording_or_damage, recording_of, is_bad_clip, by_block, open_segments, Holds}
+use Rattle.loop_record.specs.Parts.{parts_of, shown_by}
 use Rattle.loop_record.specs.Change.{ShowsClip}
 use Rattle.loop_record.proofs.TestFacts.{both, neither, or_false, at_most, not_below_test}
 use Rattle.loop_record.proofs.Bounds.{limits}
@@ -17,7 +18,7 @@ use Rattle.loop_record.proofs.Parts.{within_before, within_behind, map_range-set
 use Rattle.loop_record.proofs.Readings.{get_or-map_range}
 use Rattle.loop_record.proofs.Names.{free_id}
 
--- the parts of the old image but for one clip
+-- the parts of the old image, except one clip
 pub parts-clip : (g : Geometry) (id : ℕ) (c : Option Span) (old new : List ℕ) → g.slots ≤ 256 → id < 64
     → ShowsClip id c old new
     → parts_of g new ≡ record { segments = (parts_of g old).segments; clips = set (parts_of g old).clips id c }

@@ -8,7 +8,8 @@ use Rattle.loop_record.specs.declared.clip.Span.{Span}
 use Rattle.loop_record.specs.declared.geometry.Geometry.{Geometry}
 use Rattle.loop_record.specs.Recording.{Recording, holds_all, RiseBetween, IsWellFormed}
 use Rattle.loop_record.specs.Layout.{Segment, clip_in}
-use Rattle.loop_record.specs.Reading.{frames_of, next_after, recording_of, is_bad_clip, parts_of, open_segments, by_block, Holds}
+use Rattle.loop_record.specs.Reading.{frames_of, next_after, recording_of, is_bad_clip, open_segments, by_block, Holds}
+use Rattle.loop_record.specs.Parts.{parts_of}
 use Rattle.loop_record.proofs.TestFacts.{neither, not_false, not_below, at_most_test}
 use Rattle.loop_record.proofs.NumberOrder.{RiseBetween-lower, RiseBetween-append, RiseBetween-enumerate, none-each}
 use Rattle.loop_record.proofs.Segments.{Rises, Rises-by_block, repeats-by_block}

@@ -16,7 +16,8 @@ use Rattle.loop_record.specs.declared.image.Found.{Found}
 use Rattle.loop_record.specs.declared.segment.SegmentHead.{SegmentHead}
 use Rattle.loop_record.specs.Geometry.{frame_bytes, segment_at, segment_size, slot_at, disk_size}
 use Rattle.loop_record.specs.Layout.{Slot, Segment, slot_head, is_open, is_slot_of, is_too_high, slot_in, segment_in, whole_frames, entry_at, clip_in, geometry_in, header_at, checked_header}
-use Rattle.loop_record.specs.Reading.{reading, Contents, Holds, contents, with_geometry, shown_by, recording_or_damage, recording_of, is_bad_clip, parts_of, open_segments, by_block, repeats, lacks_frame, is_bad_slot, is_high, next_after}
+use Rattle.loop_record.specs.Reading.{reading, Contents, Holds, contents, with_geometry, recording_or_damage, recording_of, is_bad_clip, open_segments, by_block, repeats, lacks_frame, is_bad_slot, next_after}
+use Rattle.loop_record.specs.Parts.{shown_by, parts_of, is_high}
 use Rattle.loop_record.specs.Plain.{IsTagFit, segment_of, segments_of, held_clip, lacks_number, table_clips, IsIn, AreIn, IsSomeHigh}
 use Rattle.loop_record.proofs.Fresh.{entry_at-slice}
 use Rattle.std.proofs.Math.Nat.{mul-le-mul_right, add-mul}
@@ -197,7 +198,7 @@ some-high g image j l high = any-by_block (is_high g) (open_segments (parts_of g
             beyond : eqb lo j ≡ false → lo + 1 ≤ j
             beyond e = grind (arith, nat_tests, e, low)
 
--- ---- answers that stand for a fault
+-- ---- answers that mean a fault
 
 pub slot-wrong : (n number : ℕ) (s : Slot) (d : Damage) → (let r : Result FrameHead Damage = Err d in r) ≡ slot_head n
     number s → (Damaged d ≡ Damaged SlotHead) × (is_slot_of n number s ≡ false)

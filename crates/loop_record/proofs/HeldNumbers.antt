@@ -1,4 +1,4 @@
--- Which numbers the open segments hold, told by their headers alone.
+-- Which numbers the open segments hold, by their headers alone.
 use Rattle.std.proofs.Common.{◌≡◌, ℕ, suc, ◌+◌, ◌-◌, ◌*◌, ◌/◌, ◌%◌, ◌<◌, ◌≤◌, Bool, true, false, not, ◌&&◌, cond, eqb, leb, ltb, is_some, Option, Some, None, Result, Ok, Err, List, [], ◌∷◌, ◌++◌, length, map, get_or, refl, sym, ap, ◌∙◌, arith}
 use Rattle.std.proofs.Math.Nat.{mul-le-mul_right, add-mul, mod-lt}
 use Rattle.std.proofs.lemmas.Nat.{div-add-mod'}
@@ -97,7 +97,7 @@ held-number g image (f ∷ fs) n some h =
     let rest = held-number g image fs n some h.1 in
     under-both (frames_of g (segment_of g image f)) (all_frames g (segments_of g image fs)) n ∙ (λ i. here i || rest i)
 
--- so for each number of a range
+-- the same for each number of a range
 pub held-all : (g : Geometry) (image : List ℕ) (fs : List Found) (from count : ℕ) → 1 ≤ g.slots → AreIn g fs
     → list_all (λ n. is_some (frame_under (all_frames g (segments_of g image fs)) n))
     (range_with_len from count) ≡ list_all (λ n. list_any (found_number g n) fs) (range_with_len from count)
@@ -110,7 +110,7 @@ entry-within version image id l = moved_entry version (id * 32) (clip_at id) (sl
     let place : 512 + (id * 32 + k) ≡ clip_at id + k = omega arith in
     sym (byte-slice 512 2048 (id * 32 + k) image (omega (arith, l, u))) ∙ ap (λ (x : ℕ). get_or image x 0) place)
 
--- so for each number of a clip
+-- the same for each number of a clip
 pub lacks-bad : (g : Geometry) (image : List ℕ) (fs : List Found) (c : Option Span) → 1 ≤ g.slots → AreIn g fs
     → is_bad_clip (record empty { frames = all_frames g (segments_of g image fs) }) c ≡ lacks_number g fs c
 lacks-bad g image fs None some h = refl

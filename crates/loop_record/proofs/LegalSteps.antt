@@ -3,7 +3,7 @@ use Rattle.std.proofs.Common.{◌≡◌, ◌⊎◌, inl, inr, ℕ, zero, suc, �
 use Rattle.std.proofs.lemmas.List.{length-set}
 use Rattle.std.specs.Prelude.{Contains}
 use Rattle.loop_record.specs.declared.clip.Span.{Span}
-use Rattle.loop_record.specs.Recording.{Picture, Recording, Ring, Step, store, recycle, lock, unlock, after_step, is_legal, holds, holds_all, victim, is_that, is_locked, older_blocks, meets, block, steps, plain, empty, recycling_first, needs_recycling, last_number, IsWellFormed}
+use Rattle.loop_record.specs.Recording.{Picture, Recording, Ring, Step, store, recycle, lock, unlock, after_step, is_legal, holds, holds_all, victim, is_that, is_locked, older_blocks, meets, block, steps, empty, recycling_first, needs_recycling, last_number, IsWellFormed}
 use Rattle.loop_record.specs.Laws.{AreLegal}
 use Rattle.loop_record.proofs.TestFacts.{clash, both, not_true, at_most, equal, equal_test}
 use Rattle.loop_record.proofs.Growth.{under-append}
@@ -11,7 +11,7 @@ use Rattle.loop_record.proofs.WithoutBlock.{under-filter, outside_clip, found}
 use Rattle.loop_record.proofs.NumberOrder.{RiseBetween-append, RiseBetween-filter, all_range-each, none-each}
 use Rattle.loop_record.proofs.Names.{free_id, stores_after, IsWhole}
 
--- a clip that stands after another was put in its place is that one, or stood before
+-- a clip that is there after another was put in its place is that one, or was there before
 set-contains : (cs : List (Option Span)) (id : ℕ) (c : Option Span) (s : Span) → Contains (set cs id c) (Some s)
     → (c ≡ Some s) ⊎ Contains cs (Some s)
 set-contains [] id c s h = inr h
@@ -121,13 +121,6 @@ steps-legal ring keep r group list e = spent (eqb r.next (last_number ring)) e
         Some list → AreLegal ring keep r list
     spent true e = absurd cc
     spent false e = first (needs_recycling ring r) (victim ring keep r) refl e
-
--- after steps that may be made, one after the other, a recording is well formed
-pub plain-well_formed : (ring : Ring) (keep : ℕ) (r : Recording) (list : List Step) → 1 ≤ ring.slots → IsWellFormed r
-    → AreLegal ring keep r list → IsWellFormed (plain ring r list)
-plain-well_formed ring keep r [] some w legal = w
-plain-well_formed ring keep r (s ∷ ss) some w legal =
-    plain-well_formed ring keep (after_step ring r s) ss some (after-well_formed ring keep r s some w legal.0) legal.1
 
 -- the empty recording is well formed
 pub empty-well_formed : IsWellFormed empty

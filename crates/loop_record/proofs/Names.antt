@@ -28,7 +28,7 @@ entry_fields version image at = record {
   tag = tag_at version image (at + 24);
 }
 
--- the frames of segments, one segment behind the other
+-- the frames of segments, one segment after the other
 abbrev pub all_frames : Geometry → List Segment → List (ℕ × Picture)
 all_frames g ss = flat_map (frames_of g) ss
 
@@ -44,7 +44,7 @@ has_bad_clip r = list_any (is_bad_clip r) r.clips
 abbrev pub IsWhole : Recording → Span → Type 0
 IsWhole r s = (s.from ≤ s.to) × ((n : ℕ) → s.from ≤ n → n ≤ s.to → IsTrue (holds r n))
 
--- a block in front of those after it, once
+-- a block before those after it, once
 abbrev pub with_block : ℕ → List ℕ → List ℕ
 with_block b [] = b ∷ []
 with_block b (c ∷ cs) = if b == c then c ∷ cs else b ∷ c ∷ cs

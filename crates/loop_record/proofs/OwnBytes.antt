@@ -131,7 +131,7 @@ same_segment g a b j few s =
 
 -- ---- clip entries and the superblock
 
--- an entry whose gate and numbers stand at another place, and whose tag is read the same if it is open, holds the same clip
+-- an entry whose gate and numbers are at another place, and whose tag is read the same if it is open, holds the same clip
 pub moved_clip : (v w p q : ℕ) (a b : List ℕ) → ((k : ℕ) → k < 24 → get_or a (p + k) 0 ≡ get_or b (q + k) 0)
     → (is_open b q ≡ true → tag_at v a (p + 24) ≡ tag_at w b (q + 24)) → entry_at v a p ≡ entry_at w b q
 moved_clip v w p q a b same tags = go (is_open b q) refl
@@ -158,7 +158,7 @@ moved_clip v w p q a b same tags = go (is_open b q) refl
         let closed = gate ∙ e in
         (λ i. cond (closed i) (Some (entry_fields v a p)) None) ∙ sym (λ i. cond (e i) (Some (entry_fields w b q)) None)
 
--- the 32 bytes of an entry hold the same clip wherever they stand
+-- the 32 bytes of an entry hold the same clip wherever they are
 pub moved_entry : (version p q : ℕ) (a b : List ℕ) → ((k : ℕ) → k < 32 → get_or a (p + k) 0 ≡ get_or b (q + k) 0)
     → entry_at version a p ≡ entry_at version b q
 moved_entry version p q a b same =

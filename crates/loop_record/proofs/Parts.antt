@@ -15,7 +15,8 @@ use Rattle.loop_record.specs.Recording.{Recording}
 use Rattle.loop_disk.specs.Medium.{SameOutside}
 use Rattle.loop_record.specs.Change.{ShowsSegment}
 use Rattle.loop_record.specs.Layout.{Segment, segment_in, clip_in, geometry_in, version_in, with_version, super_in, checked_geometry, geometry_fields, format_at, is_formatted, is_super_of}
-use Rattle.loop_record.specs.Reading.{parts_of, shown_by, Contents, with_geometry, contents, reading}
+use Rattle.loop_record.specs.Reading.{Contents, with_geometry, contents, reading}
+use Rattle.loop_record.specs.Parts.{parts_of, shown_by}
 use Rattle.loop_record.proofs.Bounds.{limits}
 use Rattle.loop_record.proofs.OwnBytes.{SameWithin, map_range, same_segment, same_clip, same_geometry, same_version}
 
@@ -49,7 +50,7 @@ map_range-set f h lo (suc n) (suc j) x l same is =
     moved i (inl a) = inl (omega (arith, a))
     moved i (inr a) = inr (omega (arith, a))
 
--- a change behind the superblock leaves the version
+-- a change after the superblock leaves the version
 pub version-outside : (at n : ℕ) (old new : List ℕ) → 45 ≤ at → SameOutside at n old new
     → version_in new ≡ version_in old
 version-outside at n old new behind s = same_version new old (within_before at n 44 45 old new s behind)
@@ -61,7 +62,7 @@ apart g i j l =
     let split : (i + 1) * segment_size g ≡ i * segment_size g + segment_size g = omega (arith, add-mul i 1 (segment_size g)) in
     omega (arith, le, split)
 
--- the parts of the old image but for segment j
+-- the parts of the old image, except segment j
 pub parts-shows : (g : Geometry) (j : ℕ) (part : Option Segment) (old new : List ℕ) → g.slots ≤ 256 → j < g.segments
     → ShowsSegment g j part old new
     → parts_of g new ≡ record { segments = set (parts_of g old).segments j part; clips = (parts_of g old).clips }

@@ -9,7 +9,8 @@ use Rattle.loop_record.specs.declared.geometry.Geometry.{Geometry}
 use Rattle.loop_record.specs.Geometry.{frame_bytes, gate_at}
 use Rattle.loop_record.specs.Recording.{Recording, store, recycle, plain, after_step, victim, ring_of}
 use Rattle.loop_record.specs.Layout.{Slot, Segment, segment_in, whole_frames, is_open}
-use Rattle.loop_record.specs.Reading.{open_segments, by_block, repeats, is_high, parts_of, recording_or_damage, reading, empty_segment}
+use Rattle.loop_record.specs.Reading.{open_segments, by_block, repeats, recording_or_damage, reading, empty_segment}
+use Rattle.loop_record.specs.Parts.{is_high, parts_of}
 use Rattle.loop_record.specs.Change.{ShowsSegment}
 use Rattle.loop_record.proofs.Bounds.{limits}
 use Rattle.loop_record.proofs.OwnBytes.{prefix_range-le}

@@ -9,7 +9,8 @@ use Rattle.loop_record.specs.declared.geometry.Geometry.{Geometry}
 use Rattle.loop_record.specs.Geometry.{frame_bytes, slot_at}
 use Rattle.loop_record.specs.Recording.{Picture, Recording, frame_under}
 use Rattle.loop_record.specs.Layout.{Slot, Segment, is_open, slot_in, is_slot_of, segment_in, whole_frames}
-use Rattle.loop_record.specs.Reading.{Holds, is_bad_slot, frames_of, open_segments, by_block, parts_of, recording_or_damage}
+use Rattle.loop_record.specs.Reading.{Holds, is_bad_slot, frames_of, open_segments, by_block, recording_or_damage}
+use Rattle.loop_record.specs.Parts.{parts_of}
 use Rattle.loop_record.proofs.TestFacts.{both, neither, not_false}
 use Rattle.loop_record.proofs.Parts.{reading-stages}
 use Rattle.loop_record.proofs.Growth.{AllBelow}
@@ -45,7 +46,7 @@ lower-under g b (s ∷ ss) h fits =
     (under-enumerate (b * g.slots) (s.block * g.slots) (map (λ t. t.picture) s.slots) (omega (arith, length-map s.slots (λ t. t.picture), most, le, split)))
     (lower-under g b ss h.1 k.1)
 
--- a number is sought behind frames of lower ones
+-- a number is found after frames of lower ones
 frame_under-behind : (high n : ℕ) (fs gs : List (ℕ × Picture)) → Under high fs → high ≤ n
     → frame_under (fs ++ gs) n ≡ frame_under gs n
 frame_under-behind high n [] gs h le = refl
@@ -79,7 +80,7 @@ hold_from-at n number (suc i) (t ∷ ss) s l e =
 
 -- ---- slots
 
--- the slots of an open segment stand in its places
+-- the slots of an open segment are at their places
 pub slots-are : (g : Geometry) (image : List ℕ) (j : ℕ) (u : Segment) → segment_in g image j ≡ Some u
     → u.slots ≡ map (λ i. slot_in (frame_bytes g) image (slot_at g j i)) (range_with_len 0 (whole_frames g image j))
 slots-are g image j u e = go (is_open image _) _ e

@@ -1,4 +1,4 @@
--- Turns behind turns.
+-- Turns after turns.
 use Rattle.std.proofs.Common.{◌≡◌, List, [], ◌∷◌, ◌++◌, refl, sym, ap, ◌∙◌, append_assoc, subst}
 use Rattle.loop_record.specs.Turns.{after_all, told_in, EachIn, Machine, Turns, Plays}
 
@@ -27,7 +27,7 @@ plays-none m P s stands = (tt, stands)
 pub plays-once : {S X : Type 0} (m : Machine S X) (P Q : S → Type 0) (x : X) → Turns m P Q x → Plays m P Q (x ∷ [])
 plays-once m P Q x turn s stands = let t = turn s stands in ((t.0, tt), t.1)
 
--- a run, and a run behind it
+-- a run, and a run after it
 pub plays-joined : {S X : Type 0} (m : Machine S X) (P Q R : S → Type 0) (xs ys : List X) → Plays m P Q xs
     → Plays m Q R ys → Plays m P R (xs ++ ys)
 plays-joined m P Q R xs ys first second s stands =

@@ -8,7 +8,8 @@ use Rattle.loop_record.specs.declared.damage.LayoutFault.TheVariants.{Damaged}
 use Rattle.loop_record.specs.declared.geometry.Geometry.{Geometry}
 use Rattle.loop_record.specs.Geometry.{disk_size, clip_at}
 use Rattle.loop_record.specs.Layout.{segment_in, clip_in, geometry_in, version_in}
-use Rattle.loop_record.specs.Reading.{parts_of, shown_by, with_geometry, contents}
+use Rattle.loop_record.specs.Reading.{with_geometry, contents}
+use Rattle.loop_record.specs.Parts.{parts_of, shown_by}
 use Rattle.loop_record.specs.Change.{KeepsClips, SameButTags, HasNoTags}
 use Rattle.loop_record.specs.Laws.{KeptClipsReadTheSame}
 use Rattle.loop_record.proofs.Bounds.{limits}
@@ -40,7 +41,7 @@ reading-kept old new k = go (geometry_in old) refl
         ∙ (λ i. cond (eqb (k.size i) (disk_size g)) (with_geometry g (shown_by g (same i))) (Err (Damaged DiskSize)))
         ∙ sym (ap (contents old) is)
 
--- so it is of one change after another
+-- the same for one change after another
 pub kept-on : (old mid new : List ℕ) → KeepsClips old mid → KeepsClips mid new → KeepsClips old new
 kept-on old mid new a b = record {
   size = b.size ∙ a.size;

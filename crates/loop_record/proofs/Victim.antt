@@ -89,7 +89,7 @@ number-block ring n (f ∷ fs) (inr rest) = among-with (block ring n) (block rin
 
 -- ---- all but the greatest
 
--- all but so many at the end
+-- all but the last k
 abbrev pub front : ℕ → List ℕ → List ℕ
 front k bs = take (length bs - k) bs
 
@@ -138,7 +138,7 @@ from_on-all b low [] l h = refl
 from_on-all b low (x ∷ xs) l h =
     from_on-yes b x xs (omega (arith, l, h.0)) ∙ ap suc (from_on-all b (x + 1) xs (omega (arith, l, h.0)) h.1)
 
--- of two of them the lesser has more from it on
+-- of two of them the lesser has more from itself on
 pub from_on-less : (low b c : ℕ) (bs : List ℕ) → RiseFrom low bs → Among b bs → b < c → from_on c bs < from_on b bs
 from_on-less low b c [] h e l = elim e [ ]
 from_on-less low b c (x ∷ xs) h (inl is) l =
@@ -161,7 +161,7 @@ from_on-less low b c (x ∷ xs) h (inr rest) l =
 pub from_on-some : (low b : ℕ) (bs : List ℕ) → RiseFrom low bs → Among b bs → 1 ≤ from_on b bs
 from_on-some low b bs h e = let more = from_on-less low b (b + 1) bs h e (omega arith) in omega (arith, more)
 
--- one of them is in front of the last so many exactly where more are it or above it
+-- one of them comes before the last k exactly where more than k are it or above it
 pub front-counted : (k low b : ℕ) (bs : List ℕ) → RiseFrom low bs → Among b (front k bs)
     → Among b bs × (k < from_on b bs)
 front-counted k low b [] h e = elim (subst (Among b) (front-none k [] (omega arith)) e) [ ]
@@ -222,7 +222,7 @@ rising-counted low least (c ∷ cs) (x ∷ xs) h k all =
     go (λ rest. rising-counted low (x + 1) cs xs (RiseFrom-lower (c + 1) low cs (omega (arith, h.0)) h.1) k.1 rest)
     (λ rest. rising-counted low (x + 1) (c ∷ cs) xs h k.1 rest) (all c (inl refl))
   where
-    -- those above c are behind it
+    -- those above c are after it
     behind : x ≤ c → (d : ℕ) → Among d cs → Among d xs
     behind first d at = pick (all d (inr at))
       where
@@ -243,7 +243,7 @@ rising-counted low least (c ∷ cs) (x ∷ xs) h k all =
         each d (inl is) = subst (λ (n : ℕ). Among n xs) is later
         each d (inr at) = behind (omega (arith, RiseFrom-among (x + 1) c xs k.1 later)) d at
 
--- where more than so many are b or above it, so many are above it
+-- where more than k are b or above it, k others are above it
 record Above (k b : ℕ) (bs : List ℕ) : Type 0 where
   blocks : List ℕ
   count : length blocks ≡ k

@@ -12,7 +12,8 @@ use Rattle.loop_record.specs.declared.clip.Span.{Span}
 use Rattle.loop_record.specs.declared.geometry.Geometry.{Geometry}
 use Rattle.loop_record.specs.Recording.{Picture, Recording, Ring, recycle, after_step, holds, holds_all, frame_under, block, meets, held_blocks, older_blocks, is_locked, victim}
 use Rattle.loop_record.specs.Layout.{Segment}
-use Rattle.loop_record.specs.Reading.{frames_of, next_after, lacks_frame, is_high, repeats, is_bad_slot, is_bad_clip, recording_of, recording_or_damage}
+use Rattle.loop_record.specs.Reading.{frames_of, next_after, lacks_frame, repeats, is_bad_slot, is_bad_clip, recording_of, recording_or_damage}
+use Rattle.loop_record.specs.Parts.{is_high}
 use Rattle.loop_record.proofs.Blocks.{blocks-made}
 use Rattle.loop_record.proofs.Growth.{AllBelow}
 use Rattle.loop_record.proofs.Segments.{AllAbove, has_block, any_move, repeats_move}
@@ -105,7 +106,7 @@ keeps_none p (x ∷ xs) e =
 
 -- ---- the victim isn't the newest
 
--- b isn't in the list but as the last
+-- b isn't in the list, except as the last
 abbrev LastOnly : ℕ → List ℕ → Type 0
 LastOnly b [] = Unit {0}
 LastOnly b (x ∷ []) = Unit {0}

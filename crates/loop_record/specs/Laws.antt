@@ -9,12 +9,12 @@ use Rattle.loop_record.specs.Layout.{super_bytes, slot_bytes, header_bytes, entr
 use Rattle.loop_record.specs.Reading.{Holds, HoldsIn, IsFreshImage, reading}
 use Rattle.loop_record.specs.Change.{KeepsClips}
 
--- the victim is the least block that may go, and where there is none, no block may go
+-- the victim is the least block that may go; where there is none, no block may go
 pub record VictimIsLeast (ring : Ring) (keep : ℕ) (r : Recording) : Type 0 where
   pub some : (b : ℕ) → victim ring keep r ≡ Some b ↔ IsVictim ring keep r b
   pub none : victim ring keep r ≡ None → (b : ℕ) → MayGo ring keep r b → ⊥
 
--- so it is for each well-formed recording
+-- this holds for each well-formed recording
 abbrev pub VictimsAreLeast : Type 0
 VictimsAreLeast =
     (ring : Ring) (keep : ℕ) (r : Recording) → 1 ≤ ring.slots → IsWellFormed r → VictimIsLeast ring keep r
@@ -46,12 +46,12 @@ FreshImagesAreEmpty =
     (h : SuperHead) (image : List ℕ) → IsVersion h.version → IsTrue (is_good h.geometry) → IsFreshImage h image
     → HoldsIn h empty image
 
--- where the version's gate and the clip table have changed, and each id has the clip that it had, an image reads the
+-- where the version's gate and the clip table have changed, but each id has the clip that it had, an image reads the
 -- same
 abbrev pub KeptClipsReadTheSame : Type 0
 KeptClipsReadTheSame = (old new : List ℕ) → KeepsClips old new → reading new ≡ reading old
 
--- a number, a frame's head and its count of bytes have room in a slot
+-- a slot has room for the number, the frame's head and its count of bytes
 pub record FitsSlot (number : ℕ) (p : Picture) : Type 0 where
   pub number_fits : number < 2 ^ 64
   pub sequence : p.sequence < 2 ^ 32
@@ -59,15 +59,15 @@ pub record FitsSlot (number : ℕ) (p : Picture) : Type 0 where
   pub timestamp : p.timestamp < 2 ^ 64
   pub bytes : length p.bytes < 2 ^ 32
 
--- a clip has room in an entry of this version
+-- an entry of this version has room for the clip
 pub record FitsEntry (version : ℕ) (s : Span) : Type 0 where
   pub from : s.from < 2 ^ 64
   pub to : s.to < 2 ^ 64
   pub tag : s.tag < 2 ^ 64
   pub placed : IsTrue (has_tag_place version s)
 
--- a slot that was written is read as its frame's, a superblock as its geometry and version, a header as its
--- block, an entry as its clip
+-- reading gives back what was written: of a slot its frame, of a superblock its geometry and version, of a header its
+-- block, of an entry its clip
 pub record WrittenIsRead : Type 0 where
   pub slot : (number : ℕ) (p : Picture) → FitsSlot number p
       → slot_head (length p.bytes) number (slot_in (length p.bytes) (slot_bytes number p) 0) ≡ Ok (head number p)

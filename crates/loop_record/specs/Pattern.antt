@@ -1,4 +1,4 @@
--- A test pattern, whose frames tell by their bytes which they are.
+-- A test pattern: a frame's bytes show which frame it is.
 use Rattle.std.specs.Prelude.{ℕ, ◌+◌, ◌%◌, List, map}
 use Rattle.std.specs.List.{range_with_len}
 

@@ -1,4 +1,4 @@
--- Frames without where their bytes lie, and what the headers and the clip table of an image say together.
+-- Frames without the place of their bytes in memory, and what an image's headers and clip table say together.
 use Rattle.std.specs.Prelude.{◌<◌, ◌≤◌, ◌≡◌, ℕ, ◌+◌, ◌-◌, ◌*◌, ◌/◌, ◌%◌, ◌^◌, IfSome, ◌==◌, ◌||◌, Bool, true, false, not, [], ◌∷◌, ◌&&◌, nat_lt, if◌then◌else◌, Option, Some, None, Result, Ok, Err, List, map}
 use Rattle.std.specs.List.{list_all, list_any, range_with_len}
 use Rattle.loop_record.specs.declared.clip.Span.{Span}
@@ -10,9 +10,9 @@ use Rattle.loop_record.specs.declared.image.Found.{Found}
 use Rattle.loop_record.specs.Geometry.{frame_bytes, slot_at}
 use Rattle.loop_record.specs.Recording.{Picture, picture}
 use Rattle.loop_record.specs.Layout.{Segment, entry_at, is_too_high, slot_in}
-use Rattle.loop_record.specs.Reading.{is_high}
+use Rattle.loop_record.specs.Parts.{is_high}
 
--- frames without where their bytes lie in memory
+-- frames without the place of their bytes in memory
 abbrev pub pictures : {A : Type 0} → List (Frame A) → List Picture
 pictures frames = map picture frames
 
@@ -35,7 +35,7 @@ pub record IsIn (g : Geometry) (f : Found) : Type 0 where
   pub few : f.frames ≤ g.slots
   pub low : is_too_high g f.block ≡ false
 
--- each of them is
+-- each of them is such a segment
 abbrev pub AreIn : Geometry → List Found → Type 0
 AreIn g [] = Unit {0}
 AreIn g (f ∷ fs) = IsIn g f × AreIn g fs
@@ -49,18 +49,18 @@ IsSomeHigh g (Some s) = is_high g s ≡ true
 abbrev pub found_number : Geometry → ℕ → Found → Bool
 found_number g n f = (f.block == n / g.slots) && nat_lt (n % g.slots) f.frames
 
--- a clip that is empty or has a number of which no segment has the frame
+-- a clip that is empty or has a number whose frame no segment has
 abbrev pub lacks_number : Geometry → List Found → Option Span → Bool
 lacks_number g fs None = false
 lacks_number g fs (Some s) =
     nat_lt s.to s.from || not
     (list_all (λ n. list_any (found_number g n) fs) (range_with_len s.from (s.to + 1 - s.from)))
 
--- a clip of which the segments have each number
+-- a clip, if the segments have each of its numbers
 abbrev pub held_clip : Geometry → List Found → Option Span → Result (Option Span) Damage
 held_clip g fs clip = if lacks_number g fs clip then Err ClipRange else Ok clip
 
--- the tag of a clip, if there is one, is a number of 64 bits
+-- the tag of a clip, if there is a clip, fits into 64 bits
 abbrev pub IsTagFit : Option Span → Type 0
 IsTagFit clip = IfSome clip (λ s. s.tag < 2 ^ 64)
 

@@ -5,11 +5,11 @@ use Rattle.loop_record.specs.declared.clip.Span.{Span}
 use Rattle.loop_record.specs.declared.times.Times.{Times}
 use Rattle.loop_record.specs.Recording.{Recording}
 
--- a moment is among the times
+-- a moment lies in the span of time
 abbrev pub is_in : Times → ℕ → Bool
 is_in times moment = nat_le times.since moment && nat_le moment times.until
 
--- the numbers of the held frames whose time is among these, in their order
+-- the numbers of the held frames whose time lies in the span, in their order
 abbrev pub numbers_in_time : Times → Recording → List ℕ
 numbers_in_time times r = map (λ f. f.0) (filter (λ f. is_in times f.1.timestamp) r.frames)
 
@@ -17,11 +17,11 @@ numbers_in_time times r = map (λ f. f.0) (filter (λ f. is_in times f.1.timesta
 abbrev pub numbers_of_span : Span → List ℕ
 numbers_of_span s = range_with_len s.from (s.to + 1 - s.from)
 
--- those of spans, one behind the other
+-- the numbers of several spans, one after the other
 abbrev pub numbers_of_spans : List Span → List ℕ
 numbers_of_spans spans = flat_map numbers_of_span spans
 
--- spans without a tag that rise from low on, each with a number, and between one and the next a number of neither
+-- spans without a tag that rise from low on: each has a number, and between one and the next is a number of neither
 abbrev pub RunsFrom : ℕ → List Span → Type 0
 RunsFrom low [] = Unit {0}
 RunsFrom low (s ∷ spans) = (low ≤ s.from) × ((s.from ≤ s.to) × ((s.tag ≡ 0) × RunsFrom (s.to + 2) spans))

@@ -15,18 +15,19 @@ pub const CLIP_SIZE: usize = 32;
 /// The bytes of the clip table: an entry for each of the 64 ids.
 pub const TABLE_SIZE: usize = 64 * CLIP_SIZE;
 
-/// The frames of a clip: those whose numbers are from `from` to `to`, both among them.
+/// The frames of a clip: those whose numbers are from `from` to `to`, both included.
 #[derive(Clone, Copy, Debug, PartialEq, Eq)]
 pub struct Span {
     /// The first number.
     pub from: u64,
     /// The last number.
     pub to: u64,
-    /// What its maker calls it, in version 2 of the layout; in version 1 it is 0.
+    /// The name that its maker gave it, in version 2 of the layout; in version 1 it is 0.
     pub tag: u64,
 }
 
-/// Writes the open entry of a clip into 32 bytes. In version 1 of the layout the tag is 0, and these are its zeros.
+/// Writes the open entry of a clip into 32 bytes. In version 1 of the layout the tag is 0, so zeros are written for
+/// it.
 pub fn encode_clip(span: Span, out: &mut [u8])
     requires { length out.old ≡ 32 }
     ensures { out.new ≡ entry_bytes span }
@@ -38,8 +39,8 @@ pub fn encode_clip(span: Span, out: &mut [u8])
     put_u64(out, 24, span.tag);
 }
 
-/// The clip in an entry of this version, of which the first 32 bytes are looked at: nothing where its gate is closed,
-/// `ClipRange` where `from` is above `to`.
+/// The clip in an entry of this version, read from its first 32 bytes: nothing where its gate is closed, `ClipRange`
+/// where `from` is above `to`.
 pub fn decode_clip(version: u32, bytes: &[u8]) -> Result<Option<Span>, Damage>
     requires { 32 ≤ length bytes.now }
     ensures clip { result ≡ checked_clip (entry_at version bytes.now 0) }

@@ -3,7 +3,8 @@
 ghost use Rattle.loop_record.specs.Laws.{VictimsAreLeast, LegalStepsKeepForm, AppendsAreLegal, ReadingsAreWellFormed, FreshImagesAreEmpty, KeptClipsReadTheSame, WrittenIsRead};
 
 /// In a recording whose numbers rise, the victim is the least block of a held frame that no clip meets and that isn't
-/// among the newest that are kept: so many held blocks are above it. Where there is none, there is no such block.
+/// among the newest that are kept: as many held blocks as are kept are above it. Where there is no victim, there is no
+/// such block.
 pub fn victims_are_least()
     ensures { VictimsAreLeast }
 {}
@@ -29,13 +30,13 @@ pub fn fresh_images_are_empty()
     ensures { FreshImagesAreEmpty }
 {}
 
-/// Where the version's gate and the clip table have changed, and each id has the clip that it had, an image reads the
+/// Where the version's gate and the clip table have changed, but each id has the clip that it had, an image reads the
 /// same.
 pub fn kept_clips_read_the_same()
     ensures { KeptClipsReadTheSame }
 {}
 
-/// What was written of a slot, a superblock, a header or a clip entry is read again.
+/// Reading gives back what was written of a slot, a superblock, a header or a clip entry.
 pub fn written_is_read()
     ensures { WrittenIsRead }
 {}

@@ -1,4 +1,4 @@
-//! Gates and numbers of the layout, which are little-endian.
+//! Gates, and the layout's numbers, which are little-endian.
 
 ghost use Rattle.std.specs.Prelude.{◌≡◌, ◌+◌, ◌≤◌, ◌++◌, length, take, drop};
 ghost use Rattle.byteorder.specs.Endian.{little_bytes, little_from};
@@ -6,7 +6,7 @@ ghost use Rattle.loop_record.specs.Layout.{has_bytes};
 
 use byteorder::{ByteOrder, LittleEndian};
 
-/// An open gate. Any other byte is a closed one.
+/// An open gate. Any other byte is a closed gate.
 pub const OPEN: u8 = 0xA5;
 
 /// The number of 32 bits at a place.
@@ -49,7 +49,7 @@ pub(crate) fn put(out: &mut [u8], at: usize, bytes: &[u8])
     out[at..at + bytes.len()].copy_from_slice(bytes);
 }
 
-/// Whether these bytes stand at a place.
+/// Whether these bytes are at a place.
 pub(crate) fn has_bytes(bytes: &[u8], at: usize, expected: &[u8]) -> bool
     requires { at + length expected.now ≤ length bytes.now }
     ensures { result ≡ has_bytes bytes.now at expected.now }

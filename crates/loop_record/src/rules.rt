@@ -15,7 +15,7 @@ fn block(geometry: &Geometry, number: u64) -> u64
     number / u64::from(geometry.slots)
 }
 
-/// Whether some number of a clip has this block. Without a clip none has.
+/// Whether some number of a clip has this block. No number has it where there is no clip.
 pub fn meets(geometry: &Geometry, wanted: u64, clip: Option<Span>) -> bool
     requires { IsTrue (is_good geometry.now) }
     ensures { result ≡ meets (ring_of geometry.now) wanted clip }
@@ -30,7 +30,7 @@ pub fn meets(geometry: &Geometry, wanted: u64, clip: Option<Span>) -> bool
     }
 }
 
-/// Whether some clip meets a block: whether one has a number of it. The clips stand in the order of their ids.
+/// Whether some clip has a number of a block. The clips are in the order of their ids.
 pub fn is_locked(geometry: &Geometry, wanted: u64, clips: &[Option<Span>]) -> bool
     requires { IsTrue (is_good geometry.now) }
     ensures { result ≡ list_any (meets (ring_of geometry.now) wanted) clips.now }

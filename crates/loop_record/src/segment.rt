@@ -25,7 +25,7 @@ pub struct SegmentHead {
     pub frames: u32,
 }
 
-/// Writes the open header of a segment that holds this block, without a frame yet, into 512 bytes.
+/// Writes into 512 bytes the open header of a segment that holds this block, without a frame yet.
 pub fn encode_header(block: u64, out: &mut [u8])
     requires { length out.old ≡ 512 }
     ensures { out.new ≡ header_bytes block }
@@ -36,8 +36,8 @@ pub fn encode_header(block: u64, out: &mut [u8])
     put(out, 16, &[0; 496]);
 }
 
-/// What the header of a segment says, of which the first 512 bytes are looked at: nothing where its gate is closed,
-/// `BlockTooHigh` where a frame of its block would have a number from 2^62 on.
+/// What the header of a segment says, read from its first 512 bytes: nothing where its gate is closed, `BlockTooHigh`
+/// where a frame of its block would have a number from 2^62 on.
 pub fn decode_header(geometry: &Geometry, bytes: &[u8]) -> Result<Option<SegmentHead>, Damage>
     requires good { IsTrue (is_good geometry.now) }
     requires size { 512 ≤ length bytes.now }

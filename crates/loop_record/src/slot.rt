@@ -12,8 +12,8 @@ use std::alloc::Allocator;
 /// The bytes of a slot before the frame's own.
 pub const HEAD_SIZE: usize = 32;
 
-/// Writes a slot: the number, the head, the count of bytes, a zero, and the frame's bytes. `out` has the size
-/// of a slot.
+/// Writes a slot: the number, the head, the count of bytes, a zero, and the frame's bytes. `out` has the size of a
+/// slot.
 pub fn encode_slot<A: Allocator>(number: u64, frame: &Frame<A>, out: &mut [u8])
     requires size { length out.old ≡ 32 + length frame.now.bytes.items }
     requires fits { length frame.now.bytes.items < 2 ^ 32 }
@@ -28,8 +28,8 @@ pub fn encode_slot<A: Allocator>(number: u64, frame: &Frame<A>, out: &mut [u8])
     out[HEAD_SIZE..].copy_from_slice(&frame.bytes);
 }
 
-/// Writes the head of a slot: the number, the frame's head, the count of its bytes, and a zero. `out` has
-/// `HEAD_SIZE` bytes, and the frame's own bytes behind it are its slot.
+/// Writes the head of a slot: the number, the frame's head, the count of its bytes, and a zero. `out` has `HEAD_SIZE`
+/// bytes; with the frame's own bytes after it, it is the frame's slot.
 pub fn encode_head<A: Allocator>(number: u64, frame: &Frame<A>, out: &mut [u8])
     requires size { length out.old ≡ 32 }
     requires fits { length frame.now.bytes.items < 2 ^ 32 }
@@ -43,8 +43,8 @@ pub fn encode_head<A: Allocator>(number: u64, frame: &Frame<A>, out: &mut [u8])
     put_u32(out, 28, 0);
 }
 
-/// The head in a slot that should hold frame `number`, or `SlotHead` where the slot names another number or another
-/// count of bytes than the slot has behind its first 32.
+/// The head in a slot that should hold frame `number`, or `SlotHead` where the slot names another number, or another
+/// count of bytes than the slot has after its first 32.
 pub fn decode_slot(bytes: &[u8], number: u64) -> Result<FrameHead, Damage>
     requires { 32 ≤ length bytes.now }
     ensures { result ≡ slot_head (length bytes.now - 32) number (slot_in (length bytes.now - 32) bytes.now 0) }
@@ -60,8 +60,8 @@ pub fn decode_slot(bytes: &[u8], number: u64) -> Result<FrameHead, Damage>
     })
 }
 
-/// The head at the front of a slot, of which the first 32 bytes are looked at, that should hold frame `number`,
-/// of `size` bytes; `SlotHead` where the slot names another number or another count of bytes.
+/// The head of a slot that should hold frame `number`, of `size` bytes, read from the slot's first 32 bytes;
+/// `SlotHead` where the slot names another number or another count of bytes.
 pub fn decode_head(bytes: &[u8], number: u64, size: u32) -> Result<FrameHead, Damage>
     requires { 32 ≤ length bytes.now }
     ensures head { result ≡ slot_head size number (slot_in size bytes.now 0) }

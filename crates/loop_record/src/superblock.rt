@@ -1,6 +1,6 @@
 //! The superblock: whether a disk is formatted, and its geometry. docs/layout.md says why it is so.
 
-ghost use Rattle.std.specs.Prelude.{◌==◌, ◌≡◌, ◌+◌, ◌≤◌, IsTrue, length};
+ghost use Rattle.std.specs.Prelude.{◌==◌, ◌≡◌, ◌≤◌, IsTrue, length};
 ghost use Rattle.std.specs.List.{list_all};
 ghost use Rattle.loop_record.specs.Geometry.{is_good};
 ghost use Rattle.loop_record.specs.Layout.{super_bytes, super_in, version_gate, version_in, geometry_fields, is_super_of};
@@ -11,16 +11,16 @@ use crate::{Damage, Geometry, LayoutFault, PixelFormat};
 /// The bytes of the superblock.
 pub const SUPER_SIZE: usize = 512;
 
-// What stands behind the magic, in each version of the layout.
+// The number after the magic, in each version of the layout.
 const MARK: u32 = 1;
 
 /// Where the gate of the version lies.
 pub const VERSION_GATE: usize = 44;
 
-/// The version of the layout whose gate is open: its clips have tags. Any other image has version 1.
+/// The version of the layout whose version gate is open: its clips have tags. Any other image has version 1.
 pub const TAGGED: u32 = 2;
 
-// The bytes behind the superblock's gate.
+// The bytes after the superblock's gate.
 const MAGIC: [u8; 7] = *b"LOOPREC";
 
 /// What an open superblock says.
@@ -61,10 +61,10 @@ fn version_gate(version: u32) -> u8
     if version == TAGGED { OPEN } else { 0 }
 }
 
-/// What a superblock says, of which the first 512 bytes are looked at.
+/// What a superblock says, read from its first 512 bytes.
 ///
 /// `NotFormatted` for fewer than 512 bytes, a closed gate or another magic; `Damaged(Superblock)` for another number
-/// than 1 behind the magic, a geometry that isn't good, frame bytes that aren't the sum of its planes, or a byte from
+/// than 1 after the magic, a geometry that isn't good, frame bytes that aren't the sum of its planes, or a byte from
 /// 45 on that isn't zero.
 pub fn decode_super(bytes: &[u8]) -> Result<SuperHead, LayoutFault>
     ensures { result ≡ super_in bytes.now }
@@ -114,7 +114,7 @@ fn geometry_fields(bytes: &[u8], format: PixelFormat) -> Geometry
     }
 }
 
-// Whether a 1 stands behind the magic, the geometry is good, its frame bytes its own, and the rest zeros.
+// Whether a 1 follows the magic, the geometry is good, the frame bytes are the geometry's, and the rest are zeros.
 fn is_super_of(bytes: &[u8], geometry: &Geometry) -> bool
     requires { 512 ≤ length bytes.now }
     ensures { result ≡ is_super_of bytes.now geometry.now }

@@ -3,7 +3,7 @@
 ghost use Rattle.std.specs.Prelude.{◌≡◌};
 ghost use Rattle.loop_record.specs.Times.{is_in};
 
-/// The time from one moment to another, both among it, in microseconds.
+/// The time from one moment to another, both included, in microseconds.
 #[derive(Clone, Copy, Debug, PartialEq, Eq)]
 pub struct Times {
     /// The first moment.
@@ -13,7 +13,7 @@ pub struct Times {
 }
 
 impl Times {
-    /// Whether a moment is among them.
+    /// Whether a moment lies in it.
     pub fn has(&self, moment: u64) -> bool
         ensures { result ≡ is_in self.now moment }
     {

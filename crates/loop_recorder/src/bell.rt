@@ -1,10 +1,10 @@
-//! Where a worker sleeps until another one has something for it.
+//! Where a worker sleeps until another one has work for it.
 
 use std::sync::{Condvar, Mutex, Wait};
 use std::time::{Clock, Duration};
 
-/// Counts what happened, and wakes who waits for more. Nothing is lost between a look and the sleep behind it: who
-/// reads the count before it looks for work, and finds none, waits for another count.
+/// Counts rings, and wakes all waiting threads at each. No ring is lost between a look and the sleep after it: a thread
+/// reads the count, looks for work, and if it finds none waits until the count is another.
 #[derive(Drop)]
 pub(crate) struct Bell {
     rung: Mutex<u64>,
@@ -12,7 +12,7 @@ pub(crate) struct Bell {
 }
 
 impl Bell {
-    /// One that hasn't rung.
+    /// A bell that hasn't rung.
     pub(crate) fn new() -> Bell {
         Bell {
             rung: Mutex::new(0),
@@ -20,26 +20,27 @@ impl Bell {
         }
     }
 
-    /// How often it rang.
+    /// How often it has rung.
     pub(crate) fn count<R: Wait>(&self, rt: &R) -> u64 {
         *self.rung.lock(rt)
     }
 
-    /// Wakes who waits.
+    /// Rings: wakes all that wait.
     pub(crate) fn ring<R: Wait>(&self, rt: &R) {
         let mut rung = self.rung.lock(rt);
         *rung = rung.wrapping_add(1);
         self.changed.notify_all();
     }
 
-    /// Waits until it has rung again since it had this count.
+    /// Waits for another count than this one.
     pub(crate) fn wait<R: Wait>(&self, rt: &R, seen: u64) {
+        // The count that it ends with isn't needed: the caller reads it again.
         let _rung = self
             .changed
             .wait_while(rt, self.rung.lock(rt), |rung| *rung == seen);
     }
 
-    /// Waits until it has rung again since it had this count, for so long at most; whether it has.
+    /// Waits for another count than this one, at most so long; returns whether it came.
     pub(crate) fn wait_for<R: Wait + Clock>(&self, rt: &R, seen: u64, most: Duration) -> bool {
         let (_rung, waited) = self
             .changed

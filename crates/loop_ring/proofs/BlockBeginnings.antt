@@ -19,7 +19,7 @@ use Rattle.loop_record.proofs.Fields.{moved_number}
 use Rattle.loop_ring.specs.Writes.{ShowsOrNot, HasNoStray}
 use Rattle.loop_ring.proofs.Bytes.{shows, torn_at, closed_none, none_closed}
 
--- what the header of an empty segment of a block has behind its gate
+-- what the header of an empty segment of a block has after its gate
 pub record IsHeader (block : ℕ) (header : List ℕ) : Type 0 where
   pub size : length header ≡ 511
   pub number : little_from 7 8 header ≡ block
@@ -128,7 +128,7 @@ begin_stray g j block header old h few fits i low l = gates_closed g j block hea
 
 -- ---- what the call says
 
--- the gate behind its header
+-- the gate after its header
 stores_open : {T : Type 0} (at : ℕ) (header gate : List ℕ) (old new : Medium) (r : Result T DiskFault) → gate ≡ 165 ∷ []
     → StoresInTurn (at + 1) header at gate old new r → StoresInTurn (at + 1) header at (165 ∷ []) old new r
 stores_open at header gate old new r opens stores = subst (λ (bytes : List ℕ). StoresInTurn (at + 1) header at bytes old new r) opens stores

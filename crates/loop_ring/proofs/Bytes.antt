@@ -12,7 +12,7 @@ use Rattle.loop_record.specs.Layout.{Segment, is_open, slot_in, whole_frames, se
 use Rattle.loop_record.proofs.Fields.{moved_number}
 use Rattle.loop_record.proofs.OwnBytes.{SameWithin, SameWithin-part, prefix_range, prefix_range-le, map_range, slot_within, same_open, same_number, same_slot}
 
--- an image with the same bytes outside a segment shows what stands in the segment
+-- an image with the same bytes outside a segment shows what is in the segment
 pub shows : (g : Geometry) (j : ℕ) (part : Option Segment) (old new : List ℕ) → SameOutside (segment_at g j)
     (segment_size g) old new → segment_in g new j ≡ part → ShowsSegment g j part old new
 shows g j part old new s is = record { outside = record { size = s.size; before = s.before; behind = s.behind }; holds = is }
@@ -28,7 +28,7 @@ torn_at a b a' b' n n' first old c e f h (inr torn) =
 
 -- ---- a segment's bytes
 
--- a segment but for its gate
+-- a segment except its gate
 pub same_but_gate : (g : Geometry) (a b : List ℕ) (j : ℕ) → g.slots ≤ 256 → SameWithin (segment_at g j + 1)
     (segment_at g j + segment_size g) a b → is_open a (segment_at g j) ≡ is_open b (segment_at g j)
     → segment_in g a j ≡ segment_in g b j

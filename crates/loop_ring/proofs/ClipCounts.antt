@@ -86,7 +86,7 @@ mapped-all f heads old new i m all counted same = ext_get_or 0 new (map (λ x. f
         ∙ sym (get_or-map (λ (x : Option SegmentHead × ℕ). f x.0 x.1) (zip heads old) k (None, 0) 0
         (omega (arith, inside, long)))
 
--- what looks at the headers alone
+-- what depends on the headers alone
 pub mapped-heads : (f : Option SegmentHead → ℕ) (heads : List (Option SegmentHead)) (old : List ℕ)
     → length old ≡ length heads → map (λ x. f x.0) (zip heads old) ≡ map f heads
 mapped-heads f [] old same = refl
@@ -110,7 +110,7 @@ pub less-met : (ring : Ring) (span : Span) (h : Option SegmentHead) (n : ℕ) (t
     → t ≡ meets_head ring (Some span) h → t ≡ true → n - 1 ≡ without_one ring span h n
 less-met ring span h n t is so = ap (λ (b : Bool). cond b (n - 1) n) (sym so ∙ is)
 
--- where no clip stands, none meets a segment
+-- where there is no clip, none meets a segment
 pub counts-empty : (ring : Ring) (clips : List (Option Span)) (h : Option SegmentHead)
     → list_any is_some clips ≡ false → 0 ≡ clips_on ring clips h
 counts-empty ring clips None none = refl
@@ -121,7 +121,7 @@ counts-empty ring clips (Some h) none = go clips none
     go (None ∷ cs) e = let rest = go cs e in omega (arith, rest, sum_by-cons (λ c. mark (meets ring h.block c)) None cs)
     go (Some s ∷ cs) e = absurd cc
 
--- ---- a clip more, and a clip less
+-- ---- one clip more, and one clip less
 
 pub counts-length : (ring : Ring) (clips : List (Option Span)) (heads : List (Option SegmentHead))
     → length (clip_counts ring clips heads) ≡ length heads
@@ -232,7 +232,7 @@ counts-grown ring clips (o ∷ heads) (suc j) frames = ap (λ (l : List ℕ). cl
 
 -- ---- the block that goes
 
--- no clip meets a block exactly where none of them does
+-- no clip meets a block exactly where the count is 0
 none-any : (p : Option Span → Bool) (clips : List (Option Span)) → eqb (count_by p clips) 0 ≡ not (list_any p clips)
 none-any p [] = refl
 none-any p (c ∷ clips) = go (p c) refl (none-any p clips)
@@ -251,7 +251,7 @@ none-any p (c ∷ clips) = go (p c) refl (none-any p clips)
         (omega (arith, nothing, sum_by-cons (λ x. mark (p x)) c clips)) ∙ rest
         ∙ sym (ap (λ (b : Bool). not (b || list_any p clips)) is)
 
--- by the counts of some clips the block goes that goes by the clips
+-- the counts of some clips choose the same block as the clips
 pub free-first : (ring : Ring) (clips : List (Option Span)) (s : Segments) → s.clips ≡ clip_counts ring clips s.heads
     → going_free s ≡ going_first ring s.keep clips s.heads
 free-first ring clips s counted = go (floor_block s.keep s.heads)
@@ -368,12 +368,6 @@ held-changed heads j held new l is =
       sum_by-cons (λ (o : Option SegmentHead). mark (has_frame o)) new [],
       sum_by-cons (λ (o : Option SegmentHead). mark (has_frame o)) (get_or heads j None) [],
     )
-
-pub held-some : (heads : List (Option SegmentHead)) (j held : ℕ) → j < length heads → held ≡ count_by has_frame heads
-    → count_by has_frame (get_or heads j None ∷ []) ≤ held
-held-some heads j held l is =
-    let sums = sum_by-set (λ (o : Option SegmentHead). mark (has_frame o)) heads j None None l in
-    omega (arith, is, sums, sum_by-cons (λ (o : Option SegmentHead). mark (has_frame o)) (get_or heads j None) [])
 
 pub held-few : (heads : List (Option SegmentHead)) (j held limit : ℕ) (new : Option SegmentHead) → j < length heads
     → length heads < limit → held ≡ count_by has_frame heads

@@ -206,7 +206,7 @@ gated_outside g j first count bytes old c can gated =
     both (segment_at g j) (segment_size g) old _ c (slots_outside g j first count bytes old _ can (slots_written g j first count bytes old can))
     (widened (gate_at g j first) count (segment_at g j) (segment_size g) _ c gated (omega arith) (omega (arith, can.few, can.room)))
 
--- segment j with the first k of the slots in some bytes behind its own
+-- segment j with the first k of the slots in some bytes after its own
 abbrev pub ShowsStaged : Geometry → ℕ → List ℕ → ℕ → List ℕ → List ℕ → Type 0
 ShowsStaged g j bytes k old new = ShowsSegment g j (with_more (slots_in (frame_bytes g) bytes k) (segment_in g old j)) old new
 
@@ -287,7 +287,7 @@ pub record AreStaged (g : Geometry) (number : ℕ) (frames : List Picture) (byte
   pub size : length bytes ≡ length frames * slot_size g
   pub slots : slots_in (frame_bytes g) bytes (length frames) ≡ slots_of (frame_bytes g) number frames
 
--- in some bytes stand the slots of these frames, which are so many
+-- some bytes hold the slots of these frames, and this is their number
 pub record IsGroup (g : Geometry) (number : ℕ) (frames : List Picture) (bytes : List ℕ) (count : ℕ) : Type 0 where
   pub count_is : count ≡ length frames
   pub slots : slots_in (frame_bytes g) bytes count ≡ slots_of (frame_bytes g) number frames

@@ -1,4 +1,4 @@
--- That a ring and its index may go to another thread, and be looked at by several: each alone, and (`in`) as what holds it has it.
+-- That a ring and its index may be sent to another thread, and shared by several: each alone, and (`in`) as part of what holds it.
 use denote.Param.Send.{IsSend, IsSync, sendable}
 use Rattle.std.proofs.Crossing.{crosses}
 use Rattle.std.specs.contracts.alloc.Global as heap

@@ -1,25 +1,36 @@
--- The slots of a group: heads, and the bytes that go with them where they are.
-use Rattle.std.proofs.Common.{◌≡◌, ℕ, ◌+◌, ◌*◌, ◌<◌, List, [], ◌∷◌, ◌++◌, length, take, get_or, set, sym, ap, ◌∙◌, arith}
+-- The slots of a group: heads, each with the bytes that follow it.
+use Rattle.std.proofs.Common.{◌≡◌, ℕ, ◌+◌, ◌*◌, ◌<◌, List, [], ◌∷◌, ◌++◌, length, take, get_or, set, refl, sym, ap, ◌∙◌, arith}
 use Rattle.std.proofs.lemmas.List.{append-nil, append_assoc, length-set, length-take-le, take_more, take_more_set}
 use Rattle.std.proofs.lemmas.List.Concat.{flat_map-append}
 use Rattle.std.specs.Borrow.{Bor}
+use Rattle.std.specs.List.{flat_map, zip}
 use Rattle.loop_disk.specs.Rows.{joined}
 use Rattle.loop_record.specs.Laws.{FitsSlot}
 use Rattle.loop_record.specs.Layout.{slot_bytes}
 use Rattle.loop_record.specs.Recording.{Picture}
-use Rattle.loop_ring.specs.Groups.{IsGrouped, first_slots, slots_joined}
+use Rattle.loop_ring.specs.Groups.{IsGrouped, first_slots}
 use Rattle.loop_ring.proofs.SlotStages.{Gains}
+
+-- two lists side by side, each with one element more
+zip_more : {X Y : Type 0} (xs : List X) (ys : List Y) (x : X) (y : Y) → length xs ≡ length ys
+    → zip (xs ++ x ∷ []) (ys ++ y ∷ []) ≡ zip xs ys ++ (x, y) ∷ []
+zip_more [] [] x y same = refl
+zip_more [] (b ∷ ys) x y same = absurd (omega (arith, same))
+zip_more (a ∷ xs) [] x y same = absurd (omega (arith, same))
+zip_more {X} {Y} (a ∷ xs) (b ∷ ys) x y same = ap (λ (l : List (X × Y)). (a, b) ∷ l) (zip_more xs ys x y (omega (arith, same)))
+
+-- the bytes of a slot
+abbrev slot : List ℕ × Bor (List ℕ) → List ℕ
+slot s = s.0 ++ s.1.now
 
 -- one slot more
 joined_more : (heads : List (List ℕ)) (bodies : List (Bor (List ℕ))) (head : List ℕ) (body : Bor (List ℕ))
     → length heads ≡ length bodies
-    → slots_joined (heads ++ head ∷ []) (bodies ++ body ∷ []) ≡ slots_joined heads bodies ++ (head ++ body.now)
-joined_more [] [] head body same = append-nil (head ++ body.now)
-joined_more [] (b ∷ bodies) head body same = absurd (omega (arith, same))
-joined_more (h ∷ heads) [] head body same = absurd (omega (arith, same))
-joined_more (h ∷ heads) (b ∷ bodies) head body same =
-    ap (λ (l : List ℕ). h ++ b.now ++ l) (joined_more heads bodies head body (omega (arith, same)))
-    ∙ sym (append_assoc (h ++ b.now) (slots_joined heads bodies) (head ++ body.now))
+    → flat_map slot (zip (heads ++ head ∷ []) (bodies ++ body ∷ [])) ≡ flat_map slot (zip heads bodies) ++ (head ++ body.now)
+joined_more heads bodies head body same =
+    ap (flat_map slot) (zip_more heads bodies head body same)
+    ∙ flat_map-append slot (zip heads bodies) ((head, body) ∷ [])
+    ∙ (λ i. flat_map slot (zip heads bodies) ++ append-nil (head ++ body.now) i)
 
 -- the slots with that of the next place
 pub slots_on : (count : ℕ) (heads : List (List ℕ)) (bodies : List (Bor (List ℕ))) (d : Bor (List ℕ)) → count < length heads
@@ -27,7 +38,7 @@ pub slots_on : (count : ℕ) (heads : List (List ℕ)) (bodies : List (Bor (List
     → first_slots (count + 1) heads bodies
     ≡ first_slots count heads bodies ++ (get_or heads count [] ++ (get_or bodies count d).now)
 slots_on count heads bodies d l m =
-    (λ i. slots_joined (take_more heads count [] l i) (take_more bodies count d m i))
+    (λ i. flat_map slot (zip (take_more heads count [] l i) (take_more bodies count d m i)))
     ∙ joined_more (take count heads) (take count bodies) (get_or heads count []) (get_or bodies count d)
     (omega (arith, length-take-le count heads (omega (arith, l)), length-take-le count bodies (omega (arith, m))))
 
@@ -37,7 +48,7 @@ pub slots_more : (count : ℕ) (heads : List (List ℕ)) (bodies : List (Bor (Li
     → first_slots (count + 1) (set heads count head) (set bodies count body)
     ≡ first_slots count heads bodies ++ (head ++ body.now)
 slots_more count heads bodies head body l m =
-    (λ i. slots_joined (take_more_set heads count head l i) (take_more_set bodies count body m i))
+    (λ i. flat_map slot (zip (take_more_set heads count head l i) (take_more_set bodies count body m i)))
     ∙ joined_more (take count heads) (take count bodies) head body
     (omega (arith, length-take-le count heads (omega (arith, l)), length-take-le count bodies (omega (arith, m))))
 

@@ -15,7 +15,8 @@ use Rattle.loop_record.specs.Change.{ShowsSegment}
 use Rattle.loop_record.specs.Geometry.{frame_bytes, segment_at}
 use Rattle.loop_record.specs.Layout.{Slot, Segment, is_open, whole_frames, segment_in, header_at}
 use Rattle.loop_record.specs.Recording.{Picture, Recording}
-use Rattle.loop_record.specs.Reading.{parts_of, open_segments, by_block, next_after, repeats, Holds}
+use Rattle.loop_record.specs.Reading.{open_segments, by_block, next_after, repeats, Holds}
+use Rattle.loop_record.specs.Parts.{parts_of}
 use Rattle.loop_record.proofs.Bounds.{limits}
 use Rattle.loop_record.proofs.Changes.{shown_of, is_overfull}
 use Rattle.loop_record.proofs.TestFacts.{clash, neither, equal, equal_test, differ, not_below}
@@ -57,7 +58,7 @@ heads-are g image =
 pub heads-length : (g : Geometry) (image : List ℕ) → length (heads_of g image) ≡ g.segments
 heads-length g image = length-map (range_with_len 0 g.segments) (λ j. header_at g image (segment_at g j)) ∙ length-range 0 g.segments
 
--- what stands at a place of the list
+-- what is at a place of the list
 pub head-there : (g : Geometry) (image : List ℕ) (j : ℕ) → j < g.segments → get_or (heads_of g image) j None ≡ head_of
     (segment_in g image j)
 head-there g image j l =

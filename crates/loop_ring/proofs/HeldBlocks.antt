@@ -11,7 +11,8 @@ use Rattle.loop_record.specs.declared.geometry.Geometry.{Geometry}
 use Rattle.loop_record.specs.declared.segment.SegmentHead.{SegmentHead}
 use Rattle.loop_record.specs.Recording.{Picture, Recording, Ring, ring_of, block, held_blocks, frame_under, holds}
 use Rattle.loop_record.specs.Layout.{Segment}
-use Rattle.loop_record.specs.Reading.{parts_of, open_segments, by_block, in_place, frames_of, next_after, lacks_frame, Holds}
+use Rattle.loop_record.specs.Reading.{open_segments, by_block, in_place, frames_of, next_after, lacks_frame, Holds}
+use Rattle.loop_record.specs.Parts.{parts_of}
 use Rattle.loop_record.proofs.Blocks.{blocks-made}
 use Rattle.loop_record.proofs.Bounds.{limits}
 use Rattle.loop_record.proofs.Changes.{shown_of, is_overfull}
@@ -214,7 +215,7 @@ from-blocks b (s ∷ ss) = ap (count_by (leb b)) (with-kept s ss) ∙ go (has_sl
         let none : mark (leb b s.block) ≡ 0 = ap mark is in
         omega (arith, none, ih, sum_by-cons (λ c. mark (leb b c)) s.block (blocks_with ss))
 
--- of the held blocks as many are from one on as the headers say
+-- as many held blocks are from one block on as the headers say
 pub from-counted : (g : Geometry) (r : Recording) (image : List ℕ) (b : ℕ) → Holds g r image
     → count_by (leb b) (filter_map held_block (heads_of g image)) ≡ count_by (leb b) (held_blocks (ring_of g) r)
 from-counted g r image b e =
@@ -373,7 +374,7 @@ under-frames g n (s ∷ ss) some fits =
     ∙ number-in g.slots s.block (length s.slots) n some (not_below g.slots (length s.slots) k.0) in
     under-appended (frames_of g s) (all_frames g ss) n ∙ (λ i. first i || rest i)
 
--- whether a number is held is seen by the headers
+-- the headers decide whether a number is held
 pub held-number : (g : Geometry) (r : Recording) (image : List ℕ) (n : ℕ) → Holds g r image
     → list_any (has_number g.slots n) (heads_of g image) ≡ holds r n
 held-number g r image n e =

@@ -9,7 +9,6 @@ pub mod SlotStages
 mod GroupSlots
 pub mod Commits
 pub mod SlotReads
-pub mod Frames
 pub mod StrayGates
 pub mod SegmentOrder
 pub mod IndexOrder

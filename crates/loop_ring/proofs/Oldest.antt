@@ -342,7 +342,7 @@ held-some heads m there = counted (filter_map held_block heads) there
         omega (arith, one, sum_by-cons (λ c. mark (leb m c)) b bs)
     counted (b ∷ bs) (inr rest) = let later = counted bs rest in omega (arith, later, sum_by-cons (λ c. mark (leb m c)) b bs)
 
--- so many entries from a place on have a frame
+-- this many entries from a place on have a frame
 abbrev held_from : List (Option SegmentHead) → List Found → ℕ → ℕ
 held_from heads entries i = count_by (is_held_entry heads) (drop i entries)
 
@@ -394,7 +394,7 @@ from-greater heads entries capacity i m x inside below =
         go true e = ap mark e
         go false e = refl
 
--- where so many entries behind one that has a frame have one too, its block is the floor
+-- where this many entries after one that has a frame have one too, its block is the floor
 pub floor-found : (heads : List (Option SegmentHead)) (entries : List Found) (capacity i keep : ℕ) (e : Found)
     → IsIndexed heads entries capacity → i < length entries → ((d : Found) → get_or entries i d ≡ e)
     → is_held_entry heads e ≡ true → held_from heads entries (i + 1) + 1 ≡ max 1 keep
@@ -475,18 +475,11 @@ floor-missing heads entries capacity keep x few = go (floor_block keep heads) re
 
 -- ---- the entries from the end
 
--- the rest stands at the front of the entries, and so many behind it have a frame
+-- the rest is the start of the entries, and this many after it have a frame
 pub record IsLeft (heads : List (Option SegmentHead)) (entries rest : List Found) (passed : ℕ) : Type 0 where
   pub few : length rest ≤ length entries
   pub same : (k : ℕ) (d : Found) → k < length rest → get_or rest k d ≡ get_or entries k d
   pub counted : held_from heads entries (length rest) ≡ passed
-
-pub left-all : (heads : List (Option SegmentHead)) (entries : List Found) → IsLeft heads entries entries 0
-left-all heads entries = record {
-  few = omega arith;
-  same = λ k d l. refl;
-  counted = ap (count_by (is_held_entry heads)) (drop_all (length entries) entries (omega arith));
-}
 
 -- its last entry
 pub record IsLast (heads : List (Option SegmentHead)) (entries rest : List Found) (e : Found) (passed : ℕ) : Type 0 where
@@ -509,7 +502,7 @@ left-last heads entries whole rest e passed left is = record {
     long : length whole ≡ length rest + 1
     long = ap (λ (l : List Found). length l) is ∙ length-append rest (e ∷ [])
 
--- an entry more is passed: one without a frame, or one with it
+-- one more entry is passed, without a frame or with one
 pub left-less : (heads : List (Option SegmentHead)) (entries rest : List Found) (e : Found) (passed now : ℕ)
     (held : Bool) → IsLast heads entries rest e passed → is_held_entry heads e ≡ held → now ≡ mark held + passed
     → IsLeft heads entries rest now

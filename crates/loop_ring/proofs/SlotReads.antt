@@ -4,7 +4,7 @@ use Rattle.std.proofs.lemmas.List.{drop-drop, drop-take, take-take}
 use Rattle.byteorder.specs.Endian.{little_from}
 use Rattle.byteorder.specs.Numbers.{little_from-take}
 use Rattle.loop_disk.specs.Calls.{Stays}
-use Rattle.loop_disk.specs.Medium.{Medium, IsSettled, piece}
+use Rattle.loop_disk.specs.Medium.{Medium, piece}
 use Rattle.loop_disk.proofs.Moments.{meanwhile_on, remembers_on}
 use Rattle.loop_record.specs.declared.damage.Damage.{Damage}
 use Rattle.loop_record.specs.declared.damage.Damage.TheVariants.{SlotHead}
@@ -17,7 +17,7 @@ use Rattle.loop_ring.specs.declared.fault.SlotFault.{SlotFault}
 use Rattle.loop_ring.specs.declared.fault.SlotFault.TheVariants.{Damaged}
 use Rattle.loop_ring.specs.Reads.{AnswersHead, AnswersPart, AnswersSlot, slot_of}
 
--- a disk that is as it was, and is so again
+-- a disk that stays as it was, twice
 pub stays_on : (old mid new : Medium) → Stays old mid → Stays mid new → Stays old new
 stays_on old mid new first second = record {
   bytes = second.bytes ∙ first.bytes;
@@ -25,10 +25,6 @@ stays_on old mid new first second = record {
   time = meanwhile_on old mid new old.may_leave mid.may_leave first.time second.time first.images;
   keeps = remembers_on old mid new first.time.later first.keeps second.keeps;
 }
-
--- where a crash left the present bytes and nothing else, it does so after a read
-pub stays-settled : (old new : Medium) → Stays old new → IsSettled old → IsSettled new
-stays-settled old new stays settled = λ c left. settled c (stays.images c left) ∙ sym stays.bytes
 
 -- the first 32 bytes of a slot have its head
 slot_head-front : (n at number : ℕ) (image : List ℕ)
@@ -89,7 +85,7 @@ whole_part g j i number image out (Ok head) size said =
           (omega arith) ∙ ap (λ (k : ℕ). take k all) (sym count),
     )
 
--- a damaged head is answered as such
+-- a damaged head is reported as such
 pub answers_damage : (said : Result FrameHead Damage) (damage : Damage) (answer : Result FrameHead SlotFault)
     → said ≡ Err damage → IsErrAnd answer (λ made. made ≡ Damaged damage) → AnswersHead said answer
 answers_damage said damage (Ok head) is made = absurd made

@@ -21,7 +21,7 @@ take-slots_of n (suc k) number [] = refl
 take-slots_of n (suc k) number (p ∷ ps) = ap (λ (slots : List Slot). record { number = number; size = n; picture = p }
     ∷ slots) (take-slots_of n k (number + 1) ps)
 
--- bytes that hold the slots of frames hold those of a beginning of them
+-- bytes that hold the slots of frames hold those of a prefix of them
 pub slots-beginning : (n number k count : ℕ) (bytes : List ℕ) (ps : List Picture) → k ≤ count
     → slots_in n bytes count ≡ slots_of n number ps → slots_in n bytes k ≡ slots_of n number (take k ps)
 slots-beginning n number k count bytes ps le are =
@@ -50,7 +50,7 @@ slot_end n i k l =
     let split : (i + 1) * (32 + n) ≡ i * (32 + n) + (32 + n) = omega (arith, add-mul i 1 (32 + n)) in
     omega (arith, le, split)
 
--- slots with another behind them
+-- slots with another after them
 pub slots-appended : (n i : ℕ) (before out : List ℕ) (s : Slot) → length before ≡ i * (32 + n) → length out ≡ 32 + n
     → slots_in n out 1 ≡ s ∷ [] → slots_in n (before ++ out) (i + 1) ≡ slots_in n before i ++ s ∷ []
 slots-appended n i before out s size long is =
@@ -84,7 +84,7 @@ pub frames-length : (n count : ℕ) (bytes : List ℕ) → length (frames_in n b
 frames-length n count bytes = length-map (slots_in n bytes count) (λ s. s.picture)
     ∙ length-map (range_with_len 0 count) (λ i. slot_in n bytes (i * (32 + n))) ∙ length-range_with_len 0 count
 
--- the slot of one more frame, behind those of the group
+-- the slot of one more frame, after those of the group
 pub record Gains (n first count : ℕ) (old new : List ℕ) (p : Picture) : Type 0 where
   pub fits : FitsSlot (first + count) p
   pub size : length p.bytes ≡ n

@@ -18,11 +18,11 @@ use Rattle.loop_ring.proofs.Bytes.{shows, prefix_open}
 
 -- ---- gates of a range
 
--- a test doesn't answer both
+-- a test doesn't have both results
 pub never : {X : Type 0} (b : Bool) → b ≡ true → b ≡ false → X
 never b left right = absurd cc
 
--- the front of 256 zeros
+-- the first of 256 zeros
 abbrev pub zeros : ℕ → List ℕ
 zeros n = take n (replicate 256 0)
 
@@ -32,7 +32,7 @@ length-zeros n few = let size : length (zeros n) ≡ min n 256 = length-take n (
 zero_there : (n i : ℕ) → n ≤ 256 → i < n → get_or (zeros n) i 0 ≡ 0
 zero_there n i few l = get_or-take n (replicate 256 0) i 0 l ∙ get_or-replicate 256 i 0 0 (omega (arith, l, few))
 
--- what is read into the front of 256 zeros
+-- what is read over the first of 256 zeros
 pub read_front : (at n : ℕ) (image gates : List ℕ) → n ≤ 256 → gates ≡ piece at (length (zeros n)) image
     → gates ≡ piece at n image
 read_front at n image gates few read = read ∙ ap (λ (k : ℕ). piece at k image) (length-zeros n few)
@@ -97,7 +97,7 @@ ends_closed g j k image whole l =
     let at : k ≡ 0 + whole_frames g image j = omega (arith, whole) in
     ap gate at ∙ prefix_closed gate 0 g.slots (omega (arith, whole, l))
 
--- where the gates behind the first closed one are these, and they may be any
+-- where the gates after the first closed one are these, whatever they are
 pub record IsBehind (g : Geometry) (j k at n : ℕ) (old : List ℕ) : Type 0 where
   pub few : g.slots ≤ 256
   pub place : at ≡ gate_at g j (k + 1)
@@ -109,7 +109,7 @@ front_kept : (g : Geometry) (j k at n i : ℕ) (old c : List ℕ) → IsBehind g
     → i ≤ k → is_open c (gate_at g j i) ≡ is_open old (gate_at g j i)
 front_kept g j k at n i old c b torn l = ap (λ (x : ℕ). eqb x 0xA5) (torn.before (gate_at g j i) (omega (arith, l, b.place)))
 
--- as many frames are whole
+-- the number of whole frames stays
 whole_kept : (g : Geometry) (j k at n : ℕ) (old c : List ℕ) → IsBehind g j k at n old → SameOutside at n old c
     → whole_frames g c j ≡ k
 whole_kept g j k at n old c b torn =
@@ -142,14 +142,14 @@ segment_kept g j k at n old c b torn =
     let slots : slots_from g c j 0 (whole_frames g c j) ≡ slots_from g old j 0 (whole_frames g old j) = ap (slots_from g c j 0) whole ∙ same in
     λ i. cond (gate i) (Some (record { block = block i; slots = slots i })) None
 
--- whatever stands in the gates behind the first closed one, the segment reads as before
+-- whatever the gates after the first closed one are, the segment reads as before
 pub stray_torn : (g : Geometry) (j k at n : ℕ) (old c : List ℕ) → IsBehind g j k at n old → SameOutside at n old c
     → ShowsSegment g j (segment_in g old j) old c
 stray_torn g j k at n old c b torn =
     shows g j _ old c (widened at n (segment_at g j) (segment_size g) old c torn (omega (arith, b.place))
     (omega (arith, b.place, b.end, b.few))) (segment_kept g j k at n old c b torn)
 
--- nothing is open behind the first closed gate
+-- no gate is open after the first closed one
 pub stray_closed : (g : Geometry) (j k at n : ℕ) (old c : List ℕ) → IsBehind g j k at n old → SameOutside at n old c
     → AreClosed at n c → HasNoStray g j c
 stray_closed g j k at n old c b torn closed i low high = side (cases_lt k i)
@@ -161,14 +161,14 @@ stray_closed g j k at n old c b torn closed i low high = side (cases_lt k i)
         let here : i ≡ k = omega (arith, l, low, whole) in
         ap (λ (x : ℕ). is_open c (gate_at g j x)) here ∙ ends_closed g j k c whole (omega (arith, b.end))
 
--- where no gate is stray, those behind the first closed one are closed
+-- where no gate is stray, those after the first closed one are closed
 pub quiet_closed : (g : Geometry) (j k at n : ℕ) (old : List ℕ) → IsBehind g j k at n old → HasNoStray g j old
     → AreClosed at n old
 quiet_closed g j k at n old b stray i low high =
     let here : i ≡ gate_at g j (k + 1 + (i - at)) = omega (arith, low, b.place) in
     ap (is_open old) here ∙ stray (k + 1 + (i - at)) (omega (arith, b.whole)) (omega (arith, low, high, b.end))
 
--- a segment without a gate behind the first closed one has no stray gate
+-- a segment without a gate after the first closed one has no stray gate
 pub none_behind : (g : Geometry) (j k : ℕ) (image : List ℕ) → whole_frames g image j ≡ k → g.slots ≤ k + 1
     → HasNoStray g j image
 none_behind g j k image whole few i low high =

@@ -239,7 +239,7 @@ record IsFloor (ring : Ring) (keep : ℕ) (r : Recording) (floor : ℕ) : Type 0
   below : (b : ℕ) → Among b (older_blocks ring keep r) → b < floor
   older : (b : ℕ) → Among b (held_blocks ring r) → b < floor → Among b (older_blocks ring keep r)
 
--- an older block has one above it from which on so many are held
+-- an older block has one above it from which on that many are held
 above-older : (g : Geometry) (keep : ℕ) (r : Recording) (image : List ℕ) (b : ℕ) → Blocks g r image
     → Among b (older_blocks (ring_of g) keep r) → (c : ℕ)
     × ((b < c) × Among c (filter (λ n. leb keep (count_by (leb n) (filter_map held_block (heads_of g image))))

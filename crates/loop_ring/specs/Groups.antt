@@ -1,11 +1,12 @@
--- A group of frames in memory: the heads of their slots, and their bytes where they are.
-use Rattle.std.specs.Prelude.{◌≡◌, ℕ, ◌+◌, ◌*◌, ◌<◌, ◌≤◌, ◌^◌, List, [], ◌∷◌, ◌++◌, length, map, take}
+-- A group of frames in memory: it owns the heads of their slots, and borrows their bytes.
+use Rattle.std.specs.Prelude.{◌≡◌, ℕ, ◌+◌, ◌*◌, ◌<◌, ◌≤◌, ◌^◌, List, ◌++◌, length, map, take}
 use Rattle.std.specs.Borrow.{Bor}
+use Rattle.std.specs.List.{flat_map, zip}
 use Rattle.loop_record.specs.Recording.{Picture}
 use Rattle.loop_ring.specs.Writes.{slots_in, slots_of}
 
--- how many bytes a frame of it has, how many frames it has memory for, the number of the first, and the frames,
--- numbered from that one on
+-- how many bytes a frame of it has, how many frames it has room for, the number of the first, and the frames, numbered
+-- from that one on
 pub record Grouped : Type 0 where
   pub size : ℕ
   pub limit : ℕ
@@ -16,19 +17,13 @@ pub record Grouped : Type 0 where
 abbrev pub frames_in : ℕ → List ℕ → ℕ → List Picture
 frames_in n bytes count = map (λ s. s.picture) (slots_in n bytes count)
 
--- ---- what only the group's own code looks at
+-- ---- only the group's own code uses this
 
--- heads, each with the bytes that go with it behind it: the slots of frames
-abbrev pub slots_joined : List (List ℕ) → List (Bor (List ℕ)) → List ℕ
-slots_joined [] bodies = []
-slots_joined (head ∷ heads) [] = []
-slots_joined (head ∷ heads) (body ∷ bodies) = head ++ body.now ++ slots_joined heads bodies
-
--- the slots of the first frames
+-- the slots of the first frames: each head, followed by the frame's bytes
 abbrev pub first_slots : ℕ → List (List ℕ) → List (Bor (List ℕ)) → List ℕ
-first_slots count heads bodies = slots_joined (take count heads) (take count bodies)
+first_slots count heads bodies = flat_map (λ slot. slot.0 ++ slot.1.now) (zip (take count heads) (take count bodies))
 
--- these are the slots of so many frames, of these times, and there is room for as many as there may be
+-- these are the slots of this many frames, with these times, and there is memory for as many as the limit says
 pub record IsGrouped (size limit first count : ℕ) (heads : List (List ℕ)) (bodies : List (Bor (List ℕ)))
     (times : List ℕ) : Type 0 where
   pub few : count ≤ limit

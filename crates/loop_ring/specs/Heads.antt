@@ -23,7 +23,7 @@ abbrev pub has_frame : Option SegmentHead → Bool
 has_frame None = false
 has_frame (Some head) = nat_lt 0 head.frames
 
--- the segment is open and has the frame of a number, where blocks have so many frames
+-- the segment is open and has the frame of a number, where blocks have this many frames
 abbrev pub has_number : ℕ → ℕ → Option SegmentHead → Bool
 has_number slots number None = false
 has_number slots number (Some head) = (head.block == number / slots) && nat_lt (number % slots) head.frames
@@ -39,8 +39,8 @@ abbrev pub put_before : (Found → Bool) → Found → List Found → List Found
 put_before p f [] = f ∷ []
 put_before p f (t ∷ ts) = if p t then f ∷ t ∷ ts else t ∷ put_before p f ts
 
--- the open ones of segments that are numbered from j on, in the order of their blocks, those of one block in the order
--- in which they lie
+-- the open ones of the segments numbered from j on, in the order of their blocks; those of one block in the order in
+-- which they lie on the disk
 abbrev pub in_order : ℕ → List (Option SegmentHead) → List Found
 in_order j [] = []
 in_order j (None ∷ heads) = in_order (j + 1) heads
@@ -54,11 +54,12 @@ abbrev pub held_block : Option SegmentHead → Option ℕ
 held_block None = None
 held_block (Some head) = if nat_lt 0 head.frames then Some head.block else None
 
--- the greatest of these blocks that has so many from it on, itself among them: the least of the `keep` greatest
+-- the greatest of these blocks from which on there are at least `keep`, itself included: the least of the `keep`
+-- greatest
 abbrev pub floor_of : ℕ → List ℕ → Option ℕ
 floor_of keep blocks = reduce max (filter (λ b. nat_le keep (count_by (nat_le b) blocks)) blocks)
 
--- the block from which on no block may go where so many of the newest are kept, if as many are held
+-- the block from which on no block may go where this many of the newest are kept, if as many are held
 abbrev pub floor_block : ℕ → List (Option SegmentHead) → Option ℕ
 floor_block keep heads = floor_of keep (filter_map held_block heads)
 
@@ -81,18 +82,18 @@ abbrev pub clips_on : Ring → List (Option Span) → Option SegmentHead → ℕ
 clips_on ring clips None = 0
 clips_on ring clips (Some head) = count_by (meets ring head.block) clips
 
--- so many for each segment
+-- that count for each segment
 abbrev pub clip_counts : Ring → List (Option Span) → List (Option SegmentHead) → List ℕ
 clip_counts ring clips heads = map (clips_on ring clips) heads
 
--- a segment's count once this clip stands too, and once it is gone
+-- a segment's count once this clip is added, and once it is gone
 abbrev pub with_one : Ring → Span → Option SegmentHead → ℕ → ℕ
 with_one ring span head count = if meets_head ring (Some span) head then count + 1 else count
 
 abbrev pub without_one : Ring → Span → Option SegmentHead → ℕ → ℕ
 without_one ring span head count = if meets_head ring (Some span) head then count - 1 else count
 
--- the segments once this clip stands too, and once it is gone
+-- the segments once this clip is added, and once it is gone
 abbrev pub with_clip : Ring → Span → Segments → Segments
 with_clip ring span s = record s { clips = map (λ x. with_one ring span x.0 x.1) (zip s.heads s.clips) }
 
@@ -109,7 +110,7 @@ abbrev pub free_block : ℕ → Option SegmentHead → ℕ → Option ℕ
 free_block floor None count = None
 free_block floor (Some head) count = if is_free floor (Some head) count then Some head.block else None
 
--- the least of these blocks, where this is the floor, if there is one
+-- the least of these blocks below this floor; nothing without a floor or such a block
 abbrev pub least_free : Segments → Option ℕ → Option ℕ
 least_free s None = None
 least_free s (Some floor) = reduce min (filter_map (λ x. free_block floor x.0 x.1) (zip s.heads s.clips))
@@ -118,12 +119,12 @@ least_free s (Some floor) = reduce min (filter_map (λ x. free_block floor x.0 x
 abbrev pub going_free : Segments → Option ℕ
 going_free s = least_free s (floor_block s.keep s.heads)
 
--- the segment with so many frames
+-- the segment with this many frames
 abbrev pub grown : ℕ → Option SegmentHead → Option SegmentHead
 grown frames None = None
 grown frames (Some head) = Some (record head { frames = frames })
 
--- the place of a segment that holds this block, or no place where there is no block
+-- the place of a segment that holds this block; no place where there is no block
 abbrev pub IsPlaceOf : List (Option SegmentHead) → Option ℕ → Option ℕ → Type 0
 IsPlaceOf heads block None = block ≡ None
 IsPlaceOf heads block (Some j) =

@@ -13,7 +13,7 @@ pub fn clips_on(geometry: &Geometry, clips: &[Option<Span>], head: Option<Segmen
     requires few { length clips.now < 2 ^ 32 }
     ensures { result ≡ clips_on (ring_of geometry.now) clips.now head }
 {
-    // Where no clip stands, none has to be asked.
+    // Where there is no clip, none has to be looked at.
     if !some_stands(clips) {
         return 0;
     }
@@ -26,14 +26,14 @@ pub fn clips_on(geometry: &Geometry, clips: &[Option<Span>], head: Option<Segmen
     }
 }
 
-// Whether a clip stands under some id.
+// Whether some id has a clip.
 fn some_stands(clips: &[Option<Span>]) -> bool
     ensures { result ≡ list_any is_some clips.now }
 {
     clips.iter().any(|clip| clip.is_some())
 }
 
-/// Sets the count of each segment, where these clips are all that stand.
+/// Sets the count of each segment, where these are all the clips.
 pub(crate) fn count_clips(
     counts: &mut [u32],
     geometry: &Geometry,
@@ -58,7 +58,7 @@ fn meets_head(geometry: &Geometry, clip: Option<Span>, head: Option<SegmentHead>
     head.is_some_and(|head| meets(geometry, head.block, clip))
 }
 
-/// Raises the counts of the segments whose block a clip meets.
+/// Adds one to the count of each segment whose block a clip meets.
 pub(crate) fn raise_counts(
     counts: &mut [u32],
     geometry: &Geometry,
@@ -77,7 +77,7 @@ pub(crate) fn raise_counts(
     }
 }
 
-/// Lowers the counts of the segments whose block a clip meets.
+/// Subtracts one from the count of each segment whose block a clip meets.
 pub(crate) fn lower_counts(
     counts: &mut [u32],
     geometry: &Geometry,

@@ -5,7 +5,7 @@ use loop_disk::DiskFault;
 use loop_record::Damage;
 use thiserror::Error;
 
-/// Why a slot gives no frame.
+/// Why a read of a slot gives no frame.
 #[derive(Clone, Copy, Debug, PartialEq, Eq, Error)]
 pub enum SlotFault {
     /// A call of the disk failed.

@@ -16,11 +16,11 @@ use std::marker::Model;
 /// The most frames that one commit takes.
 pub const MAX_GROUP: usize = 8;
 
-/// How many rows the slots of a group are: the head and the bytes of each frame.
+/// The most rows of a group's slots: for each frame the head and the bytes.
 pub(crate) const MAX_ROWS: usize = 2 * MAX_GROUP;
 
-/// Frames that are written together, numbered from a first one on. It has the heads of their slots, and looks at
-/// their bytes where they are: none is copied. In contracts it is the first number and the list of the frames.
+/// Frames that are written together, numbered from a first one on. It owns the heads of their slots, and borrows their
+/// bytes: none is copied. In contracts it is the first number and the list of the frames.
 #[derive(Drop)]
 pub struct Group<'a> {
     heads: [[u8; HEAD_SIZE]; MAX_GROUP],
@@ -47,7 +47,7 @@ impl<'a> Model for Group<'a> {
 }
 
 impl<'a> Group<'a> {
-    /// A group without a frame, for frames of this geometry, of which the first gets this number.
+    /// A group without a frame, for frames of this geometry. The first frame gets this number.
     pub fn new(geometry: &Geometry, first: u64) -> Self
         requires { IsTrue (is_good geometry.now) }
         ensures { result ≡ record {
@@ -68,7 +68,7 @@ impl<'a> Group<'a> {
         }
     }
 
-    /// Puts a frame behind the others.
+    /// Adds a frame after the others.
     pub fn push<B: Allocator>(&mut self, frame: &'a Frame<B>)
         requires room { length self.old.frames < self.old.limit }
         requires size { length frame.now.bytes.items ≡ self.old.size }
@@ -81,7 +81,7 @@ impl<'a> Group<'a> {
         self.count += 1;
     }
 
-    /// Puts frames behind the others, in their order.
+    /// Adds frames after the others, in their order.
     pub fn push_all<B: Allocator>(&mut self, frames: &'a [Frame<B>])
         requires room { length self.old.frames + length frames.now ≤ self.old.limit }
         requires sizes { All (λ frame. length frame.bytes.items ≡ self.old.size) frames.now }
@@ -117,7 +117,7 @@ impl<'a> Group<'a> {
         times[place]
     }
 
-    /// The rows of the slots: of each frame the head, and then the bytes.
+    /// The rows of the slots: for each frame the head, and then the bytes.
     pub(crate) fn rows(&self) -> [&[u8]; MAX_ROWS]
         ensures size { length (joined (take (2 * length self.now.frames) result))
             ≡ length self.now.frames * (32 + self.now.size) }
@@ -151,7 +151,7 @@ fn head_of<B: Allocator>(number: u64, frame: &Frame<B>) -> [u8; HEAD_SIZE]
     ensures slot { result ++ frame.now.bytes.items ≡ slot_bytes number (picture frame.now) }
     ensures fits { FitsSlot number (picture frame.now) }
 {
-    // That the head's numbers fit the slot's fields is known of what was read alone.
+    // The prover knows that a field fits its type only once the field was read.
     let _sequence = frame.sequence;
     let _flags = frame.flags;
     let _timestamp = frame.timestamp;

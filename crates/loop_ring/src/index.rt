@@ -1,5 +1,4 @@
-// The segments of a store in memory: what each header says, how many clips meet its block, and the open ones by
-// block.
+// The segments of a store in memory: what each header says, how many clips meet its block, and the open ones by block.
 ghost use Rattle.std.specs.Prelude.{◌≡◌, ◌<◌, ◌≤◌, ◌+◌, ◌/◌, ◌%◌, ◌^◌, ◌∷◌, [], ℕ, All, IfOk, IfSome, IsTrue, List, None, Option, is_some, length, not, position, replicate, slice_index_or, slice_set, vec_capacity};
 ghost use Rattle.std.specs.List.{count_by, list_any};
 ghost use Rattle.loop_record.specs.Geometry.{is_good};
@@ -18,8 +17,8 @@ use std::marker::Model;
 
 /// The segments of a store. In contracts it is what the header of each says, its block and its whole frames, or
 /// nothing where the segment is closed; how many clips meet the block of each; and how many of the newest blocks are
-/// kept. Beside these it has the open segments sorted by block, so that `find` looks at few; how many have a frame; and
-/// the block that goes when room is needed. Only `new` and `of` take memory.
+/// kept. It also has the open segments sorted by block, so that `find` looks at few; how many have a frame; and the
+/// block that goes when room is needed. Only `new` and `of` take memory.
 #[derive(Drop)]
 pub struct SegmentIndex<A: Allocator = Global> {
     heads: Vec<Option<SegmentHead>, A>,
@@ -44,7 +43,7 @@ impl<A: Allocator> Model for SegmentIndex<A> {
 }
 
 impl<A: Allocator + Copy> SegmentIndex<A> {
-    /// So many segments, all of them closed; the newest block is kept. Its only error is want of memory.
+    /// A ring of this many closed segments; the newest block is kept. Its only error is want of memory.
     pub fn new(alloc: A, segments: u32) -> Result<Self, AllocError>
         ensures { IfOk result (λ index. index
             ≡ record { heads = replicate segments None; clips = replicate segments 0; keep = 1 }) }
@@ -53,8 +52,8 @@ impl<A: Allocator + Copy> SegmentIndex<A> {
         SegmentIndex::of(alloc, heads)
     }
 
-    /// Segments whose headers were read before; no clip is counted, and the newest block is kept. The open ones are
-    /// sorted here. Its only error is want of memory; the headers are gone then.
+    /// Segments whose headers were read before. No clip is counted, and the newest block is kept. It sorts the open
+    /// ones. Its only error is want of memory, which drops the headers.
     pub fn of(alloc: A, heads: Vec<Option<SegmentHead>, A>) -> Result<Self, AllocError>
         requires { length heads.items < 2 ^ 32 }
         ensures { IfOk result (λ index. index
@@ -77,7 +76,7 @@ impl<A: Allocator + Copy> SegmentIndex<A> {
 }
 
 impl<A: Allocator> SegmentIndex<A> {
-    /// Counts the clips that meet each block, where these are all that stand. It takes no memory.
+    /// Counts the clips that meet each block, where these are all the clips. It takes no memory.
     pub fn count_clips(&mut self, geometry: &Geometry, clips: &[Option<Span>])
         requires good { IsTrue (is_good geometry.now) }
         requires ids { length clips.now < 2 ^ 32 }
@@ -89,14 +88,14 @@ impl<A: Allocator> SegmentIndex<A> {
         self.victim = victim_of(&self.heads, &self.clips, &self.entries, self.keep);
     }
 
-    /// How many of the newest blocks of held frames never go, of which one stays in any case.
+    /// How many of the newest blocks of held frames never go. One always stays, even where this is 0.
     pub fn keep(&self) -> u32
         ensures { result ≡ self.now.keep }
     {
         self.keep
     }
 
-    /// Keeps so many of the newest blocks from now on. It takes no memory.
+    /// Keeps this many of the newest blocks from now on. It takes no memory.
     pub fn keep_newest(&mut self, keep: u32)
         ensures { self.new ≡ record self.old { keep = keep } }
     {
@@ -119,7 +118,7 @@ impl<A: Allocator> SegmentIndex<A> {
         &self.heads
     }
 
-    /// The open segments in the order of their blocks, those of one block in the order in which they lie.
+    /// The open segments in the order of their blocks; those of one block in the order in which they lie on the disk.
     pub fn in_order(&self) -> &[Found]
         ensures { result.now ≡ in_order 0 self.now.heads }
     {
@@ -143,7 +142,7 @@ impl<A: Allocator> SegmentIndex<A> {
         self.victim = victim_of(&self.heads, &self.clips, &self.entries, self.keep);
     }
 
-    /// Notes that a segment that has a frame has so many now. The same block goes when room is needed. It takes
+    /// Notes the new number of frames of a segment that has a frame. The same block goes when room is needed. It takes
     /// no memory.
     pub fn grow(&mut self, segment: u32, frames: u32)
         requires held { IsTrue (has_frame (slice_index_or self.old.heads segment None)) }
@@ -159,7 +158,7 @@ impl<A: Allocator> SegmentIndex<A> {
         self.heads[place] = head;
     }
 
-    /// Notes that one more clip stands, where fewer than 64 meet each block so far. It takes no memory.
+    /// Notes a new clip, where so far fewer than 64 meet each block. It takes no memory.
     pub fn lock_clip(&mut self, geometry: &Geometry, span: Span)
         requires good { IsTrue (is_good geometry.now) }
         requires few { All (λ count. count < 64) self.old.clips }
@@ -189,8 +188,8 @@ impl<A: Allocator> SegmentIndex<A> {
         self.victim
     }
 
-    /// The first segment that holds a block, if one does, and how many segments' blocks it looked at: of fewer
-    /// than `2^n` segments at most `n`, so 7 where there are 64.
+    /// The first segment that holds a block, if one does, and the number of segments whose blocks it looked at: of
+    /// fewer than `2^n` segments at most `n`, so 7 where there are 64.
     pub fn find(&self, block: u64) -> (Option<u32>, u32)
         ensures first { result.0 ≡ position (is_of block) self.now.heads }
         ensures looks { (n : ℕ) → length self.now.heads < 2 ^ n → result.1 ≤ n }
@@ -213,7 +212,7 @@ impl<A: Allocator> SegmentIndex<A> {
         self.held
     }
 
-    /// Whether a segment has the frame of a number, where blocks have so many frames.
+    /// Whether a segment has the frame of a number, where blocks have this many frames.
     pub fn holds(&self, slots: u32, number: u64) -> bool
         requires { 0 < slots }
         ensures { result ≡ list_any (has_number slots number) self.now.heads }
@@ -240,14 +239,14 @@ fn count_held(heads: &[Option<SegmentHead>]) -> u32
     heads.iter().filter(|head| has_frame(**head)).count() as u32
 }
 
-// A segment with so many frames.
+// A segment with this many frames.
 fn grown(head: Option<SegmentHead>, frames: u32) -> Option<SegmentHead>
     ensures { result ≡ grown frames head }
 {
     head.map(|head| SegmentHead { frames, ..head })
 }
 
-// How many segments have a frame once one of them changes.
+// How many segments have a frame after one of them changes.
 fn held_after(held: u32, old: Option<SegmentHead>, new: Option<SegmentHead>) -> u32
     requires some { count_by has_frame (old ∷ []) ≤ held }
     requires few { held + count_by has_frame (new ∷ []) < 2 ^ 32 + count_by has_frame (old ∷ []) }

@@ -35,7 +35,7 @@ impl Ring {
         Ring { geometry }
     }
 
-    /// Closes an open segment: one write and one sync. Its frames are gone with it.
+    /// Closes an open segment: one write and one sync. Its frames are lost.
     pub fn retire<D: Disk>(&self, disk: &mut D, segment: u32) -> Result<(), DiskFault>
         requires extent { (D.medium disk.old).size ≡ disk_size self.now.geometry }
         requires segment { segment < self.now.geometry.segments }
@@ -66,15 +66,15 @@ impl Ring {
             (λ image. ShowsSegment g segment (Some (empty_segment block)) old.bytes image × HasNoStray g segment image)
             old (D.medium disk.new) result }
     {
-        // Whole, with its closed frame gates, so that none stays open from an earlier block.
+        // The whole header is written, with closed frame gates, so that none stays open from an earlier block.
         let mut header = [0; HEADER_SIZE];
         encode_header(block, &mut header);
         let at = self.geometry.segment_at(segment);
         store_in_turn(disk, at + 1, &header[1..], at, &header[..1])
     }
 
-    /// Adds the frames of a group to a segment, behind its whole frames, of which there are as many as
-    /// `first_slot` says: two writes, each with its sync.
+    /// Adds the frames of a group to a segment, after its whole frames, of which there are `first_slot`: two writes,
+    /// each with its sync.
     pub fn commit<D: Disk>(
         &self,
         disk: &mut D,
@@ -105,8 +105,8 @@ impl Ring {
         store_rows_in_turn(disk, at, &rows[..2 * count], gate, &gates[..count])
     }
 
-    /// Reads a slot that should hold frame `number`: at most two reads. `out` has the size of a frame and gets
-    /// the pixels. After a refusal `out` may hold any bytes.
+    /// Reads a slot that should hold frame `number`: at most two reads. `out` has the size of a frame and gets the
+    /// pixels. After a refusal `out` may hold any bytes.
     pub fn read_slot<D: Disk>(
         &self,
         disk: &mut D,
@@ -129,8 +129,8 @@ impl Ring {
         self.read_part(disk, segment, slot, number, 0, out)
     }
 
-    /// Reads a part of the pixels of a slot that should hold frame `number`: from byte `at` of them on, as many
-    /// as `out` has. At most two reads, of the head and of that part. After a refusal `out` may hold any bytes.
+    /// Reads a part of the pixels of a slot that should hold frame `number`: as many bytes as `out` has, from byte
+    /// `at` on. At most two reads, of the head and of that part. After a refusal `out` may hold any bytes.
     pub fn read_part<D: Disk>(
         &self,
         disk: &mut D,
@@ -157,7 +157,7 @@ impl Ring {
         Ok(head)
     }
 
-    /// Reads the head of a slot that should hold frame `number`, and no pixel: one read, of 32 bytes.
+    /// Reads the head of a slot that should hold frame `number`, without its pixels: one read, of 32 bytes.
     pub fn read_head<D: Disk>(
         &self,
         disk: &mut D,

@@ -1,4 +1,4 @@
-// The frame gates that a stop left open behind a closed one. docs/recovery.md says why it is so.
+// The frame gates that a stop left open after a closed one. docs/recovery.md says why it is so.
 ghost use Rattle.std.specs.Prelude.{◌≡◌, ◌+◌, ◌<◌, ◌≤◌, ◌==◌};
 ghost use Rattle.std.specs.List.{list_any};
 ghost use Rattle.loop_disk.specs.Medium.{IsSettled, SameOutside};
@@ -15,10 +15,10 @@ use loop_record::OPEN;
 const MAX_GATES: usize = 256;
 
 impl Ring {
-    /// Closes the frame gates behind a segment's first closed one, where one of them is open: one read, and
-    /// then at most one write and one sync. `frames` is how many whole frames the segment has. Without a gate
-    /// behind the first closed one nothing is read. A failed read changes nothing; a failed write or sync may
-    /// leave some of these gates open. At each moment, and after each failure, the segment reads as before.
+    /// Closes the open frame gates after a segment's first closed one, if there are any: one read, and then at most
+    /// one write and one sync. `frames` is the number of the segment's whole frames. Where no gate follows the first
+    /// closed one, nothing is read. A failed read changes nothing; a failed write or sync may leave some of these
+    /// gates open. At each moment, and after each failure, the segment reads as before.
     pub fn clear_stray<D: Disk>(
         &self,
         disk: &mut D,
@@ -45,7 +45,7 @@ impl Ring {
     }
 }
 
-// Closes the gates of a range, where one of them is open.
+// Closes the gates of a range, if one of them is open.
 fn close_gates<D: Disk>(disk: &mut D, at: u64, count: usize) -> Result<(), DiskFault>
     requires inside { at + count ≤ (D.medium disk.old).size }
     requires few { count ≤ 256 }

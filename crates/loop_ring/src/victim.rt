@@ -6,9 +6,9 @@ ghost use Rattle.loop_ring.specs.Heads.{floor_block, free_block, going_free, has
 
 use loop_record::{Found, SegmentHead};
 
-/// The block that goes when room is needed: the least block of a held frame that no clip meets and that isn't among so
-/// many of the newest blocks of held frames, of which one stays in any case. Nothing where none may go. A segment
-/// without frames holds none and is passed over.
+/// The block that goes when room is needed: the least block of a held frame that no clip meets and that isn't among
+/// the `keep` newest blocks of held frames. The newest one stays even where `keep` is 0. Nothing where none may go. A
+/// segment without frames holds no such block and is skipped.
 pub(crate) fn victim_of(
     heads: &[Option<SegmentHead>],
     clips: &[u32],
@@ -37,8 +37,8 @@ fn is_free(head: Option<SegmentHead>, clips: u32, floor: u64) -> bool
     head.is_some_and(|head| head.frames > 0 && head.block < floor && clips == 0)
 }
 
-// The block from which on no block may go: the last but so many of the blocks of held frames, in their order. Nothing
-// where fewer are held.
+// The block from which on no block may go: the oldest of the blocks of held frames that are kept. Nothing where fewer
+// are held.
 fn floor_block(heads: &[Option<SegmentHead>], entries: &[Found], keep: u32) -> Option<u64>
     requires { IsIndexed heads.now entries.now (length heads.now) }
     ensures { result ≡ floor_block keep heads.now }
@@ -55,7 +55,7 @@ fn floor_block(heads: &[Option<SegmentHead>], entries: &[Found], keep: u32) -> O
     None
 }
 
-// The least block of a held frame below the floor that no clip meets: the first one in the order of the blocks.
+// The least block of a held frame below the floor that no clip meets: the first such one in the order of the blocks.
 fn oldest_free(
     heads: &[Option<SegmentHead>],
     clips: &[u32],

@@ -1,5 +1,5 @@
 -- The calls that a session makes of its desk.
-use Rattle.std.proofs.Common.{◌≡◌, ℕ, ◌+◌, ◌-◌, ◌^◌, Result, Ok, Err, List, [], ◌∷◌, length, inl, inr, refl, sym, ap, subst}
+use Rattle.std.proofs.Common.{◌≡◌, ℕ, ◌+◌, Result, Ok, Err, [], ◌∷◌, length, inl, inr, sym, ap, subst}
 use Rattle.std.specs.Prelude.{IfErr}
 use Rattle.loop_disk.specs.declared.memory.MemDisk.{MemDisk}
 use Rattle.loop_disk.specs.Behind.{moment_now}
@@ -10,7 +10,7 @@ use Rattle.loop_disk.specs.Sound.{sound_of}
 use Rattle.loop_record.specs.Geometry.{frame_bytes}
 use Rattle.loop_record.specs.Recording.{Picture}
 use Rattle.loop_store.specs.declared.fault.StoreFault.{StoreFault}
-use Rattle.loop_store.specs.declared.fault.StoreFault.TheVariants.{AllLocked, NoMemory, NumbersSpent, PendingFull}
+use Rattle.loop_store.specs.declared.fault.StoreFault.TheVariants.{AllLocked, NoMemory}
 use Rattle.loop_desk.specs.declared.limits.Flushed.{Flushed}
 use Rattle.loop_desk.specs.Desk.{DeskCall, flushed, submitted}
 use Rattle.loop_desk.specs.Seen.{DeskGoes, SeenDesk}
@@ -19,7 +19,7 @@ use Rattle.loop_script.specs.Pattern.{pattern_picture}
 use Rattle.loop_script.specs.Sessions.{RefusesFrame, accepted_after, calls_of_store, calls_of_submit, pattern_submitted}
 use Rattle.loop_script.proofs.SessionLaws.{submit-memory, submitted-as}
 
--- what stands on a disk in memory
+-- what is on a disk in memory
 abbrev pub memory : {A : Type 0} → MemDisk A → Medium
 memory disk = medium_of no_failures (moment_now disk.past.behind disk.bytes.items) disk.past.behind.moments
 
@@ -65,32 +65,7 @@ module _ {D : Type 0} {medium : D → Medium} where
       subst (λ (x : StoreFault). DeskGoes medium old new (calls_of_store old n (Err x))) (sym locked)
       (both old mid new n number (Err AllLocked) first (subst (λ (x : StoreFault). DeskGoes medium mid new (flushed (Err x) ∷ [])) locked second))
 
-  -- a submit of frame n that was refused
-  refused-as : (old new : SeenDesk D) (n : ℕ) (fault is : StoreFault) → fault ≡ is
-      → DeskGoes medium old new (calls_of_submit old.store.geometry n (Err is))
-      → ◌≡◌ {A = List DeskCall} (calls_of_submit old.store.geometry n (Err is)) (calls_of_store old n (Err is))
-      → DeskGoes medium old new (calls_of_store old n (Err fault))
-  refused-as old new n fault is same goes calls =
-      subst (λ (x : StoreFault). DeskGoes medium old new (calls_of_store old n (Err x))) (sym same)
-      (subst (λ (l : List DeskCall). DeskGoes medium old new l) calls goes)
-
-  pub refused-goes : (old new : SeenDesk D) (n : ℕ) (fault : StoreFault)
-      → DeskGoes medium old new (calls_of_submit old.store.geometry n (Err fault)) → RefusesFrame fault
-      → DeskGoes medium old new (calls_of_store old n (Err fault))
-  refused-goes old new n fault goes why =
-      let along : (x : StoreFault) → fault ≡ x
-      → DeskGoes medium old new (calls_of_submit old.store.geometry n (Err x)) =
-      λ x e. subst (λ (y : StoreFault). DeskGoes medium old new (calls_of_submit old.store.geometry n (Err y))) e
-      goes in
-      elim why [
-        | inl e ↦ refused-as old new n fault NoMemory e (along NoMemory e) refl
-        | inr other ↦ elim other [
-          | inl e ↦ refused-as old new n fault PendingFull e (along PendingFull e) refl
-          | inr e ↦ refused-as old new n fault NumbersSpent e (along NumbersSpent e) refl
-        ]
-      ]
-
--- and after a submit that was refused
+-- how many frames are accepted after a submit that was refused
 pub accepted-refused : (count : ℕ) (fault : StoreFault) → RefusesFrame fault → count ≡ accepted_after {T = ℕ} count (Err fault)
 accepted-refused count fault (inl e) = sym (ap (λ (x : StoreFault). accepted_after {T = ℕ} count (Err x)) e)
 accepted-refused count fault (inr (inl e)) = sym (ap (λ (x : StoreFault). accepted_after {T = ℕ} count (Err x)) e)

@@ -1,14 +1,14 @@
--- The first line of what a reader has left.
+-- The first line of the bytes that a reader has left.
 use Rattle.std.proofs.Common.{◌≡◌, ℕ, zero, suc, ◌+◌, ◌<◌, ◌==◌, true, false, cond, List, [], ◌∷◌, ◌++◌, length, take, refl, ap, subst, ◌∙◌, Option, Some, None, IfSome, option_map, nat_lt, arith, rules}
 use Rattle.std.specs.Io.BufRead.{take_through, strip_last, first_piece}
 use Rattle.std.proofs.lemmas.Grind.{common_steps}
 
--- a byte in front that is another one stays
+-- a first byte that is another one stays
 strip_more : (b x : ℕ) (ys : List ℕ) → (x == b) ≡ false → length (strip_last b (x ∷ ys)) ≡ length (strip_last b ys) + 1
 strip_more b x [] other = grind (arith, common_steps, other)
 strip_more b x (y ∷ ys) other = grind (arith, common_steps, other)
 
--- Where the bytes up to a limit begin with a line that is shorter than it, they begin with the line with which all begin.
+-- Where the bytes up to a limit begin with a line shorter than the limit, all bytes begin with the same line.
 pub line_within : (b n : ℕ) (xs : List ℕ) → length (strip_last b (take_through b (take n xs))) < n
     → take_through b (take n xs) ≡ take_through b xs
 line_within b zero xs short = absurd (omega (arith, short))
@@ -20,7 +20,7 @@ line_within b (suc n) (x ∷ xs) short =
       | false ↦ (λ other less. ap (λ (l : List ℕ). x ∷ l) (line_within b n xs (omega (arith, less, strip_more b x (take_through b (take n xs)) other))))
     ] refl short
 
--- what is read up to a limit, with the line's end taken off, is the first line of all that is left, where it is shorter than the limit
+-- what is read up to a limit, without the line's end, is the first line of all that is left, if it is shorter than the limit
 pub first_read : (limit : ℕ) (seen known : Option (List ℕ)) (old got line : List ℕ) → seen ≡ known → old ≡ []
     → IfSome (option_map (take limit) seen) (λ xs. got ≡ old ++ take_through 10 xs) → line ≡ strip_last 10 got
     → length line < limit → IfSome known (λ left. line ≡ first_piece 10 left)

@@ -37,7 +37,7 @@ refused_for_memory g keep r image _ holds can refused fine = absurd refused
 pub same_geometry : (g h : Geometry) (r s : Recording) (image : List ℕ) → Holds g r image → Holds h s image → g ≡ h
 same_geometry g h r s image first second = ap (geometry_read g) (sym first ∙ second)
 
--- what a disk in memory was refused for is what its bytes read as
+-- the reason for which a disk in memory was refused is what its bytes read as
 pub refused_in_memory : {A : Type 0} (old new : MemDisk A) (keep : ℕ) (fault : StoreFault)
     → ((memory old).honest → is_disk fault ≡ false → Stays (memory old) (memory new))
     → ((image : List ℕ) → MayBe (memory new) image → IsRefusedOpen keep image fault)

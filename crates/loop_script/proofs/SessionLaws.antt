@@ -1,4 +1,4 @@
--- What always holds of a session, after each call of its desk.
+-- What holds of a session, after each call of its desk too.
 use Rattle.std.proofs.Common.{◌≡◌, ◌≢◌, ◌⊎◌, ℕ, ◌+◌, ◌-◌, ◌%◌, ◌<◌, ◌≤◌, ◌==◌, min, ◌||◌, Bool, true, false, not, if◌then◌else◌, IsTrue, Option, Some, None, Result, Ok, Err, List, [], ◌∷◌, ◌++◌, length, take, inl, inr, refl, sym, ap, ◌∙◌, subst, eq-eqb, add-zero, arith}
 use Rattle.std.proofs.lemmas.Bool.{false≢true}
 use Rattle.std.specs.Prelude.{IfErr, OnErr}
@@ -93,7 +93,7 @@ session-of old new gone same fine next fewer kept = record {
       subst (λ (g : Geometry). new.store.next + k ≢ last_number (ring_of g)) (sym same) (λ e. kept.numbers (gone + k) low (sym is ∙ e));
 }
 
--- after a call that neither stores nor takes in a frame
+-- after a call that neither stores nor accepts a frame
 pub kept-one : {D : Type 0} {medium : D → Medium} (old new : SeenDesk D) (call : Call)
     → Goes medium old.store new.store (call ∷ []) → ((d : D) → (medium d).failures ≡ no_failures)
     → count_stored call ≡ 0 → new.pending ≡ old.pending → IsSession old → IsSession new

@@ -7,9 +7,9 @@ use Rattle.std.proofs.lemmas.Bool.{false≢true}
 use denote.Ref.{Bor}
 use Rattle.std.proofs.lemmas.List.Splits.{slice_split_first, slice_split_none}
 use Rattle.std.proofs.lemmas.Grind.{common_steps}
-use Rattle.loop_script.specs.Script.{behind, counted_said, geometry_said, said, span_said, words}
+use Rattle.loop_script.specs.Script.{counted_said, geometry_said, said, span_said, words, words_after}
 
--- a line with a space: its first word, and the words behind that space
+-- a line with a space: its first word, and the words after that space
 pub words-parted : (line word rest : List ℕ) → word ≡ before_first (λ b. b == 32) line
     → rest ≡ after_first (λ b. b == 32) line → position_or_len (λ b. b == 32) line < length line → words line ≡ word
     ∷ words rest
@@ -32,7 +32,7 @@ words-some (b ∷ line) =
       | false ↦ (b ∷ some.0, some.1, ap (onto_first b) some.2)
     ]
 
--- a name that takes no more than a number, with words behind it
+-- a name that takes no more than a number, with words after it
 pub said-counted : (name rest : List ℕ) → bytes_eq name (codes "format") ≡ false
     → bytes_eq name (codes "format1") ≡ false → bytes_eq name (codes "lock") ≡ false
     → said (name ∷ words rest) ≡ counted_said name (words rest)
@@ -40,18 +40,18 @@ said-counted name rest first second third = let some = words-some rest in rw (so
 
 -- more than two words and a tag name no span
 pub span-long : (from to tag : List ℕ) (rest : Option (Bor (List ℕ))) → is_some rest ≡ true
-    → span_said (from ∷ to ∷ tag ∷ behind rest) ≡ None
+    → span_said (from ∷ to ∷ tag ∷ words_after rest) ≡ None
 span-long from to tag None there = absurd (false≢true there)
 span-long from to tag (Some rest) there = let some = words-some rest.now in rw some.2 refl
 
--- more than one word behind a name is no number
+-- more than one word after a name is no number
 pub counted-long : (name argument : List ℕ) (rest : Option (Bor (List ℕ))) → is_some rest ≡ true
-    → counted_said name (argument ∷ behind rest) ≡ None
+    → counted_said name (argument ∷ words_after rest) ≡ None
 counted-long name argument None there = absurd (false≢true there)
 counted-long name argument (Some rest) there = let some = words-some rest.now in rw some.2 refl
 
 -- more than six words name no geometry
 pub geometry-long : (a b c d e f : List ℕ) (rest : Option (Bor (List ℕ))) → is_some rest ≡ true
-    → geometry_said (a ∷ b ∷ c ∷ d ∷ e ∷ f ∷ behind rest) ≡ None
+    → geometry_said (a ∷ b ∷ c ∷ d ∷ e ∷ f ∷ words_after rest) ≡ None
 geometry-long a b c d e f None there = absurd (false≢true there)
 geometry-long a b c d e f (Some rest) there = let some = words-some rest.now in rw some.2 refl

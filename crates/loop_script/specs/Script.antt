@@ -34,17 +34,17 @@ small_number word = number_below (2 ^ 32) word
 abbrev pub words : List ℕ → List (List ℕ)
 words line = slice_split (λ b. b == 32) line
 
--- the words of what stands behind a space, if there is one
-abbrev pub behind : Option (Bor (List ℕ)) → List (List ℕ)
-behind None = []
-behind (Some rest) = words rest.now
+-- the words of what follows a space, if there is one
+abbrev pub words_after : Option (Bor (List ℕ)) → List (List ℕ)
+words_after None = []
+words_after (Some rest) = words rest.now
 
--- a rate: the numbers before and behind the colon
+-- a rate: the numbers before and after the colon
 abbrev pub rate_said : List ℕ → Option (ℕ × ℕ)
 rate_said word =
     option_zip (small_number (before_first (λ b. b == 58) word)) (small_number (after_first (λ b. b == 58) word))
 
--- the geometry of these parts, where there is each of them
+-- the geometry of these parts, if each of them is there
 abbrev pub geometry_of
     : Option ℕ → Option ℕ → Option PixelFormat → Option (ℕ × ℕ) → Option ℕ → Option ℕ → Option Geometry
 geometry_of (Some width) (Some height) (Some format) (Some rate) (Some segments) (Some slots) = Some (record {
@@ -65,7 +65,7 @@ geometry_said (width ∷ height ∷ format ∷ rate ∷ segments ∷ slots ∷ [
     (small_number segments) (small_number slots)
 geometry_said _ = None
 
--- the span of these parts, where there is each of them
+-- the span of these parts, if each of them is there
 abbrev pub span_of : Option ℕ → Option ℕ → Option ℕ → Option Span
 span_of (Some from) (Some to) (Some tag) = Some (record { from = from; to = to; tag = tag })
 span_of _ _ _ = None
@@ -76,7 +76,7 @@ span_said (from ∷ to ∷ []) = span_of (number from) (number to) (Some 0)
 span_said (from ∷ to ∷ tag ∷ []) = span_of (number from) (number to) (number tag)
 span_said _ = None
 
--- what a name and one word ask for, a number
+-- what a name and one word, a number, ask for
 abbrev pub counted_said : List ℕ → List (List ℕ) → Option ScriptCommand
 counted_said name (argument ∷ []) =
     if bytes_eq name (codes "store") then option_map Store (number argument)
@@ -94,9 +94,9 @@ named_said name =
     else if bytes_eq name (codes "flush") then Some Flush
     else if bytes_eq name (codes "upgrade") then Some Upgrade else None
 
--- what a name and the words behind it ask for
-abbrev pub behind_said : List ℕ → List (List ℕ) → Option ScriptCommand
-behind_said name more =
+-- what a name and the words after it ask for
+abbrev pub arguments_said : List ℕ → List (List ℕ) → Option ScriptCommand
+arguments_said name more =
     if bytes_eq name (codes "format") then option_map Format (geometry_said more)
     else if bytes_eq name (codes "format1") then option_map FormatV1 (geometry_said more)
     else if bytes_eq name (codes "lock") then option_map Lock (span_said more) else counted_said name more
@@ -105,4 +105,4 @@ behind_said name more =
 abbrev pub said : List (List ℕ) → Option ScriptCommand
 said [] = None
 said (name ∷ []) = named_said name
-said (name ∷ argument ∷ more) = behind_said name (argument ∷ more)
+said (name ∷ argument ∷ more) = arguments_said name (argument ∷ more)

@@ -15,28 +15,28 @@ use Rattle.loop_store.specs.Make.{IsFormatted}
 use Rattle.loop_store.specs.Seen.{StandsFor}
 use Rattle.loop_script.specs.Pattern.{pattern_picture}
 
--- its desk, and how many frames were accepted since that was formatted
+-- its desk, and how many frames were accepted since its store was formatted
 pub record Shown (D : Type 0) : Type 0 where
   pub desk : SeenDesk D
   pub accepted : ℕ
 
--- how much the desk of a script takes in
+-- how much the desk of a script accepts
 abbrev pub script_limits : DeskLimits
 script_limits = record { pending = 64; group = 8; calls = 1000000 }
 
--- nothing waits at the desk, which takes in as much as a script's does
+-- nothing waits at the desk, which accepts as much as a script's does
 pub record IsNewDesk {D : Type 0} (d : SeenDesk D) : Type 0 where
   pub pending : d.pending ≡ []
   pub limits : d.limits ≡ script_limits
 
--- it was formatted so, its store stands for the empty recording, and no frame was accepted yet
+-- it was formatted with this head, its store stands for the empty recording, and no frame was accepted yet
 pub record IsFreshSession {D : Type 0} (medium : D → Medium) (h : SuperHead) (s : Shown D) : Type 0 where
   pub formatted : IsFormatted h s.desk.store
   pub stands : StandsFor medium s.desk.store empty
   pub desk : IsNewDesk s.desk
   pub accepted : s.accepted ≡ 0
 
--- ---- a frame more
+-- ---- one more frame
 
 -- frame n of the pattern was submitted, and answered so
 abbrev pub pattern_submitted : Geometry → ℕ → Result ℕ StoreFault → DeskCall
@@ -59,19 +59,19 @@ calls_of_store d n (Err NumbersSpent) = pattern_submitted d.store.geometry n (Er
 calls_of_store d n answer =
     pattern_submitted d.store.geometry n (Ok (d.store.next + length d.pending)) ∷ flushed answer ∷ []
 
--- how many frames are accepted after one more was submitted, up to the greatest u64: it counts though the flush
--- behind it was refused
+-- how many frames are accepted after one more was submitted, up to the greatest u64: it counts though the flush after
+-- it was refused
 abbrev pub accepted_after : {T : Type 0} → ℕ → Result T StoreFault → ℕ
 accepted_after count (Err NoMemory) = count
 accepted_after count (Err PendingFull) = count
 accepted_after count (Err NumbersSpent) = count
 accepted_after count answer = min (count + 1) (2 ^ 64 - 1)
 
--- the first and the last number of what was stored since this one came next, where that one comes next now
+-- the first and the last number of what was stored since `before` was the next number, where `next` is so now
 abbrev pub stored_since : ℕ → ℕ → Option (ℕ × ℕ)
 stored_since before next = if nat_lt before next then Some (before, next - 1) else None
 
--- ---- what only the session's own code looks at
+-- ---- what only the session's own code uses
 
 -- frames of the geometry can be made, no call has failed, and each frame that waits has a number
 pub record IsSession {D : Type 0} (d : SeenDesk D) : Type 0 where

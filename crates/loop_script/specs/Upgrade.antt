@@ -1,4 +1,4 @@
--- What is told of an upgrade of the layout.
+-- What is printed of an upgrade of the layout.
 use Rattle.std.specs.Prelude.{ℕ, Bool, true, false, List, codes}
 
 -- whether version 2 was made, or was there already

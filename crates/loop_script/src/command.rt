@@ -1,7 +1,7 @@
 // The lines of a script. docs/script.md says why it is so.
 ghost use Rattle.std.specs.Prelude.{◌≡◌, ◌∷◌};
 ghost use Rattle.loop_record.specs.Geometry.{format_named};
-ghost use Rattle.loop_script.specs.Script.{behind, counted_said, geometry_of, geometry_said, named_said, number as said_number, rate_said, said, small_number as said_small_number, span_of, span_said, words};
+ghost use Rattle.loop_script.specs.Script.{counted_said, geometry_of, geometry_said, named_said, number as said_number, rate_said, said, small_number as said_small_number, span_of, span_said, words, words_after};
 
 use crate::number::{number, small_number};
 use loop_record::{Geometry, PixelFormat, Span};
@@ -29,7 +29,7 @@ pub enum ScriptCommand {
     List,
     /// `upgrade`: version 2 of the layout is made of version 1.
     Upgrade,
-    /// `reopen K`: the store's disk is taken out, and the store found on it again, which keeps the K newest blocks; the
+    /// `reopen K`: the store's disk is taken out and opened again, as a store that keeps the K newest blocks; only the
     /// newest one where K is left out.
     Reopen(u32),
 }
@@ -108,9 +108,9 @@ pub fn span_in(from: &str, to: &str, tag: Option<u64>) -> Option<Span>
     })
 }
 
-// The first word, and what stands behind the space that ends it.
+// The first word, and what follows the space that ends it.
 fn first_word(line: &str) -> (&str, Option<&str>)
-    ensures { words line.now ≡ result.0.now ∷ behind result.1 }
+    ensures { words line.now ≡ result.0.now ∷ words_after result.1 }
 {
     match line.split_once(' ') {
         Some((word, rest)) => (word, Some(rest)),

@@ -12,10 +12,10 @@ pub const MAX_LINE: usize = 4096;
 #[derive(Clone, Copy, Debug, PartialEq, Eq)]
 pub struct BadLine;
 
-/// Reads the next line into `line`, in place of what is there, and takes its 0x0A off; false where no line is
-/// left. A 0x0D before the 0x0A is a byte of the line, so that it can't be read as a command. It reads no byte
-/// behind the line, and of a line that is too long only the first 4,097. Where `line` has room for 4,097 bytes
-/// it takes no memory; else want of memory is a failed read.
+/// Reads the next line into `line`, in place of what is there, and removes its 0x0A; false where no line is left. A
+/// 0x0D before the 0x0A is a byte of the line, so that the line can't be read as a command. It reads no byte after the
+/// line, and of a line that is too long only the first 4,097. Where `line` has room for 4,097 bytes it takes no memory;
+/// otherwise want of memory is a failed read.
 pub fn next_line<R: BufRead, A: Allocator>(
     input: &mut R,
     line: &mut Vec<u8, A>,
@@ -40,12 +40,12 @@ pub fn next_line<R: BufRead, A: Allocator>(
     Ok(true)
 }
 
-// Takes off the 0x0A that ends a line, where one does.
+// Removes the 0x0A that ends a line, if one does.
 fn strip_newline<A: Allocator>(line: &mut Vec<u8, A>)
     ensures { line.new.items ≡ strip_last 10 line.old.items }
 {
     if line.last() == Some(&b'\n') {
-        // The byte is known: it is the 0x0A.
+        // Dropped: the byte is known, it is the 0x0A.
         let _ = line.pop();
     }
 }

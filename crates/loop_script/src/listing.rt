@@ -13,7 +13,7 @@ use std::alloc::Allocator;
 use std::io;
 use std::io::Write;
 
-/// What is listed of a store or a desk: the next number, the held ones and the clips, both rising.
+/// What is listed of a store or a desk: the next number, the held ones and the clips, both in rising order.
 #[derive(Drop)]
 pub struct Listing<A: Allocator> {
     pub next: u64,
@@ -22,7 +22,7 @@ pub struct Listing<A: Allocator> {
 }
 
 impl<A: Allocator + Copy> Listing<A> {
-    /// Looks at a store on any disk. It answers MustReopen and NoMemory.
+    /// What is listed of a store, on any disk. It answers MustReopen and NoMemory.
     pub fn of<D: Disk + Drop>(store: &Store<D, A>, alloc: A) -> Result<Self, StoreFault>
         ensures next { IfOk result (λ listing. listing.next ≡ store.now.next) }
         ensures numbers { (r : Recording) → StandsFor D.medium store.now r
@@ -79,7 +79,7 @@ fn print_clips<W: Write>(clips: &[Clip], out: &mut W) -> io::Result<()> {
     Ok(())
 }
 
-// Ends the line of a clip, by its tag where that isn't 0.
+// Ends the line of a clip, with its tag where that isn't 0.
 fn print_tag<W: Write>(tag: u64, out: &mut W) -> io::Result<()> {
     if tag == 0 {
         return print_line(out, "", &[]);

@@ -1,4 +1,4 @@
-// Frames of the pattern, that tell by their bytes which frame they are.
+// Frames of the pattern, whose bytes identify them.
 ghost use Rattle.std.specs.Prelude.{◌≡◌, ◌<◌, ◌%◌, ◌^◌, IfOk, IsTrue, length};
 ghost use Rattle.loop_record.specs.Geometry.{frame_bytes, is_good};
 ghost use Rattle.loop_record.specs.Recording.{picture};
@@ -28,7 +28,7 @@ pub fn pattern_timestamp(n: u64, num: u32, den: u32) -> u64
     u64::try_from(micros).unwrap_or(u64::MAX)
 }
 
-/// Frame `n`, of this geometry, in spare memory where that has its length, otherwise in new memory.
+/// Frame `n`, of this geometry, in spare memory if that has its length, otherwise in new memory.
 pub fn pattern_frame<A: Allocator>(
     alloc: A,
     spare: Option<Vec<u8, A>>,

@@ -1,5 +1,5 @@
 // Refusals, as they are printed.
-ghost use Rattle.std.specs.Prelude.{◌≡◌, ◌++◌, ◌∷◌, [], Some, OnOk};
+ghost use Rattle.std.specs.Prelude.{◌++◌, ◌∷◌, [], Some, OnOk};
 ghost use Rattle.std.specs.Io.KnownBytes.{Appends};
 ghost use Rattle.loop_script.specs.Refusals.{words_of};
 
@@ -7,8 +7,8 @@ use loop_store::StoreFault;
 use std::io::Write;
 use std::{fmt, io};
 
-/// A refusal's words: `refused`, its number and its name, behind `Damaged` the number of the kind, and behind
-/// `ClipNotHeld` that of the frame; one space apart.
+/// A refusal's words: `refused`, its number and its name; after `Damaged` the number of the kind, and after
+/// `ClipNotHeld` that of the frame. They are one space apart.
 #[derive(Clone, Copy, Debug)]
 pub struct RefusalWords(pub StoreFault);
 

@@ -1,7 +1,7 @@
 // Runs of numbers that follow one another.
 ghost use Rattle.std.specs.Prelude.{◌≡◌, ◌≢◌, ◌<◌, ◌≤◌, ◌+◌, ℕ, length, slice_index};
 
-/// How many numbers at the front follow one another, each one more than the one before it: as many as can be.
+/// The length of the longest run at the front, in which each number is one more than the one before it.
 pub fn run_length(numbers: &[u64]) -> usize
     requires { 0 < length numbers.now }
     ensures some { 0 < result }

@@ -1,4 +1,4 @@
-// A formatted store behind a desk, and the frames that a script makes for it.
+// A desk with a formatted store, and the frames that a script makes for it.
 ghost use Rattle.std.specs.Prelude.{◌≡◌, ◌⊎◌, ◌↔◌, ◌∷◌, ◌==◌, [], Ok, Err, IfErr, IfOk, IsTrue, OnErr, false, length, not};
 ghost use Rattle.loop_desk.specs.Desk.{clip_locked, clip_unlocked, flushed, frame_read, layout_upgraded};
 ghost use Rattle.loop_desk.specs.Seen.{DeskGoes, TellsOutline};
@@ -20,7 +20,7 @@ use loop_store::{OpenRefused, ReadFrame, Store, StoreFault, can_keep};
 use std::alloc::{AllocError, Allocator, Global};
 use std::marker::Model;
 
-/// How much the desk of a script takes in, and that of a camera that is recorded.
+/// How much the desk of a script accepts, and that of a camera that is recorded.
 pub const LIMITS: DeskLimits = DeskLimits {
     pending: 64,
     group: 8,
@@ -32,7 +32,7 @@ pub const LIMITS: DeskLimits = DeskLimits {
 #[derive(Drop)]
 pub struct ScriptDesk<A: Allocator + Copy = Global> {
     desk: Desk<MemDisk<A>, A>,
-    /// Frames accepted since the store was formatted. Those that were lost at a reopen count too.
+    /// Frames accepted since the store was formatted, with those that were lost at a reopen.
     accepted: u64,
 }
 
@@ -48,8 +48,8 @@ impl<A: Allocator + Copy> Model for ScriptDesk<A> {
 }
 
 impl<A: Allocator + Copy> ScriptDesk<A> {
-    /// Formats a fresh disk of the right size, and sets a desk before it. It answers BadGeometry or NoMemory, and
-    /// then leaves nothing behind.
+    /// Formats a fresh disk of the right size, and makes a desk for its store. It answers BadGeometry or NoMemory; then
+    /// nothing is left of it.
     pub fn format(alloc: A, geometry: Geometry) -> Result<Self, StoreFault>
         ensures bad { (result ≡ Err StoreFault.BadGeometry) ↔ (is_good geometry ≡ false) }
         ensures refusals { IfErr result (λ fault. (fault ≡ StoreFault.BadGeometry)
@@ -79,9 +79,9 @@ impl<A: Allocator + Copy> ScriptDesk<A> {
         }
     }
 
-    /// Makes the next frame of the pattern, in memory that the desk kept or new, and submits it; answers the number
-    /// that it will have. It answers NoMemory, PendingFull or NumbersSpent; then nothing is changed, and the frame
-    /// isn't accepted, so the next call makes it again.
+    /// Makes the next frame of the pattern, in memory that the desk kept or in new memory, and submits it; returns the
+    /// number that it will have. It answers NoMemory, PendingFull or NumbersSpent; then nothing is changed, and the
+    /// frame isn't accepted, so the next call makes it again.
     pub fn submit_next(&mut self, alloc: A) -> Result<u64, StoreFault>
         ensures goes { DeskGoes ⟦<MemDisk<A> as Disk>⟧.medium self.old.desk self.new.desk
             (calls_of_submit self.old.desk.store.geometry self.old.accepted result) }
@@ -104,7 +104,7 @@ impl<A: Allocator + Copy> ScriptDesk<A> {
     }
 
     /// Stores the first of the frames that wait, as `Desk::flush`. It answers AllLocked; then nothing is changed, and
-    /// they wait on.
+    /// they continue to wait.
     pub fn flush(&mut self) -> Result<Flushed, StoreFault>
         ensures goes { DeskGoes ⟦<MemDisk<A> as Disk>⟧.medium self.old.desk self.new.desk
             (flushed result ∷ []) }
@@ -115,8 +115,8 @@ impl<A: Allocator + Copy> ScriptDesk<A> {
         self.desk.flush()
     }
 
-    /// Submits the next frame of the pattern, and where it was accepted, flushes. It answers the refusals of the
-    /// two; after AllLocked, that of the flush, the frame waits, and the next call makes the one behind it.
+    /// Submits the next frame of the pattern, and if it was accepted, flushes. It answers the refusals of the two;
+    /// after AllLocked, which is the flush's, the frame waits, and the next call makes the one after it.
     pub fn store_next(&mut self, alloc: A) -> Result<Flushed, StoreFault>
         ensures goes { DeskGoes ⟦<MemDisk<A> as Disk>⟧.medium self.old.desk self.new.desk
             (calls_of_store self.old.desk self.old.accepted result) }
@@ -130,8 +130,8 @@ impl<A: Allocator + Copy> ScriptDesk<A> {
         }
     }
 
-    /// Locks the frames from a number to another, with a tag; answers the clip's id. It answers ClipEmpty, ClipNotHeld,
-    /// ClipTableFull or OldLayout, and then has changed nothing. A frame that waits isn't held yet.
+    /// Locks the frames from a number to another, with a tag; returns the clip's id. It answers ClipEmpty, ClipNotHeld,
+    /// ClipTableFull or OldLayout, and then nothing has changed. A frame that waits isn't held yet.
     pub fn lock(&mut self, from: u64, to: u64, tag: u64) -> Result<u32, StoreFault>
         ensures goes { DeskGoes ⟦<MemDisk<A> as Disk>⟧.medium self.old.desk self.new.desk
             (clip_locked (record { from = from; to = to; tag = tag }) result ∷ []) }
@@ -142,7 +142,7 @@ impl<A: Allocator + Copy> ScriptDesk<A> {
         self.desk.lock_clip(from, to, tag)
     }
 
-    /// Unlocks the clip of an id. It answers NoSuchClip, and then has changed nothing.
+    /// Unlocks the clip of an id. It answers NoSuchClip, and then nothing has changed.
     pub fn unlock(&mut self, id: u32) -> Result<(), StoreFault>
         ensures goes { DeskGoes ⟦<MemDisk<A> as Disk>⟧.medium self.old.desk self.new.desk
             (clip_unlocked id result ∷ []) }
@@ -153,7 +153,8 @@ impl<A: Allocator + Copy> ScriptDesk<A> {
         self.desk.unlock_clip(id)
     }
 
-    /// Makes version 2 of a layout of version 1, as `Store::upgrade`, and answers whether it did. It isn't refused.
+    /// Makes version 2 of a layout of version 1, as `Store::upgrade`, and returns whether it did so. It is never
+    /// refused.
     pub fn upgrade(&mut self) -> Result<bool, StoreFault>
         ensures goes { DeskGoes ⟦<MemDisk<A> as Disk>⟧.medium self.old.desk self.new.desk
             (layout_upgraded result ∷ []) }
@@ -170,11 +171,11 @@ impl<A: Allocator + Copy> ScriptDesk<A> {
         can_keep(&self.desk.geometry(), keep)
     }
 
-    /// Takes the disk out of the desk and finds the store on it again, which keeps so many of the newest blocks, as
-    /// `can_keep` says it can; what waited is lost, and the frames that were accepted stay so. It answers NoMemory, and
-    /// then leaves nothing behind. So does a disk that holds no store of this geometry, which is refused as
-    /// NotFormatted, Damaged, BadKeep or BadGeometry. A store that stands for a recording is refused for want of memory
-    /// alone.
+    /// Takes the disk out of the desk and opens the store on it again, which then keeps so many of the newest blocks,
+    /// as `can_keep` allows. Frames that waited are lost, but still count as accepted. It answers NoMemory, and then
+    /// nothing is left of the session. The same holds of a disk that has no store of this geometry, which is refused as
+    /// NotFormatted, Damaged, BadKeep or BadGeometry. A store that stands for a recording is refused only for want of
+    /// memory.
     #[tactic(auto, using(crate::proofs::Reopenings::refused_for_memory, crate::proofs::Reopenings::same_geometry))]
     pub fn reopen(self, alloc: A, keep: u32) -> Result<Self, StoreFault>
         requires { is_bad_keep self.desk.store.geometry.segments keep ≡ false }
@@ -195,7 +196,7 @@ impl<A: Allocator + Copy> ScriptDesk<A> {
         match Store::open_keeping(alloc, desk.into_disk(), keep) {
             Err(OpenRefused { fault, disk: _ }) => Err(fault),
             Ok(store) => {
-                // The frames that follow are of this geometry too.
+                // Later frames are made for this geometry.
                 if !is_same(store.geometry(), geometry) {
                     return Err(StoreFault::BadGeometry);
                 }
@@ -204,8 +205,8 @@ impl<A: Allocator + Copy> ScriptDesk<A> {
         }
     }
 
-    /// Reads a stored frame into memory of its own. It answers NotHeld, where there is no such frame; or NoMemory;
-    /// or Damaged, which an honest disk never is.
+    /// Reads a stored frame into memory of its own. It answers NotHeld where there is no such frame; or NoMemory; or
+    /// Damaged, which never happens on an honest disk.
     pub fn read(&mut self, alloc: A, number: u64) -> Result<ReadFrame<A>, StoreFault>
         ensures goes { DeskGoes ⟦<MemDisk<A> as Disk>⟧.medium self.old.desk self.new.desk
             (frame_read number (read_of result) ∷ []) }
@@ -232,7 +233,7 @@ impl<A: Allocator + Copy> ScriptDesk<A> {
     }
 }
 
-// Frame `n` of the pattern for a desk's store, in memory that the desk kept or new.
+// Frame `n` of the pattern for a desk's store, in memory that the desk kept or in new memory.
 fn next_frame<A: Allocator + Copy>(
     alloc: A,
     desk: &mut Desk<MemDisk<A>, A>,
@@ -270,7 +271,7 @@ fn is_same(one: Geometry, other: Geometry) -> bool
     one == other
 }
 
-// A session before a store, of so many accepted frames. It answers NoMemory.
+// A session with a store, and so many accepted frames. It answers NoMemory.
 fn session_before<A: Allocator + Copy>(
     alloc: A,
     store: Store<MemDisk<A>, A>,

@@ -1,10 +1,10 @@
-// What is told of a source whose frames aren't as a store has them.
+// What is printed of a source whose frames aren't like those of a store.
 
 use loop_record::Geometry;
 use std::io::Write;
 use std::{io, str};
 
-/// How the frames of a source and those of a store are alike.
+/// How far the frames of a source and those of a store are alike.
 #[derive(Clone, Copy, Debug, PartialEq, Eq)]
 pub enum Likeness {
     /// They have one size, format and rate.
@@ -15,7 +15,7 @@ pub enum Likeness {
     OtherGeometry,
 }
 
-/// How the frames of two geometries are alike, whatever their rings. Rates are compared as fractions.
+/// How far the frames of two geometries are alike, whatever their rings. Rates are compared as fractions.
 pub fn compare_frames(one: &Geometry, other: &Geometry) -> Likeness {
     if one.width != other.width || one.height != other.height || one.format != other.format {
         return Likeness::OtherGeometry;
@@ -31,7 +31,7 @@ pub fn compare_frames(one: &Geometry, other: &Geometry) -> Likeness {
     }
 }
 
-/// `other geometry NAME WxH FORMAT N:D`: what the frames of a source are, where they aren't as its store has them.
+/// `other geometry NAME WxH FORMAT N:D`: the frames of a source, where its store has frames of another size or format.
 pub fn print_other_geometry<W: Write>(
     out: &mut W,
     name: &str,
@@ -54,7 +54,7 @@ pub fn print_other_geometry<W: Write>(
     )
 }
 
-/// `other rate NAME N:D`: at which rate the frames of a source come, where its store has another one.
+/// `other rate NAME N:D`: the rate of a source's frames, where its store has another one.
 pub fn print_other_rate<W: Write>(out: &mut W, name: &str, geometry: &Geometry) -> io::Result<()> {
     let Geometry {
         rate_num,

@@ -1,4 +1,4 @@
-// The words behind the program's name.
+// The words after the program's name.
 ghost use Rattle.std.specs.Prelude.{◌≡◌, ◌∷◌, [], option_map};
 ghost use Rattle.loop_script.specs.Script.{small_number as said_small_number};
 ghost use Rattle.loop_script.specs.Tasks.{keep_value, kept_said, on_file_said, recording_named, recording_said, task_said};
@@ -14,20 +14,20 @@ pub enum Task<'a> {
     /// `simulate`: a script from the input.
     Simulate,
     /// `record N SOURCE keep=K PATH..`: a recording into the stores in files.
-    Record(Recording<'a>),
+    Record(RecordTask<'a>),
     /// A command on the store in the file of this path.
     OnFile(&'a str, FileCommand<'a>),
 }
 
-/// A recording: so many frame periods, from the source of this name, into the stores in the files of these paths, of
-/// which each keeps so many of its newest blocks, 1 where `keep=K` is left out.
+/// What `record` asks for: to record so many frame periods, from the source of this name, into the stores in the files
+/// of these paths. Each store keeps so many of its newest blocks, 1 where `keep=K` is left out.
 #[derive(Drop)]
-pub struct Recording<'a> {
+pub struct RecordTask<'a> {
     /// How many frame periods.
     pub frames: u32,
     /// The source: `-`, which is a pattern, or a file or pipe.
     pub source: &'a str,
-    /// How many of the newest blocks never go while it is recorded.
+    /// How many of the newest blocks are never overwritten during the recording.
     pub keep: u32,
     /// The files of the stores, one for each camera.
     pub paths: Paths<'a>,
@@ -74,7 +74,7 @@ pub enum FileCommand<'a> {
     Export(u64, u64, &'a str),
 }
 
-/// What a name and the words behind it ask for; `None` where they can't be read.
+/// What a name and the words after it ask for; `None` where they can't be read.
 pub fn read_task<'a>(name: &str, words: &'a [&'a str]) -> Option<Task<'a>>
     ensures { result ≡ task_said name.now words.now }
 {
@@ -88,7 +88,7 @@ pub fn read_task<'a>(name: &str, words: &'a [&'a str]) -> Option<Task<'a>>
     }
 }
 
-// What the words behind `record` ask for: how many frame periods, a source, how many blocks are kept, which may be left
+// What the words after `record` ask for: how many frame periods, a source, how many blocks are kept, which may be left
 // out, and one path or more.
 fn read_recording<'a>(words: &'a [&'a str]) -> Option<Task<'a>>
     ensures { result ≡ recording_said words.now }
@@ -100,7 +100,7 @@ fn read_recording<'a>(words: &'a [&'a str]) -> Option<Task<'a>>
     }
 }
 
-// The same, of the words behind the source.
+// The same, for the words after the source.
 fn read_kept<'a>(count: &str, source: &'a str, words: &'a [&'a str]) -> Option<Task<'a>>
     ensures { result ≡ kept_said (said_small_number count.now) source.entry words.now }
 {
@@ -113,7 +113,7 @@ fn read_kept<'a>(count: &str, source: &'a str, words: &'a [&'a str]) -> Option<T
     }
 }
 
-// What stands behind `keep=` in a word that begins so.
+// What follows `keep=` in a word that begins with it.
 fn keep_value(word: &str) -> Option<&str>
     ensures { option_map (λ value. value.now) result ≡ keep_value word.now }
 {
@@ -123,7 +123,7 @@ fn keep_value(word: &str) -> Option<&str>
     }
 }
 
-// The recording of these parts, where there is each of them.
+// The task of these parts, if each of them is there.
 fn made_of<'a>(
     count: &str,
     source: &'a str,
@@ -135,7 +135,7 @@ fn made_of<'a>(
     if words.is_empty() {
         return None;
     }
-    Some(Task::Record(Recording {
+    Some(Task::Record(RecordTask {
         frames: small_number(count)?,
         source,
         keep: keep?,
@@ -143,7 +143,7 @@ fn made_of<'a>(
     }))
 }
 
-// What a name and the words behind the path of a file ask for.
+// What a name and the words after the path of a file ask for.
 fn read_file_command<'a>(name: &str, words: &[&'a str]) -> Option<FileCommand<'a>>
     ensures { result ≡ on_file_said name.now words.now }
 {
@@ -160,7 +160,7 @@ fn read_file_command<'a>(name: &str, words: &[&'a str]) -> Option<FileCommand<'a
     }
 }
 
-// What a name asks for that stands before a path alone.
+// What a name asks for that has only a path after it.
 fn alone<'a>(name: &str) -> Option<FileCommand<'a>>
     ensures { result ≡ on_file_said name.now [] }
 {
@@ -171,7 +171,7 @@ fn alone<'a>(name: &str) -> Option<FileCommand<'a>>
     }
 }
 
-// What a name and one word behind the path ask for.
+// What a name and one word after the path ask for.
 fn with_id<'a>(name: &str, id: &'a str) -> Option<FileCommand<'a>>
     ensures { result ≡ on_file_said name.now (id.entry ∷ []) }
 {
@@ -181,7 +181,7 @@ fn with_id<'a>(name: &str, id: &'a str) -> Option<FileCommand<'a>>
     Some(FileCommand::Unlock(small_number(id)?))
 }
 
-// What a name and two words behind the path ask for.
+// What a name and two words after the path ask for.
 fn with_range<'a>(name: &str, from: &'a str, to: &'a str) -> Option<FileCommand<'a>>
     ensures { result ≡ on_file_said name.now (from.entry ∷ to.entry ∷ []) }
 {
@@ -191,7 +191,7 @@ fn with_range<'a>(name: &str, from: &'a str, to: &'a str) -> Option<FileCommand<
     Some(FileCommand::Lock(span_in(from, to, Some(0))?))
 }
 
-// What a name and three words behind the path ask for.
+// What a name and three words after the path ask for.
 fn with_third<'a>(name: &str, from: &'a str, to: &'a str, third: &'a str) -> Option<FileCommand<'a>>
     ensures { result ≡ on_file_said name.now (from.entry ∷ to.entry ∷ third.entry ∷ []) }
 {

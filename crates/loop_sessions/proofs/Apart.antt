@@ -1,4 +1,4 @@
--- That no two receipts of a camera share a place.
+-- No two receipts of a camera share a place.
 use Rattle.std.proofs.Common.{◌≡◌, ◌<◌, ◌≤◌, ◌+◌, ℕ, zero, suc, Bool, true, false, All, List, [], ◌∷◌, refl, sym, ap, ◌∙◌, subst, arith}
 use Rattle.std.specs.Prelude.{Some, if◌then◌else◌, ◌==◌, slice_get}
 use Rattle.std.proofs.lemmas.Bool.{eq-eqb, eqb-true}
@@ -17,7 +17,7 @@ pub all-read : {X : Type 0} (P : X → Type 0) (xs : List X) (i : ℕ) (x : X) �
 all-read {X} P xs i x all there = subst P (get_or_from_slice_get xs i x x there) (All-get_or P xs i x (slice_get_within xs i x there) all)
 
 module _ (camera : ℕ) (history : List Entry) (number : ℕ) where
-  -- behind a receipt the floor is no lower, and of the camera's own it is right behind
+  -- after a receipt the floor is no lower, and after one of the camera's own it is right after its place
   floor-rises : (floor : ℕ) (r : Receipt) → IsPlaced camera history number floor r → floor ≤ floor_after camera floor r
   floor-rises floor r placed = go (r.camera == camera) refl
     where
@@ -28,7 +28,7 @@ module _ (camera : ℕ) (history : List Entry) (number : ℕ) where
   floor-behind : (floor : ℕ) (r : Receipt) → r.camera ≡ camera → floor_after camera floor r ≡ r.place + 1
   floor-behind floor r same = ap (λ b. if b then r.place + 1 else floor) (eq-eqb r.camera camera same)
 
-  -- each receipt of the camera has its place at the floor or behind
+  -- each receipt of the camera has its place at the floor or after it
   over-floor : (floor : ℕ) (rs : List Receipt) (b : ℕ) (s : Receipt)
       → EachIn (floor_after camera) (IsPlaced camera history number) floor rs → slice_get rs b ≡ Some s
       → s.camera ≡ camera → floor ≤ s.place
@@ -40,7 +40,7 @@ module _ (camera : ℕ) (history : List Entry) (number : ℕ) where
       let over = over-floor (floor_after camera floor x) xs b s placed.1 there same in
       omega (arith, up, over)
 
-  -- the place of a later one is behind
+  -- the place of a later one is after it
   later-behind : (floor : ℕ) (rs : List Receipt) (a b : ℕ) (r s : Receipt)
       → EachIn (floor_after camera) (IsPlaced camera history number) floor rs → slice_get rs a ≡ Some r
       → slice_get rs b ≡ Some s → r.camera ≡ camera → s.camera ≡ camera → a < b → r.place < s.place

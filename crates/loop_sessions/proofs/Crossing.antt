@@ -1,5 +1,5 @@
--- That a recorder, over a disk and planes that may, may be looked at by several threads, and that a pass may go from one
--- to another: one struct at a time, alone and (`in`) as what holds it has it.
+-- A recorder, over a disk and planes that may, may be shared by several threads, and a pass may go from one to another:
+-- one struct at a time, alone and (`in`) as a field of what holds it.
 use denote.RattleType.{RattleType}
 use denote.Param.Send.{IsSend, IsSync, sendable}
 use Rattle.std.proofs.Crossing.{crosses, Vec-send, Vec-sync}
@@ -11,7 +11,7 @@ use Rattle.loop_plane.proofs.Crossing.{table_send}
 use Rattle.loop_record.proofs.Crossing.{head_in_send, head_in_sync, span_in_send, span_in_sync}
 use Rattle.loop_store.proofs.Crossing.{fault_in_send, fault_in_sync}
 use Rattle.loop_vb2.proofs.Crossing.{queue_send}
-use Rattle.loop_desk.proofs.Crossing.{desk_send, desk_sync, flushed_in_send, flushed_in_sync, outline_in_send, outline_in_sync, outline_send, outline_sync, status_in_send, status_in_sync}
+use Rattle.loop_desk.proofs.Crossing.{desk_send, desk_sync, flushed_in_send, flushed_in_sync, outline_in_send, outline_in_sync, outline_sync, status_in_send, status_in_sync}
 use Rattle.loop_sessions.specs.contracts.ended.EndedCamera as EndedCamera
 use Rattle.loop_sessions.specs.contracts.entry.Entry as Entry
 use Rattle.loop_sessions.specs.contracts.entry.Noted as Noted
@@ -70,10 +70,6 @@ module _ (D : RattleType) (g : disk.Ghosts D.Denot) where
   session_send d = let a = desk_send D g d in let b = Vec-send _ entry_send in let c = Vec-send _ entry_in_send in
       let d = outline_in_send in search (sendable, crosses) depth 20
 
-  ended_send : IsSend D → IsSend (EndedCamera.the_row D heap.the_row g ghosts)
-  ended_send d = let a = desk_send D g d in let b = Vec-send _ entry_send in let c = Vec-send _ entry_in_send in
-      let d = outline_in_send in search (sendable, crosses) depth 20
-
   ended_in_sync : IsSync D → IsSync (EndedCamera.the_field D heap.the_row g ghosts).row
   ended_in_sync d = let a = desk_sync D g d in let b = Vec-sync _ entry_sync in let c = Vec-sync _ entry_in_sync in
       let d = outline_in_sync in search (sendable, crosses) depth 20
@@ -85,31 +81,12 @@ module _ (P : RattleType) (p : plane.Ghosts P.Denot) where
   port_send : IsSend P → IsSend (Port.the_row P heap.the_row p ghosts)
   port_send s = let a = queue_send P s in let b = table_send P s in search sendable depth 20
 
-  lock_send : IsSend P → IsSend (QueueLock.the_row P heap.the_row p ghosts)
-  lock_send s = let a = port_send s in search (sendable, crosses) depth 20
-
   lock_sync : IsSend P → IsSync (QueueLock.the_row P heap.the_row p ghosts)
   lock_sync s = let a = port_send s in search (sendable, crosses) depth 20
 
 module _ (D P : RattleType) (g : disk.Ghosts D.Denot) (p : plane.Ghosts P.Denot) where
   pub recorder_sync : IsSend D → IsSync D → IsSend P → IsSync (Recorder.the_row D P heap.the_row g p ghosts)
   recorder_sync s y sp =
-      let a = session_send D g s in
-      let b = ended_sync D g y in
-      let c = lock_sync P p sp in
-      let o = outline_sync in
-      search (sendable, crosses) depth 20
-
-  pub recorder_in_send : IsSend D → IsSend P → IsSend (Recorder.the_field D P heap.the_row g p ghosts).row
-  recorder_in_send s sp =
-      let a = session_send D g s in
-      let b = ended_send D g s in
-      let c = lock_send P p sp in
-      let o = outline_send in
-      search (sendable, crosses) depth 20
-
-  pub recorder_in_sync : IsSend D → IsSync D → IsSend P → IsSync (Recorder.the_field D P heap.the_row g p ghosts).row
-  recorder_in_sync s y sp =
       let a = session_send D g s in
       let b = ended_sync D g y in
       let c = lock_sync P p sp in

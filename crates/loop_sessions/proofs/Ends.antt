@@ -1,4 +1,4 @@
--- The end of a camera, told of the outline that was kept beside its lock.
+-- The end of a camera, by the outline that was kept outside its lock.
 use Rattle.std.proofs.Common.{◌≡◌, ℕ, List, All, length, subst, sym, ◌∙◌}
 use Rattle.loop_disk.specs.Medium.{Medium}
 use Rattle.loop_desk.specs.declared.limits.Outline.{Outline}

@@ -1,4 +1,4 @@
--- A history that goes on by one call, and what it says without pixels.
+-- A history that gains one call, and what it says without pixels.
 use Rattle.std.proofs.Common.{◌≡◌, ℕ, ◌+◌, ◌-◌, Option, Result, Ok, Err, List, [], ◌∷◌, ◌++◌, false, length, map, take, refl, sym, ap, ◌∙◌, subst, arith}
 use Rattle.std.proofs.lemmas.List.{length-append, map-append}
 use Rattle.std.proofs.Math.Seq.{take-append-add}
@@ -90,7 +90,7 @@ kept-status medium opening outline history desk pass status sound kept tells =
     kept-more medium opening outline history desk desk (status_told status) (entry pass (noted.Status status)) kept
     (goes-status medium desk status (one-then medium opening desk kept.calls kept.goes) sound tells) refl
 
--- an image that reads as the recording after all that were made, and some that were begun behind them
+-- an image that reads as the recording after all that were made, and some that were begun after them
 behind-made : (g : Geometry) (r : Recording) (made begun : List Step) (image : List ℕ)
     → HoldsFrom g r (length made) (made ++ begun) image → HoldsSome g (plain (ring_of g) r made) begun image
 behind-made g r made begun image h =

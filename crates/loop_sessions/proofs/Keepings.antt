@@ -1,5 +1,5 @@
 -- What a keep does, put together from its parts.
-use Rattle.std.proofs.Common.{◌≡◌, ℕ, suc, ◌+◌, ◌<◌, ◌≤◌, inl, inr, Some, None, Result, Ok, Err, List, [], ◌∷◌, ◌++◌, length, map, take, drop, get_or, refl, sym, ap, ◌∙◌, subst, arith}
+use Rattle.std.proofs.Common.{◌≡◌, ℕ, suc, ◌+◌, ◌<◌, ◌≤◌, inr, Some, None, Result, Ok, Err, List, [], ◌∷◌, ◌++◌, length, map, take, drop, get_or, refl, sym, ap, ◌∙◌, subst, arith}
 use Rattle.std.specs.Prelude.{OnOk}
 use Rattle.std.specs.Option.{option_to_list}
 use Rattle.std.specs.Result.{result_err}
@@ -15,7 +15,7 @@ use Rattle.loop_desk.specs.Bare.{bare_call}
 use Rattle.loop_desk.specs.Desk.{runs_told}
 use Rattle.loop_desk.specs.Keeps.{clip_span, with_tag}
 use Rattle.loop_desk.specs.Seen.{DeskGoes, SeenDesk}
-use Rattle.loop_desk.proofs.KeepParts.{clip_made, locked-all, locked-more, locked-until}
+use Rattle.loop_desk.proofs.KeepParts.{clip_made, locked-more, locked-until}
 use Rattle.loop_sessions.specs.declared.entry.Entry.{Entry}
 use Rattle.loop_sessions.specs.declared.entry.Noted.{Noted}
 use Rattle.loop_sessions.specs.declared.entry.Noted.TheVariants as noted
@@ -74,7 +74,7 @@ left-none camera times all i place before between after given through back end l
     left.rest after back (subst (λ l. Enters camera (runs_noted times place l) between after through back)
     (sym (drop_of_length-le all end)) one)
 
--- a desk told them, and all is noted
+-- a desk returned them, and all is noted
 pub seeks : {D A : Type 0} (medium : D → Medium) (camera : ℕ) (times : Times) (runs : List Span) (desk : SeenDesk D)
     (before after : List Entry) (given back : Pass A) → DeskGoes medium desk desk (runs_told times 0 runs)
     → Enters camera (runs_noted times 0 runs) before after given back
@@ -88,7 +88,7 @@ seeks medium camera times runs desk before after given back goes enters = record
 
 -- ---- one run after the other
 
--- so many runs are locked, all without a refusal
+-- the first n runs are locked, all without a refusal
 pub record NotesFirst {D A : Type 0} (medium : D → Medium) (camera tag count : ℕ) (runs : List Span) (clips : List Clip)
     (old new : SeenDesk D) (before after : List Entry) (given back : Pass A) : Type 0 where
   pub notes : Notes medium camera (map lock_noted clips) old new before after given back
@@ -123,19 +123,6 @@ module _ {D A : Type 0} (medium : D → Medium) (camera tag : ℕ) where
         locked = locked-more tag runs clips count id r below first.locked;
       }
 
-  -- all of them
-  pub lock-all : (runs : List Span) (count : ℕ) (clips : List Clip) (old new : SeenDesk D) (before after : List Entry)
-      (given back : Pass A) → count ≡ length runs
-      → NotesFirst medium camera tag count runs clips old new before after given back
-      → Locks medium camera tag runs clips old new before after given back (Ok tt)
-  lock-all runs count clips old new before after given back all first = record {
-    left = [];
-    notes = subst (λ (l : List Noted). Notes medium camera l old new before after given back)
-        (sym (append-nil (map lock_noted clips))) first.notes;
-    locked = locked-all tag runs clips count all first.locked;
-    whole = refl;
-  }
-
   -- one was refused
   pub lock-refused : (count : ℕ) (fault : SessionFault) (runs : List Span) (r : Span) (clips : List Clip)
       (old mid new : SeenDesk D) (before between after : List Entry) (given through back : Pass A)
@@ -158,18 +145,7 @@ module _ {D A : Type 0} (medium : D → Medium) (camera tag : ℕ) where
 -- ---- both
 
 module _ {D A : Type 0} (medium : D → Medium) (camera tag : ℕ) (times : Times) where
-  -- nothing was told
-  pub keeps-none : (desk : SeenDesk D) (before after : List Entry) (given back : Pass A) (kept : Kept A)
-      (fault : SessionFault) → kept.clips.items ≡ [] → kept.fault ≡ Some fault
-      → Notes medium camera [] desk desk before after given back
-      → KeepsHeld medium camera times tag desk desk before after given back kept
-  keeps-none desk before after given back kept fault empty refused n = record {
-    notes = [];
-    noted = n;
-    keeps = inl (record { none = refl; clips = empty; refused = rw refused refl });
-  }
-
-  -- the runs were told, and there was no memory for clips
+  -- the desk returned the runs, and there was no memory for clips
   pub keeps-crammed : (runs : List Span) (desk : SeenDesk D) (before after : List Entry) (given back : Pass A) (kept : Kept A)
       → kept.clips.items ≡ [] → kept.fault ≡ Some NoMemory
       → Notes medium camera (runs_noted times 0 runs) desk desk before after given back

@@ -1,4 +1,4 @@
--- Calls of a desk that are noted in a history and received by a pass, some behind others.
+-- Calls of a desk that are noted in a history and received by a pass, some after others.
 use Rattle.std.proofs.Common.{◌≡◌, ℕ, ◌+◌, List, [], ◌∷◌, ◌++◌, length, map, refl, sym, ap, ◌∙◌, arith}
 use Rattle.std.proofs.lemmas.List.{append-nil, append_assoc, length-append, length-map, map-append}
 use Rattle.std.proofs.lemmas.Simd.{map-map}
@@ -6,8 +6,7 @@ use Rattle.loop_disk.specs.Medium.{Medium, IsSound}
 use Rattle.loop_store.specs.Reopen.{TellsOne}
 use Rattle.loop_desk.specs.declared.limits.Outline.{Outline}
 use Rattle.loop_desk.specs.Bare.{bare_call}
-use Rattle.loop_desk.specs.Desk.{DeskCall}
-use Rattle.loop_desk.specs.Seen.{DeskGoes, SeenDesk}
+use Rattle.loop_desk.specs.Seen.{SeenDesk}
 use Rattle.loop_desk.proofs.CallRuns.{desk-joined, desk-none}
 use Rattle.loop_sessions.specs.declared.entry.Entry.{Entry}
 use Rattle.loop_sessions.specs.declared.entry.Noted.{Noted}
@@ -17,7 +16,7 @@ use Rattle.loop_sessions.specs.Keeps.{Enters, Notes, receipts_from}
 use Rattle.loop_sessions.specs.Receipts.{entry, pass_number, receipt, receipts_of}
 use Rattle.loop_sessions.specs.Sessions.{HasGoneOn}
 
--- receipts of notes, and of those behind them
+-- receipts of notes, and of those after them
 receipts-append : (camera place : ℕ) (xs ys : List Noted) → receipts_from camera place (xs ++ ys)
     ≡ receipts_from camera place xs ++ receipts_from camera (place + length xs) ys
 receipts-append camera place [] ys = ap (λ n. receipts_from camera n ys) (omega arith)
@@ -26,7 +25,7 @@ receipts-append camera place (x ∷ xs) ys =
     ap (λ l. receipt camera place x ∷ l) (receipts-append camera (place + 1) xs ys
     ∙ ap (λ n. receipts_from camera (place + 1) xs ++ receipts_from camera n ys) at)
 
--- notes, and notes behind them
+-- notes, and notes after them
 pub enters-joined : {A : Type 0} (camera : ℕ) (xs ys : List Noted) (before between after : List Entry)
     (given through back : Pass A) → Enters camera xs before between given through
     → Enters camera ys between after through back → Enters camera (xs ++ ys) before after given back
@@ -79,20 +78,7 @@ module _ {D A : Type 0} (medium : D → Medium) (camera : ℕ) where
     enters = enters-none camera before after given back history receipts number;
   }
 
-  -- one call
-  pub notes-one : (call : DeskCall) (note : Noted) (old new : SeenDesk D) (before after : List Entry)
-      (given back : Pass A) → DeskGoes medium old new (call ∷ []) → noted_call note ≡ bare_call call
-      → after ≡ before ++ entry (pass_number given) note ∷ []
-      → receipts_of back ≡ receipts_of given ++ receipt camera (length before) note ∷ []
-      → pass_number back ≡ pass_number given → Notes medium camera (note ∷ []) old new before after given back
-  notes-one call note old new before after given back goes same history receipts number = record {
-    calls = call ∷ [];
-    goes = goes;
-    noted = ap (λ (c : DeskCall). c ∷ []) same;
-    enters = enters-one camera note before after given back history receipts number;
-  }
-
-  -- calls, and calls behind them
+  -- calls, and calls after them
   pub notes-joined : (xs ys : List Noted) (old mid new : SeenDesk D) (before between after : List Entry)
       (given through back : Pass A) → Notes medium camera xs old mid before between given through
       → Notes medium camera ys mid new between after through back

@@ -1,4 +1,4 @@
--- Receipts that stand at their places, one more at a time.
+-- Receipts that are at their places, one more at a time.
 use Rattle.std.proofs.Common.{◌≡◌, ◌≢◌, ◌<◌, ◌≤◌, ◌+◌, ℕ, zero, suc, Option, None, IfSome, List, [], ◌∷◌, length, take, sym, ap, ◌∙◌, subst, arith}
 use Rattle.std.specs.Prelude.{Some, if◌then◌else◌, get_or, slice_get}
 use Rattle.std.proofs.lemmas.Bool.{eq-eqb, ne_eqb}
@@ -61,7 +61,7 @@ ends-here {D} {A} outlines cameras passes n e o at_e at_o told = λ x y at_x at_
     let outline : o ≡ y = cc in
     subst (λ (z : EndedCamera D A × Outline A). IsTiedCamera n z.0 z.1 passes) (λ i. (camera i, outline i)) told
 
--- a camera of that number that isn't tied, behind those that are
+-- a camera of that number that isn't tied, after those that are
 pub untied-here : {D A : Type 0} (outlines : List (Outline A)) (cameras : List (EndedCamera D A))
     (passes : List (Pass A)) (n : ℕ) (e : EndedCamera D A) (o : Outline A) → slice_get cameras n ≡ Some e
     → slice_get outlines n ≡ Some o
@@ -90,7 +90,7 @@ pub placed-at : (camera : ℕ) (history : List Entry) (number : ℕ) (rs : List 
 placed-at camera history number rs i floor d below is all =
     subst (λ n. IsPlaced camera history number n (get_or rs i d)) (sym is) (each-at (floor_after camera) (IsPlaced camera history number) 0 rs i d below all)
 
--- so none that comes before its floor, or whose call doesn't stand at its place, is among them
+-- so none that comes before its floor, or whose call isn't at its place, is among them
 pub too-early : (camera : ℕ) (history : List Entry) (number : ℕ) (rs : List Receipt) (i floor : ℕ) (d : Receipt)
     → i < length rs
     → floor ≡ after_all (floor_after camera) 0 (take i rs) → (get_or rs i d).camera ≡ camera → (get_or rs i d).place < floor

@@ -1,4 +1,4 @@
--- A keep is whole: what a desk tells as the runs of a time, one by one, are all of them.
+-- A keep is whole: the runs of a time that a desk returns, one by one, are all of them.
 use Rattle.std.proofs.Common.{◌≡◌, ℕ, ◌+◌, true, is_some, inl, inr, Option, Some, None, List, [], ◌∷◌, ◌++◌, map, refl, ap, ◌∙◌, subst}
 use Rattle.std.proofs.lemmas.List.{map-append}
 use Rattle.loop_record.specs.declared.clip.Span.{Span}
@@ -12,7 +12,7 @@ use Rattle.loop_sessions.specs.declared.keep.Kept.{Kept}
 use Rattle.loop_sessions.specs.Histories.{noted_call}
 use Rattle.loop_sessions.specs.Keeps.{KeepsAreWhole, lock_noted, refused_lock, runs_noted}
 
--- the runs that are noted are the runs that were told
+-- the runs that are noted are the runs that the desk returned
 runs-told : (times : Times) (place : ℕ) (runs : List Span)
     → map noted_call (runs_noted times place runs) ≡ runs_told times place runs
 runs-told times place [] = refl

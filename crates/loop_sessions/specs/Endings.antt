@@ -15,7 +15,7 @@ use Rattle.loop_sessions.specs.Sessions.{IsFaithful}
 abbrev pub floor_after : ℕ → ℕ → Receipt → ℕ
 floor_after camera floor r = if r.camera == camera then r.place + 1 else floor
 
--- a receipt of the camera is behind those before it, and its call stands at its place
+-- a receipt of the camera has a later place than those before it, and its call is at that place of the history
 abbrev pub IsPlaced : ℕ → List Entry → ℕ → ℕ → Receipt → Type 0
 IsPlaced camera history number floor r =
     r.camera ≡ camera → (floor ≤ r.place) × (slice_get history r.place ≡ Some (entry number r.call))
@@ -29,12 +29,12 @@ ArePlaced camera history pass =
 abbrev pub receipt_count : {A : Type 0} → ℕ → Pass A → ℕ
 receipt_count camera pass = count_by (λ (r : Receipt). r.camera == camera) (receipts_of pass)
 
--- the passes' receipts of a camera stand in its history, which has as many entries
+-- the passes' receipts of a camera are in its history, which has as many entries
 pub record IsTied {A : Type 0} (camera : ℕ) (history : List Entry) (passes : List (Pass A)) : Type 0 where
   pub places : All (ArePlaced camera history) passes
   pub count : length history ≡ sum_by (receipt_count camera) passes
 
--- the cameras of a pass's receipts are there
+-- the cameras that a pass's receipts name are there
 abbrev pub AreThere : {A : Type 0} → ℕ → Pass A → Type 0
 AreThere cameras pass = All (λ (r : Receipt). r.camera < cameras) (receipts_of pass)
 
@@ -47,7 +47,7 @@ pub record SameOutline {A B : Type 0} (one : Outline A) (other : Outline B) : Ty
   pub clips : one.clips.items ≡ other.clips.items
   pub pending : one.pending ≡ other.pending
 
--- those of a pass's receipts that aren't there are this one or behind it
+-- the cameras that a pass's receipts name and that aren't there are this one or later ones
 abbrev pub NoneBefore : {A : Type 0} → ℕ → ℕ → Pass A → Type 0
 NoneBefore cameras k pass = All (λ (r : Receipt). cameras ≤ r.camera → k ≤ r.camera) (receipts_of pass)
 
@@ -59,7 +59,7 @@ names_camera camera pass = list_any (λ (r : Receipt). r.camera == camera) (rece
 abbrev pub IsFaithfulCamera : {D A : Type 0} → (D → Medium) → EndedCamera D A → Type 0
 IsFaithfulCamera medium e = IsFaithful medium e.outline e.history.items e.desk
 
--- the camera has the outline that was kept beside its lock, and is tied to the passes
+-- the camera has the outline that was kept outside its lock, and is tied to the passes
 pub record IsTiedCamera {D A : Type 0} (camera : ℕ) (e : EndedCamera D A) (outline : Outline A) (passes : List (Pass A))
     : Type 0 where
   pub outline_is : SameOutline e.outline outline

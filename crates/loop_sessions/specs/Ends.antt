@@ -29,9 +29,9 @@ NoTwoShare camera passes =
     (i j a b : ℕ) (r s : Receipt) → IsReceipt passes i a r → IsReceipt passes j b s
     → r.camera ≡ camera → s.camera ≡ camera → r.place ≡ s.place → (i ≡ j) × (a ≡ b)
 
--- The camera's history is legal from a desk with the outline that its desk had when the recorder was made, and leads
--- to its desk; and the passes' receipts of the camera stand in it, which has as many entries, no two at one place if
--- the passes' numbers differ.
+-- The camera's history is legal from a desk with the outline that its desk had when the recorder was made, and leads to
+-- its desk. It has just as many entries as the passes have receipts of the camera, each at its place, no two at one
+-- place if the passes' numbers differ.
 pub record IsEndOf {D A : Type 0} (medium : D → Medium) (camera : ℕ) (e : EndedCamera D A) (outline : Outline A)
     (passes : List (Pass A)) : Type 0 where
   pub faithful : IsFaithful medium outline e.history.items e.desk

@@ -13,7 +13,7 @@ use Rattle.loop_sessions.specs.declared.entry.Noted.{Noted}
 use Rattle.loop_sessions.specs.declared.entry.Noted.TheVariants as noted
 use Rattle.loop_sessions.specs.declared.entry.FrameInfo.{FrameInfo}
 
--- a frame of this stamp, without pixels
+-- the frame with this head, without pixels
 abbrev pub bare_picture : FrameInfo → Picture
 bare_picture s = record { sequence = s.sequence; flags = s.flags; timestamp = s.timestamp; bytes = [] }
 
@@ -48,8 +48,8 @@ pub record Replays {D : Type 0} (medium : D → Medium) (opening : SeenDesk D) (
   pub answers : AreDeskAnswers (rules_of desk) (bare_state first) (calls_of history)
   pub replay : desk_after_calls (rules_of desk) (bare_state first) (calls_of history) ≡ bare_state last
 
--- A legal history: it replays, where the disk is honest, and calls of the disk have failed since the opening just as
--- its answers say.
+-- A legal history: it replays, if the disk is honest, and calls of the disk have failed since the opening just as its
+-- answers say.
 pub record IsLegal {D : Type 0} (medium : D → Medium) (opening : SeenDesk D) (history : List Entry) (desk : SeenDesk D)
     : Type 0 where
   pub replays : (medium desk.store.disk).honest → Replays medium opening history desk

@@ -38,17 +38,17 @@ abbrev pub refused_lock : List Span → Option SessionFault → List Noted
 refused_lock (span ∷ left) (Some fault) = option_to_list (lock_note span (Err fault))
 refused_lock _ _ = []
 
--- the receipts of notes, at places one behind the other
+-- the receipts of notes, at places one after the other
 abbrev pub receipts_from : ℕ → ℕ → List Noted → List Receipt
 receipts_from camera place [] = []
 receipts_from camera place (n ∷ ns) = receipt camera place n ∷ receipts_from camera (place + 1) ns
 
--- the pass has these receipts more
+-- the pass has these receipts added
 pub record ReceivesAll {A : Type 0} (camera place : ℕ) (notes : List Noted) (before after : Pass A) : Type 0 where
   pub receipts : receipts_of after ≡ receipts_of before ++ receipts_from camera place notes
   pub number : pass_number after ≡ pass_number before
 
--- a history has these entries more, and the pass their receipts, at the entries' places
+-- a history has these entries added, and the pass their receipts, at the entries' places
 pub record Enters {A : Type 0} (camera : ℕ) (notes : List Noted) (before after : List Entry) (given back : Pass A)
     : Type 0 where
   pub entered : after ≡ before ++ map (entry (pass_number given)) notes
@@ -62,14 +62,15 @@ pub record RecordsAll {A : Type 0} (camera : ℕ) (notes : List Noted) (old new 
 
 -- ---- a keep
 
--- it was refused before the desk was asked, or the desk told nothing: nothing is noted and nothing is locked
+-- it was refused before the desk was asked, or the desk refused to list the runs: nothing is noted and nothing is
+-- locked
 pub record NotesNone {A : Type 0} (notes : List Noted) (kept : Kept A) : Type 0 where
   pub none : notes ≡ []
   pub clips : kept.clips.items ≡ []
   pub refused : IsSome kept.fault
 
--- The runs of the time were told. They were locked with the tag, from the first on, until one was refused, and each is
--- told as a clip. Nothing else was called.
+-- The desk listed the runs of the time. They were locked with the tag, from the first on, until one was refused, and
+-- each is returned as a clip. No other call was made.
 pub record NotesRuns {A : Type 0} (times : Times) (tag : ℕ) (notes : List Noted) (kept : Kept A) : Type 0 where
   pub runs : List Span
   pub left : List Span
@@ -95,8 +96,8 @@ pub record KeepsSome {A : Type 0} (camera : ℕ) (times : Times) (tag : ℕ) (be
   pub keeps : NotesKeep times tag notes kept
   pub received : ReceivesAll camera place notes before after
 
--- Where a keep tells no refusal, and a desk told what it notes from some state on, the clips have just the held frames
--- of the time. A desk of any disk tells so (`DeskGoes`), and the histories of an end are answered so (`IsLegal`).
+-- If a keep reports no refusal, and a desk gave the answers that it notes, from some state on, the clips have just the
+-- held frames of the time. A desk of any disk answers so (`DeskGoes`), and so do the histories of an end (`IsLegal`).
 abbrev pub KeepsAreWhole : {A : Type 0} → Kept A → Type 0
 KeepsAreWhole kept =
     (k : Rules) (s : DeskState) (times : Times) (tag : ℕ) (notes : List Noted) → NotesKeep times tag notes kept
@@ -105,7 +106,7 @@ KeepsAreWhole kept =
 
 -- ---- what only private functions speak of
 
--- a desk went on by some calls, which are noted in the history and received by the pass
+-- some calls of a desk, which are noted in the history and received by the pass
 pub record Notes {D A : Type 0} (medium : D → Medium) (camera : ℕ) (notes : List Noted) (old new : SeenDesk D)
     (before after : List Entry) (given back : Pass A) : Type 0 where
   pub calls : List DeskCall

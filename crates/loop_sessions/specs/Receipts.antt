@@ -80,12 +80,12 @@ abbrev pub one_or_none : {X Y : Type 0} → (X → Y) → Option X → List Y
 one_or_none f None = []
 one_or_none f (Some x) = f x ∷ []
 
--- the pass has a receipt more for what was noted
+-- the pass has one receipt more, for what was noted
 pub record Receives {A : Type 0} (camera place : ℕ) (note : Option Noted) (before after : Pass A) : Type 0 where
   pub receipts : receipts_of after ≡ receipts_of before ++ one_or_none (receipt camera place) note
   pub number : pass_number after ≡ pass_number before
 
--- the history has an entry more for what was noted, and the pass its receipt, at the entry's place
+-- the history has one entry more, for what was noted, and the pass its receipt, at the entry's place
 pub record Records {A : Type 0} (camera : ℕ) (note : Option Noted) (old new : SeenSession) (before after : Pass A)
     : Type 0 where
   pub entered : new.history ≡ old.history ++ one_or_none (entry (pass_number before)) note
@@ -94,7 +94,7 @@ pub record Records {A : Type 0} (camera : ℕ) (note : Option Noted) (old new : 
 
 -- ---- outlines
 
--- a status was noted, and the outline tells of the desk right after it
+-- a status was noted, and the outline is that of the desk right after it
 pub record OutlinesNow {D A B : Type 0} (medium : D → Medium) (camera : ℕ) (old new : SeenSession)
     (before after : Pass B) (result : Result (Outline A) SessionFault) : Type 0 where
   pub told : Result Status SessionFault

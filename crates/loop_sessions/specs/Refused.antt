@@ -8,9 +8,9 @@ use Rattle.loop_sessions.specs.declared.recorder.Ended.{Ended}
 use Rattle.loop_sessions.specs.Endings.{IsBroken, IsFaithfulCamera}
 use Rattle.loop_sessions.specs.Opened.{AreNumbered, SeenRecorder}
 
--- With no pass missing the passes come back, and as many cameras as the recorder was made with, each with a history
--- that is legal and leads to its desk, the lock of its queue and its count; and a comparison fails for the camera of
--- that number.
+-- No pass is missing. The passes come back, and as many cameras as the recorder was made with, each with a history that
+-- is legal and leads to its desk, the lock of its queue and its count. A comparison fails for the camera of that
+-- number.
 pub record BreaksTie {D P A : Type 0} (medium : D → Medium) (recorder : SeenRecorder A) (passes : List (Pass A))
     (camera : ℕ) (e : Ended D P A) : Type 0 where
   pub same : e.passes.items ≡ passes

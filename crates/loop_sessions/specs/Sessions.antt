@@ -1,4 +1,4 @@
--- What lies under a desk's lock, and what a read under it answers.
+-- What a desk's lock guards, and what a read under the lock answers.
 use Rattle.std.specs.Prelude.{◌≡◌, ℕ, false, Ok, List, [], ◌∷◌, map}
 use Rattle.loop_disk.specs.Medium.{Medium}
 use Rattle.loop_record.specs.Recording.{plain, ring_of}
@@ -21,8 +21,8 @@ pub record SeenSession : Type 0 where
   pub history : List Entry
   pub calls : ℕ
 
--- The desk has gone on from an opening that could be written and had this outline, by some calls, and these, without
--- pixels, are the history's. What the calls leave on the disk, whenever the power fails, is said by `goes`.
+-- From an opening that could be written and had this outline, the desk came to this one by some calls. Without pixels,
+-- these are the history's. `goes` says what the calls leave on the disk, whenever the power fails.
 pub record HasGoneOn {D A : Type 0} (medium : D → Medium) (opening : SeenDesk D) (outline : Outline A)
     (history : List Entry) (desk : SeenDesk D) : Type 0 where
   pub opens : Opens medium opening
@@ -40,7 +40,7 @@ pub record TellsNow {D A : Type 0} (medium : D → Medium) (history : List Entry
   pub tells : TellsOutline medium desk outline
 
 -- What a crash leaves, whenever the lock is free: each image reads as the recording for which the desk stands, after
--- all steps that were answered; or, after an answer Disk, as that followed by a beginning of the steps of that call.
+-- all steps that were answered; or, after an answer Disk, as that followed by a prefix of the steps of that call.
 pub record Survives {D : Type 0} (medium : D → Medium) (opening : SeenDesk D) (calls : List DeskCall)
     (desk : SeenDesk D) (s : StoreState) : Type 0 where
   pub stands : StandsFor medium desk.store
@@ -56,8 +56,7 @@ Survive medium opening calls desk =
     (s : StoreState) → Stands medium opening.store s → s.must_reopen ≡ false → (medium opening.store.disk).honest
     → Survives medium opening calls desk s
 
--- from some desk with this outline the history is kept, a crash leaves what was answered, and the history is legal, and
--- leads to this desk
+-- from some desk with this outline: a crash leaves what was answered, and the history is legal and leads to this desk
 pub record IsFaithful {D A : Type 0} (medium : D → Medium) (outline : Outline A) (history : List Entry)
     (desk : SeenDesk D) : Type 0 where
   pub opening : SeenDesk D

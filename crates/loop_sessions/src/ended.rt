@@ -1,4 +1,4 @@
-//! The end of a recorder: the histories, and the passes' receipts beside them.
+//! The end of a recorder: the histories are compared with the passes' receipts.
 
 ghost use Rattle.std.specs.Prelude.{◌≡◌, ◌↔◌, ◌⊎◌, ◌<◌, ◌≤◌, ◌^◌, [], All, IfNone, IfSome, IsSome, IsTrue, Some, length, slice_get, vec_len, ℕ};
 ghost use Rattle.std.specs.List.{list_any};
@@ -24,7 +24,7 @@ pub struct EndedCamera<D: Disk + Drop, A: Allocator = Global> {
     pub outline: Outline<A>,
 }
 
-// Whether the call of a receipt stands at its place.
+// Whether the call of a receipt is at its place in the history.
 fn has_place(history: &[Entry], number: u32, receipt: &Receipt) -> bool
     ensures entry { IsTrue result ↔ slice_get history.now receipt.now.place ≡ Some (entry number receipt.now.call) }
     ensures inside { IsTrue result → receipt.now.place < length history.now }
@@ -37,7 +37,7 @@ fn has_place(history: &[Entry], number: u32, receipt: &Receipt) -> bool
     entry.pass == number && is_same(entry.call, receipt.call)
 }
 
-// How many receipts of a camera a pass has, if each stands at its place, behind the one before it.
+// How many receipts of a camera a pass has, if each is at its place in the history, after the one before it.
 fn count_placed<A: Allocator>(camera: u32, history: &[Entry], pass: &Pass<A>) -> Option<u64>
     ensures placed { IfSome result (λ _. ArePlaced camera history.now pass.now) }
     ensures apart { IfNone result (ArePlaced camera history.now pass.now → ⊥) }
@@ -62,7 +62,7 @@ fn count_placed<A: Allocator>(camera: u32, history: &[Entry], pass: &Pass<A>) ->
     Some(count)
 }
 
-// Whether the passes' receipts of a camera stand in its history, which has as many entries.
+// Whether the passes' receipts of a camera are in its history, and the history has as many entries.
 fn is_tied<A: Allocator>(camera: u32, history: &[Entry], passes: &[Pass<A>]) -> bool
     ensures { IsTrue result ↔ IsTied camera history.now passes.now }
 {
@@ -79,7 +79,7 @@ fn is_tied<A: Allocator>(camera: u32, history: &[Entry], passes: &[Pass<A>]) -> 
     left == 0
 }
 
-/// Opens the locks.
+/// Takes the sessions out of their locks.
 pub(crate) fn open_all<D: Disk + Drop, A: Allocator + Copy>(
     sessions: Vec<Mutex<Session<D, A>>, A>,
     mut ended: Vec<EndedCamera<D, A>, A>,
@@ -106,7 +106,7 @@ fn ends_tied<D: Disk + Drop, A: Allocator>(
     same_outline(&camera.outline, outline) && is_tied(number, camera.history.as_slice(), passes)
 }
 
-// The least camera where a comparison fails.
+// The least camera for which a comparison fails.
 fn first_broken<D: Disk + Drop, A: Allocator>(
     cameras: &[EndedCamera<D, A>],
     outlines: &[Outline<A>],
@@ -127,7 +127,7 @@ fn first_broken<D: Disk + Drop, A: Allocator>(
     None
 }
 
-// The least camera of a pass's receipts that isn't among so many.
+// The least camera that a pass's receipts name and that isn't below `cameras`.
 fn stranger_in<A: Allocator>(cameras: u32, pass: &Pass<A>) -> Option<u32>
     ensures there { IfNone result (AreThere cameras pass.now) }
     ensures named { IfSome result (λ k. (cameras ≤ k) × IsTrue (names_camera k pass.now)) }
@@ -142,7 +142,7 @@ fn stranger_in<A: Allocator>(cameras: u32, pass: &Pass<A>) -> Option<u32>
     least
 }
 
-// The lesser of a number that may be there and another.
+// The lesser of two numbers, the first of which may be absent.
 fn least_of(one: Option<u32>, other: u32) -> Option<u32>
     ensures either { IfSome result (λ k. (one ≡ Some k) ⊎ (k ≡ other)) }
     ensures least { IfSome result (λ k. (k ≤ other) × IfSome one (λ n. k ≤ n)) }
@@ -154,7 +154,7 @@ fn least_of(one: Option<u32>, other: u32) -> Option<u32>
     }
 }
 
-// The least camera of the passes' receipts that isn't among so many.
+// The least camera that the passes' receipts name and that isn't below `cameras`.
 fn first_stranger<A: Allocator>(cameras: u32, passes: &[Pass<A>]) -> Option<u32>
     ensures there { IfNone result (All (AreThere cameras) passes.now) }
     ensures named { IfSome result (λ k. (cameras ≤ k) × IsTrue (list_any (names_camera k) passes.now)) }
@@ -169,7 +169,7 @@ fn first_stranger<A: Allocator>(cameras: u32, passes: &[Pass<A>]) -> Option<u32>
     least
 }
 
-/// The least camera where a comparison fails, or that a receipt names and isn't there.
+/// The least camera for which a comparison fails, or that a receipt names though there is none.
 pub(crate) fn least_broken<D: Disk + Drop, A: Allocator>(
     cameras: &[EndedCamera<D, A>],
     outlines: &[Outline<A>],

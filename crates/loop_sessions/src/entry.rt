@@ -11,7 +11,7 @@ use std::alloc::{Allocator, Global};
 /// A frame without its number and its bytes.
 #[derive(Clone, Copy, Debug, PartialEq, Eq)]
 pub struct FrameInfo {
-    /// The place in the camera's count of frames.
+    /// The number of the frame since the device's start.
     pub sequence: u32,
     /// The buffer flags of the V4L2 userspace API.
     pub flags: u32,
@@ -24,17 +24,17 @@ pub struct FrameInfo {
 pub enum Noted {
     /// A frame, the count of its bytes, and the number that it will have.
     Submit(FrameInfo, u64, Result<u64, StoreFault>),
-    /// What was stored.
+    /// What the flush stored.
     Flush(Result<Flushed, StoreFault>),
     /// The numbers and the tag of a clip, and its id.
     Lock(Span, Result<u32, StoreFault>),
     /// The id of a clip.
     Unlock(u32, Result<(), StoreFault>),
-    /// A number, and the head of its frame.
+    /// The number of a frame, and its head.
     Read(u64, Result<FrameHead, StoreFault>),
-    /// How the desk stands.
+    /// The counts of the desk.
     Status(Status),
-    /// A time, and a run of the numbers of its held frames by its place among these runs; None where there are no more.
+    /// Times, a place among the runs of the numbers of their held frames, and the run there; None if there are no more.
     Sought(Times, u64, Option<Span>),
 }
 
@@ -47,7 +47,7 @@ pub struct Entry {
     pub call: Noted,
 }
 
-/// What a caller gets for a call.
+/// What a caller's pass records of a call.
 #[derive(Clone, Copy, Debug, PartialEq, Eq)]
 pub struct Receipt {
     /// The camera.

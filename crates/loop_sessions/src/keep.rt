@@ -1,5 +1,5 @@
-//! The held frames of a time, locked under a desk's lock: each run of their numbers becomes a clip. It is no call of
-//! `Desk::keep_time`, since each lock is an entry of the history, and isn't asked for where there is no room for one.
+//! The held frames of a time, locked under a desk's lock: each run of their numbers becomes a clip. It doesn't call
+//! `Desk::keep_time`, since each lock is an entry of the history, and is made only if there is room for one.
 
 ghost use Rattle.std.specs.Prelude.{◌≡◌, ◌+◌, ◌<◌, ◌≤◌, IfErr, IfOk, Some, [], length, vec_len};
 ghost use Rattle.std.specs.Option.{option_to_list};
@@ -20,11 +20,11 @@ use std::alloc::{Allocator, Global};
 pub struct Kept<A: Allocator = Global> {
     /// The clips that were locked, in the order of their numbers.
     pub clips: Vec<Clip, A>,
-    /// Why no further one was locked; None where each frame of the time is in a clip.
+    /// Why no further one was locked; None if each frame of the time is in a clip.
     pub fault: Option<SessionFault>,
 }
 
-// Notes runs of a time one by one, and that there are no more.
+// Notes the runs of a time one by one, and then that there are no more.
 fn note_runs<A: Allocator>(
     history: &mut Vec<Entry, A>,
     camera: u32,
@@ -49,8 +49,8 @@ fn note_runs<A: Allocator>(
     note(history, camera, pass, Noted::Sought(times, place, None));
 }
 
-// Asks a desk for the runs of a time, and notes each: as `Desk::sought`; where they can't be noted `SessionFull`, then
-// `NoMemory`.
+// Asks a desk for the runs of a time, as `Desk::sought`, and notes each: `SessionFull`, then `NoMemory` if they can't
+// be noted.
 fn seek<D: Disk + Drop, A: Allocator + Copy>(
     alloc: A,
     desk: &Desk<D, A>,
@@ -95,7 +95,7 @@ fn lock<D: Disk + Drop, A: Allocator + Copy>(
     }
 }
 
-// Locks runs with a tag, from the first on, and tells each clip.
+// Locks runs with a tag, from the first on, until one is refused; collects their clips.
 fn lock_runs<D: Disk + Drop, A: Allocator + Copy>(
     desk: &mut Desk<D, A>,
     history: &mut Vec<Entry, A>,
@@ -119,7 +119,7 @@ fn lock_runs<D: Disk + Drop, A: Allocator + Copy>(
     Ok(())
 }
 
-// What was locked before a refusal.
+// The clips that were locked before a refusal.
 fn refused<A: Allocator>(clips: Vec<Clip, A>, fault: SessionFault) -> Kept<A>
     ensures { result ≡ record { clips = clips; fault = Some fault } }
 {

@@ -1,12 +1,12 @@
-//! Desks and queues that threads share, each under a lock; a desk with the history of its calls.
+//! Desks and queues that threads share, each under a lock. A desk has the history of its calls beside it.
 //!
-//! - `entry`: what is noted of a call, and a caller's pass; `session`: a desk and its history, as they lie under a
-//!   lock; `port`: a queue with its table, as they lie under a lock; `pace`: where threads are told how far they are;
+//! - `entry`: what is noted of a call, and a caller's pass; `session`: a desk and its history, which share a lock;
+//!   `port`: a queue with its table, which share a lock; `pace`: the steps that threads report;
 //! - `recorder`: the calls that take a lock, and `end`; `keep`: the held frames of a time, locked; `laws`: that a keep
 //!   is whole; `opened`: the parts of a new recorder; `ended`: what the end compares; `same`: whether two calls were
 //!   answered alike; `fault`: refusals.
 //!
-//! It starts no thread: loop_recorder does, and exports all that is here too.
+//! It starts no thread: loop_recorder does, and exports all of this crate too.
 //!
 //! `specs/Histories` says when a history is legal, `specs/Sessions` what a desk's lock keeps, `specs/Ports` what a
 //! queue's lock keeps, `specs/Receipts` what a call leaves, `specs/Keeps` what a keep locks, `specs/Ends` what the end
@@ -32,7 +32,7 @@ pub use entry::{Entry, FrameInfo, Noted, Pass, Receipt};
 pub use fault::{NewRefused, SessionFault};
 pub use keep::Kept;
 pub use loop_record::Times;
-pub use opened::Camera;
+pub use opened::CameraParts;
 pub use pace::{Pace, Step};
 pub use port::{Port, QueueLock};
 pub use recorder::{EndRefused, Ended, Recorder};

@@ -1,6 +1,6 @@
 //! The parts of a new recorder.
 
-ghost use Rattle.std.specs.Prelude.{◌≡◌, ◌≤◌, ◌<◌, ◌^◌, [], All, IfOk, length, map, vec_len};
+ghost use Rattle.std.specs.Prelude.{◌≡◌, ◌≤◌, ◌<◌, ◌^◌, All, IfOk, map, vec_len};
 ghost use Rattle.std.specs.List.{range_with_len};
 ghost use Rattle.std.specs.Vec.{vec_capacity};
 ghost use Rattle.loop_sessions.specs.Opened.{AreNumbered, IsReady, TellEach, desks_of};
@@ -15,13 +15,13 @@ use loop_vb2::Queue;
 use std::alloc::{AllocError, Allocator, Global};
 use std::sync::Mutex;
 
-/// A camera: its desk, its queue, and what fds name.
-pub type Camera<D, P, A = Global> = (Desk<D, A>, Queue<P, A>, FdTable<P, A>);
+/// The parts of a camera: its desk, its queue, and what fds name.
+pub type CameraParts<D, P, A = Global> = (Desk<D, A>, Queue<P, A>, FdTable<P, A>);
 
 /// The outline of each desk, in order.
 pub(crate) fn outline_all<D: Disk + Drop, P: PlaneMemory, A: Allocator + Copy>(
     alloc: A,
-    cameras: &[Camera<D, P, A>],
+    cameras: &[CameraParts<D, P, A>],
 ) -> Result<Vec<Outline<A>, A>, StoreFault>
     ensures { IfOk result (λ outlines. TellEach D.medium (desks_of cameras.now) outlines.items) }
 {
@@ -35,7 +35,7 @@ pub(crate) fn outline_all<D: Disk + Drop, P: PlaneMemory, A: Allocator + Copy>(
 /// Puts each desk under a lock with its outline, and each queue under a lock with its table.
 pub(crate) fn lock_all<D: Disk + Drop, P: PlaneMemory, A: Allocator + Copy>(
     alloc: A,
-    cameras: Vec<Camera<D, P, A>, A>,
+    cameras: Vec<CameraParts<D, P, A>, A>,
     outlines: Vec<Outline<A>, A>,
     mut sessions: Vec<Mutex<Session<D, A>>, A>,
     mut ports: Vec<QueueLock<P, A>, A>,
@@ -66,7 +66,7 @@ pub(crate) fn lock_all<D: Disk + Drop, P: PlaneMemory, A: Allocator + Copy>(
     (sessions, ports)
 }
 
-/// So many passes, numbered from 0.
+/// `count` passes, numbered from 0.
 pub(crate) fn make_passes<A: Allocator + Copy>(
     alloc: A,
     count: u32,

@@ -1,4 +1,4 @@
-//! A queue with its table of fds, as they lie under a lock.
+//! A queue with its table of fds, which share a lock.
 
 ghost use Rattle.std.specs.Prelude.{◌≡◌};
 ghost use Rattle.loop_ioctl.specs.Types.{type_of};
@@ -12,7 +12,7 @@ use std::alloc::{Allocator, Global};
 use std::marker::Model;
 use std::sync::Mutex;
 
-/// A queue with its table of fds, which stand for a state of the queue's model. Whoever has it alone may take both out.
+/// A queue with its table of fds, which stand for a state of the queue's model. Its owner may take both out.
 #[derive(Drop)]
 pub struct Port<P: PlaneMemory = Box<dyn PlaneMemory + Send>, A: Allocator + Copy = Global> {
     queue: Queue<P, A>,
@@ -37,7 +37,7 @@ pub struct QueueLock<P: PlaneMemory = Box<dyn PlaneMemory + Send>, A: Allocator 
 }
 
 impl<P: PlaneMemory, A: Allocator + Copy> QueueLock<P, A> {
-    /// The queue and its table, where no other thread has the lock. The queue still streams if it did.
+    /// The queue and its table. It consumes the lock, so no other thread has it. The queue still streams if it did.
     pub fn into_parts(self) -> (Queue<P, A>, FdTable<P, A>)
         ensures { StandsPort P.plane result.0 result.1 }
     {
@@ -46,7 +46,7 @@ impl<P: PlaneMemory, A: Allocator + Copy> QueueLock<P, A> {
 }
 
 impl<P: PlaneMemory, A: Allocator + Copy> Port<P, A> {
-    /// A queue with its table.
+    /// A port with this queue and its table.
     pub fn new(queue: Queue<P, A>, table: FdTable<P, A>) -> Self
         requires { StandsPort P.plane queue table }
         ensures { result ≡ record { queue = queue; table = table } }

@@ -13,7 +13,7 @@ ghost use Rattle.loop_sessions.specs.Sessions.{AnswersRead};
 
 use crate::ended::{least_broken, open_all};
 use crate::keep::Kept;
-use crate::opened::{Camera, lock_all, make_passes, outline_all};
+use crate::opened::{CameraParts, lock_all, make_passes, outline_all};
 use crate::{EndedCamera, NewRefused, Pace, Pass, QueueLock, Session, SessionFault};
 use loop_capture::{Device, FrameSource, Tick};
 use loop_desk::{Flushed, Outline, Status};
@@ -69,11 +69,11 @@ pub enum EndRefused<
     P: PlaneMemory = Box<dyn PlaneMemory + Send>,
     A: Allocator + Copy = Global,
 > {
-    /// So many passes were given, fewer than were made. All is handed back.
+    /// The number of passes that were given, and the greater number that were made. All is handed back.
     PassesMissing(u32, u32, Recorder<D, P, A>, Vec<Pass<A>, A>),
-    /// The least camera whose history isn't that of the passes' receipts, or that they name and isn't there.
+    /// The least camera whose history doesn't match the passes' receipts, or that they name though there is none.
     TieBroken(u32, Ended<D, P, A>),
-    /// Memory for the workers of a recording was refused. All is handed back; `end` itself never answers it.
+    /// Memory for the workers of a recording was refused. All is handed back. `end` itself never returns it.
     NoMemory(Recorder<D, P, A>, Vec<Pass<A>, A>),
 }
 
@@ -107,11 +107,11 @@ impl<D: Disk + Drop, P: PlaneMemory, A: Allocator + Copy> Model for Recorder<D, 
 }
 
 impl<D: Disk + Drop, P: PlaneMemory, A: Allocator + Copy> Recorder<D, P, A> {
-    /// Puts each desk under a lock of its own and each queue under a lock with its table, and makes so many passes.
-    /// Where memory is refused, the cameras come back. No desk's status may show `must_reopen`.
+    /// Puts each desk under a lock of its own and each queue under a lock with its table, and makes `passes` passes. If
+    /// memory is refused, the cameras come back. No desk's status may show `must_reopen`.
     pub fn new(
         alloc: A,
-        cameras: Vec<Camera<D, P, A>, A>,
+        cameras: Vec<CameraParts<D, P, A>, A>,
         passes: u32,
     ) -> Result<(Self, Vec<Pass<A>, A>), NewRefused<D, P, A>>
         requires few { vec_len cameras < 2 ^ 32 }
@@ -280,8 +280,9 @@ impl<D: Disk + Drop, P: PlaneMemory, A: Allocator + Copy> Recorder<D, P, A> {
         self.sessions[camera as usize].lock(rt).pending()
     }
 
-    /// As `Session::outline`, at a camera's desk. The receipt says how the desk stands, and `end` ties it to the
-    /// history: so the outline's next number, the count of its frames and how many wait are that desk's at that place.
+    /// As `Session::outline`, at a camera's desk. The receipt has the desk's counts, and `end` compares it with the
+    /// history. So the outline's next number, the count of its frames and how many wait are those of the desk at that
+    /// place.
     pub fn outline<R: Wait>(
         &self,
         rt: &R,
@@ -371,7 +372,7 @@ impl<D: Disk + Drop, P: PlaneMemory, A: Allocator + Copy> Recorder<D, P, A> {
         self.sessions[camera as usize].lock(rt).geometry()
     }
 
-    /// Whether as many frames wait at a camera's desk as may. It promises nothing.
+    /// Whether a camera's desk is full. It promises nothing.
     pub fn is_full<R: Wait>(&self, rt: &R, camera: u32) -> bool
         requires { camera < length self.now.outlines }
     {
@@ -386,7 +387,7 @@ impl<D: Disk + Drop, P: PlaneMemory, A: Allocator + Copy> Recorder<D, P, A> {
         self.sessions[camera as usize].lock(rt).has_group()
     }
 
-    /// Memory of a frame that a camera's desk has stored, for a later one (`Desk::spare_memory`). It isn't noted.
+    /// Memory of a frame that a camera's desk has stored, for a later frame (`Desk::spare_memory`). It isn't noted.
     pub fn spare_memory<R: Wait>(&self, rt: &R, camera: u32) -> Option<Vec<u8, A>>
         requires { camera < length self.now.outlines }
     {
@@ -400,8 +401,8 @@ impl<D: Disk + Drop, P: PlaneMemory, A: Allocator + Copy> Recorder<D, P, A> {
         self.sessions[camera as usize].lock(rt).return_memory(bytes);
     }
 
-    /// Opens the locks, and compares the passes' receipts with the histories: `PassesMissing`, then `TieBroken`. It
-    /// takes no memory.
+    /// Takes the desks out of their locks, and compares the passes' receipts with the histories: `PassesMissing`, then
+    /// `TieBroken`. It takes no memory.
     pub fn end(self, passes: Vec<Pass<A>, A>) -> Result<Ended<D, P, A>, EndRefused<D, P, A>>
         ensures ended { IfOk result (IsEnd D.medium self.outlines) }
         ensures passes { IfOk result (λ e. e.passes ≡ passes) }

@@ -1,4 +1,4 @@
-//! Whether two calls were answered alike.
+//! Comparisons of calls with their answers.
 
 ghost use Rattle.std.specs.Prelude.{◌≡◌, ◌↔◌, IsTrue};
 ghost use Rattle.loop_sessions.specs.Endings.{SameOutline};
@@ -26,7 +26,7 @@ fn same_fault(one: StoreFault, other: StoreFault) -> bool
     }
 }
 
-// Whether two stamps are the same.
+// Whether two frames without their bytes are the same.
 fn same_stamp(one: FrameInfo, other: FrameInfo) -> bool
     ensures { IsTrue result ↔ one ≡ other }
 {

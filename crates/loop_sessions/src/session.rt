@@ -1,4 +1,4 @@
-//! A desk and the history of its calls, as they lie under a lock.
+//! A desk and the history of its calls, which share a lock.
 
 ghost use Rattle.std.specs.Prelude.{◌≡◌, ◌↔◌, ◌≤◌, ◌<◌, ◌+◌, ◌-◌, ◌∷◌, ◌++◌, [], Err, IfErr, IfOk, None, OnOk, false, length, vec_len};
 ghost use Rattle.std.specs.Vec.{vec_capacity};
@@ -19,8 +19,8 @@ use std::alloc::{Allocator, Global};
 use std::marker::Model;
 use std::snapshot::Snapshot;
 
-/// A desk, the history of its calls, and its outline before them. Contracts see the history, and how many calls it may
-/// have.
+/// A desk, the history of its calls, and its outline before the first of them. Contracts see the history, and how many
+/// calls it may have.
 #[derive(Drop)]
 pub struct Session<D: Disk + Drop, A: Allocator = Global> {
     desk: Desk<D, A>,
@@ -39,7 +39,7 @@ impl<D: Disk + Drop, A: Allocator> Model for Session<D, A> {
     ghost invariant = { λ s. HasGoneOn D.medium s.opening.value s.outline s.history.items s.desk };
 }
 
-/// Takes the memory for so many entries and receipts, if the history may have as many more.
+/// Reserves memory for `count` entries and receipts, if the history may have as many more.
 pub(crate) fn reserve_all<A: Allocator>(
     history: &mut Vec<Entry, A>,
     pass: &mut Pass<A>,
@@ -66,7 +66,7 @@ pub(crate) fn reserve_all<A: Allocator>(
     Ok(())
 }
 
-/// Takes the memory for an entry and a receipt, if the history may have one more.
+/// Reserves memory for an entry and a receipt, if the history may have one more.
 pub(crate) fn reserve<A: Allocator>(
     history: &mut Vec<Entry, A>,
     pass: &mut Pass<A>,
@@ -123,7 +123,7 @@ fn stamp_of<A: Allocator>(frame: &Frame<A>) -> FrameInfo
     }
 }
 
-// The answer alone, without the frame that a refusal hands back.
+// The answer without the frame that a refusal hands back.
 fn answer_of<A: Allocator>(outcome: &Result<u64, (StoreFault, Frame<A>)>) -> Result<u64, StoreFault>
     ensures { result ≡ answer_of outcome.now }
 {
@@ -146,7 +146,7 @@ fn head_of<A: Allocator>(
 }
 
 impl<D: Disk + Drop, A: Allocator + Copy> Session<D, A> {
-    /// A desk with its outline, and an empty history.
+    /// A session with this desk, its outline, and an empty history.
     pub fn new(alloc: A, desk: Desk<D, A>, outline: Outline<A>) -> Self
         requires writable { desk.store.must_reopen ≡ false }
         requires outline { TellsOutline D.medium desk outline }
@@ -278,12 +278,12 @@ impl<D: Disk + Drop, A: Allocator + Copy> Session<D, A> {
         }
     }
 
-    /// Locks the held frames whose time is among these, with a tag: a clip for each run of their numbers. What is held
-    /// is told from memory (`Desk::sought`). Each run and each lock is noted; between them no other call comes to the
-    /// desk. By `laws::keeps_are_whole`, the clips have all held frames of the time, and no other.
+    /// Locks the held frames whose time is among these, with a tag: a clip for each run of their numbers. The runs come
+    /// from memory (`Desk::sought`). Each run and each lock is noted. No other call reaches the desk in between. By
+    /// `laws::keeps_are_whole`, the clips have all held frames of the time, and no other.
     ///
-    /// Where a lock is refused, the clips that were locked before it stay, and are told beside the refusal: that of the
-    /// history (`SessionFull`), want of memory, or the desk's own.
+    /// If a lock is refused, the clips that were locked before it stay locked, and are returned with the refusal: that
+    /// of the history (`SessionFull`), want of memory, or the desk's own.
     pub fn keep(
         &mut self,
         alloc: A,
@@ -305,7 +305,7 @@ impl<D: Disk + Drop, A: Allocator + Copy> Session<D, A> {
         )
     }
 
-    /// How the desk stands, which is noted: `SessionFull`, then `NoMemory`.
+    /// The counts of the desk, which are noted: `SessionFull`, then `NoMemory`.
     pub fn status(&mut self, camera: u32, pass: &mut Pass<A>) -> Result<Status, SessionFault>
         ensures records { Records camera (status_note result) self.old self.new pass.old pass.new }
         ensures full { result ≡ Err SessionFull → self.old.calls ≤ length self.old.history }
@@ -322,13 +322,13 @@ impl<D: Disk + Drop, A: Allocator + Copy> Session<D, A> {
         self.desk.status().pending
     }
 
-    /// Whether as many frames wait as may. It is no call of the history, and promises nothing.
+    /// Whether the desk is full. It is no call of the history, and promises nothing.
     pub fn is_full(&self) -> bool {
         self.desk.status().pending >= self.desk.limits().pending
     }
 
-    /// Whether as many frames wait as a flush stores at most: a group, or what the block of the next number has room
-    /// for. It is no call of the history, and promises nothing.
+    /// Whether as many frames wait as a flush stores at most: a group, or as many as the block of the next number has
+    /// room for. It is no call of the history, and promises nothing.
     pub fn has_group(&self) -> bool {
         let Status { next, pending, .. } = self.desk.status();
         let slots = u64::from(self.desk.geometry().slots).max(1);
@@ -350,7 +350,7 @@ impl<D: Disk + Drop, A: Allocator + Copy> Session<D, A> {
         self.desk.return_memory(bytes);
     }
 
-    /// How the desk stands, which is noted, and then what it holds: `SessionFull`, then `NoMemory`, then as
+    /// The desk's outline. First the counts of the desk are noted: `SessionFull`, then `NoMemory`, then as
     /// `Desk::outline`.
     pub fn outline(
         &mut self,
@@ -372,7 +372,7 @@ impl<D: Disk + Drop, A: Allocator + Copy> Session<D, A> {
         self.desk.geometry()
     }
 
-    /// The desk, its history and its outline before them.
+    /// The desk, its history, and its outline before the first call.
     pub fn into_parts(self) -> EndedCamera<D, A>
         ensures history { result.history.items ≡ self.history }
         ensures faithful { IsFaithful D.medium result.outline result.history.items result.desk }

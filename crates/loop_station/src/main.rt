@@ -1,8 +1,8 @@
-//! The laboratory's program: it records from the cameras of a configuration, and does orders meanwhile.
-//! docs/station.md has both languages.
+//! The laboratory's program: it records from the cameras of a configuration, and does orders meanwhile. docs/station.md
+//! has both languages, that of the configuration and that of orders.
 //!
-//! It reads the file that its one word names, and hands the configuration, its input and its output to
-//! loop_station_work. Its stored run is a camera whose source is away, and one that never came.
+//! It reads the file that its one argument names, and hands the configuration, its input and its output to
+//! loop_station_work. Its stored run has a camera whose source is missing, and one whose source never came.
 #![tactic(auto)]
 
 use loop_station_words::read_config;
@@ -16,10 +16,10 @@ use std::thread::Threads;
 use std::time::Clock;
 use std::{env, fs, io};
 
-// The status of a run whose configuration can't be had, that can't begin, or whose lines couldn't be printed.
+// The status of a run whose configuration can't be read, that can't begin, or whose lines couldn't be printed.
 const FAILED: u8 = 1;
 
-// The status of a run with other words than one path.
+// The status of a run whose arguments aren't exactly one path.
 const BAD_WORDS: u8 = 2;
 
 fn main(rt: HostRuntime) -> ExitCode {
@@ -38,7 +38,7 @@ fn main(rt: HostRuntime) -> ExitCode {
     })
 }
 
-// The one word behind the program's name.
+// The one argument after the program's name; None where there is none, or more than one.
 fn path_of(rt: &HostRuntime) -> io::Result<Option<String>> {
     let mut words = env::args(rt)?;
     let _program = words.next();
@@ -49,7 +49,7 @@ fn path_of(rt: &HostRuntime) -> io::Result<Option<String>> {
     Ok(path)
 }
 
-// Runs the station of a file, and answers the program's status.
+// Runs the station of a configuration's file. Returns the program's status.
 fn run_file<
     R: AllocGlobal + Files + Places + Threads + Wait + Clock + Clone + Drop + Send + Sync + 'static,
     I: Read + Drop,
@@ -57,14 +57,14 @@ fn run_file<
     E: Write,
 >(rt: &R, path: &str, input: I, out: W, watched: bool, err: &mut E) -> u8 {
     let Ok(text) = fs::read_to_string(rt, path) else {
-        // Where standard error is closed, the status alone tells.
+        // Where standard error is closed, only the program's status reports the fault.
         let _ = writeln!(err, "cannot open {path}");
         return FAILED;
     };
     let config = match read_config(rt.alloc(), text.as_str()) {
         Ok(config) => config,
         Err(fault) => {
-            // So here.
+            // As above: the status still reports the fault.
             let _ = writeln!(err, "{path}: {fault}");
             return FAILED;
         }
@@ -77,8 +77,9 @@ fn run_file<
     }
 }
 
-// Says why there is no run, and answers the program's status, which alone tells where standard error is closed.
+// Prints why there is no run, and returns the program's status.
 fn say<E: Write>(err: &mut E, why: &str, status: u8) -> u8 {
+    // Where standard error is closed, only the status reports the fault.
     let _ = writeln!(err, "{why}");
     status
 }

@@ -44,7 +44,7 @@ no-camera f found text bytes slice items is lacks same all =
     subst (λ b. list_any (λ c. bytes_eq (f c) b) items ≡ false) same
     (subst (λ s. list_any (λ c. bytes_eq (f c) text) s ≡ false) all (sym is ∙ lacks))
 
--- one more table, and the camera that it says
+-- one more table, and the camera that it describes
 says-push : (tables : Items) (cameras : List CameraConfig) (one : Data) (camera : CameraConfig)
     → SayCameras tables cameras → SaysOne one camera → SayCameras (push_item tables one) (cameras ++ camera ∷ [])
 says-push no_items [] one camera all says = (says, tt)

@@ -6,15 +6,17 @@ use Rattle.std.proofs.lemmas.Grind.{common_steps}
 use Rattle.std.proofs.lemmas.Str.Pattern.{IsSplitOnceResult, split_once_first}
 use Rattle.loop_station_words.specs.Cuts.{cut}
 
-any-inside : (p : ℕ → Bool) (line : List ℕ) → position_or_len p line < length line → list_any p line ≡ true
+-- some byte is found where the place of the first is inside the line
+pub any-inside : (p : ℕ → Bool) (line : List ℕ) → position_or_len p line < length line → list_any p line ≡ true
 any-inside p [] inside = absurd (omega (arith, inside))
 any-inside p (b ∷ line) inside = grind (arith, common_steps, any-inside p line)
 
-any-past : (p : ℕ → Bool) (line : List ℕ) → position_or_len p line ≡ length line → list_any p line ≡ false
+-- none is found where it is past the line
+pub any-past : (p : ℕ → Bool) (line : List ℕ) → position_or_len p line ≡ length line → list_any p line ≡ false
 any-past p [] past = refl
 any-past p (b ∷ line) past = grind (arith, common_steps, any-past p line)
 
--- what `split_once` answers
+-- what `split_once` returns
 pub cut-split : (b : ℕ) (text : List ℕ) (r : Option (Bor (List ℕ) × Bor (List ℕ))) → IsSplitOnceResult b text r → b < 128
     → cut b text ≡ option_map (λ p. (p.0.now, p.1.now)) r
 unfolding cut

@@ -6,32 +6,25 @@ use denote.Ref.{Bor}
 use Rattle.std.proofs.lemmas.Bool.{false≢true}
 use Rattle.std.proofs.lemmas.Grind.{common_steps}
 use Rattle.loop_script.specs.Script.{number, small_number}
+use Rattle.loop_station_words.proofs.CutTexts.{any-inside, any-past}
 use Rattle.loop_station_words.specs.Names.{named}
-use Rattle.loop_station_words.specs.Orders.{alone_said, asked, order_behind, is_space, keep_by, keep_of, keep_said, more, parts, plain_said, release_of, release_said, save_said, seconds_of, times_of, times_said}
+use Rattle.loop_station_words.specs.Orders.{alone_said, asked, order_behind, is_space, keep_by, keep_of, keep_said, more, parts, plain_said, release_of, release_said, save_said, seconds_alone, times_of, times_said}
 
--- ---- where the first space stands
+-- ---- where the first space is
 
-any-inside : (line : List ℕ) → position_or_len is_space line < length line → list_any is_space line ≡ true
-any-inside [] inside = absurd (omega (arith, inside))
-any-inside (b ∷ line) inside = grind (arith, common_steps, any-inside line)
-
-any-past : (line : List ℕ) → position_or_len is_space line ≡ length line → list_any is_space line ≡ false
-any-past [] past = refl
-any-past (b ∷ line) past = grind (arith, common_steps, any-past line)
-
--- a line with a space: its first word, and what stands behind that space
+-- a line with a space: its first word, and what follows that space
 pub parts-parted : (line word rest : List ℕ) → position_or_len is_space line < length line
     → word ≡ before_first is_space line → rest ≡ after_first is_space line → (n : ℕ)
     → parts (suc n) line ≡ word ∷ parts n rest
-parts-parted line word rest inside w r n = rw (any-inside line inside, w, r) refl
+parts-parted line word rest inside w r n = rw (any-inside is_space line inside, w, r) refl
 
 -- a line without a space is one word
 pub parts-one : (line : List ℕ) → position_or_len is_space line ≡ length line → (n : ℕ) → parts (suc n) line ≡ line ∷ []
-parts-one line past n = rw (any-past line past) refl
+parts-one line past n = rw (any-past is_space line past) refl
 
 -- ---- numbers
 
--- a space is no digit
+-- a space isn't a digit
 space_digit : (b : ℕ) → is_space b ≡ true → is_ascii_digit b ≡ false
 space_digit b is = grind (arith, common_steps)
 
@@ -40,7 +33,7 @@ spaced-digits : (word : List ℕ) → list_any is_space word ≡ true → list_a
 spaced-digits [] some = absurd (false≢true some)
 spaced-digits (b ∷ word) some = grind (arith, common_steps, space_digit b, spaced-digits word)
 
--- it writes no number
+-- such a word isn't a number
 pub spaced-number : (word : List ℕ) → list_any is_space word ≡ true → number word ≡ None
 spaced-number word some = let other = spaced-digits word some in grind (arith, common_steps, other)
 
@@ -53,7 +46,7 @@ times-none : (seconds tag : Option ℕ) → tag ≡ None → times_of seconds ta
 times-none None tag none = refl
 times-none (Some seconds) tag none = rw none refl
 
--- a tag with words behind it is none, so it is all one whether it is parted
+-- a tag with words after it isn't one, so it makes no difference whether it is split
 times-split : (seconds rest : List ℕ) → times_said (seconds ∷ parts 1 rest) ≡ times_said (seconds ∷ rest ∷ [])
 times-split seconds rest =
     elim (list_any is_space rest) as (λ t. list_any is_space rest ≡ t
@@ -90,7 +83,7 @@ release-split camera rest =
 -- ---- what the parts ask for
 
 pub times-seconds : (text first : List ℕ) (o : Option (Bor (List ℕ))) → parts 1 text ≡ first ∷ more 0 o → o ≡ None
-    → times_said (parts 1 text) ≡ seconds_of (small_number first)
+    → times_said (parts 1 text) ≡ seconds_alone (small_number first)
 times-seconds text first o are is = ap times_said (are ∙ ap (λ r. first ∷ more 0 r) is)
 
 pub times-tag : (text first : List ℕ) (o : Option (Bor (List ℕ))) (tag : Bor (List ℕ))
@@ -119,7 +112,7 @@ pub save-parted : (replace : Bool) (text first id : List ℕ) (o : Option (Bor (
 save-parted replace text first id o rest p are is then =
     ap (save_said replace) (are ∙ ap (λ r. first ∷ more 1 r) is ∙ ap (λ (ws : List (List ℕ)). first ∷ ws) then)
 
--- a text whose first word is no name
+-- a text whose first word isn't a name
 pub keep-all : (text first : List ℕ) (words : List (List ℕ)) → parts 2 text ≡ first ∷ words → named first ≡ None
     → keep_said (parts 2 text) ≡ keep_of None (times_said (parts 1 text))
 keep-all text first words are none =

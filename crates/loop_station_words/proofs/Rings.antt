@@ -5,9 +5,9 @@ use Rattle.std.proofs.Math.Nat.{mul-le-mul_left, mul-le-mul_right}
 use Rattle.loop_station_words.specs.Rings.{IsLargestWithin, file_size}
 use Rattle.loop_station_words.specs.declared.ring.RingSize.{RingSize}
 
--- behind the head of the file
-behind-head : (bytes room size n : ℕ) → room ≡ bytes - 2560 → 1 ≤ n → 1 ≤ size → n * size ≤ room → 2560 + n * size ≤ bytes
-behind-head bytes room size n is some large fits =
+-- after the head of the file
+after-head : (bytes room size n : ℕ) → room ≡ bytes - 2560 → 1 ≤ n → 1 ≤ size → n * size ≤ room → 2560 + n * size ≤ bytes
+after-head bytes room size n is some large fits =
     let one : 1 * size ≤ n * size = mul-le-mul_right size some in omega (arith, is, fits, one, large)
 
 -- with 64 slots a segment takes no more than with more
@@ -32,7 +32,7 @@ largest-middle frame bytes room n is two below fits most = record {
     few = inl (omega arith);
     many = inl (omega arith);
   };
-  fits = behind-head bytes room (512 + 64 * (32 + frame)) n is (omega arith) (omega arith) fits;
+  fits = after-head bytes room (512 + 64 * (32 + frame)) n is (omega arith) (omega arith) fits;
   largest = λ other preferred within.
       let all = segments-room frame bytes room other is within in
       let long : 64 ≤ other.slots → other.segments ≤ n = λ large. most other.segments preferred.allowed.segments
@@ -56,7 +56,7 @@ largest-few frame bytes room n is some few fits one most =
         few = inr refl;
         many = inl below;
       };
-      fits = behind-head bytes room (512 + n * (32 + frame)) 2 is (omega arith) (omega arith) fits;
+      fits = after-head bytes room (512 + n * (32 + frame)) 2 is (omega arith) (omega arith) fits;
       largest = λ other preferred within.
           let all = segments-room frame bytes room other is within in
           let long : 64 ≤ other.slots → other.segments ≤ 1 = λ large. one other.segments preferred.allowed.segments

@@ -50,7 +50,7 @@ unfolding shape_in
 shape-some width height format rate g is =
     shape-parts (small_number width) (small_number height) (format_named format) (rate_said rate) ∙ ap shape_by is
 
--- what a check that is answered says of its test
+-- what the result of a check says of its test
 pub check-passed : {A E : Type 0} (r : Result A E) (good : Bool) → (IsOk r ↔ IsTrue good)
     → is_err r ≡ false → good ≡ true
 check-passed (Ok x) good says is = says.0 refl

@@ -1,4 +1,4 @@
--- What a file says of cameras.
+-- What the configuration file says of cameras.
 use Rattle.std.specs.Prelude.{◌≡◌, ◌≢◌, ◌≤◌, ℕ, ◌-◌, ◌^◌, false, true, List, [], ◌∷◌, Option, Some, None, option_map, All, AllPairs, IsTrue, codes, string_bytes, vec_len}
 use Rattle.toml.specs.Data.{Data, array, table, Items, no_items, item, Members, get_member}
 use Rattle.toml.specs.Parse.{parse_document}
@@ -9,7 +9,7 @@ use Rattle.loop_station_words.specs.declared.config.Source.TheVariants.{Path, Pa
 use Rattle.loop_station_words.specs.Fields.{memory_of, number_or, path_of, pattern_of, room_of, text_of, truth_of}
 use Rattle.loop_station_words.specs.Names.{is_name}
 
--- so many buffers a camera may have
+-- how many buffers a camera may have
 abbrev pub HasBuffers : ℕ → Type 0
 HasBuffers count = (4 ≤ count) × (count ≤ 32)
 
@@ -37,7 +37,7 @@ SaysSource keys (Path path) =
     (text_of (get_member (codes "source") keys) ≡ Some (string_bytes path))
     × (string_bytes path ≢ codes "pattern") × (get_member (codes "pattern") keys ≡ None)
 
--- a camera is what its keys say
+-- a camera is as its keys say
 pub record SaysCamera (keys : Members) (camera : CameraConfig) : Type 0 where
   pub name : text_of (get_member (codes "name") keys) ≡ Some (string_bytes camera.name)
   pub source : SaysSource keys camera.source
@@ -50,23 +50,23 @@ pub record SaysCamera (keys : Members) (camera : CameraConfig) : Type 0 where
   pub save_to : path_of (get_member (codes "save_to") keys) ≡ Some (option_map string_bytes camera.save_to)
   pub release : truth_of false (get_member (codes "release") keys) ≡ Some camera.release
 
--- a table says a camera
+-- a table describes a camera
 abbrev pub SaysOne : Data → CameraConfig → Type 0
 SaysOne (table keys) camera = SaysCamera keys camera
 SaysOne _ camera = ⊥
 
--- each table says the camera at its place, and there is no other camera
+-- each table describes the camera at its place, and there is no other camera
 abbrev pub SayCameras : Items → List CameraConfig → Type 0
 SayCameras no_items [] = Unit {0}
 SayCameras (item one more) (camera ∷ cameras) = SaysOne one camera × SayCameras more cameras
 SayCameras _ _ = ⊥
 
--- an array of tables says the cameras
+-- an array of tables describes the cameras
 abbrev pub SaysCameras : Option Data → List CameraConfig → Type 0
 SaysCameras (Some (array tables)) cameras = SayCameras tables cameras
 SaysCameras _ cameras = ⊥
 
--- the configuration is what the keys of the file say
+-- the configuration is as the keys of the file say
 pub record SaysConfig (keys : Members) (config : Config) : Type 0 where
   pub orders : path_of (get_member (codes "orders") keys) ≡ Some (option_map string_bytes config.orders)
   pub answers : path_of (get_member (codes "answers") keys) ≡ Some (option_map string_bytes config.answers)
@@ -74,6 +74,6 @@ pub record SaysConfig (keys : Members) (config : Config) : Type 0 where
   pub events : truth_of true (get_member (codes "events") keys) ≡ Some config.events
   pub cameras : SaysCameras (get_member (codes "camera") keys) config.cameras.items
 
--- the configuration is what the text says, read as TOML
+-- the configuration is as the text says, read as TOML
 abbrev pub SaysText : List ℕ → Config → Type 0
 SaysText text config = (keys : Members) × (parse_document text ≡ Some keys) × SaysConfig keys config

@@ -1,12 +1,12 @@
--- How a store's segments and slots are chosen.
+-- How the segments and slots of a store are chosen.
 use Rattle.std.specs.Prelude.{◌≡◌, ◌≤◌, ◌⊎◌, ℕ, ◌+◌, ◌-◌, ◌*◌}
 use Rattle.loop_station_words.specs.declared.ring.RingSize.{RingSize}
 
--- how many of the newest frames a ring always holds, as nothing is locked: all but one segment, and one frame
+-- how many of the newest frames a ring always holds while nothing is locked: all segments but one, and one frame
 abbrev pub held : RingSize → ℕ
 held ring = (ring.segments - 1) * ring.slots + 1
 
--- the bytes of its store, for frames of so many bytes
+-- the size of its store in bytes, for frames of so many bytes
 abbrev pub file_size : ℕ → RingSize → ℕ
 file_size frame ring = 2560 + ring.segments * (512 + ring.slots * (32 + frame))
 
@@ -17,13 +17,13 @@ pub record IsRing (ring : RingSize) : Type 0 where
   pub one : 1 ≤ ring.slots
   pub slots : ring.slots ≤ 256
 
--- it is one that is chosen: fewer than 64 slots only beside two segments, more of them only beside 64
+-- a ring that may be chosen: it has fewer than 64 slots only with two segments, and more only with 64 segments
 pub record IsPreferred (ring : RingSize) : Type 0 where
   pub allowed : IsRing ring
   pub few : (64 ≤ ring.slots) ⊎ (ring.segments ≡ 2)
   pub many : (ring.slots ≤ 64) ⊎ (ring.segments ≡ 64)
 
--- it holds so many frames, and no other that is chosen, of 64 slots or more, does with fewer segments or slots
+-- it holds so many frames, and no other that may be chosen, of 64 slots or more, does so with fewer segments or slots
 pub record IsLeastFor (frames : ℕ) (ring : RingSize) : Type 0 where
   pub preferred : IsPreferred ring
   pub enough : frames ≤ held ring
@@ -31,7 +31,7 @@ pub record IsLeastFor (frames : ℕ) (ring : RingSize) : Type 0 where
   pub least : (other : RingSize) → IsPreferred other → 64 ≤ other.slots → frames ≤ held other
       → (ring.segments ≤ other.segments) × (ring.slots ≤ other.slots)
 
--- its store has at most so many bytes, and so has no other that is chosen with more segments or slots
+-- its store has at most so many bytes, and no other ring that may be chosen and fits has more segments or slots
 pub record IsLargestWithin (frame bytes : ℕ) (ring : RingSize) : Type 0 where
   pub preferred : IsPreferred ring
   pub fits : file_size frame ring ≤ bytes

@@ -21,11 +21,11 @@ shape_geometry shape ring = record {
   slots = ring.slots;
 }
 
--- each ring is good for such frames
+-- a store may have such frames with each ring
 abbrev pub IsShape : FrameShape → Type 0
 IsShape shape = (ring : RingSize) → IsRing ring → IsTrue (is_good (shape_geometry shape ring))
 
--- a shape, where a store may have such frames; each store may, if the smallest may
+-- a shape, where a store may have such frames; each store may, if the smallest one may
 abbrev pub allowed : FrameShape → Option FrameShape
 allowed shape =
     if is_good (shape_geometry shape (record { segments = 2; slots = 1 })) then Some shape else None
@@ -51,7 +51,7 @@ abbrev pub both_cut : Option (List ℕ × List ℕ) → Option (List ℕ × List
 both_cut (Some size) (Some rest) = shape_in size.0 size.1 rest.0 rest.1
 both_cut _ _ = None
 
--- `WxH FORMAT N:D`, cut behind the size
+-- `WxH FORMAT N:D`, cut after the size
 abbrev pub size_cut : Option (List ℕ × List ℕ) → Option FrameShape
 size_cut (Some parts) = both_cut (cut 120 parts.0) (cut 32 parts.1)
 size_cut None = None

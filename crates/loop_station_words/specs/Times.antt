@@ -1,14 +1,14 @@
--- What the text of a time says.
+-- What the text of a time means.
 use Rattle.std.specs.Prelude.{◌<◌, ℕ, ◌+◌, ◌-◌, ◌*◌, ◌^◌, ◌==◌, ◌&&◌, nat_le, nat_lt, List, length, Option, Some, None, option_map, IfSome, if◌then◌else◌}
 use Rattle.loop_script.specs.Script.{small_number}
 use Rattle.loop_station_words.specs.Cuts.{cut}
 use Rattle.loop_station_words.specs.Calendar.{days_to_month, days_to_year, month_length}
 
--- the number that so many digits write
+-- the number that exactly so many digits write
 unfoldable pub sized : ℕ → List ℕ → Option ℕ
 sized count word = if length word == count then small_number word else None
 
--- the number of a day that is written so, from the first day of 1970 on
+-- the number of such a day, counted from the first day of 1970
 abbrev pub day_of : Option ℕ → Option ℕ → Option ℕ → Option ℕ
 day_of (Some year) (Some month) (Some day) =
     if nat_le 1970 year && nat_le year 9999 && nat_le 1 month && nat_le month 12 && nat_le 1 day
@@ -16,7 +16,7 @@ day_of (Some year) (Some month) (Some day) =
     then Some (days_to_year (year - 1970) + days_to_month year (month - 1) + (day - 1)) else None
 day_of _ _ _ = None
 
--- `YYYY-MM-DD`, cut behind the year
+-- `YYYY-MM-DD`, cut after the year
 abbrev pub after_year : List ℕ → Option (List ℕ × List ℕ) → Option ℕ
 after_year year (Some rest) = day_of (sized 4 year) (sized 2 rest.0) (sized 2 rest.1)
 after_year year None = None
@@ -29,7 +29,7 @@ year_cut None = None
 unfoldable pub day_said : List ℕ → Option ℕ
 day_said date = year_cut (cut 45 date)
 
--- so many microseconds, as 1 to 6 decimals of a second
+-- the microseconds that 1 to 6 decimals of a second write
 unfoldable pub decimals_said : List ℕ → Option ℕ
 decimals_said word =
     if nat_le (length word) 6 then option_map (λ n. n * 10 ^ (6 - length word)) (small_number word) else None
@@ -74,22 +74,22 @@ abbrev pub clock_cut : Option (List ℕ × List ℕ) → Option ℕ
 clock_cut (Some clock) = minutes_cut clock.0 (cut 58 clock.1)
 clock_cut None = None
 
--- the microseconds of a day's time, `HH:MM:SS` or with decimals
+-- the microseconds of a time of day, `HH:MM:SS` or with decimals
 unfoldable pub clock_said : List ℕ → Option ℕ
 clock_said text = clock_cut (cut 58 text)
 
--- the time of a day's time where clocks are so much before UTC
+-- the time of a day and a time of day where clocks are so much ahead of UTC
 abbrev pub east : Option ℕ → Option ℕ → Option ℕ → Option ℕ
 east (Some day) (Some clock) (Some offset) =
     if nat_le offset (day * 86400000000 + clock) then Some (day * 86400000000 + clock - offset) else None
 east _ _ _ = None
 
--- the time of a day's time where clocks are so much after UTC
+-- the time of a day and a time of day where clocks are so much behind UTC
 abbrev pub west : Option ℕ → Option ℕ → Option ℕ → Option ℕ
 west (Some day) (Some clock) (Some offset) = Some (day * 86400000000 + clock + offset)
 west _ _ _ = None
 
--- a day's time in UTC, with nothing after the `Z`
+-- a time of day in UTC, with nothing after the `Z`
 abbrev pub utc : Option ℕ → List ℕ × List ℕ → Option ℕ
 utc day clock = if length clock.1 == 0 then east day (clock_said clock.0) (Some 0) else None
 
@@ -105,7 +105,7 @@ abbrev pub z_cut : Option ℕ → List ℕ → Option (List ℕ × List ℕ) →
 z_cut day text (Some clock) = utc day clock
 z_cut day text None = plus_cut day text (cut 43 text)
 
--- a day, and what stands after the `T`: a day's time, and `Z`, `+HH:MM` or `-HH:MM`
+-- the time of a day and of the text after the `T`: a time of day, and `Z`, `+HH:MM` or `-HH:MM`
 unfoldable pub zoned : Option ℕ → List ℕ → Option ℕ
 zoned day text = z_cut day text (cut 90 text)
 

@@ -1,6 +1,6 @@
 // The lines that are printed.
 
-use crate::calendar::moment_of;
+use crate::calendar::civil_time_of;
 use loop_record::Geometry;
 use loop_script::{Listing, print_line, print_parts};
 use loop_store::{Clip, StoreFault};
@@ -9,7 +9,7 @@ use std::fmt::Display;
 use std::io::Write;
 use std::{io, str};
 
-// The most bytes of a line that is told as a bad order.
+// How many bytes of a line that is no order are printed at most.
 const MOST_OF_LINE: usize = 200;
 
 // The orders, as `help` lists them.
@@ -26,7 +26,7 @@ const ORDERS: [&str; 10] = [
     "@LABEL ORDER",
 ];
 
-/// How a camera stands.
+/// The status of a camera.
 #[derive(Clone, Copy, Debug, PartialEq, Eq)]
 pub struct CameraStatus<'a> {
     /// How many frames were stored since its store was made.
@@ -35,17 +35,17 @@ pub struct CameraStatus<'a> {
     pub given_up: u64,
     /// How many wait at the desk.
     pub waiting: u64,
-    /// How long the frames last that came and aren't stored, in microseconds.
+    /// The duration of the frames that came and aren't stored, in microseconds.
     pub behind: u64,
     /// How many blocks may still be locked.
     pub room: u64,
     /// How often its store was opened again, or couldn't be.
     pub faults: u64,
-    /// How its source is.
+    /// The state of its source, in words.
     pub source: &'a str,
 }
 
-/// What stands before each line: the time of day, in UTC with milliseconds, and a label, if there are any.
+/// What each line begins with: the time of day, in UTC with milliseconds, and a label, if there are any.
 pub fn print_head<W: Write>(out: &mut W, time: Option<u64>, label: Option<&str>) -> io::Result<()> {
     if let Some(micros) = time {
         print_time(out, micros)?;
@@ -59,7 +59,7 @@ pub fn print_head<W: Write>(out: &mut W, time: Option<u64>, label: Option<&str>)
 
 // A time in microseconds since 1970, as `2026-11-22T15:38:00.123Z`.
 fn print_time<W: Write>(out: &mut W, micros: u64) -> io::Result<()> {
-    let at = moment_of(micros);
+    let at = civil_time_of(micros);
     let (year, month, day) = (at.year, at.month, at.day);
     let (hour, minute, second) = (at.hour, at.minute, at.second);
     let milli = at.micro / 1_000;
@@ -69,8 +69,8 @@ fn print_time<W: Write>(out: &mut W, micros: u64) -> io::Result<()> {
     )
 }
 
-/// The name of the file that a clip is written to by itself, `FOLDER/NAME_2026-11-22T15-38-00Z_ID.y4m`, by the time of
-/// its first frame; `ID-2` and so on in place of `ID` for a further clip of that name.
+/// The path of the file that a clip is saved to by itself, `FOLDER/NAME_2026-11-22T15-38-00Z_ID.y4m`. The time is that
+/// of its first frame. A further clip of that name has `ID-2` and so on in place of `ID`.
 pub fn print_clip_path<W: Write>(
     out: &mut W,
     folder: &str,
@@ -79,7 +79,7 @@ pub fn print_clip_path<W: Write>(
     id: u32,
     place: u32,
 ) -> io::Result<()> {
-    let at = moment_of(micros);
+    let at = civil_time_of(micros);
     let (year, month, day) = (at.year, at.month, at.day);
     let (hour, minute, second) = (at.hour, at.minute, at.second);
     write!(
@@ -92,13 +92,13 @@ pub fn print_clip_path<W: Write>(
     write!(out, ".y4m")
 }
 
-// Seconds with one decimal, of microseconds.
+// Microseconds, as seconds with one decimal.
 fn print_seconds<W: Write>(out: &mut W, micros: u64) -> io::Result<()> {
     let tenths = micros / 100_000;
     write!(out, "{}.{}", tenths / 10, tenths % 10)
 }
 
-/// `kept NAME ID A..B`, with its tag behind it where that isn't 0; `kept NAME none` where there was nothing to keep.
+/// `kept NAME ID A..B`, followed by its tag where that isn't 0; `kept NAME none` where there was nothing to keep.
 pub fn print_kept<W: Write>(out: &mut W, camera: &str, clip: Option<Clip>) -> io::Result<()> {
     match clip {
         None => writeln!(out, "kept {camera} none"),
@@ -116,8 +116,8 @@ pub fn print_kept<W: Write>(out: &mut W, camera: &str, clip: Option<Clip>) -> io
     }
 }
 
-/// `refused NAME NO FAULT`: a refusal's number and name; behind `Damaged` the number of the kind, and behind
-/// `ClipNotHeld` that of the frame.
+/// `refused NAME NO FAULT`: a refusal's number and name; after `Damaged` the number of the kind of damage, and after
+/// `ClipNotHeld` the number of the frame.
 pub fn print_refused<W: Write>(out: &mut W, camera: &str, fault: StoreFault) -> io::Result<()> {
     let number = fault.number();
     let name = fault.name();
@@ -136,7 +136,7 @@ pub fn print_released<W: Write>(out: &mut W, camera: &str, id: u32) -> io::Resul
     writeln!(out, "released {camera} {id}")
 }
 
-/// `saved NAME ID OUT K`: so many frames of a clip.
+/// `saved NAME ID OUT K`: a clip was saved, and has K frames.
 pub fn print_saved<W: Write>(
     out: &mut W,
     camera: &str,
@@ -200,8 +200,8 @@ pub fn print_absent<W: Write, Y: Display>(out: &mut W, camera: &str, why: &Y) ->
     writeln!(out, "absent {camera} {why}")
 }
 
-/// `not a store NAME PATH: ..`: what stands where a camera's store is to be isn't one, and what to do. The path is
-/// given in two parts.
+/// `not a store NAME PATH: ..`: the file where a camera's store belongs isn't a store, and what to do about it. The
+/// path is given in two parts.
 pub fn print_not_a_store<W: Write>(
     out: &mut W,
     camera: &str,
@@ -256,7 +256,7 @@ pub fn print_done<W: Write>(out: &mut W) -> io::Result<()> {
     writeln!(out, "done")
 }
 
-/// `stopped`: the end of all.
+/// `stopped`: the program ends.
 pub fn print_stopped<W: Write>(out: &mut W) -> io::Result<()> {
     writeln!(out, "stopped")
 }
@@ -278,8 +278,8 @@ pub fn print_source_missing<W: Write>(out: &mut W, camera: &str) -> io::Result<(
     writeln!(out, "source {camera} missing")
 }
 
-/// `store NAME open`; `store NAME open holds 30.8 s of 300.0 s` where it holds less than its file asks, both in
-/// microseconds.
+/// `store NAME open`; `store NAME open holds 30.8 s of 300.0 s` where it holds less than the configuration asks for.
+/// `less` has both durations, in microseconds.
 pub fn print_store_open<W: Write>(
     out: &mut W,
     camera: &str,
@@ -305,7 +305,7 @@ pub fn print_store_absent<W: Write, Y: Display>(
     writeln!(out, "store {camera} absent {why}")
 }
 
-/// `given up NAME K since T`: so many frames were lost since a time, in microseconds since 1970.
+/// `given up NAME K since T`: K frames were lost since a time, which is given in microseconds since 1970.
 pub fn print_given_up<W: Write>(
     out: &mut W,
     camera: &str,
@@ -317,7 +317,7 @@ pub fn print_given_up<W: Write>(
     writeln!(out)
 }
 
-/// `all locked NAME`: frames wait, since every block is locked.
+/// `all locked NAME`: frames wait, because every block is locked.
 pub fn print_all_locked<W: Write>(out: &mut W, camera: &str) -> io::Result<()> {
     writeln!(out, "all locked {camera}")
 }
@@ -327,7 +327,7 @@ pub fn print_room_again<W: Write>(out: &mut W, camera: &str) -> io::Result<()> {
     writeln!(out, "room again {camera}")
 }
 
-/// `behind NAME S`: frames of so many seconds wait, in microseconds.
+/// `behind NAME S`: frames that last S seconds wait. `micros` is their duration in microseconds.
 pub fn print_behind<W: Write>(out: &mut W, camera: &str, micros: u64) -> io::Result<()> {
     write!(out, "behind {camera} ")?;
     print_seconds(out, micros)?;

@@ -1,16 +1,16 @@
-// Moments and days of the calendar.
-ghost use Rattle.std.specs.Prelude.{◌≡◌, ◌+◌, ◌-◌, ◌*◌, ◌^◌, ◌<◌, ◌≤◌, ◌/◌, IfSome};
-ghost use Rattle.loop_station_words.specs.Calendar.{IsMoment, IsMomentOf, days_to_month, days_to_year, is_leap, month_length, year_length};
+// Days of the calendar, and civil times: a day with its time of day.
+ghost use Rattle.std.specs.Prelude.{◌≡◌, ◌+◌, ◌-◌, ◌*◌, ◌^◌, ◌<◌, ◌≤◌, ◌/◌};
+ghost use Rattle.loop_station_words.specs.Calendar.{IsCivilTimeOf, days_to_month, days_to_year, is_leap, month_length, year_length};
 
-// The year from which time is counted.
+// The year that time is counted from.
 const FIRST_YEAR: u64 = 1970;
 
 // The months of a year.
 const MONTHS: u64 = 12;
 
-/// A moment in UTC.
+/// A date and time of day in UTC.
 #[derive(Clone, Copy, Debug, PartialEq, Eq)]
-pub struct Moment {
+pub struct CivilTime {
     /// The year, from 1970.
     pub year: u64,
     /// The month, from 1.
@@ -27,16 +27,16 @@ pub struct Moment {
     pub micro: u64,
 }
 
-/// The moment of a time in microseconds since 1970.
-pub fn moment_of(micros: u64) -> Moment
-    ensures { IsMomentOf micros result }
+/// The date and time of day of a time in microseconds since 1970.
+pub fn civil_time_of(micros: u64) -> CivilTime
+    ensures { IsCivilTimeOf micros result }
 {
     let seconds = micros / 1_000_000;
     let minutes = seconds / 60;
     let hours = minutes / 60;
     let (year, day) = year_of(hours / 24);
     let (month, day) = month_of(year, day);
-    Moment {
+    CivilTime {
         year,
         month: month + 1,
         day: day + 1,
@@ -97,7 +97,7 @@ fn year_length(year: u64) -> u64
     if is_leap(year) { 366 } else { 365 }
 }
 
-/// The days of a month, which is 0 for January.
+/// The days of a month; January is 0.
 pub(crate) fn month_length(year: u64, month: u64) -> u64
     ensures { result ≡ month_length year month }
 {
@@ -108,7 +108,7 @@ pub(crate) fn month_length(year: u64, month: u64) -> u64
     }
 }
 
-/// The days of the years from 1970 on, before a year.
+/// The days from 1970 up to the beginning of a year.
 pub(crate) fn days_before(year: u64) -> u64
     requires since { 1970 ≤ year }
     requires until { year < 10000 }
@@ -122,7 +122,7 @@ pub(crate) fn days_before(year: u64) -> u64
     days
 }
 
-/// The days of the months before one.
+/// The days of a year before a month.
 pub(crate) fn days_before_month(year: u64, month: u64) -> u64
     requires { month < 12 }
     ensures days { result ≡ days_to_month year month }

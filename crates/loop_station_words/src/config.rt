@@ -1,9 +1,8 @@
-// The file that says which cameras there are. docs/station.md says why it is so.
+// The configuration file, which says which cameras there are. docs/station.md says why it is so.
 ghost use Rattle.std.specs.Prelude.{◌≡◌, ◌≤◌, ◌∷◌, ◌++◌, [], IfOk, IsTrue, OnOk, codes, length, option_map, string_bytes, vec_len};
 ghost use Rattle.std.specs.List.{list_any};
 ghost use Rattle.std.specs.Str.{bytes_eq};
 ghost use Rattle.toml.specs.Data.{array, get_member};
-ghost use Rattle.toml.specs.Parse.{parse_document};
 ghost use Rattle.toml.specs.View.{items_view, table_view, view};
 ghost use Rattle.loop_station_words.specs.Config.{AreCameras, HasBuffers, IsConfig, SayCameras, SaysConfig, SaysOne, SaysSource, SaysText};
 ghost use Rattle.loop_station_words.specs.Names.{is_name};
@@ -27,13 +26,13 @@ const KEYS: [&str; 5] = ["orders", "answers", "times", "events", "camera"];
 /// What the file says.
 #[derive(Drop)]
 pub struct Config {
-    /// The pipe or file from which orders come; else they come from the program's own input.
+    /// The pipe or file that orders are read from; without one, they are read from the program's own input.
     pub orders: Option<String>,
-    /// The file or pipe to which all that is printed goes too.
+    /// The file or pipe that also gets everything that is printed.
     pub answers: Option<String>,
     /// Each line begins with the date and time of day.
     pub times: bool,
-    /// What happens by itself is printed.
+    /// Events are printed: what happens without an order.
     pub events: bool,
     /// The cameras, in their order.
     pub cameras: Vec<CameraConfig>,
@@ -48,7 +47,7 @@ pub struct CameraConfig {
     pub source: Source,
     /// The file of its store.
     pub store: String,
-    /// How large that is, where it is made anew.
+    /// How large the store is where it is created.
     pub room: StoreSize,
     /// How many seconds `keep` locks.
     pub seconds: u32,
@@ -56,11 +55,11 @@ pub struct CameraConfig {
     pub tag: u64,
     /// How many buffers its frames come through, 4 to 32.
     pub buffers: u32,
-    /// What its source's frames may take while the disk is slow, where that is said.
-    pub memory: Option<Memory>,
-    /// The folder that each of its keeps is written to by itself.
+    /// How much memory its source's frames may take while the disk is slow, if that is said.
+    pub memory: Option<MemoryLimit>,
+    /// The folder that each of its kept clips is saved to by itself.
     pub save_to: Option<String>,
-    /// A clip that was written there is released.
+    /// A clip that was saved there is released.
     pub release: bool,
 }
 
@@ -76,22 +75,22 @@ pub enum Source {
 /// How large a store is.
 #[derive(Clone, Copy, Debug, PartialEq, Eq)]
 pub enum StoreSize {
-    /// For so many seconds.
+    /// Enough for this many seconds.
     Seconds(u64),
-    /// Of at most so many bytes.
+    /// At most this many bytes.
     Bytes(u64),
 }
 
 /// How much memory frames may take.
 #[derive(Clone, Copy, Debug, PartialEq, Eq)]
-pub enum Memory {
-    /// That of so many seconds, at the rate of the source.
+pub enum MemoryLimit {
+    /// Enough for this many seconds, at the rate of the source.
     Seconds(u64),
-    /// So many bytes.
+    /// This many bytes.
     Bytes(u64),
 }
 
-/// What a file's text says, in TOML. The first fault is told, and nothing is left of the rest.
+/// Reads the text of a configuration file, which is TOML. Returns the first fault alone where there is one.
 pub fn read_config(alloc: Global, text: &str) -> Result<Config, ConfigFault>
     ensures good { IfOk result IsConfig }
     ensures says { IfOk result (SaysText text.now) }
@@ -105,7 +104,7 @@ pub fn read_config(alloc: Global, text: &str) -> Result<Config, ConfigFault>
     }
 }
 
-// The line, from 1, of the byte at this place.
+// The number, from 1, of the line that has the byte at this offset.
 fn line_at(text: &str, at: usize) -> u64 {
     let mut line: u64 = 1;
     for (i, byte) in text.bytes().enumerate() {
@@ -116,7 +115,7 @@ fn line_at(text: &str, at: usize) -> u64 {
     line
 }
 
-// What a table says.
+// The configuration that a table says.
 fn config_of(alloc: Global, table: &Table) -> Result<Config, ConfigFault>
     ensures good { IfOk result IsConfig }
     ensures says { IfOk result (SaysConfig (table_view table.now)) }
@@ -161,7 +160,7 @@ fn camera_tables(table: &Table) -> Result<&[Value], ConfigFault>
     Ok(tables)
 }
 
-// A text of its own for what a table says.
+// A copy of a text, if there is one.
 fn copied(alloc: Global, text: Option<&str>) -> Result<Option<String>, AllocError>
     ensures { IfOk result (λ copy. option_map string_bytes copy ≡ option_map (λ t. t.now) text.entry) }
 {
@@ -188,7 +187,7 @@ fn cameras_of(alloc: Global, tables: &[Value]) -> Result<Vec<CameraConfig>, Conf
     Ok(cameras)
 }
 
-// Puts a camera after the others, whose names and stores are to be other ones.
+// Adds a camera after the others, none of which may have its name or its store.
 fn add_camera(
     cameras: &mut Vec<CameraConfig>,
     place: usize,
@@ -210,7 +209,7 @@ fn add_camera(
     Ok(())
 }
 
-// Whether a camera is called so.
+// Whether a camera has this name.
 fn has_name(cameras: &[CameraConfig], name: &str) -> bool
     ensures { result ≡ list_any (λ c. bytes_eq (string_bytes c.name) name.now) cameras.now }
 {

@@ -1,4 +1,4 @@
-// What is wrong with a file that says which cameras there are.
+// What is wrong with a configuration file.
 
 use std::alloc::{AllocError, AllocFailed};
 use thiserror::Error;
@@ -9,16 +9,16 @@ pub enum ConfigFault {
     /// Memory was refused.
     #[error("no memory")]
     NoMemory,
-    /// The text is no TOML, on the line of this number, from 1.
+    /// The text isn't TOML, on the line of this number, from 1.
     #[error("line {0} can't be read as TOML")]
     BadToml(u64),
-    /// A key beside `orders`, `answers`, `times`, `events` and `camera`.
+    /// A key other than `orders`, `answers`, `times`, `events` and `camera`.
     #[error("there is a key other than orders, answers, times, events and [[camera]]")]
     UnknownKey,
-    /// `orders` is no text, or an empty one.
+    /// `orders` isn't a text, or is empty.
     #[error("orders is a path")]
     BadOrders,
-    /// `answers` is no text, or an empty one.
+    /// `answers` isn't a text, or is empty.
     #[error("answers is a path")]
     BadAnswers,
     /// `orders` and `answers` are the same path.
@@ -30,10 +30,10 @@ pub enum ConfigFault {
     /// `events` is neither true nor false.
     #[error("events is true or false")]
     BadEvents,
-    /// `camera` is no array of tables.
+    /// `camera` isn't an array of tables.
     #[error("cameras are written below [[camera]]")]
     BadCameras,
-    /// No camera.
+    /// There is no camera.
     #[error("there is no camera")]
     NoCameras,
     /// More than 16 cameras.
@@ -50,7 +50,7 @@ pub enum CameraFault {
     /// Memory was refused.
     #[error("no memory")]
     NoMemory,
-    /// It is no table.
+    /// It isn't a table.
     #[error("it is no table")]
     NoTable,
     /// A key that cameras don't have.
@@ -59,43 +59,43 @@ pub enum CameraFault {
     /// No name, or one that isn't 1 to 32 letters, digits, `-` and `_`, or all digits.
     #[error("a name is 1 to 32 letters, digits, - and _, and not digits alone")]
     BadName,
-    /// A camera above it has this name.
+    /// An earlier camera has this name.
     #[error("another camera has this name")]
     SameName,
-    /// `source` is no text, or an empty one, or isn't there.
+    /// `source` isn't a text, is empty, or is missing.
     #[error("source is a path or \"pattern\"")]
     BadSource,
-    /// `store` is no text, or an empty one, or isn't there.
+    /// `store` isn't a text, is empty, or is missing.
     #[error("store is a path")]
     BadStore,
-    /// A camera above it has this store.
+    /// An earlier camera has this store.
     #[error("another camera has this store")]
     SameStore,
-    /// Neither `minutes` nor `bytes`.
+    /// Neither `minutes` nor `bytes` is there.
     #[error("minutes or bytes has to be there")]
     NoRoom,
-    /// Both `minutes` and `bytes`.
+    /// Both `minutes` and `bytes` are there.
     #[error("minutes and bytes can't both be there")]
     TwoRooms,
-    /// `minutes` is no number above 0.
+    /// `minutes` isn't a number above 0.
     #[error("minutes is a number above 0")]
     BadMinutes,
-    /// `bytes` is no whole number above 0.
+    /// `bytes` isn't a whole number above 0.
     #[error("bytes is a whole number above 0")]
     BadBytes,
-    /// `keep` is no whole number of 32 bits.
+    /// `keep` isn't a whole number of 32 bits.
     #[error("keep is a whole number of seconds")]
     BadSeconds,
-    /// `tag` is no whole number, or a negative one.
+    /// `tag` isn't a whole number, or is negative.
     #[error("tag is a whole number, not negative")]
     BadTag,
-    /// `buffers` is no whole number from 4 to 32.
+    /// `buffers` isn't a whole number from 4 to 32.
     #[error("buffers is a whole number from 4 to 32")]
     BadBuffers,
-    /// `memory` is no whole number of bytes above 0, and no text of seconds.
+    /// `memory` is neither a whole number of bytes above 0 nor a text of seconds.
     #[error("memory is a number of bytes above 0, or a text of seconds, as \"4 s\"")]
     BadMemory,
-    /// `save_to` is no text, or an empty one.
+    /// `save_to` isn't a text, or is empty.
     #[error("save_to is the path of a folder")]
     BadSaveTo,
     /// `release` is neither true nor false.
@@ -107,7 +107,7 @@ pub enum CameraFault {
     /// `pattern` can't be read, or no store may have such frames.
     #[error("pattern is a size, a format and a rate, as 640x480 YM12 25:1")]
     BadPattern,
-    /// `pattern` stands beside another source.
+    /// `pattern` is there, and the source is another one.
     #[error("pattern stands only beside the source \"pattern\"")]
     NoPattern,
 }

@@ -4,9 +4,9 @@ ghost use Rattle.toml.specs.Data.{get_member, integer};
 ghost use Rattle.toml.specs.View.{table_view, view};
 ghost use Rattle.loop_station_words.specs.Config.{HasBuffers};
 ghost use Rattle.loop_station_words.specs.Cuts.{cut};
-ghost use Rattle.loop_station_words.specs.Fields.{SaysShape, bytes_of, memory_of, minutes_of, number_or, part_seconds, path_of, positive, room_of, seconds_cut, shape_text, text_of, truth_of};
+ghost use Rattle.loop_station_words.specs.Fields.{SaysShape, bytes_of, duration_cut, memory_of, number_or, part_seconds, path_of, positive, room_of, seconds_of_minutes, shape_text, text_of, truth_of};
 
-use crate::config::{Memory, StoreSize};
+use crate::config::{MemoryLimit, StoreSize};
 use crate::cut::cut;
 use crate::fault::CameraFault;
 use crate::shape::{FrameShape, read_shape};
@@ -32,13 +32,13 @@ const MAX_BUFFERS: u64 = 32;
 // The seconds of a minute.
 const MINUTE: f64 = 60.0;
 
-// Above the most minutes that are no whole number.
+// Minutes that aren't a whole number have to be below this.
 const MOST_MINUTES: f64 = 1e15;
 
 // The pattern's shape where it is left out.
 const SHAPE: &str = "640x480 YM12 25:1";
 
-/// Whether each key is a camera's.
+/// Refuses a table with a key that cameras don't have.
 pub(crate) fn check_keys(table: &Table) -> Result<(), CameraFault> {
     for key in table.keys() {
         if !KEYS.contains(&key.as_str()) {
@@ -48,7 +48,7 @@ pub(crate) fn check_keys(table: &Table) -> Result<(), CameraFault> {
     Ok(())
 }
 
-/// What stands at a key.
+/// The value at a key, if there is one.
 pub(crate) fn value_at<'a>(table: &'a Table, key: &str) -> Option<&'a Value>
     ensures { option_map (λ v. view v.now) result ≡ get_member key.now (table_view table.now) }
 {
@@ -65,7 +65,7 @@ pub(crate) fn text_at<'a>(table: &'a Table, key: &str) -> Option<&'a str>
     }
 }
 
-/// The number at a key, or this one where there is none; `None` where it is no whole number from 0 to the most.
+/// The number at a key, or `other` where there is no value; `None` where it isn't a whole number from 0 to `most`.
 pub(crate) fn number_at(table: &Table, key: &str, other: u64, most: u64) -> Option<u64>
     requires { other ≤ most }
     ensures number { result ≡ number_or other most (get_member key.now (table_view table.now)) }
@@ -81,7 +81,7 @@ pub(crate) fn number_at(table: &Table, key: &str, other: u64, most: u64) -> Opti
     }
 }
 
-/// The number of 32 bits at a key, or this one where there is none; `None` where it is none.
+/// The number at a key, or `other` where there is no value; `None` where it isn't a whole number of 32 bits.
 pub(crate) fn small_at(table: &Table, key: &str, other: u32) -> Option<u32>
     ensures { result ≡ number_or other 4294967295 (get_member key.now (table_view table.now)) }
 {
@@ -89,7 +89,7 @@ pub(crate) fn small_at(table: &Table, key: &str, other: u32) -> Option<u32>
     Some(number as u32)
 }
 
-/// How many buffers a camera has; `None` where that is no whole number from 4 to 32.
+/// How many buffers a camera has; `None` where that isn't a whole number from 4 to 32.
 pub(crate) fn buffers_at(table: &Table) -> Option<u32>
     ensures number { IfSome result (λ buffers.
         number_or 8 32 (get_member (codes "buffers") (table_view table.now)) ≡ Some buffers) }
@@ -102,7 +102,7 @@ pub(crate) fn buffers_at(table: &Table) -> Option<u32>
     Some(buffers)
 }
 
-// The text of the pattern's shape; `None` where it is no text.
+// The text of the pattern's shape; `None` where it isn't a text.
 fn shape_text<'a>(table: &'a Table) -> Option<&'a str>
     ensures { option_map (λ t. t.now) result
         ≡ shape_text (get_member (codes "pattern") (table_view table.now)) }
@@ -114,7 +114,7 @@ fn shape_text<'a>(table: &'a Table) -> Option<&'a str>
     }
 }
 
-/// The pattern's shape, where that is the source.
+/// The pattern's shape, where the pattern is the source.
 pub(crate) fn shape_at(table: &Table, source: &str) -> Result<Option<FrameShape>, CameraFault>
     ensures { IfOk result (SaysShape source.now (get_member (codes "pattern") (table_view table.now))) }
 {
@@ -134,7 +134,7 @@ pub(crate) fn shape_at(table: &Table, source: &str) -> Result<Option<FrameShape>
     }
 }
 
-/// How large the store is: by minutes or by bytes, and just one of them.
+/// How large the store is, by minutes or by bytes: exactly one of them has to be there.
 pub(crate) fn room_at(table: &Table) -> Result<StoreSize, CameraFault>
     ensures { IfOk result (λ room. room_of (get_member (codes "minutes") (table_view table.now))
         (get_member (codes "bytes") (table_view table.now)) ≡ Some room) }
@@ -142,7 +142,7 @@ pub(crate) fn room_at(table: &Table) -> Result<StoreSize, CameraFault>
     match (value_at(table, "minutes"), value_at(table, "bytes")) {
         (None, None) => Err(CameraFault::NoRoom),
         (Some(_), Some(_)) => Err(CameraFault::TwoRooms),
-        (Some(minutes), None) => match seconds_of(minutes) {
+        (Some(minutes), None) => match seconds_of_minutes(minutes) {
             Some(seconds) => Ok(StoreSize::Seconds(seconds)),
             None => Err(CameraFault::BadMinutes),
         },
@@ -153,9 +153,9 @@ pub(crate) fn room_at(table: &Table) -> Result<StoreSize, CameraFault>
     }
 }
 
-// The seconds of so many minutes, rounded up; `None` where that is no number above 0.
-fn seconds_of(minutes: &Value) -> Option<u64>
-    ensures { result ≡ minutes_of (view minutes.now) }
+// The seconds in these minutes, rounded up; `None` where they aren't a number above 0.
+fn seconds_of_minutes(minutes: &Value) -> Option<u64>
+    ensures { result ≡ seconds_of_minutes (view minutes.now) }
 {
     match minutes {
         Value::Integer(whole) => match positive(*whole) {
@@ -167,7 +167,7 @@ fn seconds_of(minutes: &Value) -> Option<u64>
     }
 }
 
-// The seconds of minutes that are no whole number, rounded up; `None` where they are not above 0, or too many.
+// The seconds in minutes that aren't a whole number, rounded up; `None` where they aren't above 0, or are too many.
 fn part_seconds(part: f64) -> Option<u64>
     ensures { result ≡ part_seconds part }
 {
@@ -178,7 +178,7 @@ fn part_seconds(part: f64) -> Option<u64>
     }
 }
 
-// So many bytes; `None` where that is no whole number above 0.
+// A number of bytes; `None` where it isn't a whole number above 0.
 fn bytes_of(bytes: &Value) -> Option<u64>
     ensures { result ≡ bytes_of (view bytes.now) }
 {
@@ -188,7 +188,7 @@ fn bytes_of(bytes: &Value) -> Option<u64>
     }
 }
 
-// A number above 0.
+// A number above 0; `None` where it is 0 or negative.
 fn positive(number: i64) -> Option<u64>
     ensures { result ≡ bytes_of (integer number) }
 {
@@ -198,27 +198,28 @@ fn positive(number: i64) -> Option<u64>
     }
 }
 
-/// What its source's frames may take: a number of bytes, or a text as `4 s`; `None` where it is neither, or 0.
-pub(crate) fn memory_at(table: &Table) -> Option<Option<Memory>>
+/// How much memory its source's frames may take: a number of bytes, or a text such as `4 s`; `None` where it is
+/// neither, or 0.
+pub(crate) fn memory_at(table: &Table) -> Option<Option<MemoryLimit>>
     ensures { result ≡ memory_of (get_member (codes "memory") (table_view table.now)) }
 {
     match value_at(table, "memory") {
         None => Some(None),
         Some(Value::Integer(bytes)) => match positive(*bytes) {
-            Some(bytes) => Some(Some(Memory::Bytes(bytes))),
+            Some(bytes) => Some(Some(MemoryLimit::Bytes(bytes))),
             None => None,
         },
         Some(Value::String(text)) => match seconds_in(text.as_str()) {
-            Some(seconds) => Some(Some(Memory::Seconds(seconds))),
+            Some(seconds) => Some(Some(MemoryLimit::Seconds(seconds))),
             None => None,
         },
         Some(_) => None,
     }
 }
 
-// The seconds that a text as `4 s` says; `None` where it says none, or 0.
+// The seconds that a text such as `4 s` says; `None` where it says none, or 0.
 fn seconds_in(text: &str) -> Option<u64>
-    ensures { result ≡ seconds_cut (cut 32 text.now) }
+    ensures { result ≡ duration_cut (cut 32 text.now) }
 {
     match cut(text, ' ') {
         Some((seconds, "s")) => match number(seconds) {
@@ -229,7 +230,7 @@ fn seconds_in(text: &str) -> Option<u64>
     }
 }
 
-/// The path at a key, if there is one; `None` where it is no text, or an empty one.
+/// The path at a key, if there is one; `None` where it isn't a text, or is empty.
 pub(crate) fn path_at<'a>(table: &'a Table, key: &str) -> Option<Option<&'a str>>
     ensures { option_map (λ p. option_map (λ t. t.now) p) result
         ≡ path_of (get_member key.now (table_view table.now)) }
@@ -241,7 +242,7 @@ pub(crate) fn path_at<'a>(table: &'a Table, key: &str) -> Option<Option<&'a str>
     }
 }
 
-/// Whether it is said at a key, or this where nothing is; `None` where it is neither `true` nor `false`.
+/// The truth value at a key, or `other` where there is none; `None` where it is neither `true` nor `false`.
 pub(crate) fn truth_at(table: &Table, key: &str, other: bool) -> Option<bool>
     ensures { result ≡ truth_of other (get_member key.now (table_view table.now)) }
 {

@@ -1,5 +1,5 @@
-//! What lines mean, row by row, and how large a ring's store is. The functions do nothing: their contracts are the rows
-//! and laws.
+//! What some lines and texts mean, row by row, and how large a ring's store is. The functions do nothing: their
+//! contracts are the rows and laws.
 
 ghost use Rattle.std.specs.Prelude.{◌≡◌, [], codes, false, true};
 ghost use Rattle.loop_record.specs.Geometry.{disk_size, frame_bytes};
@@ -13,7 +13,7 @@ use crate::ring::RingSize;
 use crate::shape::FrameShape;
 
 /// Each order has a line.
-#[tactic(auto, unfolding(crate::specs::Cuts::cut, crate::specs::Orders::timed_said, crate::specs::Orders::times_kept, crate::specs::Orders::from_said))]
+#[tactic(auto, unfolding(crate::proofs::OnLiterals::orders_on_literals))]
 pub fn each_order_has_a_line()
     ensures keep { order_said (codes "keep") ≡ Some (Order.Keep None None None) }
     ensures seconds { order_said (codes "keep 60") ≡ Some (Order.Keep None (Some 60) None) }
@@ -29,8 +29,8 @@ pub fn each_order_has_a_line()
     ensures stop { order_said (codes "stop") ≡ Some Order.Stop }
 {}
 
-/// These lines can't be read.
-#[tactic(auto, unfolding(crate::specs::Cuts::cut, crate::specs::Orders::timed_said, crate::specs::Orders::times_kept, crate::specs::Orders::from_said))]
+/// These lines aren't orders.
+#[tactic(auto, unfolding(crate::proofs::OnLiterals::orders_on_literals))]
 pub fn other_lines_have_no_order()
     ensures empty { order_said [] ≡ None }
     ensures word { order_said (codes "keeps") ≡ None }
@@ -43,7 +43,7 @@ pub fn other_lines_have_no_order()
 {}
 
 /// These texts are these times, in microseconds since 1970.
-#[tactic(auto, unfolding(crate::specs::Calendar::days_to_month, crate::specs::Calendar::days_to_year, crate::specs::Calendar::is_leap, crate::specs::Cuts::cut, crate::specs::Times::clock_said, crate::specs::Times::day_said, crate::specs::Times::decimals_said, crate::specs::Times::offset_said, crate::specs::Times::seconds_said, crate::specs::Times::sized, crate::specs::Times::zoned))]
+#[tactic(auto, unfolding(crate::proofs::OnLiterals::times_on_literals))]
 pub fn texts_are_times()
     ensures first { time_said (codes "1970-01-01T00:00:00Z") ≡ Some 0 }
     ensures leap { time_said (codes "2000-02-29T23:59:59.999999Z") ≡ Some 951868799999999 }
@@ -52,7 +52,7 @@ pub fn texts_are_times()
     ensures no_leap { time_said (codes "2100-02-29T00:00:00Z") ≡ None }
 {}
 
-/// The bytes by which a ring is chosen are those of the store's disk.
+/// The size that a ring is chosen by is the size of the store's disk.
 pub fn file_size_is_disk_size(shape: &FrameShape, ring: RingSize)
     ensures { file_size (frame_bytes (shape_geometry shape.now ring)) ring
         ≡ disk_size (shape_geometry shape.now ring) }

@@ -1,16 +1,16 @@
 //! The words of a program that records from several cameras into stores, and takes orders meanwhile.
 //!
-//! - `order` says what a line asks for, `name` what a camera may be called, and `cut` cuts a text at a character;
+//! - `order` reads what a line asks for, `name` says how a camera may be named, and `cut` cuts a text at a character;
 //!   `laws` has lines and their meanings, as rows of a table;
-//! - `time` reads times of day, and `calendar` tells which day and time of day a moment is;
+//! - `time` reads a date and time of day, and `calendar` gives those of a time in microseconds since 1970;
 //! - `ring` chooses how many segments and slots a store has, for so many frames or within so many bytes;
-//! - `config` reads the file that says which cameras there are, `fields` what stands at a key there, `shape` what the
-//!   pattern's frames look like, and `fault` tells what is wrong with that file;
-//! - `answers` prints the lines that the program answers.
+//! - `config` reads the configuration file, which says which cameras there are. `fields` reads the value at a key
+//!   there, `shape` reads what the pattern's frames look like, and `fault` says what is wrong with that file;
+//! - `answers` prints the lines of the program's output.
 //!
-//! What a line asks for, which moment a text means, which ring is chosen, what a file that is read says at each of its
-//! keys, and that its cameras have names and stores of their own is proved (`specs/`); why a file is refused, and what
-//! is printed, is tested.
+//! What a line asks for, which time a text means, which ring is chosen, and what a configuration says at each of its
+//! keys is proved (`specs/`). So is that its cameras have names and stores of their own. Why a file is refused, and
+//! what is printed, is tested.
 //!
 //! docs/station.md says why it is so.
 #![tactic(auto)]
@@ -36,8 +36,8 @@ pub use answers::{
     print_source_missing, print_source_on, print_status, print_stopped, print_store_absent,
     print_store_open, print_too_many_saves,
 };
-pub use calendar::{Moment, moment_of};
-pub use config::{CameraConfig, Config, MAX_CAMERAS, Memory, Source, StoreSize, read_config};
+pub use calendar::{CivilTime, civil_time_of};
+pub use config::{CameraConfig, Config, MAX_CAMERAS, MemoryLimit, Source, StoreSize, read_config};
 pub use fault::{CameraFault, ConfigFault};
 pub use name::{Name, is_name};
 pub use order::{Order, label_of, read_order};

@@ -1,4 +1,4 @@
-// What a camera may be called.
+// How a camera may be named.
 ghost use Rattle.std.specs.Prelude.{◌≡◌};
 ghost use Rattle.std.specs.Char.{is_ascii_digit};
 ghost use Rattle.std.specs.List.{list_all};
@@ -9,7 +9,7 @@ use std::marker::Model;
 /// The most bytes of a camera's name.
 pub const MAX_NAME: usize = 32;
 
-/// A text out of a line: a camera's name, or where something is saved. Contracts see its bytes.
+/// A text that is part of a line: a camera's name, or the path that something is saved to. Contracts see its bytes.
 #[derive(Drop)]
 pub struct Name<'a> {
     text: &'a str,
@@ -24,7 +24,7 @@ impl<'a> Model for Name<'a> {
 }
 
 impl<'a> Name<'a> {
-    /// A text as it stands.
+    /// A text, unchanged.
     pub(crate) fn of(text: &'a str) -> Self
         ensures { result ≡ text.now }
     {
@@ -39,7 +39,7 @@ impl<'a> Name<'a> {
     }
 }
 
-/// Whether a camera may be called so: 1 to 32 letters, digits, `-` and `_`, not all of them digits.
+/// Whether a camera may have this name: 1 to 32 letters, digits, `-` and `_`, not all of them digits.
 pub fn is_name(word: &str) -> bool
     ensures { result ≡ is_name word.now }
 {
@@ -49,7 +49,7 @@ pub fn is_name(word: &str) -> bool
     has_name_bytes(word) && !has_digits(word)
 }
 
-// Whether each byte may stand in a name.
+// Whether each byte may be part of a name.
 fn has_name_bytes(word: &str) -> bool
     ensures { result ≡ list_all is_name_byte word.now }
 {
@@ -63,14 +63,14 @@ fn has_digits(word: &str) -> bool
     word.bytes().all(|byte| byte.is_ascii_digit())
 }
 
-// Whether a byte may stand in a name.
+// Whether a byte may be part of a name.
 fn is_name_byte(byte: u8) -> bool
     ensures { result ≡ is_name_byte byte }
 {
     byte.is_ascii_alphanumeric() || byte == b'-' || byte == b'_'
 }
 
-/// Whether an order may be labelled so: 1 to 32 letters, digits, `-` and `_`.
+/// Whether an order may have this label: 1 to 32 letters, digits, `-` and `_`.
 pub(crate) fn is_label(word: &str) -> bool
     ensures { result ≡ is_label word.now }
 {

@@ -1,7 +1,7 @@
-// The lines that ask for something. docs/station.md says why it is so.
+// Orders: the lines that ask for something. docs/station.md says why it is so.
+ghost use Rattle.std.specs.Prelude.{◌≡◌, ◌∷◌, ℕ, suc};
 ghost use Rattle.loop_station_words.specs.Cuts.{cut};
-ghost use Rattle.std.specs.Prelude.{◌≡◌, ◌∷◌, ℕ, suc, []};
-ghost use Rattle.loop_station_words.specs.Orders.{alone_said, between_of, camera_from, from_said, keep_of, keep_said, label_said, more, first_said, order_said, parts, plain_said, release_of, release_said, save_of, save_said, seconds_of, since_cut, tag_of, timed_said, times_kept, times_of, times_said, to_cut, until_cut};
+ghost use Rattle.loop_station_words.specs.Orders.{alone_said, between_of, from_said, keep_of, keep_said, label_said, more, order_said, parts, plain_said, release_of, release_said, save_of, save_said, seconds_alone, tag_of, timed_said, times_kept, times_of, times_said, to_cut};
 
 use crate::cut::cut;
 use crate::name::{Name, is_label, named};
@@ -12,44 +12,44 @@ use loop_script::small_number;
 /// What a line asks for.
 #[derive(Drop)]
 pub enum Order<'a> {
-    /// `keep [CAMERA] [SECONDS [TAG]]`: what the last seconds hold is locked, of one camera or of all. Where SECONDS or
-    /// TAG is left out, the camera's own.
+    /// `keep [CAMERA] [SECONDS [TAG]]`: the frames of the last seconds are locked, of one camera or of all. Where
+    /// SECONDS or TAG is left out, it is the camera's own.
     Keep {
         camera: Option<Name<'a>>,
         seconds: Option<u32>,
         tag: Option<u64>,
     },
-    /// `keep [CAMERA] from T to T [TAG]`: what is held of that time, in microseconds since 1970, is locked.
+    /// `keep [CAMERA] from T to T [TAG]`: the held frames of that time, in microseconds since 1970, are locked.
     KeepBetween {
         camera: Option<Name<'a>>,
         since: u64,
         until: u64,
         tag: Option<u64>,
     },
-    /// `release CAMERA ID`: the clip of that id.
+    /// `release CAMERA ID`: the clip of that id is unlocked.
     Release {
         camera: Name<'a>,
         id: u32,
     },
     /// `list`: what each camera's store holds.
     List,
-    /// `save CAMERA ID OUT`: the clip's frames, as a file. OUT is all behind the third space, and may have spaces.
-    /// `save! CAMERA ID OUT` replaces a file that is there.
+    /// `save CAMERA ID OUT`: the clip's frames are written to a file. OUT is everything after the third space, and may
+    /// have spaces. `save! CAMERA ID OUT` replaces a file that exists.
     Save {
         camera: Name<'a>,
         id: u32,
         out: Name<'a>,
         replace: bool,
     },
-    /// `status`: how each camera does.
+    /// `status`: the status of each camera.
     Status,
     /// `help`: what may be asked for.
     Help,
-    /// `stop`: the end of all.
+    /// `stop`: the program ends.
     Stop,
 }
 
-/// The label of a line that begins `@LABEL `, and what stands behind that.
+/// The label of a line that begins with `@LABEL `, and the rest of the line.
 #[tactic(auto, unfolding(crate::specs::Orders::label_said))]
 pub fn label_of<'a>(line: &'a str) -> Option<(Name<'a>, Name<'a>)>
     ensures { result ≡ label_said line.now }
@@ -84,7 +84,7 @@ fn read_timed<'a>(line: &'a str) -> Option<Order<'a>>
     }
 }
 
-// What stands behind `keep `: `from T to T`, with a camera before it or without.
+// What follows `keep `: `from T to T`, with or without a camera before it.
 #[tactic(auto, unfolding(crate::specs::Orders::times_kept))]
 fn read_times_kept<'a>(text: &'a str) -> Option<Order<'a>>
     ensures { result ≡ times_kept text.now }
@@ -135,7 +135,7 @@ fn tag_of(number: Option<u64>) -> Option<Option<u64>>
     Some(Some(number?))
 }
 
-// The keeping of what was held from one time to another.
+// The keep of what was held from one time to another.
 fn between_of<'a>(
     camera: Option<Name<'a>>,
     since: Option<u64>,
@@ -185,7 +185,7 @@ fn read_alone<'a>(word: &str) -> Option<Order<'a>>
     }
 }
 
-// What stands behind `keep `.
+// What follows `keep `.
 fn read_keep<'a>(text: &'a str) -> Option<Order<'a>>
     ensures { result ≡ keep_said (parts 2 text.now) }
 {
@@ -217,14 +217,14 @@ fn times(text: &str) -> Option<(Option<u32>, Option<u64>)>
 {
     let (seconds, rest) = first_part(text);
     match rest {
-        None => seconds_of(small_number(seconds)),
+        None => seconds_alone(small_number(seconds)),
         Some(tag) => times_of(small_number(seconds), number(tag)),
     }
 }
 
 // Seconds alone.
-fn seconds_of(seconds: Option<u32>) -> Option<(Option<u32>, Option<u64>)>
-    ensures { result ≡ seconds_of seconds }
+fn seconds_alone(seconds: Option<u32>) -> Option<(Option<u32>, Option<u64>)>
+    ensures { result ≡ seconds_alone seconds }
 {
     Some((Some(seconds?), None))
 }
@@ -236,7 +236,7 @@ fn times_of(seconds: Option<u32>, tag: Option<u64>) -> Option<(Option<u32>, Opti
     Some((Some(seconds?), Some(tag?)))
 }
 
-// What stands behind `release `.
+// What follows `release `.
 fn read_release<'a>(text: &'a str) -> Option<Order<'a>>
     ensures { result ≡ release_said (parts 2 text.now) }
 {
@@ -257,7 +257,7 @@ fn release_of<'a>(camera: Option<Name<'a>>, id: Option<u32>) -> Option<Order<'a>
     })
 }
 
-// What stands behind `save `, or behind `save! `.
+// What follows `save ` or `save! `.
 fn read_save<'a>(text: &'a str, replace: bool) -> Option<Order<'a>>
     ensures { result ≡ save_said replace (parts 2 text.now) }
 {
@@ -274,7 +274,7 @@ fn read_save<'a>(text: &'a str, replace: bool) -> Option<Order<'a>>
     }
 }
 
-// The saving of a camera's clip, where there are both, and some text to save it to.
+// The save of a camera's clip, where there are both, and a path that isn't empty.
 fn save_of<'a>(
     replace: bool,
     camera: Option<Name<'a>>,
@@ -294,7 +294,7 @@ fn save_of<'a>(
     })
 }
 
-// The first word, and what stands behind the space that ends it.
+// The first word, and what follows the space that ends it.
 fn first_part(line: &str) -> (&str, Option<&str>)
     ensures { (n : ℕ) → parts (suc n) line.now ≡ result.0.now ∷ more n result.1 }
 {

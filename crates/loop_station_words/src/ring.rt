@@ -1,9 +1,9 @@
-// How a store's segments and slots are chosen.
+// How the segments and slots of a store are chosen.
 ghost use Rattle.std.specs.Prelude.{◌≡◌, ◌≤◌, ◌<◌, ◌↔◌, ◌+◌, ◌*◌, ◌-◌, ◌^◌, ℕ, IfSome, IsNone, min};
 ghost use Rattle.loop_record.specs.Geometry.{divided_up};
-ghost use Rattle.loop_station_words.specs.Rings.{IsLargestWithin, IsLeastFor, IsPreferred, IsRing, file_size, held};
+ghost use Rattle.loop_station_words.specs.Rings.{IsLargestWithin, IsLeastFor, file_size};
 
-// From so many slots on, few of them cost nothing.
+// The usual slots of a segment. Fewer cost more syncs; from 64 on this hardly counts.
 const SLOTS: u64 = 64;
 
 // The most segments of a store.
@@ -21,17 +21,17 @@ const SEGMENT_HEAD: u64 = 512;
 // The bytes of a slot before its frame.
 const SLOT_HEAD: u64 = 32;
 
-/// How large a store's ring is.
+/// The size of a store's ring.
 #[derive(Clone, Copy, Debug, PartialEq, Eq)]
 pub struct RingSize {
-    /// Segments, 2 to 64.
+    /// Its segments, 2 to 64.
     pub segments: u32,
-    /// Frames that a segment has room for, 1 to 256.
+    /// How many frames a segment has room for, 1 to 256.
     pub slots: u32,
 }
 
-/// The least ring that always holds so many of the newest frames, as nothing is locked: 64 slots a segment while 64
-/// segments are enough, else 64 segments; `None` where no ring holds so many, which are more than 16,129.
+/// The least ring that always holds so many of the newest frames while nothing is locked. It has 64 slots a segment
+/// while 64 segments are enough, and otherwise 64 segments. `None` where no ring holds so many: more than 16,129.
 pub fn ring_for(frames: u64) -> Option<RingSize>
     ensures least { IfSome result (IsLeastFor frames) }
     ensures none { IsNone result ↔ (16129 < frames) }
@@ -48,7 +48,7 @@ pub fn ring_for(frames: u64) -> Option<RingSize>
     Some(ring(MAX_SEGMENTS, slots))
 }
 
-// The ring of these numbers.
+// The ring with these numbers.
 fn ring(segments: u64, slots: u64) -> RingSize
     requires segments { segments ≤ 64 }
     requires slots { slots ≤ 256 }
@@ -60,9 +60,9 @@ fn ring(segments: u64, slots: u64) -> RingSize
     }
 }
 
-/// The largest ring whose store has at most so many bytes, for frames of `frame_bytes`: two segments while fewer than
-/// 64 slots fit into each, then 64 slots a segment, and from 64 segments on more slots; `None` where not even two
-/// segments of one slot fit.
+/// The largest ring whose store has at most so many bytes, for frames of `frame_bytes`. It has two segments while fewer
+/// than 64 slots fit into each, then 64 slots a segment, and more slots only with 64 segments. `None` where not even
+/// two segments of one slot fit.
 pub fn ring_within(frame_bytes: u32, bytes: u64) -> Option<RingSize>
     ensures largest { IfSome result (IsLargestWithin frame_bytes bytes) }
     ensures none { IsNone result ↔ (bytes < file_size frame_bytes (record { segments = 2; slots = 1 })) }
@@ -83,7 +83,7 @@ pub fn ring_within(frame_bytes: u32, bytes: u64) -> Option<RingSize>
     Some(ring(2, slots))
 }
 
-// How many slots a segment may have, at most 256, of so many segments in so much room; 0 where not even one.
+// How many slots each of so many segments may have in so much room, at most 256; 0 where not even one fits.
 fn slots_within(room: u64, segments: u64, slot: u64) -> u64
     requires segments { (2 ≤ segments) × (segments ≤ 64) }
     requires slot { (1 ≤ slot) × (slot < 2 ^ 33) }
@@ -98,7 +98,7 @@ fn slots_within(room: u64, segments: u64, slot: u64) -> u64
     )
 }
 
-// How many of this size fit into so much room, up to so many.
+// How many things of a size fit into so much room, `most` at most.
 fn fitting(room: u64, size: u64, most: u64) -> u64
     requires { 1 ≤ size }
     ensures few { result ≤ most }
@@ -109,7 +109,7 @@ fn fitting(room: u64, size: u64, most: u64) -> u64
     if fit < most { fit } else { most }
 }
 
-/// How many frames come in so many seconds, where `rate_num` come in `rate_den` of them: rounded up, and up to the
+/// How many frames come in so many seconds, at `rate_num` frames in `rate_den` seconds: rounded up, and at most the
 /// greatest u64.
 pub fn frames_in(seconds: u64, rate_num: u32, rate_den: u32) -> u64
     requires { 1 ≤ rate_den }

@@ -14,7 +14,7 @@ pub struct FrameShape {
     pub width: u32,
     /// Rows of luma.
     pub height: u32,
-    /// How the planes of a frame lie behind one another.
+    /// The order of the planes of a frame.
     pub format: PixelFormat,
     /// Frames in `rate_den` seconds.
     pub rate_num: u32,
@@ -23,7 +23,7 @@ pub struct FrameShape {
 }
 
 impl FrameShape {
-    /// The geometry of a store for such frames.
+    /// The geometry of a store for such frames, with this ring.
     pub fn geometry(&self, ring: RingSize) -> Geometry
         ensures { result ≡ shape_geometry self.now ring }
     {
@@ -39,8 +39,8 @@ impl FrameShape {
     }
 }
 
-/// The shape that a text names, `WxH FORMAT N:D`, as `640x480 YM12 25:1`; `None` where it can't be read, or no store
-/// may have such frames.
+/// The shape that a text names, `WxH FORMAT N:D`, such as `640x480 YM12 25:1`; `None` where it can't be read, or no
+/// store may have such frames.
 pub fn read_shape(text: &str) -> Option<FrameShape>
     ensures shape { IfSome result IsShape }
     ensures said { result ≡ shape_said text.now }

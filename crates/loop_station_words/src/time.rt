@@ -1,5 +1,5 @@
-// Times of day, as texts: ISO 8601.
-ghost use Rattle.std.specs.Prelude.{◌≡◌, ◌<◌, ◌≤◌, ◌-◌, ◌^◌, IfSome};
+// Dates with their times of day, as texts: ISO 8601.
+ghost use Rattle.std.specs.Prelude.{◌≡◌, ◌<◌, ◌≤◌, ◌-◌, ◌^◌};
 ghost use Rattle.loop_station_words.specs.Times.{below, clock_said, day_of, day_said, decimals_said, east, minutes_of, offset_said, seconds_of, seconds_said, sized, sum_of, time_said, west, zoned};
 
 use crate::calendar::{days_before, days_before_month, month_length};
@@ -9,9 +9,8 @@ use loop_script::small_number;
 // The microseconds of a day.
 const DAY: u64 = 86_400_000_000;
 
-/// The time in microseconds since 1970 that a text says: `2026-11-22T15:38:00Z`, with up to six decimals of the second
-/// if any, and the zone `Z`, or as `+01:00`. `None` where it says none, or an earlier one.
-
+/// The time in microseconds since 1970 that a text says, such as `2026-11-22T15:38:00Z`. The second may have up to six
+/// decimals, and the zone is `Z` or an offset such as `+01:00`. `None` where it says none, or a time before 1970.
 pub fn read_time(text: &str) -> Option<u64>
     ensures { result ≡ time_said text.now }
 {
@@ -21,7 +20,7 @@ pub fn read_time(text: &str) -> Option<u64>
     }
 }
 
-// A day, and what stands after the `T`: a day's time, and a zone.
+// The time of a day and of the text after the `T`: a time of day, and a zone.
 #[tactic(auto, unfolding(crate::specs::Times::zoned))]
 fn read_zoned(day: Option<u64>, text: &str) -> Option<u64>
     requires { below 3652059 day }
@@ -43,7 +42,7 @@ fn read_zoned(day: Option<u64>, text: &str) -> Option<u64>
     }
 }
 
-// The time of a day's time where clocks are so much before UTC.
+// The time of a day and a time of day where clocks are so much ahead of UTC.
 fn east(day: Option<u64>, clock: Option<u64>, offset: Option<u64>) -> Option<u64>
     requires day { below 3652059 day }
     requires clock { below (2 ^ 54) clock }
@@ -52,7 +51,7 @@ fn east(day: Option<u64>, clock: Option<u64>, offset: Option<u64>) -> Option<u64
     (day? * DAY + clock?).checked_sub(offset?)
 }
 
-// The time of a day's time where clocks are so much after UTC.
+// The time of a day and a time of day where clocks are so much behind UTC.
 fn west(day: Option<u64>, clock: Option<u64>, offset: Option<u64>) -> Option<u64>
     requires day { below 3652059 day }
     requires clock { below (2 ^ 54) clock }
@@ -62,7 +61,7 @@ fn west(day: Option<u64>, clock: Option<u64>, offset: Option<u64>) -> Option<u64
     Some(day? * DAY + clock? + offset?)
 }
 
-// The number of the day that `YYYY-MM-DD` names, from the first day of 1970 on.
+// The number of the day that `YYYY-MM-DD` names, counted from the first day of 1970.
 #[tactic(auto, unfolding(crate::specs::Times::day_said))]
 fn read_day(text: &str) -> Option<u64>
     ensures day { result ≡ day_said text.now }
@@ -77,7 +76,7 @@ fn read_day(text: &str) -> Option<u64>
     }
 }
 
-// The number of a day.
+// The number of a day, counted in the same way.
 fn day_of(year: Option<u32>, month: Option<u32>, day: Option<u32>) -> Option<u64>
     ensures day { result ≡ day_of year month day }
     ensures few { below 3652059 result }
@@ -95,7 +94,7 @@ fn day_of(year: Option<u32>, month: Option<u32>, day: Option<u32>) -> Option<u64
     Some(days_before(year) + days_before_month(year, month - 1) + (day - 1))
 }
 
-// The microseconds of a day's time, `HH:MM:SS` or with decimals.
+// The microseconds of a time of day, `HH:MM:SS` or with decimals.
 #[tactic(auto, unfolding(crate::specs::Times::clock_said))]
 fn read_clock(text: &str) -> Option<u64>
     ensures clock { result ≡ clock_said text.now }
@@ -201,7 +200,7 @@ fn unit(decimals: usize) -> u64
     }
 }
 
-// The number that just so many digits write.
+// The number that exactly so many digits write.
 #[tactic(auto, unfolding(crate::specs::Times::sized))]
 fn sized(word: &str, count: usize) -> Option<u32>
     ensures number { result ≡ sized count word.now }

@@ -8,7 +8,7 @@ use Rattle.loop_desk.specs.Seen.{DeskGoes, SeenDesk}
 use Rattle.loop_pipeline.specs.Backs.{SeenBack}
 use Rattle.loop_station_work.specs.Clerk.{Flushes}
 
--- but for its desk a back is as it was
+-- a back is as it was, except for its desk
 pub same-but-desk : {D A : Type 0} (began now next : SeenBack D A) → next ≡ record now { desk = next.desk }
     → now ≡ record began { desk = now.desk } → next ≡ record began { desk = next.desk }
 same-but-desk {D} {A} began now next so is =

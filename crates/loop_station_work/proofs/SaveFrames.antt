@@ -1,4 +1,4 @@
--- A text that is begun, and a frame more.
+-- A text that is begun, and one more frame.
 use Rattle.std.proofs.Common.{◌≡◌, ◌++◌, ℕ, ◌+◌, List, [], ◌∷◌, Option, length, ap, sym, subst, append_assoc, ◌∙◌}
 use Rattle.std.proofs.KnownBytes.{Appends-trans}
 use Rattle.std.proofs.lemmas.Grind.{flat_map-append}

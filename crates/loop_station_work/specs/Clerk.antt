@@ -1,4 +1,4 @@
--- What a keep of the station does at a camera's desk.
+-- What a keep of the station does to a camera's desk.
 use Rattle.std.specs.Prelude.{◌≡◌, ℕ, Option, None, Result, List, [], ◌∷◌}
 use Rattle.loop_disk.specs.Medium.{Medium}
 use Rattle.loop_record.specs.declared.times.Times.{Times}
@@ -9,13 +9,13 @@ use Rattle.loop_desk.specs.Desk.{flushed}
 use Rattle.loop_desk.specs.Keeps.{KeepsTime}
 use Rattle.loop_desk.specs.Seen.{DeskGoes, SeenDesk}
 
--- a desk went on by flushes alone, which were answered so
+-- a desk went on by flushes alone, with these answers
 abbrev pub Flushes : {D : Type 0} → (D → Medium) → SeenDesk D → List (Result Flushed StoreFault) → SeenDesk D → Type 0
 Flushes medium old [] new = new ≡ old
 Flushes {D} medium old (answer ∷ answers) new =
     (between : SeenDesk D) × DeskGoes medium old between (flushed answer ∷ []) × Flushes medium between answers new
 
--- and unless a refusal is told, nothing waits there any more
+-- and unless a refusal is returned, nothing waits there any more
 pub record StoresAll {D : Type 0} (medium : D → Medium) (old new : SeenDesk D) (refused : Option StoreFault)
     : Type 0 where
   pub answers : List (Result Flushed StoreFault)

@@ -5,36 +5,37 @@ use loop_store::StoreFault;
 use std::fmt;
 use std::fmt::{Display, Formatter};
 
-// The most bytes of a file's name, and of a path.
+// The most bytes of a file's name.
 const MOST_OF_NAME: usize = 255;
 
+// The most bytes of a path.
 const MOST_OF_PATH: usize = 4_095;
 
-// What is added to the name of a store while it is made.
+// How many bytes are added to the name of a store while it is made: `.new`.
 const UNFINISHED: usize = 4;
 
-/// Why a camera's store isn't there, so that it can't be asked.
+/// Why a camera's store isn't there, so that it can't answer.
 #[derive(Clone, Copy)]
 pub enum Absent {
-    /// There is none yet, and the source that it is to be made for hasn't come.
+    /// There is none yet, and the source that it is made for hasn't come.
     NoStore,
-    /// Its file can't be had.
+    /// Its file can't be opened or made.
     File(FileFault),
     /// It can't be opened.
     Store(StoreFault),
-    /// What stands under the name of an unfinished store can't be opened as one.
+    /// The file with the name of an unfinished store can't be opened as a store.
     Unfinished,
-    /// Its path, or the name of its file, is longer than may be.
+    /// Its path, or the name of its file, is too long.
     TooLong,
-    /// No store holds so many frames as its minutes are. So many tenths of a minute would fit.
+    /// No store holds as many frames as come in its minutes. This many tenths of a minute would fit.
     TooManyFrames(u64),
     /// Its bytes are too few for two blocks of a frame.
     TooFewBytes,
-    /// Its source says no rate, or another thing that no store may have.
+    /// Its source gives no rate, or something else that no store may have.
     NoGeometry,
     /// There is no memory for the buffers of its frames.
     NoBuffers,
-    /// The program comes to its end.
+    /// The program ends.
     Stopped,
 }
 
@@ -45,7 +46,7 @@ impl From<FileFault> for Absent {
 }
 
 impl Absent {
-    /// Why the file of a path can't be had.
+    /// Why the file of a path can't be opened or made.
     pub fn of(path: &str, fault: FileFault) -> Absent {
         let name = match path.rsplit_once('/') {
             Some((_, name)) => name,
@@ -75,13 +76,13 @@ impl Absent {
         }
     }
 
-    /// Whether it is for the same cause as another one.
+    /// Whether it has the same cause as another one.
     pub fn is_like(&self, other: &Absent) -> bool {
         self.name() == other.name()
     }
 }
 
-/// The name of why a file can't be had.
+/// The printed name of a fault of a file.
 pub fn file_name(fault: FileFault) -> &'static str {
     match fault {
         FileFault::Busy => "Busy",
@@ -95,7 +96,7 @@ pub fn file_name(fault: FileFault) -> &'static str {
     }
 }
 
-// Its name, and how many minutes fit where that is why.
+// Its name, followed by the minutes that fit where there are too many frames.
 impl Display for Absent {
     fn fmt<W: fmt::Write>(&self, f: &mut Formatter<W>) -> fmt::Result {
         f.write_str(self.name())?;

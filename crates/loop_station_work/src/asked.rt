@@ -1,14 +1,14 @@
-//! How large a store is to be, by what the file says of its camera.
+//! How large a store has to be, by what the configuration says of its camera.
 
 use crate::absent::Absent;
-use crate::size::size_of;
+use crate::size::{micros_of, size_of};
 use loop_record::Geometry;
 use loop_station_words::{RingSize, StoreSize, frames_in, ring_for, ring_within};
 
-// How many frames any ring holds for certain.
+// How many frames the largest ring always holds.
 const MOST_FRAMES: u128 = 16_129;
 
-/// The ring for as much as is to be kept of frames like these.
+/// The ring that has room for as much as the configuration asks, of frames like these.
 pub fn asked_ring(frames: &Geometry, room: &StoreSize) -> Result<RingSize, Absent> {
     match room {
         StoreSize::Seconds(seconds) => {
@@ -33,7 +33,7 @@ fn most_minutes(frames: &Geometry) -> u64 {
     u64::try_from(tenths).unwrap_or(u64::MAX)
 }
 
-/// How many microseconds a store holds for certain, and how many the file asks for, where that is more.
+/// How many microseconds a store always holds, and how many the configuration asks for, where that is more.
 pub fn held_of_asked(store: &Geometry, room: &StoreSize) -> Option<(u64, u64)> {
     let held = held_frames(store.segments, store.slots);
     let asked = match room {
@@ -46,23 +46,16 @@ pub fn held_of_asked(store: &Geometry, room: &StoreSize) -> Option<(u64, u64)> {
     if asked <= held {
         return None;
     }
-    let least = micros_of(store, held);
+    let least = micros_of(held, store);
     match room {
         StoreSize::Seconds(seconds) => Some((least, seconds.saturating_mul(1_000_000))),
-        StoreSize::Bytes(_) => Some((least, micros_of(store, asked))),
+        StoreSize::Bytes(_) => Some((least, micros_of(asked, store))),
     }
 }
 
-// How many frames a ring holds for certain.
+// How many frames a ring always holds.
 fn held_frames(segments: u32, slots: u32) -> u64 {
     u64::from(segments.saturating_sub(1))
         .saturating_mul(u64::from(slots))
         .saturating_add(1)
-}
-
-// How many microseconds so many frames last.
-fn micros_of(frames: &Geometry, count: u64) -> u64 {
-    let micros = u128::from(count) * 1_000_000 * u128::from(frames.rate_den)
-        / u128::from(frames.rate_num.max(1));
-    u64::try_from(micros).unwrap_or(u64::MAX)
 }

@@ -3,8 +3,8 @@
 use std::io;
 use std::time::{Clock, Instant};
 
-/// The time since 1970 in microseconds, as the system's clock had it when the program began, and from then on by a
-/// clock that never goes back.
+/// The time since 1970 in microseconds. The system's clock gave it when the program began, and a clock that never goes
+/// back has counted it since then.
 #[derive(Clone, Copy)]
 pub struct Timeline {
     start: u64,
@@ -12,7 +12,7 @@ pub struct Timeline {
 }
 
 impl Timeline {
-    /// One that begins now.
+    /// A timeline that begins now.
     pub fn new<R: Clock>(rt: &R) -> io::Result<Timeline> {
         let since = rt.since_1970()?;
         Ok(Timeline {
@@ -21,7 +21,7 @@ impl Timeline {
         })
     }
 
-    /// The time now; that of the beginning where the clock can't be read.
+    /// The time now; the time when the program began where the clock can't be read.
     pub fn now<R: Clock>(&self, rt: &R) -> u64 {
         match self.began.elapsed(rt) {
             Ok(passed) => {
@@ -33,7 +33,7 @@ impl Timeline {
     }
 }
 
-/// So many seconds in microseconds, at most 2^64 - 1.
+/// Seconds in microseconds, at most 2^64 - 1.
 pub fn micros(seconds: u32) -> u64 {
     u64::from(seconds).saturating_mul(1_000_000)
 }

@@ -5,7 +5,8 @@ use std::sync::atomic::{AtomicU64, Ordering};
 /// What is counted of a camera since the program began.
 #[derive(Drop)]
 pub struct Counts {
-    /// Frames that came to the desk or were given up: each that was taken for the device is one of them, in its order.
+    /// Frames that came to the desk or were given up. Each frame that was taken for the device is counted here, in its
+    /// order.
     brought: AtomicU64,
     /// Frames that were given to the desk.
     submitted: AtomicU64,
@@ -19,7 +20,7 @@ pub struct Counts {
 }
 
 impl Counts {
-    /// Nothing yet.
+    /// Counts of a camera of which nothing has come yet.
     pub fn new() -> Counts {
         Counts {
             brought: AtomicU64::new(0),
@@ -42,7 +43,7 @@ impl Counts {
         self.brought.fetch_add(1, Ordering::SeqCst);
     }
 
-    /// So many frames were stored.
+    /// This many frames were stored.
     pub fn store(&self, count: u32) {
         self.left.fetch_add(u64::from(count), Ordering::SeqCst);
     }
@@ -52,8 +53,8 @@ impl Counts {
         self.brought.load(Ordering::SeqCst) >= come
     }
 
-    /// Frames that have come from the source, so many in all, and are neither stored nor given up. A frame that comes
-    /// to the desk meanwhile may be counted twice, and never left out.
+    /// How many frames have come from the source and are neither stored nor given up; `come` is how many have come in
+    /// all. A frame that comes to the desk meanwhile may be counted twice, but is never left out.
     pub fn behind(&self, come: u64) -> u64 {
         let brought = self.brought.load(Ordering::SeqCst);
         let left = self.left.load(Ordering::SeqCst);
@@ -62,13 +63,13 @@ impl Counts {
             .saturating_add(submitted.saturating_sub(left))
     }
 
-    /// How much has been done to frames: another number where one was brought or stored since.
+    /// How many steps frames have taken: the number changes whenever one is brought or stored.
     pub fn steps(&self) -> u64 {
         let brought = self.brought.load(Ordering::SeqCst);
         brought.wrapping_add(self.left.load(Ordering::SeqCst))
     }
 
-    /// Desk and queue are given up, and with them each frame of so many that came and isn't stored.
+    /// Desk and queue are given up, and with them each of the frames that came and isn't stored.
     pub fn lose(&self, come: u64) {
         let lost = self.behind(come);
         self.given_up.fetch_add(lost, Ordering::SeqCst);

@@ -1,8 +1,8 @@
-//! What happens to a camera by itself, told once each.
+//! Events: what happens to a camera without an order. Each is printed once.
 //!
-//! A thread looks ten times a second at how each camera stands, and prints what has changed: its source, its store,
-//! frames that were given up, blocks that are all locked, and a disk that is slow. What stood for less than a tenth of
-//! a second isn't told; frames that were given up always are.
+//! A thread looks at the state of each camera ten times a second, and prints what has changed: its source, its store,
+//! frames that were given up, blocks that are all locked, and a disk that is slow. What lasted for less than a tenth of
+//! a second isn't printed, but frames that were given up always are.
 
 use crate::absent::Absent;
 use crate::asked::held_of_asked;
@@ -20,49 +20,49 @@ use std::sync::Wait;
 use std::sync::atomic::Ordering;
 use std::time::{Clock, Duration};
 
-// From so many microseconds on the disk is told to be behind.
+// The disk is reported as behind from this many microseconds on.
 const BEHIND: u64 = 1_000_000;
 
-// Below so many it has caught up.
+// Below this many microseconds it has caught up.
 const CAUGHT_UP: u64 = 500_000;
 
-// So many microseconds at least lie between two lines of frames that were given up.
+// The microseconds at least between two lines about frames that were given up.
 const GIVEN_UP_AGAIN: u64 = 1_000_000;
 
-// So many microseconds after the program's beginning a source or a store that isn't there is told.
+// A source or a store that isn't there is reported only this many microseconds after the program began.
 const COMES_SOON: u64 = 1_000_000;
 
-// How a camera's store stood when it was looked at.
+// The status of a camera's store when it was looked at last.
 #[derive(Clone, Copy)]
-enum Store {
+enum StoreStatus {
     Unknown,
     Open,
     Absent(Absent),
 }
 
-/// What was told of a camera last.
+/// What was last reported of a camera.
 #[derive(Clone, Copy)]
-pub struct Told {
-    /// From then on it is told that a source or a store isn't there.
+pub struct LastReported {
+    /// From this time on a source or a store that isn't there is reported.
     soon: u64,
     source: Option<SourceState>,
-    store: Store,
+    store: StoreStatus,
     given_up: u64,
-    /// Since when frames are given up that aren't told yet.
+    /// Since when frames have been given up that aren't reported yet.
     since: u64,
-    /// When frames that were given up may be told again.
+    /// When frames that were given up may be reported again.
     again: u64,
     locked: bool,
     behind: bool,
 }
 
-impl Told {
-    /// Nothing yet, at a time.
-    pub fn new(now: u64) -> Told {
-        Told {
+impl LastReported {
+    /// Nothing is reported yet at this time.
+    pub fn new(now: u64) -> LastReported {
+        LastReported {
             soon: now.saturating_add(COMES_SOON),
             source: None,
-            store: Store::Unknown,
+            store: StoreStatus::Unknown,
             given_up: 0,
             since: now,
             again: 0,
@@ -85,7 +85,7 @@ impl Told {
         self.tell_behind(rt, state, lines)
     }
 
-    // Its source came or went. Other frames than its store's are told where they come.
+    // Its source came or went. That its frames don't fit the store is printed by the source's thread.
     fn tell_source<R: Wait + Clock, L: Write>(
         &mut self,
         rt: &R,
@@ -112,7 +112,7 @@ impl Told {
         }
     }
 
-    // Whether what isn't there may still come by itself.
+    // Whether it is too early to report what isn't there: it may still come.
     fn is_early<R: Clock>(&self, rt: &R, state: &CameraState) -> bool {
         state.timeline.now(rt) < self.soon
     }
@@ -126,13 +126,13 @@ impl Told {
     ) -> io::Result<()> {
         let name = state.config.name.as_str();
         match state.clerk.attended(rt) {
-            // It is still to be opened for the first time.
+            // It hasn't been opened yet.
             None => Ok(()),
             Some(Ok(())) => {
-                if matches!(self.store, Store::Open) {
+                if matches!(self.store, StoreStatus::Open) {
                     return Ok(());
                 }
-                self.store = Store::Open;
+                self.store = StoreStatus::Open;
                 let less = match state.link.store(rt) {
                     Some(geometry) => held_of_asked(&geometry, &state.config.room),
                     None => None,
@@ -142,18 +142,18 @@ impl Told {
             Some(Err(Absent::Stopped)) => Ok(()),
             Some(Err(Absent::NoStore)) if self.is_early(rt, state) => Ok(()),
             Some(Err(why)) => {
-                if let Store::Absent(before) = self.store {
+                if let StoreStatus::Absent(before) = self.store {
                     if before.is_like(&why) {
                         return Ok(());
                     }
                 }
-                self.store = Store::Absent(why);
+                self.store = StoreStatus::Absent(why);
                 print_store_absent(lines, name, &why)
             }
         }
     }
 
-    // Frames were given up since it was told last.
+    // Frames were given up since the last report.
     fn tell_given_up<R: Clock, L: Write>(
         &mut self,
         rt: &R,
@@ -177,7 +177,7 @@ impl Told {
         print_given_up(lines, state.config.name.as_str(), frames, since)
     }
 
-    // Every block is locked, or no more.
+    // Every block is locked, or not any more.
     fn tell_locked<L: Write>(&mut self, state: &CameraState, lines: &mut L) -> io::Result<()> {
         let locked = state.is_locked();
         if locked == self.locked {
@@ -192,7 +192,7 @@ impl Told {
         }
     }
 
-    // The disk doesn't keep up, or does again.
+    // The disk has fallen behind, or has caught up.
     fn tell_behind<R: Wait, L: Write>(
         &mut self,
         rt: &R,
@@ -212,15 +212,16 @@ impl Told {
     }
 }
 
-/// Prints what has changed of cameras since they were looked at before.
+/// Prints what has changed of a camera since it was last looked at.
 pub fn tell_events<R: AllocGlobal + Wait + Clock, W: Write + Drop>(
     rt: &R,
     state: &CameraState,
-    told: &mut Told,
+    reported: &mut LastReported,
     outlet: &Outlet<W>,
 ) {
     let mut lines = Vec::new(rt.alloc());
-    if told.tell_changes(rt, state, &mut lines).is_ok() {
+    // Where memory for the lines is refused, they aren't printed.
+    if reported.tell_changes(rt, state, &mut lines).is_ok() {
         outlet.put(rt, &lines);
     }
 }

@@ -1,4 +1,4 @@
-//! Where a source's frames wait for a camera's device.
+//! The queue in which a source's frames wait for a camera's device.
 
 ghost use Rattle.std.specs.Prelude.{◌≡◌, ⊤, IfSome, None, Some, length};
 ghost use Rattle.loop_capture.specs.declared.source.Next.TheVariants.{More};
@@ -17,17 +17,17 @@ const FEWEST: usize = 2;
 /// A frame of a source.
 #[derive(Drop)]
 pub struct Fed {
-    /// When it was there, in microseconds since 1970.
+    /// When it came, in microseconds since 1970.
     time: u64,
     /// Its bytes.
     bytes: Vec<u8>,
 }
 
 #[derive(Drop)]
-struct Waiting {
+struct WaitingFrames {
     frames: HeapCircularBuffer<Fed>,
     spare: HeapCircularBuffer<Vec<u8>>,
-    // When the frame was there that waits for a place, if one does.
+    // When the frame came that waits for a place in the queue, if one does.
     coming: Option<u64>,
     // How many frames were taken for the device.
     taken: u64,
@@ -37,25 +37,25 @@ struct Waiting {
 struct Ready {
     // The frame of the next tick.
     frame: Option<Fed>,
-    // The memory of the frame before the one that is lent.
+    // The memory of the frame before the one that is lent, to be used again.
     row: Option<Vec<u8>>,
 }
 
-/// Frames that wait, and memory for further ones. That is taken as it is needed first, for as many frames as may wait
-/// and two more on their way, and used again.
+/// Frames that wait, and memory for further ones. Memory is allocated when it is first needed, and used again: for as
+/// many frames as may wait, and two more on their way.
 #[derive(Drop)]
 pub struct Feed {
-    waiting: Mutex<Waiting>,
+    waiting: Mutex<WaitingFrames>,
     changed: Condvar,
-    /// The device's thread alone has this lock.
+    /// Only the device's thread takes this lock.
     ready: Mutex<Ready>,
 }
 
 impl Feed {
-    /// An empty one.
+    /// An empty queue.
     pub fn new(alloc: Global) -> Result<Feed, AllocError> {
         Ok(Feed {
-            waiting: Mutex::new(Waiting {
+            waiting: Mutex::new(WaitingFrames {
                 frames: HeapCircularBuffer::with_capacity(alloc, FEWEST)?,
                 spare: HeapCircularBuffer::with_capacity(alloc, FEWEST)?,
                 coming: None,
@@ -69,8 +69,8 @@ impl Feed {
         })
     }
 
-    /// From now on so many frames may wait, but two at least, and all that wait now. Where memory for their places is
-    /// refused, as many as before.
+    /// From now on so many frames may wait, but at least two, and at least as many as wait now. Where memory for their
+    /// places is refused, as many may wait as before.
     pub fn reserve<R: Wait>(&self, rt: &R, frames: usize) {
         let mut waiting = self.waiting.lock(rt);
         let places = frames
@@ -81,17 +81,18 @@ impl Feed {
             return;
         }
         if waiting.frames.resize(places).is_ok() {
+            // Where memory for this is refused, less memory is kept for later frames, and they get new memory.
             let _fewer_are_kept = waiting.spare.resize(places);
         }
         self.changed.notify_all();
     }
 
-    /// Memory of a frame that was taken, for a later one.
+    /// The memory of a frame that was taken, for a later one.
     pub fn memory<R: Wait>(&self, rt: &R) -> Option<Vec<u8>> {
         self.waiting.lock(rt).spare.pop_back()
     }
 
-    /// Puts a frame that is there now behind the others, once there is room.
+    /// Adds a frame that has come now after the others, once there is room.
     pub fn give<R: Wait + Clock>(&self, rt: &R, timeline: &Timeline, bytes: Vec<u8>) {
         let mut waiting = self.waiting.lock(rt);
         let time = timeline.now(rt);
@@ -104,8 +105,8 @@ impl Feed {
         self.changed.notify_all();
     }
 
-    /// Takes the first frame that waits for the next tick, unless one is there, and answers when it was there; None
-    /// where none comes for so long.
+    /// Takes the first frame that waits as the frame of the next tick, unless there is one already. Returns when that
+    /// frame came; None where no frame comes for so long.
     pub fn make_ready<R: Wait + Clock>(&self, rt: &R, most: Duration) -> Option<u64> {
         let mut ready = self.ready.lock(rt);
         if let Some(frame) = &ready.frame {
@@ -126,7 +127,7 @@ impl Feed {
         Some(time)
     }
 
-    /// How many frames have come from the source up to a time, whether they were taken or wait.
+    /// How many frames have come from the source up to a time, taken or waiting.
     pub fn come<R: Wait>(&self, rt: &R, time: u64) -> u64 {
         let waiting = self.waiting.lock(rt);
         let mut come = waiting.taken;
@@ -149,13 +150,13 @@ impl Feed {
         (waiting.taken.wrapping_add(waits), waiting.taken)
     }
 
-    /// Whether a frame was taken and no tick has come for it. The device's thread asks.
+    /// Whether a frame was taken and no tick has come for it. Only the device's thread asks.
     pub fn is_ready<R: Wait>(&self, rt: &R) -> bool {
         self.ready.lock(rt).frame.is_some()
     }
 }
 
-/// A camera's device borrows its frames here. It asks for one only where one is ready.
+/// The source that a camera's device borrows its frames from. The device asks for one only where one is ready.
 #[derive(Drop)]
 pub struct FeedSource {
     feed: Arc<Feed>,
@@ -164,7 +165,7 @@ pub struct FeedSource {
 }
 
 impl FeedSource {
-    /// One that lends what comes ready there.
+    /// A source that lends the frames that are ready there.
     pub fn new(alloc: Global, feed: Arc<Feed>) -> FeedSource {
         FeedSource {
             feed,
@@ -188,7 +189,7 @@ impl FrameSource for FeedSource {
         }
     }
 
-    /// Nobody else holds the lock, so that it needn't wait for it.
+    /// Nobody else holds the lock, so it doesn't have to wait for it.
     fn make_ready(&mut self, size: usize) -> Option<Next> {
         let Some(mut ready) = self.feed.ready.try_lock() else {
             return Some(Next::Bad);

@@ -1,4 +1,4 @@
-//! A camera's thread: its store is opened or made, and the camera is filmed into it, again and again.
+//! A camera's thread: it opens or makes the store, and films the camera into it, again and again.
 
 use crate::absent::Absent;
 use crate::asked::asked_ring;
@@ -24,28 +24,28 @@ use std::thread;
 use std::thread::Threads;
 use std::time::{Clock, Duration};
 
-// How many milliseconds a store that can't be had is left alone.
+// How many milliseconds pass before a store that can't be opened or made is tried again.
 const OPEN_AGAIN: u64 = 1_000;
 
-// How many milliseconds a header is waited for before it is looked whether the program ends.
+// How many milliseconds it waits for a header before it looks whether the program ends.
 const LOOK_AGAIN: u64 = 100;
 
-// A camera before a store in a file.
+// A camera in front of a store in a file.
 type FileCamera = Camera<FeedSource, FileDisk, HeapPlane>;
 
-// What came of filming it.
+// The result of filming it.
 type Filmed = Result<
     Ended<FeedSource, FileDisk, HeapPlane>,
     Unfilmed<FeedSource, FileDisk, HeapPlane>,
 >;
 
-/// Opens a camera's store, or makes it, and films into it, again and again until the camera is stopped. Where the store
-/// can't be had, memory or a thread is refused or the disk fails, that is tried again.
+/// Opens a camera's store, or makes it, and films into it, again and again until the camera is stopped. It tries again
+/// where the store can't be opened or made, memory or a thread is refused, or the disk fails.
 pub(crate) fn run_camera<
     R: AllocGlobal + Places + Threads + Wait + Clock + Sync,
     W: Write + Drop + Send,
 >(rt: &R, state: &CameraState, outlet: &Outlet<W>) {
-    let mut told = false;
+    let mut printed = false;
     for _ in rt.forever() {
         if state.is_stopped() {
             break;
@@ -54,13 +54,13 @@ pub(crate) fn run_camera<
             Ok(store) => film_into(rt, state, store),
             Err(why) => why,
         };
-        told = tell_absence(rt, state, outlet, why, told);
+        printed = tell_absence(rt, state, outlet, why, printed);
         rest(rt, state, why);
     }
     state.leave(rt, Absent::Stopped);
 }
 
-// The store isn't there, and is left alone for a while.
+// The store isn't there, and isn't tried again for a while.
 fn rest<R: Wait + Clock>(rt: &R, state: &CameraState, why: Absent) {
     state.leave(rt, why);
     if !state.is_stopped() {
@@ -69,13 +69,13 @@ fn rest<R: Wait + Clock>(rt: &R, state: &CameraState, why: Absent) {
     }
 }
 
-// Prints once that what stands where a store is to be, or where it is made, isn't one. Whether it isn't one.
+// Prints once that the file where a store belongs, or where it is made, isn't a store. Returns whether that is so.
 fn tell_absence<R: AllocGlobal + Wait + Clock, W: Write + Drop>(
     rt: &R,
     state: &CameraState,
     outlet: &Outlet<W>,
     why: Absent,
-    told: bool,
+    printed: bool,
 ) -> bool {
     let end = match why {
         Absent::Store(StoreFault::NotFormatted) => "",
@@ -84,7 +84,8 @@ fn tell_absence<R: AllocGlobal + Wait + Clock, W: Write + Drop>(
     };
     let mut line = Vec::new(rt.alloc());
     let (name, path) = (state.config.name.as_str(), state.config.store.as_str());
-    if !told && print_not_a_store(&mut line, name, path, end).is_ok() {
+    // Where memory for the line is refused, it isn't printed.
+    if !printed && print_not_a_store(&mut line, name, path, end).is_ok() {
         outlet.put(rt, &line);
     }
     true
@@ -107,7 +108,7 @@ fn open_store<R: AllocGlobal + Places + Wait + Clock>(
     }
 }
 
-// Makes the store of a camera for what its source's header says, once that is there.
+// Makes the store of a camera for the frames that its source's header describes, once that is there.
 fn make_store<R: AllocGlobal + Places + Wait + Clock>(
     rt: &R,
     state: &CameraState,
@@ -120,7 +121,7 @@ fn make_store<R: AllocGlobal + Places + Wait + Clock>(
     rt.make_store(state.config.store.as_str(), geometry)
 }
 
-// What the source's header says, once it is there; None where the camera is stopped before.
+// What the source's header says, once it is there; None where the camera is stopped before that.
 fn wait_header<R: Wait + Clock>(rt: &R, state: &CameraState) -> Option<Geometry> {
     for _ in rt.forever() {
         if state.is_stopped() {
@@ -133,7 +134,7 @@ fn wait_header<R: Wait + Clock>(rt: &R, state: &CameraState) -> Option<Geometry>
     unreachable!()
 }
 
-// The geometry of a store for a header, with room for as much as is to be kept.
+// The geometry of a store for a header, with room for as much as the configuration asks.
 fn geometry_for(header: &Geometry, room: &StoreSize) -> Result<Geometry, Absent> {
     let RingSize { segments, slots } = asked_ring(header, room)?;
     let geometry = Geometry {
@@ -147,7 +148,7 @@ fn geometry_for(header: &Geometry, room: &StoreSize) -> Result<Geometry, Absent>
     }
 }
 
-// Films into a store, until the camera is stopped or the store must be reopened; why it ended.
+// Films into a store, until the camera is stopped or the store must be reopened. Returns why it ended.
 fn film_into<R: AllocGlobal + Threads + Wait + Clock + Sync>(
     rt: &R,
     state: &CameraState,
@@ -177,7 +178,7 @@ fn why_ended(state: &CameraState, filmed: Filmed) -> Absent {
     }
 }
 
-// A camera before a store: its queue streams, and nothing waits at its desk. None where memory was refused.
+// A camera in front of a store: its queue streams, and nothing waits at its desk. None where memory was refused.
 fn camera_before(alloc: Global, state: &CameraState, store: Store<FileDisk>) -> Option<FileCamera> {
     let geometry = store.geometry();
     let (mut queue, mut table) = new_queue(alloc, &geometry);

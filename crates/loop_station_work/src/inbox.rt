@@ -1,12 +1,12 @@
-//! Where one thread asks another, which answers.
+//! An inbox, in which one thread asks and another answers.
 
 use std::sync::{Condvar, Mutex, Wait};
 use std::time::{Clock, Duration};
 
-// What stands between who asks and who answers: one question at a time, and its answer.
+// What is exchanged between the two threads: one question at a time, and its answer.
 #[derive(Drop)]
 struct Exchange<Q: Drop, A: Drop, N: Drop + Copy> {
-    // Someone has asked, and hasn't taken the answer.
+    // Someone has asked, and hasn't taken the answer yet.
     busy: bool,
     question: Option<Q>,
     answer: Option<Result<A, N>>,
@@ -16,7 +16,7 @@ struct Exchange<Q: Drop, A: Drop, N: Drop + Copy> {
     open: bool,
 }
 
-/// One thread asks and waits, another answers. Where nobody does, that is the answer, as an `N` that says why.
+/// One thread asks and waits, another answers. Where nobody answers, the answer is an `N` that says why.
 #[derive(Drop)]
 pub struct Inbox<Q: Drop, A: Drop, N: Drop + Copy> {
     desk: Mutex<Exchange<Q, A, N>>,
@@ -24,7 +24,7 @@ pub struct Inbox<Q: Drop, A: Drop, N: Drop + Copy> {
 }
 
 impl<Q: Drop, A: Drop, N: Drop + Copy> Inbox<Q, A, N> {
-    /// One at which nobody answers yet: a question waits for who comes.
+    /// An inbox at which nobody answers yet: a question waits until someone does.
     pub fn new() -> Self {
         Inbox {
             desk: Mutex::new(Exchange {
@@ -38,7 +38,7 @@ impl<Q: Drop, A: Drop, N: Drop + Copy> Inbox<Q, A, N> {
         }
     }
 
-    /// Asks, once nobody else does. The answer has to be taken by `answer`.
+    /// Asks, once nobody else asks. The answer has to be taken by `answer`.
     pub fn ask<R: Wait>(&self, rt: &R, question: Q) {
         let mut desk = self
             .changed
@@ -61,7 +61,7 @@ impl<Q: Drop, A: Drop, N: Drop + Copy> Inbox<Q, A, N> {
         desk.answer.take()
     }
 
-    /// Takes a question; waits for one, for so long at most.
+    /// Takes a question, or waits for one, for so long at most.
     pub fn take<R: Wait + Clock>(&self, rt: &R, most: Duration) -> Option<Q> {
         let (mut desk, _) = self.changed.wait_timeout_while(
             rt,
@@ -72,7 +72,7 @@ impl<Q: Drop, A: Drop, N: Drop + Copy> Inbox<Q, A, N> {
         desk.question.take()
     }
 
-    /// Puts the question that was taken back: who comes next answers it.
+    /// Puts back the question that was taken, for whoever answers next.
     pub fn again<R: Wait>(&self, rt: &R, question: Q) {
         self.desk.lock(rt).question = Some(question);
     }
@@ -101,7 +101,7 @@ impl<Q: Drop, A: Drop, N: Drop + Copy> Inbox<Q, A, N> {
         desk.nobody = None;
     }
 
-    /// Nobody answers from now on; a question that stands is answered so too.
+    /// Nobody answers from now on. A question that waits gets that as its answer too.
     pub fn leave<R: Wait>(&self, rt: &R, why: N) {
         let mut desk = self.desk.lock(rt);
         desk.open = false;

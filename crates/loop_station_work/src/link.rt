@@ -5,10 +5,10 @@ use loop_script::{Likeness, compare_frames};
 use std::sync::{Condvar, Mutex, Wait};
 use std::time::{Clock, Duration};
 
-/// How a source stands.
+/// The state of a source.
 #[derive(Clone, Copy)]
 pub enum SourceState {
-    /// It can't be opened, has ended, or what it begins with is no header.
+    /// It can't be opened, has ended, or doesn't begin with a header.
     Missing,
     /// Its frames are of another size, format or rate than the store's.
     OtherGeometry,
@@ -16,37 +16,37 @@ pub enum SourceState {
     On,
 }
 
-/// What came of an offer.
+/// The result of an offer.
 #[derive(Clone, Copy)]
 pub enum Offered {
-    /// The frames are the store's.
+    /// The frames are as the store has them.
     Fits,
     /// They are of another size, format or rate.
     Refused,
-    /// They are so again: the last offer was refused too.
+    /// They are of another size, format or rate again: the last offer was refused too.
     StillRefused,
 }
 
 #[derive(Clone, Copy)]
 struct Known {
     source: SourceState,
-    // What the source's header said last, with a ring of any size.
+    // What the source's header said last. The size of its ring means nothing.
     offered: Option<Geometry>,
-    // What the store has.
+    // The geometry of the store.
     wanted: Option<Geometry>,
 }
 
 /// What a camera's source and its store know of each other.
 #[derive(Drop)]
-pub struct Link {
+pub struct SourceLink {
     known: Mutex<Known>,
     changed: Condvar,
 }
 
-impl Link {
-    /// Neither is there.
-    pub fn new() -> Link {
-        Link {
+impl SourceLink {
+    /// Neither the source nor the store is there.
+    pub fn new() -> SourceLink {
+        SourceLink {
             known: Mutex::new(Known {
                 source: SourceState::Missing,
                 offered: None,
@@ -56,12 +56,12 @@ impl Link {
         }
     }
 
-    /// How the source stands.
+    /// The state of the source.
     pub fn source<R: Wait>(&self, rt: &R) -> SourceState {
         self.known.lock(rt).source
     }
 
-    /// The source is so now.
+    /// Sets the state of the source.
     pub fn set_source<R: Wait>(&self, rt: &R, source: SourceState) {
         self.known.lock(rt).source = source;
     }
@@ -78,7 +78,7 @@ impl Link {
         self.changed.notify_all();
     }
 
-    /// What the source's header says; waits for it, for so long at most.
+    /// What the source's header says. Waits for it, for so long at most.
     pub fn header<R: Wait + Clock>(&self, rt: &R, most: Duration) -> Option<Geometry> {
         let (known, _) = self
             .changed
@@ -88,8 +88,8 @@ impl Link {
         known.offered
     }
 
-    /// Tells what the source's header says, with a ring of any size, and waits until there is a store: whether the
-    /// frames are as it has them.
+    /// Offers what the source's header says, with a ring of any size, and waits until there is a store. Returns whether
+    /// the frames are as the store has them.
     pub fn offer<R: Wait>(&self, rt: &R, geometry: Geometry) -> Offered {
         let mut known = self.known.lock(rt);
         known.offered = Some(geometry);
@@ -109,7 +109,7 @@ impl Link {
     }
 }
 
-// What comes of an offer, where the source stood so before.
+// The result of an offer, given the state of the source before it.
 fn judged(before: SourceState, wanted: &Geometry, geometry: &Geometry) -> Offered {
     if compare_frames(wanted, geometry) == Likeness::Alike {
         return Offered::Fits;

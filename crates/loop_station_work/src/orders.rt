@@ -1,12 +1,13 @@
-//! Orders, read line by line and done.
+//! Orders: they are read line by line, and done.
 
+use self::KeepPeriod::{Between, Last};
 use crate::clerk::{Answer, Request};
 use crate::clock::micros;
 use crate::outlet::Outlet;
 use crate::places::Places;
-use crate::save::{NotSaved, Saves, Target, begin_save};
+use crate::replies::{Answered, tell_kept, tell_listed, tell_released, tell_status};
+use crate::save::{NotSaved, SaveTarget, Saves, begin_save};
 use crate::state::CameraState;
-use crate::told::{Answered, tell_kept, tell_listed, tell_released, tell_status};
 use loop_record::Times;
 use loop_script::{MAX_LINE, next_line};
 use loop_station_words::{
@@ -27,32 +28,33 @@ pub(crate) struct Station<W: Write + Drop> {
     pub cameras: Vec<Arc<CameraState>>,
     pub outlet: Arc<Outlet<W>>,
     pub saves: Arc<Saves>,
-    /// What happens by itself is told.
+    /// Events are printed: what happens without an order.
     pub events: bool,
-    /// The label of the order that ends all.
+    /// The label of the order that ends the program.
     pub last: Mutex<Option<String>>,
 }
 
 impl<W: Write + Drop> Station<W> {
-    // The order that ends all has this label. Where memory is refused, its end is told without.
+    // Stores the label of the order that ends the program. Where memory is refused, the end is printed without it.
     fn keep_label<R: Wait>(&self, rt: &R, label: Option<&str>) {
         if let Some(label) = label {
             *self.last.lock(rt) = String::from_str(self.alloc, label).ok();
         }
     }
 
-    /// Prints that all has ended.
+    /// Prints that the program ends.
     pub fn tell_end<R: Wait + Clock>(&self, rt: &R) {
         self.outlet.show(rt, Vec::new(self.alloc));
         let last = self.last.lock(rt).take();
         let mut lines = Vec::new(self.alloc);
+        // Where memory for the line is refused, nothing is printed.
         if print_stopped(&mut lines).is_ok() {
             answer(rt, self, last.as_deref(), lines);
         }
     }
 }
 
-/// Does the orders of an input until it ends, or one says so; whether one did.
+/// Does the orders of an input until it ends, or until one ends the program. Returns whether one did.
 pub(crate) fn take_orders<
     R: AllocGlobal + Places + Threads + Wait + Clock + Clone + Drop + Send + Sync + 'static,
     I: BufRead,
@@ -76,7 +78,7 @@ pub(crate) fn take_orders<
     false
 }
 
-// Does the order of a line; whether that is the end of all.
+// Does the order of a line. Returns whether it ends the program.
 fn do_line<
     R: AllocGlobal + Places + Threads + Wait + Clock + Clone + Drop + Send + Sync + 'static,
     W: Write + Drop + Send + 'static,
@@ -105,7 +107,7 @@ fn labelled<'a>(text: &'a str) -> (Option<&'a str>, &'a str) {
     }
 }
 
-// Leaves out the rest of a line that is too long.
+// Skips the rest of a line that is too long.
 fn skip_line<I: BufRead>(input: &mut I, line: &mut Vec<u8>) {
     for _ in 0..u64::MAX {
         if next_line(input, line).is_ok() || line.len() <= MAX_LINE {
@@ -131,12 +133,13 @@ fn bad_order<R: AllocGlobal + Wait + Clock, W: Write + Drop>(
     let (label, said) = labelled(text);
     let head = text.len().saturating_sub(said.len());
     let mut lines = Vec::new(rt.alloc());
+    // Where memory for the line is refused, nothing is printed.
     if print_bad_order(&mut lines, line.get(head..).unwrap_or(&[])).is_ok() {
         answer(rt, station, label, lines);
     }
 }
 
-// Prints what answers an order, and that this was all, where it has a label.
+// Prints the answer to an order, and that the order is done where it has a label.
 fn answer<R: Wait + Clock, W: Write + Drop>(
     rt: &R,
     station: &Station<W>,
@@ -145,6 +148,7 @@ fn answer<R: Wait + Clock, W: Write + Drop>(
 ) {
     let mut lines = lines;
     if label.is_some() && print_done(&mut lines).is_err() {
+        // Where memory is refused, nothing is printed.
         return;
     }
     station.outlet.answer(rt, label, &lines);
@@ -161,7 +165,7 @@ fn perform<
             camera,
             seconds,
             tag,
-        } => keep(rt, station, &camera, Span::Last(seconds), tag, &mut lines),
+        } => keep(rt, station, &camera, Last(seconds), tag, &mut lines),
         Order::KeepBetween {
             camera,
             since,
@@ -169,7 +173,7 @@ fn perform<
             tag,
         } => {
             let times = Times { since, until };
-            keep(rt, station, &camera, Span::Between(times), tag, &mut lines)
+            keep(rt, station, &camera, Between(times), tag, &mut lines)
         }
         Order::Release { camera, id } => release(rt, station, camera.text(), id, &mut lines),
         Order::List => list(rt, station, &mut lines),
@@ -180,9 +184,9 @@ fn perform<
             out,
             replace,
         } => {
-            let to = Target::Path(out.text(), replace);
+            let to = SaveTarget::Path(out.text(), replace);
             match save(rt, station, label, camera.text(), id, to, &mut lines) {
-                // What comes of it is told by the save itself.
+                // The save itself prints its result.
                 Ok(true) => return,
                 Ok(false) => Ok(()),
                 Err(fault) => Err(fault),
@@ -191,6 +195,7 @@ fn perform<
         Order::Help => print_help(&mut lines),
         Order::Stop => Ok(()),
     };
+    // Where memory for the lines is refused, nothing is printed.
     if printed.is_ok() {
         answer(rt, station, label, lines);
     }
@@ -204,20 +209,20 @@ fn is_meant(state: &CameraState, camera: Option<&str>) -> bool {
     }
 }
 
-// The time of a keep.
+// The time that a keep asks for.
 #[derive(Clone, Copy)]
-enum Span {
-    // The last seconds, or as many as are the camera's own.
+enum KeepPeriod {
+    // The last seconds: so many, or the camera's own.
     Last(Option<u32>),
     // From one time to another, both included.
     Between(Times),
 }
 
-// What a camera is asked for by a keep: its own seconds and tag where none are said.
-fn keep_of<R: Clock>(rt: &R, state: &CameraState, span: Span, tag: Option<u64>) -> Request {
-    let times = match span {
-        Span::Between(times) => times,
-        Span::Last(seconds) => {
+// What a keep asks a camera for: with the camera's own seconds and tag where none are given.
+fn keep_of<R: Clock>(rt: &R, state: &CameraState, period: KeepPeriod, tag: Option<u64>) -> Request {
+    let times = match period {
+        Between(times) => times,
+        Last(seconds) => {
             let until = state.timeline.now(rt);
             let seconds = seconds.unwrap_or(state.config.seconds);
             Times {
@@ -229,8 +234,8 @@ fn keep_of<R: Clock>(rt: &R, state: &CameraState, span: Span, tag: Option<u64>) 
     Request::Keep(times, tag.unwrap_or(state.config.tag))
 }
 
-// Locks what one camera, or all, held in a time: each is asked before the first is waited for. Then the clips begin to
-// be saved that are to be saved by themselves.
+// Locks what one camera, or all, held in a time. Every camera is asked before the first answer is waited for. Then it
+// begins to save the clips of each camera that has a folder for them.
 fn keep<
     R: AllocGlobal + Places + Threads + Wait + Clock + Clone + Drop + Send + Sync + 'static,
     W: Write + Drop + Send + 'static,
@@ -239,7 +244,7 @@ fn keep<
     rt: &R,
     station: &Station<W>,
     camera: &Option<Name<'_>>,
-    span: Span,
+    period: KeepPeriod,
     tag: Option<u64>,
     lines: &mut L,
 ) -> io::Result<()> {
@@ -250,7 +255,7 @@ fn keep<
     let mut some = false;
     for state in station.cameras.as_slice() {
         if is_meant(state, name) {
-            state.ask(rt, keep_of(rt, state, span, tag));
+            state.ask(rt, keep_of(rt, state, period, tag));
             some = true;
         }
     }
@@ -284,7 +289,7 @@ fn save_kept<
     };
     if let Some(Ok(Answer::Kept(kept, _))) = answered {
         for clip in kept.clips.as_slice() {
-            let to = Target::Folder(folder.as_str());
+            let to = SaveTarget::Folder(folder.as_str());
             save(
                 rt,
                 station,
@@ -343,7 +348,7 @@ fn list<R: Wait, W: Write + Drop, L: Write>(
     Ok(())
 }
 
-/// Tells how each camera stands.
+/// Prints the status of each camera.
 pub(crate) fn status<R: Wait, W: Write + Drop, L: Write>(
     rt: &R,
     station: &Station<W>,
@@ -357,7 +362,7 @@ pub(crate) fn status<R: Wait, W: Write + Drop, L: Write>(
     Ok(())
 }
 
-// Begins to write a clip; whether it has begun, and what comes of it is printed once it has ended.
+// Begins to save a clip. Returns whether that has begun; then the result is printed once the save has ended.
 fn save<
     R: AllocGlobal + Places + Threads + Wait + Clock + Clone + Drop + Send + Sync + 'static,
     W: Write + Drop + Send + 'static,
@@ -368,7 +373,7 @@ fn save<
     label: Option<&str>,
     name: &str,
     id: u32,
-    to: Target<'_>,
+    to: SaveTarget<'_>,
     lines: &mut L,
 ) -> io::Result<bool> {
     let Some(state) = camera_named(station, name) else {

@@ -1,4 +1,4 @@
-//! What the program prints, whole lines at a time, whichever thread has them.
+//! What the program prints: whole lines at a time, from whichever thread.
 
 use crate::clock::Timeline;
 use crate::tap::Tap;
@@ -10,7 +10,7 @@ use std::sync::atomic::{AtomicBool, Ordering};
 use std::sync::{Arc, Mutex, Wait};
 use std::time::Clock;
 
-// Where lines go, and the lines of the status that a terminal shows below them.
+// The output, and the lines of the status that a terminal shows below all others.
 #[derive(Drop)]
 struct Screen<W: Write + Drop> {
     out: W,
@@ -19,7 +19,7 @@ struct Screen<W: Write + Drop> {
 }
 
 impl<W: Write + Drop> Screen<W> {
-    // Takes the status off a terminal.
+    // Removes the status from a terminal.
     fn hide(&mut self) -> io::Result<()> {
         if self.shown > 0 {
             write!(&mut self.out, "\x1b[{}A\x1b[J", self.shown)?;
@@ -40,7 +40,7 @@ impl<W: Write + Drop> Screen<W> {
     }
 }
 
-// The first line of a text, and what stands behind it.
+// The first line of a text, and what follows it.
 fn first_line(text: &[u8]) -> (&[u8], &[u8]) {
     let mut length = 0usize;
     for byte in text {
@@ -65,20 +65,20 @@ fn count_lines(text: &[u8]) -> usize {
     count
 }
 
-/// Where lines are printed.
+/// The place where all lines are printed.
 #[derive(Drop)]
 pub struct Outlet<W: Write + Drop> {
     alloc: Global,
     screen: Mutex<Screen<W>>,
-    /// The clock of the times that stand before lines, if any do.
+    /// The clock for the time that each line begins with, if lines begin with times.
     times: Option<Timeline>,
-    /// Where all lines go too.
+    /// A further file or pipe that gets all lines.
     tap: Option<Arc<Tap>>,
     failed: AtomicBool,
 }
 
 impl<W: Write + Drop> Outlet<W> {
-    /// One that prints there.
+    /// An outlet that prints to `out`.
     pub fn new(alloc: Global, out: W, times: Option<Timeline>, tap: Option<Arc<Tap>>) -> Self {
         Outlet {
             alloc,
@@ -98,7 +98,7 @@ impl<W: Write + Drop> Outlet<W> {
         self.answer(rt, None, lines);
     }
 
-    /// Prints lines that answer an order with this label. Where that fails, nobody can be told before the program ends.
+    /// Prints lines that answer an order with this label. A failure is reported only by the program's status.
     pub fn answer<R: Wait + Clock>(&self, rt: &R, label: Option<&str>, lines: &[u8]) {
         if lines.is_empty() {
             return;
@@ -121,7 +121,7 @@ impl<W: Write + Drop> Outlet<W> {
         }
     }
 
-    // Prints a line, there and where all lines go too.
+    // Prints a line to the output, and to the further file or pipe.
     fn put_line<R: Wait + Clock>(
         &self,
         rt: &R,
@@ -136,7 +136,7 @@ impl<W: Write + Drop> Outlet<W> {
         out.write_all(&whole)
     }
 
-    // A line with all that stands before it, and its end.
+    // A line with its time and label, and its end.
     fn whole<R: Clock>(&self, rt: &R, label: Option<&str>, line: &[u8]) -> io::Result<Vec<u8>> {
         let mut whole = Vec::new(self.alloc);
         let time = match &self.times {
@@ -149,7 +149,7 @@ impl<W: Write + Drop> Outlet<W> {
         Ok(whole)
     }
 
-    /// Shows how the cameras stand, in place of what was shown before, below all other lines of a terminal.
+    /// Shows the status of the cameras below all other lines of a terminal, in place of the last one.
     pub fn show<R: Wait>(&self, rt: &R, status: Vec<u8>) {
         let mut screen = self.screen.lock(rt);
         let hidden = screen.hide();

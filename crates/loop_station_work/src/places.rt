@@ -13,7 +13,7 @@ use std::{fs, io};
 
 /// What a path leads to.
 #[derive(Clone, Copy, Debug, PartialEq, Eq)]
-pub enum Found {
+pub enum PathKind {
     /// Nothing is there, and a file may be made.
     Nothing,
     /// A regular file.
@@ -22,22 +22,22 @@ pub enum Found {
     Pipe,
     /// A device, a folder or the like.
     Other,
-    /// A link to nothing, or it can't be told.
+    /// A link to nothing, or something that can't be determined.
     Unknown,
 }
 
-/// What opens the files and pipes of a station, in whichever thread. It is a trait of its own, since a bound on all
-/// that files can do isn't taken along into a thread.
+/// Opens the files and pipes of a station, in whichever thread. It is a trait of its own, because a bound on
+/// everything that files can do can't be carried into a thread.
 pub trait Places {
     /// Opens a file or pipe to be read.
     fn open_input(&self, path: &str) -> io::Result<File>;
 
-    /// Opens a file or pipe that a clip is written to. A file that is in use, as a store that is recorded into, is left
-    /// alone (`Busy`).
+    /// Opens a file or pipe that a clip is written to. A file that is in use, such as a store that is recorded into, is
+    /// left alone (`Busy`).
     fn open_output(&self, path: &str) -> Result<TextFile, FileFault>;
 
     /// What a path leads to.
-    fn found(&self, path: &str) -> Found;
+    fn path_kind(&self, path: &str) -> PathKind;
 
     /// Whether two paths lead to the same file, or would.
     fn is_same(&self, path: &str, other: &str) -> bool;
@@ -45,14 +45,15 @@ pub trait Places {
     /// Removes a file.
     fn remove(&self, path: &str) -> io::Result<()>;
 
-    /// Opens the file or pipe to which all that is printed goes too. That of a pipe waits until someone reads.
+    /// Opens the file or pipe that also gets everything that is printed. For a pipe it waits until someone reads.
     fn open_answers(&self, path: &str) -> io::Result<File>;
 
     /// Opens the file of a store.
     fn open_store(&self, path: &str) -> Result<FileDisk, FileFault>;
 
-    /// Makes a store where there is no file, and opens it. It is made as NAME.new in the same folder, and has its own
-    /// name once it is whole. A NAME.new that a stop left is made anew, or gets its name where it is a store already.
+    /// Makes a store where there is no file, and opens it. It is made as NAME.new in the same folder, and is renamed
+    /// once it is complete. A NAME.new that an earlier run left is made anew, or just renamed where it is a store
+    /// already.
     fn make_store(&self, path: &str, geometry: Geometry) -> Result<Store<FileDisk>, Absent>;
 }
 
@@ -65,8 +66,8 @@ impl Places for HostRuntime {
         TextFile::open(self, path)
     }
 
-    fn found(&self, path: &str) -> Found {
-        found_at(self, path)
+    fn path_kind(&self, path: &str) -> PathKind {
+        path_kind_at(self, path)
     }
 
     fn is_same(&self, path: &str, other: &str) -> bool {
@@ -91,28 +92,28 @@ impl Places for HostRuntime {
 }
 
 // What a path leads to.
-fn found_at<R: Files>(rt: &R, path: &str) -> Found {
+fn path_kind_at<R: Files>(rt: &R, path: &str) -> PathKind {
     let metadata = match fs::metadata(rt, path) {
         Ok(metadata) => metadata,
         Err(fault) if fault.kind() == ErrorKind::NotFound => {
             return match fs::symlink_metadata(rt, path) {
-                Err(_) => Found::Nothing,
-                Ok(_) => Found::Unknown,
+                Err(_) => PathKind::Nothing,
+                Ok(_) => PathKind::Unknown,
             };
         }
-        Err(_) => return Found::Unknown,
+        Err(_) => return PathKind::Unknown,
     };
     let kind = metadata.file_type();
     if kind.is_file() {
-        Found::File
+        PathKind::File
     } else if kind.is_fifo() {
-        Found::Pipe
+        PathKind::Pipe
     } else {
-        Found::Other
+        PathKind::Other
     }
 }
 
-// Whether two paths lead to one file; or, where neither does to any, to one name in one folder.
+// Whether two paths lead to one file; or, where neither leads to a file, to one name in one folder.
 fn lead_to_one<R: Files>(rt: &R, path: &str, other: &str) -> bool {
     match (fs::metadata(rt, path), fs::metadata(rt, other)) {
         (Ok(a), Ok(b)) => (a.dev(), a.ino()) == (b.dev(), b.ino()),
@@ -157,8 +158,8 @@ fn make_at<R: AllocGlobal + Files<File = File>>(
     Ok(store)
 }
 
-// The store at a place, as a stop left it; None where there is no file, one that isn't a store yet, or a store without
-// a frame that is for other frames than these. `Unfinished` where it can't be told what is there.
+// The store at a place, as an earlier run left it. None where there is no file, where it isn't a store yet, or where it
+// is a store without a frame, for other frames than these. `Unfinished` where it can't be determined what is there.
 fn left_at<R: AllocGlobal + Files<File = File>>(
     rt: &R,
     place: &FilePlace,
@@ -178,7 +179,7 @@ fn left_at<R: AllocGlobal + Files<File = File>>(
     }
 }
 
-// A store that has a frame, or is for frames like these.
+// The store, where it has a frame or is for frames like these.
 fn for_frames(store: Store<FileDisk>, geometry: &Geometry) -> Option<Store<FileDisk>> {
     if store.next() > 0 || store.geometry() == *geometry {
         Some(store)
@@ -187,7 +188,7 @@ fn for_frames(store: Store<FileDisk>, geometry: &Geometry) -> Option<Store<FileD
     }
 }
 
-// Makes the file of a place anew, with a store in it. What a refusal leaves there isn't a store.
+// Makes the file of a place anew, with a store in it. What is left there after a failure isn't a store.
 fn format_at<R: AllocGlobal + Files<File = File>>(
     rt: &R,
     place: &mut FilePlace,

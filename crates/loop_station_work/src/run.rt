@@ -1,11 +1,11 @@
 //! The program: threads for each camera, and orders meanwhile.
 
 use crate::clock::Timeline;
-use crate::events::{Told, tell_events};
+use crate::events::{LastReported, tell_events};
 use crate::filming::run_camera;
 use crate::orders::{Station, status, take_orders};
 use crate::outlet::Outlet;
-use crate::places::{Found, Places};
+use crate::places::{PathKind, Places};
 use crate::save::Saves;
 use crate::source::run_source;
 use crate::state::CameraState;
@@ -19,7 +19,7 @@ use std::thread;
 use std::thread::{JoinHandle, Scope, Threads};
 use std::time::{Clock, Duration};
 
-// How often it is looked whether a status is due.
+// How many times the state of the cameras is looked at for each status that is shown.
 const STATUS_STEPS: u32 = 10;
 
 /// Why the program couldn't begin.
@@ -37,10 +37,10 @@ impl From<AllocError> for NotBegun {
     }
 }
 
-/// Records from each camera of a configuration, the file of this path, into its store, and does the orders that come
-/// from the input, or from the pipe or file that the configuration names, until one says `stop`. What is printed goes
-/// to `out`; where someone watches, a line for each camera stands below it and tells every second how it does. Where
-/// the input ends, it goes on. It answers whether all could be printed.
+/// Records from each camera of a configuration into its store, and does orders until one says `stop`. `path` is the
+/// path of the configuration's file. Orders come from the input, or from the pipe or file that the configuration names;
+/// the end of the input doesn't end the recording. Lines are printed to `out`. Where someone watches, a line for each
+/// camera below them shows its status, every second. Returns whether everything could be printed.
 pub fn run_station<
     R: AllocGlobal + Places + Threads + Wait + Clock + Clone + Drop + Send + Sync + 'static,
     I: Read + Drop,
@@ -87,7 +87,7 @@ pub fn run_station<
     Ok(!station.outlet.has_failed())
 }
 
-// The clock, from now on.
+// The timeline of the frames, which begins now.
 fn timeline_of<R: Clock>(rt: &R) -> Result<Timeline, NotBegun> {
     match Timeline::new(rt) {
         Ok(timeline) => Ok(timeline),
@@ -111,7 +111,7 @@ fn states_of(
     Ok(states)
 }
 
-// The files and pipes that no clip is written to: the configuration and all that it names.
+// The files and pipes that no clip may be written to: the configuration and all that it names.
 fn taken_paths(alloc: Global, path: &str, config: &Config) -> Result<Vec<String>, NotBegun> {
     let mut taken = Vec::new(alloc);
     add_path(alloc, &mut taken, path)?;
@@ -141,7 +141,7 @@ fn add_path(alloc: Global, paths: &mut Vec<String>, path: &str) -> Result<(), No
     }
 }
 
-// What is printed, on its way to the file or pipe of a path, if there is one.
+// The tap for the file or pipe of a path, if there is one.
 fn tap_of<R: AllocGlobal + Places>(
     rt: &R,
     answers: Option<String>,
@@ -149,12 +149,12 @@ fn tap_of<R: AllocGlobal + Places>(
     let Some(path) = answers else {
         return Ok(None);
     };
-    let is_pipe = rt.found(path.as_str()) == Found::Pipe;
+    let is_pipe = rt.path_kind(path.as_str()) == PathKind::Pipe;
     let tap = shared(rt.alloc(), Tap::new(rt.alloc(), path, is_pipe)?)?;
     Ok(Some(tap))
 }
 
-// Starts the thread of a tap, which a pipe may keep waiting for ever: it ends with the program.
+// Starts the thread of a tap. A pipe may keep it waiting for ever, so it ends with the program.
 fn start_tap<
     R: AllocGlobal + Places + Threads + Wait + Clock + Clone + Drop + Send + Sync + 'static,
     W: Write + Drop + Send + 'static,
@@ -180,8 +180,8 @@ fn shared<T: Drop>(alloc: Global, value: T) -> Result<Arc<T>, NotBegun> {
     }
 }
 
-// Starts a thread for each source. A source may keep its thread waiting for ever, so they aren't joined: they end with
-// the program.
+// Starts a thread for each source. A source may keep its thread waiting for ever, so these threads aren't joined: they
+// end with the program.
 fn start_sources<
     R: AllocGlobal + Places + Threads + Wait + Clock + Clone + Drop + Send + Sync + 'static,
     W: Write + Drop + Send + 'static,
@@ -219,7 +219,8 @@ fn run_behind<
     })
 }
 
-// Starts the cameras' threads, does orders until one says `stop`, and joins the threads; whether all could be started.
+// Starts the cameras' threads, does orders until one says `stop`, and joins the threads. Returns whether all threads
+// could be started.
 fn run_in<
     's,
     E,
@@ -250,7 +251,7 @@ fn run_in<
     all
 }
 
-// Starts a thread for each camera, and one that tells what happens to them; whether all could be started.
+// Starts a thread for each camera, and one that prints what happens to them. Returns whether all could be started.
 fn start_cameras<
     's,
     E,
@@ -280,16 +281,19 @@ fn start_cameras<
     true
 }
 
-// Tells what happens to the cameras by itself, and every second how each stands where someone watches, until the
-// program comes to its end.
+// Prints events of the cameras, and shows the status of each every second where someone watches, until the program
+// ends.
 fn watch<R: AllocGlobal + Wait + Clock, W: Write + Drop>(
     rt: &R,
     station: &Station<W>,
     watched: bool,
 ) {
-    let mut told = Vec::new(rt.alloc());
+    let mut reported = Vec::new(rt.alloc());
     for state in station.cameras.as_slice() {
-        if told.push(Told::new(state.timeline.now(rt))).is_err() {
+        if reported
+            .push(LastReported::new(state.timeline.now(rt)))
+            .is_err()
+        {
             return;
         }
     }
@@ -297,7 +301,7 @@ fn watch<R: AllocGlobal + Wait + Clock, W: Write + Drop>(
         for _ in 0..STATUS_STEPS {
             let over = station.cameras.iter().all(|state| state.is_stopped());
             if station.events {
-                tell_all(rt, station, told.as_mut_slice());
+                tell_all(rt, station, reported.as_mut_slice());
             }
             if over {
                 return;
@@ -311,31 +315,32 @@ fn watch<R: AllocGlobal + Wait + Clock, W: Write + Drop>(
     }
 }
 
-// Tells what happened to each camera since it was looked at before.
+// Prints what has changed of each camera since it was last looked at.
 fn tell_all<R: AllocGlobal + Wait + Clock, W: Write + Drop>(
     rt: &R,
     station: &Station<W>,
-    told: &mut [Told],
+    reported: &mut [LastReported],
 ) {
     let mut place = 0usize;
     for state in station.cameras.as_slice() {
-        if let Some(told) = told.get_mut(place) {
-            tell_events(rt, state, told, &station.outlet);
+        if let Some(reported) = reported.get_mut(place) {
+            tell_events(rt, state, reported, &station.outlet);
         }
         place = place.saturating_add(1);
     }
 }
 
-// Shows how each camera stands.
+// Shows the status of each camera.
 fn show<R: AllocGlobal + Wait + Clock, W: Write + Drop>(rt: &R, station: &Station<W>) {
     let mut lines = Vec::new(rt.alloc());
+    // Where memory for the lines is refused, the next look has them.
     if status(rt, station, &mut lines).is_ok() {
         station.outlet.show(rt, lines);
     }
 }
 
-// Does orders, from the pipe or file that is named, which is opened again and again, or from the input; whether one
-// said `stop`.
+// Does orders, from the pipe or file that is named or from the input. A pipe is opened again and again. Returns whether
+// an order said `stop`.
 fn serve<
     R: AllocGlobal + Places + Threads + Wait + Clock + Clone + Drop + Send + Sync + 'static,
     I: Read + Drop,
@@ -361,13 +366,13 @@ fn serve<
     false
 }
 
-// What came of the orders of a pipe or file.
+// How the orders of a pipe or file ended.
 enum Served {
     // One said `stop`.
     Stop,
     // It is a file, which is read once.
     Once,
-    // It is a pipe, from which more may come, or isn't there yet.
+    // It is a pipe, which may bring more orders, or it isn't there yet.
     Again,
 }
 

@@ -1,10 +1,10 @@
-//! Clips that are written as YUV4MPEG2 while their cameras record, by loop_y4m's proved writer.
+//! Saves: clips are written as YUV4MPEG2 while their cameras record, by the proved writer of loop_y4m.
 //!
-//! There are places for so many saves at once, and a thread for each that was ever taken, which stays. A save has its
-//! place from when its order is read until what came of it is told. Whoever tells that gives the place back, under one
-//! lock: the save's own thread, or a stop of the program where that thread hangs in a pipe that nobody reads.
+//! There are places for so many saves at once. A place that was ever taken has a thread, which stays. A save has its
+//! place from when its order is read until its result is printed. Whoever prints the result gives the place back under
+//! the same lock: the save's own thread, or a stop of the program where that thread waits for a pipe that nobody reads.
 
-ghost use Rattle.std.specs.Prelude.{◌≡◌, IfOk, List, OnOk, ℕ};
+ghost use Rattle.std.specs.Prelude.{IfOk, List, OnOk, ℕ};
 ghost use Rattle.std.specs.Io.KnownBytes.{Appends};
 ghost use Rattle.loop_y4m.specs.Text.{frame};
 ghost use Rattle.loop_station_work.specs.Saves.{WroteClip};
@@ -12,9 +12,9 @@ ghost use Rattle.loop_station_work.specs.Saves.{WroteClip};
 use crate::absent::{Absent, file_name};
 use crate::clerk::{Answer, FoundClip, Request};
 use crate::outlet::Outlet;
-use crate::places::{Found, Places};
+use crate::places::{PathKind, Places};
+use crate::replies::tell_released;
 use crate::state::CameraState;
-use crate::told::tell_released;
 use loop_file::{FileFault, TextFile};
 use loop_record::Geometry;
 use loop_station_words::{print_clip_path, print_done, print_not_saved, print_saved};
@@ -38,7 +38,7 @@ const AT_ONCE: usize = 262_144;
 // How often a stop waits ten milliseconds for saves that are about to end.
 const STOP_STEPS: u32 = 70;
 
-// How many clips that are written by themselves may have one name but for their place.
+// How many clips that are saved by themselves may have names that differ only in the number at the end.
 const MOST_NAMES: u32 = 100;
 
 /// Why a clip wasn't written, or not to its end.
@@ -46,29 +46,29 @@ const MOST_NAMES: u32 = 100;
 pub(crate) enum NotSaved {
     /// There is no clip of that id.
     NoSuchClip,
-    /// So many clips are being saved that this one can't be.
+    /// As many clips are being saved as may be at once.
     TooMany,
     /// The camera's store isn't there.
     Absent(Absent),
     /// The store refused a read.
     Refused(StoreFault),
-    /// A file is there, and wasn't to be replaced.
+    /// A file exists, and may not be replaced.
     Exists,
     /// The file or pipe is one that the station has open, or another program has locked.
     InUse,
     /// The file can't be opened.
     File(FileFault),
-    /// The path leads to nothing through a link, or it can't be told what is there.
+    /// The path leads to nothing through a link, or it can't be determined what is there.
     CannotOpen,
-    /// The file can't be written to its end, or the disk can't be asked to keep it.
+    /// The file can't be written completely, or the disk can't be asked to keep it.
     CannotWrite,
     /// Memory or a thread was refused.
     NoMemory,
-    /// The program comes to its end.
+    /// The program ends.
     Stopped,
 }
 
-// Its name, as it is told.
+// Its name, as it is printed.
 impl Display for NotSaved {
     fn fmt<W: fmt::Write>(&self, f: &mut Formatter<W>) -> fmt::Result {
         f.write_str(match self {
@@ -93,21 +93,21 @@ impl From<AllocError> for NotSaved {
     }
 }
 
-/// Where a clip is to be written to.
+/// Where a clip is saved to.
 #[derive(Clone, Copy)]
-pub(crate) enum Target<'a> {
-    /// There, and whether a file that is there is replaced.
+pub(crate) enum SaveTarget<'a> {
+    /// A path, and whether a file that exists is replaced.
     Path(&'a str, bool),
-    /// Into a folder, under a name of its own.
+    /// A folder, in which the clip gets a name of its own.
     Folder(&'a str),
 }
 
-impl<'a> Target<'a> {
-    /// The path as far as it is known before the clip is.
+impl<'a> SaveTarget<'a> {
+    /// The path, as far as it is known before the clip is found.
     pub fn path(&self) -> &'a str {
         match self {
-            Target::Path(path, _) => path,
-            Target::Folder(folder) => folder,
+            SaveTarget::Path(path, _) => path,
+            SaveTarget::Folder(folder) => folder,
         }
     }
 }
@@ -119,16 +119,16 @@ struct Save {
     geometry: Geometry,
     found: FoundClip,
     path: String,
-    // A file that is there is replaced.
+    // A file that exists is replaced.
     replace: bool,
     // The clip is released once it is saved.
     release: bool,
-    // That of its order.
+    // The label of its order.
     label: Option<String>,
 }
 
 impl Save {
-    // Prints what came of it, and of its release, if that was asked for too.
+    // Prints its result, and that of its release, if that was asked for too.
     fn print<R: AllocGlobal + Wait + Clock, W: Write + Drop>(
         &self,
         rt: &R,
@@ -137,12 +137,13 @@ impl Save {
         released: &[u8],
     ) {
         let mut lines = Vec::new(rt.alloc());
+        // Where memory for the lines is refused, nothing is printed.
         if self.write_lines(&mut lines, came, released).is_ok() {
             outlet.answer(rt, self.label.as_deref(), &lines);
         }
     }
 
-    // The lines of what came of it.
+    // The lines of its result.
     fn write_lines<L: Write>(
         &self,
         lines: &mut L,
@@ -164,7 +165,7 @@ impl Save {
 
 // A place for a save.
 #[derive(Drop)]
-struct Place {
+struct SavePlace {
     // The save that has it.
     save: Option<Arc<Save>>,
     // Its thread hasn't seen that save yet.
@@ -173,10 +174,10 @@ struct Place {
     has_thread: bool,
 }
 
-/// The saves that are under way.
+/// The saves that are in progress.
 #[derive(Drop)]
 pub(crate) struct Saves {
-    places: Mutex<Vec<Place>>,
+    places: Mutex<Vec<SavePlace>>,
     changed: Condvar,
     stopped: AtomicBool,
     /// The files and pipes of the station, which no clip is written to.
@@ -184,11 +185,11 @@ pub(crate) struct Saves {
 }
 
 impl Saves {
-    /// None yet. No clip is written to these files and pipes.
+    /// No saves yet. No clip is written to these files and pipes.
     pub fn new(alloc: Global, taken: Vec<String>) -> Result<Saves, AllocError> {
         let mut places = Vec::with_capacity(alloc, MOST_SAVES)?;
         for _ in 0..MOST_SAVES {
-            places.push(Place {
+            places.push(SavePlace {
                 save: None,
                 is_new: false,
                 has_thread: false,
@@ -225,7 +226,7 @@ impl Saves {
         false
     }
 
-    // Gives a save a place: which, and whether that wants a thread. None where there is none.
+    // Gives a save a place. Returns which one, and whether it needs a thread; None where all places are taken.
     fn take_place<R: Wait>(&self, rt: &R, save: Arc<Save>) -> Option<(usize, bool)> {
         let mut places = self.places.lock(rt);
         let mut at = 0usize;
@@ -243,7 +244,7 @@ impl Saves {
         None
     }
 
-    // Takes a place back whose thread can't be started.
+    // Takes back a place whose thread can't be started.
     fn lose_thread<R: Wait>(&self, rt: &R, at: usize) {
         let mut places = self.places.lock(rt);
         if let Some(place) = places.get_mut(at) {
@@ -266,7 +267,7 @@ impl Saves {
         Arc::try_clone(place.save.as_ref()?).ok()
     }
 
-    // Tells what came of the save of a place, and gives the place back, unless a stop did.
+    // Prints the result of the save of a place, and gives the place back, unless a stop did.
     fn end<R: AllocGlobal + Wait + Clock, W: Write + Drop>(
         &self,
         rt: &R,
@@ -284,7 +285,7 @@ impl Saves {
         }
     }
 
-    // Whether a save is under way.
+    // Whether a save is in progress.
     fn is_busy<R: Wait>(&self, rt: &R) -> bool {
         self.places
             .lock(rt)
@@ -292,7 +293,8 @@ impl Saves {
             .any(|place| place.save.is_some())
     }
 
-    /// Ends all saves, within a second: what hasn't ended by itself shortly is told as stopped, and never again.
+    /// Ends all saves, within a second. Those that haven't ended by themselves shortly are printed as stopped, and
+    /// their threads print nothing more.
     pub fn stop<R: AllocGlobal + Wait + Clock, W: Write + Drop>(&self, rt: &R, outlet: &Outlet<W>) {
         for _ in 0..STOP_STEPS {
             if !self.is_busy(rt) {
@@ -310,8 +312,8 @@ impl Saves {
     }
 }
 
-/// Begins to write a clip as its camera has it now. What comes of it is printed by a thread of the save's place;
-/// `TooMany`, `NoSuchClip` and what else ends it before are answered.
+/// Begins to save a clip as its camera has it now. The thread of the save's place prints the result. `TooMany`,
+/// `NoSuchClip` and whatever else ends the save before that are returned.
 pub(crate) fn begin_save<
     R: AllocGlobal + Places + Threads + Wait + Clock + Clone + Drop + Send + Sync + 'static,
     W: Write + Drop + Send + 'static,
@@ -322,7 +324,7 @@ pub(crate) fn begin_save<
     state: &Arc<CameraState>,
     label: Option<&str>,
     id: u32,
-    to: Target<'_>,
+    to: SaveTarget<'_>,
 ) -> Result<(), NotSaved> {
     let save = save_of(rt, state, label, id, to)?;
     let Ok(save) = Arc::new(rt.alloc(), save) else {
@@ -342,13 +344,13 @@ pub(crate) fn begin_save<
     Ok(())
 }
 
-// What is to be saved, and where.
+// The clip to be saved, and where.
 fn save_of<R: AllocGlobal + Places + Wait>(
     rt: &R,
     state: &Arc<CameraState>,
     label: Option<&str>,
     id: u32,
-    to: Target<'_>,
+    to: SaveTarget<'_>,
 ) -> Result<Save, NotSaved> {
     let alloc = rt.alloc();
     let found = find(rt, state, id)?;
@@ -356,8 +358,8 @@ fn save_of<R: AllocGlobal + Places + Wait>(
         return Err(NotSaved::Absent(Absent::NoStore));
     };
     let (path, replace, release) = match to {
-        Target::Path(path, replace) => (String::from_str(alloc, path)?, replace, false),
-        Target::Folder(folder) => (
+        SaveTarget::Path(path, replace) => (String::from_str(alloc, path)?, replace, false),
+        SaveTarget::Folder(folder) => (
             path_in(rt, folder, state.config.name.as_str(), &found)?,
             false,
             state.config.release,
@@ -378,8 +380,8 @@ fn save_of<R: AllocGlobal + Places + Wait>(
     })
 }
 
-// The path of a clip's file in a folder, by its camera, the time of its first frame, and its id; another one where a
-// file has that name.
+// The path of a clip's file in a folder: by its camera, the time of its first frame, and its id. Where a file has that
+// name, a number is added.
 fn path_in<R: AllocGlobal + Places>(
     rt: &R,
     folder: &str,
@@ -388,14 +390,14 @@ fn path_in<R: AllocGlobal + Places>(
 ) -> Result<String, NotSaved> {
     for place in 1..MOST_NAMES {
         let path = path_of(rt.alloc(), folder, camera, found, place)?;
-        if rt.found(path.as_str()) == Found::Nothing {
+        if rt.path_kind(path.as_str()) == PathKind::Nothing {
             return Ok(path);
         }
     }
     path_of(rt.alloc(), folder, camera, found, MOST_NAMES)
 }
 
-// That path, for the clip at this place of those with one name, from 1.
+// That path, for the clip with this number among those with one name, from 1.
 fn path_of(
     alloc: Global,
     folder: &str,
@@ -425,7 +427,7 @@ fn find<R: Wait>(rt: &R, state: &CameraState, id: u32) -> Result<FoundClip, NotS
     }
 }
 
-// A place's thread: it writes the clips that come to the place, one after the other.
+// The thread of a place: it writes the clips that are saved there, one after the other.
 fn run_saves<R: AllocGlobal + Places + Wait + Clock, W: Write + Drop>(
     rt: &R,
     saves: &Saves,
@@ -438,7 +440,7 @@ fn run_saves<R: AllocGlobal + Places + Wait + Clock, W: Write + Drop>(
             Some(save) => {
                 let came = write(rt, saves, &save);
                 if came.is_ok() && save.release {
-                    // Where memory is refused the release is told by no line; `list` has the clip no more.
+                    // Where memory is refused, no line says that the clip is released; `list` doesn't show it any more.
                     let _ = release(rt, &save, &mut released);
                 }
                 came
@@ -459,26 +461,26 @@ fn release<R: Wait, L: Write>(rt: &R, save: &Save, lines: &mut L) -> io::Result<
     tell_released(state, id, state.clerk.answer(rt), lines)
 }
 
-// Writes a clip, and answers how many frames it has, once a file that they went to stays through a loss of power. A
-// file that was made for it is removed where it can't be written to its end.
+// Writes a clip. Returns how many frames it has, once the file would survive a loss of power. A file that was made for
+// the clip is removed where it can't be written completely.
 fn write<R: AllocGlobal + Places + Wait>(
     rt: &R,
     saves: &Saves,
     save: &Save,
 ) -> Result<u64, NotSaved> {
     let path = save.path.as_str();
-    let found = rt.found(path);
+    let kind = rt.path_kind(path);
     if saves.is_taken(rt, path) {
         return Err(NotSaved::InUse);
     }
-    match found {
-        Found::File if !save.replace => return Err(NotSaved::Exists),
-        Found::Unknown => return Err(NotSaved::CannotOpen),
-        Found::Nothing | Found::File | Found::Pipe | Found::Other => {}
+    match kind {
+        PathKind::File if !save.replace => return Err(NotSaved::Exists),
+        PathKind::Unknown => return Err(NotSaved::CannotOpen),
+        PathKind::Nothing | PathKind::File | PathKind::Pipe | PathKind::Other => {}
     }
     let came = write_file(rt, saves, save);
-    if came.is_err() && found == Found::Nothing {
-        // What can't be removed either stays, as after a stop.
+    if came.is_err() && kind == PathKind::Nothing {
+        // A file that can't be removed either stays, as after a stop: the save's own fault is printed.
         let _ = rt.remove(path);
     }
     came
@@ -522,7 +524,7 @@ fn write_clip<R: AllocGlobal + Wait>(
     }
 }
 
-// Writes the text of a clip: the header of its store, and its frames. How many these are.
+// Writes the text of a clip: the header of its store, and its frames. Returns how many frames there are.
 fn write_text<R: Wait, W: Write>(
     rt: &R,
     saves: &Saves,

@@ -1,5 +1,5 @@
-//! A source's thread: it opens the source again and again, and gives its frames to the camera's feed. A source whose
-//! frames aren't as the store has them is refused, and that is printed once.
+//! A source's thread: it opens the source again and again, and gives its frames to the camera's feed. A source is
+//! refused where its frames aren't as the store has them, and that is printed once.
 
 ghost use Rattle.std.specs.Prelude.{◌≡◌, IfSome, length};
 
@@ -21,10 +21,10 @@ use std::sync::Wait;
 use std::thread;
 use std::time::{Clock, Duration};
 
-// How many milliseconds a source that ended, broke or isn't there is left alone.
+// How many milliseconds pass before a source that ended, broke or isn't there is opened again.
 const OPEN_AGAIN: u64 = 200;
 
-// How many bytes of a source are fetched at once: as many as a pipe holds.
+// How many bytes of a source are read at once: as many as a pipe holds.
 const AT_ONCE: usize = 65_536;
 
 // A ring of any size: the store's own is chosen elsewhere.
@@ -33,10 +33,10 @@ const ANY_RING: RingSize = RingSize {
     slots: 1,
 };
 
-// How many milliseconds a source without memory for a frame waits for that of an earlier one.
+// How many milliseconds a source waits for the memory of an earlier frame where it gets none for the next.
 const MEMORY_AGAIN: u64 = 10;
 
-// A source that is so many microseconds late gives its frames from now on.
+// A source that is later than so many microseconds gives its frames at its rate from now on.
 const LATE: u64 = 1_000_000;
 
 /// Gives a source's frames to a camera's feed, and opens it again where it ends or breaks, until the camera is stopped.
@@ -57,7 +57,7 @@ pub(crate) fn run_source<R: AllocGlobal + Places + Wait + Clock, W: Write + Drop
     }
 }
 
-// When the frames of a source that doesn't come by itself are due.
+// When frames are due, of a source that doesn't set the pace itself.
 #[derive(Drop)]
 struct Beat {
     start: u64,
@@ -85,7 +85,7 @@ impl Beat {
     }
 }
 
-// One that begins now, at a geometry's rate.
+// A beat that begins now, at a geometry's rate.
 fn beat_of<R: Clock>(rt: &R, state: &CameraState, geometry: &Geometry) -> Beat {
     Beat {
         start: state.timeline.now(rt),
@@ -118,14 +118,14 @@ fn play_pattern<R: AllocGlobal + Wait + Clock, W: Write + Drop>(
         let Some(mut bytes) = row_for(rt, state, size) else {
             break;
         };
-        // The pattern never ends.
+        // The pattern never ends, so its answer says nothing.
         let _more = pattern.next(&mut bytes);
         state.feed.give(rt, &state.timeline, bytes);
     }
 }
 
-// Tells what a source's header says; whether the store takes its frames. That it doesn't is printed, but not again
-// while nothing else comes of it.
+// Offers what a source's header says. Returns whether the store takes its frames. That it doesn't is printed, but not
+// again while that is still the result.
 fn offer<R: AllocGlobal + Wait + Clock, W: Write + Drop>(
     rt: &R,
     state: &CameraState,
@@ -147,7 +147,7 @@ fn offer<R: AllocGlobal + Wait + Clock, W: Write + Drop>(
     }
 }
 
-// Prints what frames a camera's source has, which aren't as its store has them.
+// Prints which frames a camera's source has, where its store has others.
 fn tell_other<R: AllocGlobal + Wait + Clock, W: Write + Drop>(
     rt: &R,
     state: &CameraState,
@@ -155,6 +155,7 @@ fn tell_other<R: AllocGlobal + Wait + Clock, W: Write + Drop>(
     geometry: &Geometry,
 ) {
     let mut line = Vec::new(rt.alloc());
+    // Where memory for the line is refused, it isn't printed.
     if print_other_geometry(&mut line, state.config.name.as_str(), geometry).is_ok() {
         outlet.put(rt, &line);
     }
@@ -216,8 +217,8 @@ fn play_input<R: AllocGlobal + Wait + Clock, I: Read + Drop, W: Write + Drop>(
     }
 }
 
-// Memory for a frame of so many bytes: that of an earlier one, or new. Where it is refused, that of an earlier frame
-// is waited for; None where the camera is stopped before.
+// Memory for a frame of so many bytes: that of an earlier one, or new. Where new memory is refused, it waits for that
+// of an earlier frame; None where the camera is stopped before that.
 fn row_for<R: AllocGlobal + Wait + Clock>(rt: &R, state: &CameraState, size: u32) -> Option<Vec<u8>>
     ensures { IfSome result (λ bytes. length bytes.items ≡ size) }
 {
@@ -234,7 +235,7 @@ fn row_for<R: AllocGlobal + Wait + Clock>(rt: &R, state: &CameraState, size: u32
     unreachable!()
 }
 
-// Reads a frame and gives it to the feed; whether there was one.
+// Reads a frame and gives it to the feed. Returns whether there was one.
 fn give_next<R: AllocGlobal + Wait + Clock, I: Read + Drop>(
     rt: &R,
     state: &CameraState,
@@ -249,6 +250,7 @@ fn give_next<R: AllocGlobal + Wait + Clock, I: Read + Drop>(
             true
         }
         Ok(false) => false,
+        // A text that breaks off or breaks its rules ends here too: the source is opened again, and `status` says so.
         Err(_) => false,
     }
 }

@@ -1,4 +1,4 @@
-//! What the threads of one camera share, and how it guides them.
+//! What the threads of one camera share, and how that guides them.
 
 ghost use Rattle.std.specs.Prelude.{◌≡◌};
 
@@ -8,11 +8,11 @@ use crate::clock::Timeline;
 use crate::counts::Counts;
 use crate::feed::Feed;
 use crate::inbox::Inbox;
-use crate::link::Link;
+use crate::link::SourceLink;
 use crate::size::micros_of;
 use loop_capture::Tick;
 use loop_disk::Disk;
-use loop_pipeline::{Back, Guide, Link as Threads};
+use loop_pipeline::{Back, Guide, Link};
 use loop_station_words::CameraConfig;
 use loop_store::{ReadFrame, StoreFault};
 use std::alloc::{AllocError, Global};
@@ -26,19 +26,19 @@ const LOOK_AGAIN: u64 = 50;
 /// What the threads of one camera share.
 #[derive(Drop)]
 pub struct CameraState {
-    /// What the file says of it.
+    /// What the configuration says of it.
     pub config: CameraConfig,
     /// The time that its frames get.
     pub timeline: Timeline,
-    /// Where its source's frames wait.
+    /// The queue of its source's frames.
     pub feed: Arc<Feed>,
     /// What its source and its store know of each other.
-    pub link: Link,
-    /// What the threads that film it tell each other.
-    pub threads: Threads,
-    /// Where orders go.
+    pub link: SourceLink,
+    /// What the threads that film it share.
+    pub threads: Link,
+    /// The inbox for orders.
     pub clerk: Inbox<Request, Answer, Absent>,
-    /// Where frames are read for a save.
+    /// The inbox for reads of frames for a save.
     pub reader: Inbox<u64, Result<ReadFrame, StoreFault>, Absent>,
     /// What is counted.
     pub counts: Counts,
@@ -46,7 +46,7 @@ pub struct CameraState {
     keeping: Mutex<Option<Keeping>>,
     /// The filming is over: desk or queue is broken, and the store is opened again.
     over: AtomicBool,
-    /// Every block is locked, as the last flush was answered.
+    /// Every block is locked, as the last flush reported.
     locked: AtomicBool,
     stopped: AtomicBool,
 }
@@ -62,8 +62,8 @@ impl CameraState {
             config,
             timeline,
             feed: Arc::new(alloc, Feed::new(alloc)?)?,
-            link: Link::new(),
-            threads: Threads::new(alloc)?,
+            link: SourceLink::new(),
+            threads: Link::new(alloc)?,
             clerk: Inbox::new(),
             reader: Inbox::new(),
             counts: Counts::new(),
@@ -74,7 +74,7 @@ impl CameraState {
         })
     }
 
-    /// Lets all that runs for the camera come to its end.
+    /// Ends everything that runs for the camera.
     pub fn stop(&self) {
         self.stopped.store(true, Ordering::SeqCst);
     }
@@ -84,19 +84,19 @@ impl CameraState {
         self.stopped.load(Ordering::SeqCst)
     }
 
-    /// Asks for something; the answer has to be taken from the clerk.
+    /// Asks for something. The answer has to be taken from the clerk.
     pub fn ask<R: Wait>(&self, rt: &R, request: Request) {
         self.clerk.ask(rt, request);
         self.threads.wake(rt);
     }
 
-    /// Asks for the frame of a number; the answer has to be taken from the reader.
+    /// Asks for the frame of a number. The answer has to be taken from the reader.
     pub fn ask_frame<R: Wait>(&self, rt: &R, number: u64) {
         self.reader.ask(rt, number);
         self.threads.wake(rt);
     }
 
-    /// Its store is there, and the camera is filmed from now on: orders are taken.
+    /// Its store is there, and the camera is filmed from now on. Orders are taken.
     pub fn begin<R: Wait>(&self, rt: &R) {
         self.over.store(false, Ordering::SeqCst);
         self.locked.store(false, Ordering::SeqCst);
@@ -104,7 +104,7 @@ impl CameraState {
         self.reader.open(rt);
     }
 
-    /// The store isn't there. An order that stands, or a keep that waits, is answered so.
+    /// The store isn't there. An order or a keep that waits gets that as its answer.
     pub fn leave<R: Wait>(&self, rt: &R, why: Absent) {
         if let Some(keeping) = self.take_keeping(rt) {
             self.clerk
@@ -137,14 +137,14 @@ impl CameraState {
     }
 
     /// Desk and queue are given up: what was in them and isn't stored is lost, and counted. The camera's thread calls
-    /// it, when neither thread films it.
+    /// this when no thread films the camera.
     pub fn lose_rest<R: Wait>(&self, rt: &R) {
         let (_, taken) = self.feed.counts(rt);
         let ready = u64::from(self.feed.is_ready(rt));
         self.counts.lose(taken.saturating_sub(ready));
     }
 
-    /// How many microseconds the frames last that have come from the source, and are neither stored nor given up.
+    /// The duration in microseconds of the frames that have come from the source and are neither stored nor given up.
     pub fn behind_micros<R: Wait>(&self, rt: &R) -> u64 {
         let (come, _) = self.feed.counts(rt);
         match self.link.store(rt) {
@@ -153,7 +153,7 @@ impl CameraState {
         }
     }
 
-    /// So many frames were stored.
+    /// This many frames were stored.
     pub fn store(&self, count: u32) {
         self.counts.store(count);
         if count > 0 {
@@ -163,7 +163,7 @@ impl CameraState {
 }
 
 impl Guide for CameraState {
-    /// A tick for each frame of the source, at the time when it was there.
+    /// A tick for each frame of the source, at the time when it came.
     fn next_tick<R: Wait + Clock>(&self, rt: &R, _n: u64) -> Option<u64> {
         for _ in rt.forever() {
             if self.is_done(rt) {
@@ -196,7 +196,7 @@ impl Guide for CameraState {
         self.store(count);
     }
 
-    /// Where each block is locked the frames wait, until the program ends; where the disk failed, the filming ends, and
+    /// Where each block is locked, the frames wait until the program ends. Where the disk failed, the filming ends, and
     /// the store is opened again.
     fn flushes_again(&self, fault: StoreFault) -> bool {
         if fault == StoreFault::AllLocked {
@@ -207,12 +207,12 @@ impl Guide for CameraState {
         false
     }
 
-    /// A store that is opened again answers what is asked when its desk is broken.
+    /// Orders are done only while the desk works. Once it is broken the filming ends, and the store is opened again.
     fn visit<R: Wait + Clock, D: Disk + Drop>(&self, rt: &R, alloc: Global, back: &mut Back<D>) {
         if !self.over.load(Ordering::SeqCst) {
             attend(rt, alloc, self, back);
         }
-        // A lock or an unlock may have failed on the disk while no frame waits for a flush that would tell it.
+        // A lock or an unlock may have failed on the disk while no frame waits, so no flush would report it.
         if back.status().must_reopen {
             self.over.store(true, Ordering::SeqCst);
         }

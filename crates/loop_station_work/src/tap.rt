@@ -1,8 +1,8 @@
-//! What is printed, for a file or a named pipe too.
+//! The copy of what is printed, for a file or a named pipe.
 //!
-//! A thread of its own writes there, since a pipe may keep it waiting: for a reader that comes, or for one that doesn't
-//! read. Nobody else ever waits. Of a pipe that nobody has opened to read, and of one whose reader is slow, what
-//! doesn't fit into the memory for it is dropped, whole lines.
+//! A thread of its own writes there, because a pipe may keep it waiting: until a reader opens it, or for a reader that
+//! doesn't read. No other thread ever waits. Lines for a pipe that nobody has opened to read are dropped. Where a
+//! reader is slow, whole lines are dropped that don't fit into the memory for them.
 
 use crate::outlet::Outlet;
 use crate::places::Places;
@@ -17,19 +17,19 @@ use std::time::{Clock, Duration};
 // How many bytes of lines wait at most.
 const MOST: usize = 1_048_576;
 
-// How many milliseconds a file that can't be opened is left alone.
+// How many milliseconds pass before a file that can't be opened is tried again.
 const OPEN_AGAIN: u64 = 1_000;
 
-// How often the end of the program waits ten milliseconds for what isn't written yet.
+// How many times the end of the program waits ten milliseconds for what isn't written yet.
 const END_STEPS: u32 = 50;
 
 #[derive(Drop)]
-struct Waiting {
+struct WaitingLines {
     // The lines that aren't written yet.
     lines: Vec<u8>,
-    // Someone reads, or will: lines are kept for it.
+    // Someone reads, or will read, so lines are kept.
     wanted: bool,
-    // The thread writes lines that it has taken.
+    // The thread is writing lines that it has taken.
     writing: bool,
 }
 
@@ -37,16 +37,16 @@ struct Waiting {
 #[derive(Drop)]
 pub struct Tap {
     path: String,
-    waiting: Mutex<Waiting>,
+    waiting: Mutex<WaitingLines>,
     changed: Condvar,
 }
 
 impl Tap {
-    /// One for the file or pipe of a path. Of a pipe lines are kept once it has a reader, of a file from now on.
+    /// A tap for the file or pipe of a path. For a file lines are kept from now on, for a pipe once it has a reader.
     pub fn new(alloc: Global, path: String, is_pipe: bool) -> Result<Tap, AllocError> {
         Ok(Tap {
             path,
-            waiting: Mutex::new(Waiting {
+            waiting: Mutex::new(WaitingLines {
                 lines: Vec::with_capacity(alloc, 4_096)?,
                 wanted: !is_pipe,
                 writing: false,
@@ -55,17 +55,17 @@ impl Tap {
         })
     }
 
-    /// Gives it a line, which is dropped where nobody reads or too much waits.
+    /// Adds a line, which is dropped where nobody reads or too much waits.
     pub fn give<R: Wait>(&self, rt: &R, line: &[u8]) {
         let mut waiting = self.waiting.lock(rt);
         if waiting.wanted && waiting.lines.len().saturating_add(line.len()) <= MOST {
-            // Where memory is refused the line is dropped, as where too much waits.
+            // Where memory is refused, the line is dropped, as where too much waits.
             let _ = waiting.lines.extend_from_slice(line);
             self.changed.notify_all();
         }
     }
 
-    // Someone reads now, or doesn't any more, which drops what waits.
+    // Someone reads now, or nobody reads any more. In that case what waits is dropped.
     fn want<R: Wait>(&self, rt: &R, wanted: bool) {
         let mut waiting = self.waiting.lock(rt);
         waiting.wanted = wanted;
@@ -86,12 +86,12 @@ impl Tap {
         std::mem::replace(&mut waiting.lines, Vec::new(alloc))
     }
 
-    // What was taken is written.
+    // What was taken has been written.
     fn wrote<R: Wait>(&self, rt: &R) {
         self.waiting.lock(rt).writing = false;
     }
 
-    /// Waits a moment for what isn't written yet: the program ends.
+    /// Waits a moment for what isn't written yet, since the program ends.
     pub fn end<R: Wait + Clock>(&self, rt: &R) {
         for _ in 0..END_STEPS {
             let waiting = self.waiting.lock(rt);
@@ -105,26 +105,26 @@ impl Tap {
     }
 }
 
-/// Writes what a tap is given, as long as the program runs.
+/// Writes the lines of a tap, as long as the program runs.
 pub(crate) fn run_tap<R: AllocGlobal + Places + Wait + Clock, W: Write + Drop>(
     rt: &R,
     tap: &Tap,
     outlet: &Outlet<W>,
 ) {
-    let mut told = false;
+    let mut printed = false;
     for _ in rt.forever() {
         match rt.open_answers(tap.path.as_str()) {
             Ok(file) => {
-                told = false;
+                printed = false;
                 tap.want(rt, true);
                 write_lines(rt, tap, file);
                 tap.want(rt, false);
             }
             Err(_) => {
-                if !told {
+                if !printed {
                     tell_lost(rt, tap, outlet);
                 }
-                told = true;
+                printed = true;
                 thread::sleep(rt, Duration::from_millis(OPEN_AGAIN));
             }
         }
@@ -138,6 +138,7 @@ fn tell_lost<R: AllocGlobal + Wait + Clock, W: Write + Drop>(
     outlet: &Outlet<W>,
 ) {
     let mut line = Vec::new(rt.alloc());
+    // Where memory for the line is refused, nothing is printed.
     if print_no_answers(&mut line, tap.path.as_str()).is_ok() {
         outlet.put(rt, &line);
     }

@@ -9,7 +9,7 @@ use Rattle.loop_record.proofs.TestFacts.{clash}
 use Rattle.loop_store.specs.Steps.{HoldsFrom}
 use Rattle.loop_store.specs.Seen.{HasFailed, Seen, StandsFor, Tells}
 
--- all of some steps, with none behind them
+-- all of some steps, with none after them
 pub holds-all : (g : Geometry) (r : Recording) (steps more : List Step) (image : List ℕ)
     → Holds g (plain (ring_of g) r steps) image → HoldsFrom g r (length steps) (steps ++ more) image
 holds-all g r steps more image held = record {
@@ -19,7 +19,7 @@ holds-all g r steps more image held = record {
   held = subst (λ (l : List Step). Holds g (plain (ring_of g) r l) image) (sym (take_at steps more (length steps) refl)) held;
 }
 
--- a store after a failed call tells what it told, and stands for what it stood for
+-- a store after a failed call reports what it reported, and stands for what it stood for
 pub failed-told : {D : Type 0} (old new : Seen D) (r : Recording) → HasFailed old new → Tells old r → Tells new r
 failed-told {D} old new r failed told =
     subst (λ (s : Seen D). Tells s r) (sym failed)

@@ -9,7 +9,7 @@ use Rattle.loop_record.proofs.Steps.{plain-append}
 use Rattle.loop_store.specs.declared.fault.StoreFault.{StoreFault}
 use Rattle.loop_store.specs.declared.fault.StoreFault.TheVariants.{ClipEmpty, ClipNotHeld, ClipTableFull, OldLayout}
 use Rattle.loop_store.specs.Calls.{due, first_of, missing, span_checks}
-use Rattle.loop_store.specs.Place.{RefusesPlace, steps_before}
+use Rattle.loop_store.specs.AppendPlace.{RefusesPlace, steps_before}
 use Rattle.loop_store.proofs.Same.{IsSame, clips-same, holds-same, needs-same, recycled-same, stored-same, victim-same}
 use Rattle.loop_record.proofs.Names.{free_id}
 use Rattle.loop_store.proofs.Names.{steps_or_none}

@@ -11,7 +11,7 @@ use Rattle.loop_store.specs.declared.fault.StoreFault.TheVariants.{AllLocked, Di
 use Rattle.loop_store.specs.Calls.{AnswersDue, Call, IsAnswered, AnswersOtherwise, StoreState, appended, checks, checks_on, due, first_of}
 use Rattle.loop_store.specs.Faults.{failed_by, is_disk, is_write_fault}
 use Rattle.loop_store.specs.Goes.{Goes, Stands, TellsState}
-use Rattle.loop_store.specs.Place.{RefusesPlace}
+use Rattle.loop_store.specs.AppendPlace.{RefusesPlace}
 use Rattle.loop_store.specs.Reopen.{TellsOne}
 use Rattle.loop_store.specs.Seen.{HasFailed, Seen, StandsFor, Tells}
 use Rattle.loop_store.proofs.Appends.{steps-some}

@@ -16,11 +16,11 @@ use Rattle.loop_record.proofs.Readings.{length-range, reading-commit}
 use Rattle.loop_ring.specs.Heads.{heads_of}
 use Rattle.loop_ring.proofs.Heads.{there}
 use Rattle.loop_store.specs.declared.index.Index.{Index}
-use Rattle.loop_store.specs.declared.place.Place.{Place}
-use Rattle.loop_store.specs.declared.place.Place.TheVariants.{Newest, Closed, Victim}
+use Rattle.loop_store.specs.declared.place.AppendPlace.{AppendPlace}
+use Rattle.loop_store.specs.declared.place.AppendPlace.TheVariants.{Newest, Closed, Victim}
 use Rattle.loop_store.specs.Drawn.{drawn_image}
 use Rattle.loop_store.specs.Grow.{IsFreeFor}
-use Rattle.loop_store.specs.Place.{IsPlaceAt, head_at, place_segment, steps_before}
+use Rattle.loop_store.specs.AppendPlace.{IsPlaceAt, head_at, place_segment, steps_before}
 use Rattle.loop_store.specs.Found.{IsHeadIn}
 use Rattle.loop_store.specs.Index.{IsIndexOf, head_after}
 use Rattle.loop_store.proofs.IndexImages.{AllStand, Clips, Heads, MayStand, head_in, heads-drawn, slots-drawn}
@@ -29,7 +29,7 @@ use Rattle.loop_store.proofs.ImageChanges.{drawn-begun, drawn-closed, drawn-grow
 use Rattle.loop_store.proofs.Room.{before-none, before-one, retired-free, retired-held}
 use Rattle.loop_record.proofs.Names.{hold_from}
 
--- ---- headers that may stand
+-- ---- headers that are possible
 
 pub stand-of : (g : Geometry) (o : Option SegmentHead) → IsHeadIn g o → MayStand g o
 stand-of g None may = tt
@@ -54,9 +54,9 @@ known-drawn now g heads clips r good count within held geometry heads_are clips_
   clips_are = clips_are ∙ same;
 }
 
--- ---- frames that are made up
+-- ---- made-up frames
 
--- what is drawn after an append of so many frames
+-- what is drawn after an append of this many frames
 pub record Regrown (g : Geometry) (heads : Heads) (clips : Clips) (r : Recording) (before : List Step) (count : ℕ) : Type 0 where
   pub pictures : List Picture
   pub size : length pictures ≡ count
@@ -114,7 +114,7 @@ begin-drawn g heads clips r j n good l u held first free may =
     (commit-drawn g begun clips r j n good l mid is may)
 
 -- at a place
-pub regrown : (g : Geometry) (keep : ℕ) (heads : Heads) (clips : Clips) (r : Recording) (place : Place) (n : ℕ)
+pub regrown : (g : Geometry) (keep : ℕ) (heads : Heads) (clips : Clips) (r : Recording) (place : AppendPlace) (n : ℕ)
     → IsTrue (is_good g) → length heads ≡ g.segments → All (IsHeadIn g) heads → place_segment place < g.segments
     → Holds g r (drawn_image g heads clips) → IsPlaceAt g keep r (drawn_image g heads clips) place
     → IsHeadIn g (Some (head_after g r.next n)) → Regrown g (set heads (place_segment place) (Some (head_after g r.next n))) clips r (steps_before g keep r) n

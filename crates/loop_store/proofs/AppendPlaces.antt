@@ -9,7 +9,8 @@ use Rattle.std.specs.List.{count_by, list_any, position}
 use Rattle.loop_record.specs.declared.geometry.Geometry.{Geometry}
 use Rattle.loop_record.specs.declared.segment.SegmentHead.{SegmentHead}
 use Rattle.loop_record.specs.Layout.{Segment, is_too_high, segment_in}
-use Rattle.loop_record.specs.Reading.{Holds, by_block, is_high, next_after, open_segments, parts_of}
+use Rattle.loop_record.specs.Reading.{Holds, by_block, next_after, open_segments}
+use Rattle.loop_record.specs.Parts.{is_high, parts_of}
 use Rattle.loop_record.specs.Recording.{Recording, held_blocks, last_number, needs_recycling, recycling_first, ring_of, victim}
 use Rattle.loop_record.proofs.Bounds.{limits}
 use Rattle.loop_record.proofs.Changes.{shown_of, is_overfull}
@@ -20,7 +21,7 @@ use Rattle.loop_ring.specs.Heads.{IsPlaceOf, has_frame, heads_of, is_of}
 use Rattle.loop_ring.proofs.Heads.{Newest, closed-found, head-some, head-there, heads-length, newest-found, newest-missing, there}
 use Rattle.loop_ring.proofs.HeldBlocks.{held-count, none-closed}
 use Rattle.loop_store.specs.Grow.{IsFreeFor}
-use Rattle.loop_store.specs.Place.{IsNext, IsOldFor}
+use Rattle.loop_store.specs.AppendPlace.{IsNext, IsOldFor}
 
 -- ---- the next number
 
@@ -177,7 +178,7 @@ pub some-closed : (g : Geometry) (r : Recording) (image : List ℕ) (count : ℕ
     → count ≢ g.segments → position (λ h. not (is_some h)) (heads_of g image) ≡ None → ⊥
 some-closed g r image count e missing counted fewer closed = fewer (counted ∙ held-count g r image e ∙ none-closed g r image e missing closed)
 
--- the block of the next number, sought in memory
+-- the block of the next number, looked up in memory
 pub found-of : (g : Geometry) (r : Recording) (image : List ℕ) (heads : List (Option SegmentHead)) (next slots : ℕ)
     (found result : Option ℕ) → heads ≡ heads_of g image → r.next ≡ next → slots ≡ g.slots → found ≡ result
     → found ≡ position (is_of (next / slots)) heads

@@ -17,11 +17,11 @@ use Rattle.loop_ring.specs.Heads.{clip_counts, heads_of}
 use Rattle.loop_store.proofs.Room.{before-next}
 use Rattle.loop_ring.specs.declared.ring.Ring.{Ring as LoopRing}
 use Rattle.loop_store.specs.declared.index.Index.{Index}
-use Rattle.loop_store.specs.declared.place.Place.{Place}
-use Rattle.loop_store.specs.declared.place.Place.TheVariants.{Newest, Closed, Victim}
+use Rattle.loop_store.specs.declared.place.AppendPlace.{AppendPlace}
+use Rattle.loop_store.specs.declared.place.AppendPlace.TheVariants.{Newest, Closed, Victim}
 use Rattle.loop_store.specs.Grow.{HasNoneStray}
 use Rattle.loop_store.specs.Drawn.{drawn_image}
-use Rattle.loop_store.specs.Place.{IsGrownAt, IsKnown, IsPlaceAt, place_segment, steps_before}
+use Rattle.loop_store.specs.AppendPlace.{IsGrownAt, IsKnown, IsPlaceAt, place_segment, steps_before}
 use Rattle.loop_store.specs.Found.{IsHeadIn}
 use Rattle.loop_store.specs.Index.{IsIndex, IsIndexOf, IsNoted, IsRecovered, head_after}
 use Rattle.loop_store.specs.Store.{IsKept}
@@ -126,7 +126,7 @@ appended-low g next some most unspent =
 -- ---- places
 
 -- where there is a place, an append has steps
-pub place-some : (g : Geometry) (keep : ℕ) (r : Recording) (image : List ℕ) (place : Place) → IsPlaceAt g keep r image place
+pub place-some : (g : Geometry) (keep : ℕ) (r : Recording) (image : List ℕ) (place : AppendPlace) → IsPlaceAt g keep r image place
     → recycling_first (needs_recycling (ring_of g) r) (victim (ring_of g) keep r) ≢ None
 place-some g keep r image place at none = go place at
   where
@@ -139,13 +139,13 @@ place-some g keep r image place at none = go place at
     gone true None b e none = absurd cc
     gone true (Some c) b e none = absurd cc
 
-    go : (place : Place) → IsPlaceAt g keep r image place → ⊥
+    go : (place : AppendPlace) → IsPlaceAt g keep r image place → ⊥
     go (Newest j) at = by (needs_recycling (ring_of g) r) (victim (ring_of g) keep r) at.1 none
     go (Closed j) at = by (needs_recycling (ring_of g) r) (victim (ring_of g) keep r) at.1.1 none
     go (Victim j) at = gone (needs_recycling (ring_of g) r) (victim (ring_of g) keep r) at.0 at.1.0 none
 
 -- the place is there for the recording that the image holds
-pub place-known : {A : Type 0} (index : Index A) (image : List ℕ) (place : Place) → IsRecovered index image
+pub place-known : {A : Type 0} (index : Index A) (image : List ℕ) (place : AppendPlace) → IsRecovered index image
     → HasNoneStray index.ring.geometry image
     → ((r : Recording) (c : List ℕ) → IsIndexOf index r c → (r.next ≢ last_number (ring_of index.ring.geometry))
     × IsPlaceAt index.ring.geometry index.table.keep r c place) → IsKnown index.ring.geometry index.table.keep index.next place image
@@ -219,21 +219,21 @@ grown-index was now n j noted whole some unspent room long =
     }
 
 -- what is known of the place of an append, whatever the disk
-pub record IsPlaced {A : Type 0} (was : Index A) (place : Place) (n : ℕ) : Type 0 where
+pub record IsPlaced {A : Type 0} (was : Index A) (place : AppendPlace) (n : ℕ) : Type 0 where
   pub within : place_segment place < was.ring.geometry.segments
   pub at : (r : Recording) (image : List ℕ) → IsIndexOf was r image
       → (r.next ≢ last_number (ring_of was.ring.geometry)) × IsPlaceAt was.ring.geometry was.table.keep r image place
   pub unspent : was.next ≢ last_number (ring_of was.ring.geometry)
   pub room : was.next % was.ring.geometry.slots + n ≤ was.ring.geometry.slots
 
--- with frames that are made up, the index has grown by an append of as many others
+-- with made-up frames, the index has grown by an append of as many others
 pub record HasGrown {A : Type 0} (was now : Index A) (r : Recording) (n : ℕ) : Type 0 where
   pub pictures : List Picture
   pub size : length pictures ≡ n
   pub known : IsIndexOf now (plain (ring_of was.ring.geometry) r (steps_before was.ring.geometry was.table.keep r
       ++ map store pictures)) (drawn_image now.ring.geometry now.table.heads now.clips)
 
-pub has-grown : {A : Type 0} (was now : Index A) (place : Place) (n : ℕ)
+pub has-grown : {A : Type 0} (was now : Index A) (place : AppendPlace) (n : ℕ)
     → (known : IsRecovered was (drawn_image was.ring.geometry was.table.heads was.clips)) → IsIndex was
     → IsNoted was now (place_segment place) n → IsPlaced was place n → HasGrown was now known.recording n
 has-grown was now place n known whole noted placed =
@@ -289,7 +289,7 @@ times-grown was now r0 r1 r image image' ps n j known known' noted count low roo
       known = times;
     }))
 
-pub kept-grown : {D A : Type 0} (medium : D → Medium) (old new : D) (was now : Index A) (place : Place) (n j : ℕ)
+pub kept-grown : {D A : Type 0} (medium : D → Medium) (old new : D) (was now : Index A) (place : AppendPlace) (n j : ℕ)
     (ps : List Picture) (must : Bool) → IsKept medium old was must → must ≡ false → j ≡ place_segment place
     → IsPlaced was place n → IsNoted was now j n → (medium new).size ≡ (medium old).size
     → Grew medium was.ring.geometry was.table.keep old new was.next n j ps → IsPut was now j ps → IsKept medium new now must
@@ -335,8 +335,8 @@ kept-grown medium old new was now place n j ps must kept fine at placed noted si
         (itself there.recording) (itself t) (reading-well_formed g there.recording (medium old).bytes there.known.held) there.known.next_is put
         ((kept.present fine back).timed.each there.recording there.known.held))
 
--- each recording that the store told of before, with the steps of the append
-pub told-grown : {D A : Type 0} (medium : D → Medium) (old new : D) (was now : Index A) (place : Place) (n j : ℕ)
+-- each recording that the store reported before, with the steps of the append
+pub told-grown : {D A : Type 0} (medium : D → Medium) (old new : D) (was now : Index A) (place : AppendPlace) (n j : ℕ)
     (ps : List Picture) (must : Bool) (r : Recording) → (kept : IsKept medium old was must)
     → Tells (seen_with old was must) r → j ≡ place_segment place
     → IsPlaced was place n → IsNoted was now j n → n ≡ length ps → IsPut was now j ps → Tells (seen_with new now must)
@@ -364,8 +364,8 @@ told-grown medium old new was now place n j ps must r kept told_before at placed
     ps n j kept.known.known grown.known noted count (subst (λ (k : ℕ). k < g.segments) (sym at) placed.within) placed.room same numbers
     told_before.formed told_before.next_is put (times-known old was must r told_before)))
 
--- it stands for that one, and where the disk is honest the disk holds it
-pub stands-grown : {D A : Type 0} (medium : D → Medium) (old new : D) (was now : Index A) (place : Place) (n j : ℕ)
+-- it stands for that one, and an honest disk holds it
+pub stands-grown : {D A : Type 0} (medium : D → Medium) (old new : D) (was now : Index A) (place : AppendPlace) (n j : ℕ)
     (ps : List Picture) (must : Bool) (r : Recording) → (kept : IsKept medium old was must) → must ≡ false
     → StandsFor medium (seen_with old was must) r → j ≡ place_segment place
     → IsPlaced was place n → IsNoted was now j n → Grew medium was.ring.geometry was.table.keep old new was.next n j ps

@@ -33,10 +33,6 @@ pub slots_of-pictures : (n number : ℕ) (ps : List Picture) → map (λ t. t.pi
 slots_of-pictures n number [] = refl
 slots_of-pictures n number (p ∷ ps) = ap (λ qs. p ∷ qs) (slots_of-pictures n (number + 1) ps)
 
-pub slots_of-length : (n number : ℕ) (ps : List Picture) → length (slots_of n number ps) ≡ length ps
-slots_of-length n number [] = refl
-slots_of-length n number (p ∷ ps) = omega (arith, slots_of-length n (number + 1) ps)
-
 take-stores : (k : ℕ) (ps : List Picture) → take k (map store ps) ≡ map store (take k ps)
 take-stores zero ps = refl
 take-stores (suc k) [] = refl
@@ -96,7 +92,7 @@ begun-held_or g r next j old c held is l first free (inr shows) = begun-held g r
 pub held-some : (g : Geometry) (r : Recording) (steps : List Step) (c : List ℕ) → Holds g r c → HoldsSome g r steps c
 held-some g r steps c held = record { count = 0; enough = omega arith; few = omega arith; held = held }
 
--- ---- steps behind steps
+-- ---- steps after steps
 
 take_behind : (a b : List Step) (k : ℕ) → take (length a + k) (a ++ b) ≡ a ++ take k b
 take_behind [] b k = let e : 0 + k ≡ k = omega arith in ap (λ (n : ℕ). take n b) e
@@ -133,8 +129,8 @@ pub from-none : (g : Geometry) (r : Recording) (least : ℕ) (steps : List Step)
     → HoldsFrom g r least steps c → HoldsSome g r steps c
 from-none g r least steps c some = record { count = some.count; enough = omega arith; few = some.few; held = some.held }
 
--- Two calls, one after the other: what the first leaves is a beginning of its steps, what the second leaves one of
--- its own behind these. So both leave a beginning of all of them.
+-- Two calls, one after the other: what the first leaves is a prefix of its steps, what the second leaves a prefix of
+-- its own after these. So both leave a prefix of all of them.
 pub steps-joined : (g : Geometry) (r : Recording) (a b : List Step) (old mid new : Medium)
     → LeavesOnly old mid (HoldsSome g r a) → LeavesOnly mid new (HoldsSome g (plain (ring_of g) r a) b)
     → LeavesOnly old new (HoldsSome g r (a ++ b))

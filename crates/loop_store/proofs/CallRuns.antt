@@ -55,7 +55,7 @@ stays-still m = record {
   keeps = λ t c le left. left;
 }
 
--- so it is of each of two lists
+-- the same for each of two lists
 all-both : (p : Call → Bool) (xs ys : List Call) → list_all p (xs ++ ys) ≡ true → (list_all p xs ≡ true)
     × (list_all p ys ≡ true)
 all-both p [] ys all = (refl, all)
@@ -79,7 +79,7 @@ all-refused H g s (c ∷ calls) must said =
 abbrev Held : {D : Type 0} (medium : D → Medium) (store : Seen D) → StoreState → Type 0
 Held medium store s = (medium store.disk).honest × Stands medium store s
 
--- the state of a store that tells of a recording
+-- the state of a store that reports a recording
 abbrev pub state-of : {D : Type 0} (store : Seen D) → TellsOne store → StoreState
 state-of store one =
     record { recording = one.0; version = store.version; keep = store.keep; must_reopen = store.must_reopen }
@@ -87,7 +87,7 @@ state-of store one =
 pub state-told : {D : Type 0} (store : Seen D) (one : TellsOne store) → TellsState store (state-of store one)
 state-told store one = record { recording = one.1; version = refl; keep = refl; must_reopen = refl }
 
--- a store tells what the state says for which it stands
+-- a store reports what the state that it stands for says
 pub told-of : {D : Type 0} (medium : D → Medium) (store : Seen D) (s : StoreState) → Stands medium store s
     → TellsState store s
 told-of medium store s stands = record {
@@ -97,7 +97,7 @@ told-of medium store s stands = record {
   must_reopen = stands.must_reopen;
 }
 
--- and so nothing is moved
+-- and so nothing changes
 pub idle : {D : Type 0} (medium : D → Medium) (old new : Seen D) (calls : List Call) → Goes medium old new calls
     → old.must_reopen ≡ true → new ≡ old
 idle medium old new calls goes must =
@@ -155,7 +155,7 @@ goes-once medium old new c one = record {
   called = called-one (medium old.disk) (medium new.disk) (failed_for c) one.called;
 }
 
--- Calls, and calls behind them.
+-- Calls, and calls after them.
 pub goes-joined : {D : Type 0} (medium : D → Medium) (old mid new : Seen D) (xs ys : List Call)
     → Goes medium old mid xs → Goes medium mid new ys → Goes medium old new (xs ++ ys)
 goes-joined {D} medium old mid new xs ys first second = record {

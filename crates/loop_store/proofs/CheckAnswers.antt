@@ -45,7 +45,7 @@ none-before (Some fault) more e = absurd cc
 apart : (fault : StoreFault) → let x : Option StoreFault = Some fault in x ≡ None → ⊥
 apart fault e = absurd cc
 
--- what was answered without a refusal: no check is due
+-- what was answered without a refusal: no check fails
 pub due-none : (o : Option StoreFault) (c : Call) (Given : Type 0) → AnswersDue o c Given → fault_answered c ≡ None
     → (o ≡ None) × Given
 due-none None c Given said fine = (refl, said)
@@ -66,7 +66,7 @@ refused o c Given fault first is = subst (λ (x : Option StoreFault). AnswersDue
 
 -- ---- a store that must be reopened
 
--- each call is refused so
+-- each call is refused in that way
 pub must-first : (g : Geometry) (s : StoreState) (c : Call) → s.must_reopen ≡ true
     → first_of (checks (ring_of g) s c) ≡ Some MustReopen
 must-first g s c must = failed s.must_reopen MustReopen (checks_on (ring_of g) s c) must
@@ -81,7 +81,7 @@ must-answer H g s c must said = go (first_of (checks (ring_of g) s c)) (must-fir
     go None e x = absurd cc
     go (Some fault) e x = x ∙ e
 
--- where it needn't, the checks on what is recorded decide
+-- where it needn't be, the checks on what is recorded decide
 pub fine-first : (g : Geometry) (s : StoreState) (c : Call) → s.must_reopen ≡ false
     → first_of (checks (ring_of g) s c) ≡ first_of (checks_on (ring_of g) s c)
 fine-first g s c fine = passed s.must_reopen MustReopen (checks_on (ring_of g) s c) fine

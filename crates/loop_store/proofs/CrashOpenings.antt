@@ -20,8 +20,8 @@ use Rattle.loop_store.proofs.CheckAnswers.{due-none, due-some, passed}
 ok-inj : (a b : Contents) → let x : Result Contents LayoutFault = Ok a in let y : Result Contents LayoutFault = Ok b in x ≡ y → a ≡ b
 ok-inj a b e = cc
 
--- what a store stood for is what the one stands for that was opened on an image that a crash may leave, but for how many
--- blocks it keeps
+-- what a store stood for, a store stands for that was opened on an image that a crash may leave; they may differ in how many
+-- blocks they keep
 pub record IsSame {D E : Type 0} (medium : D → Medium) (other : E → Medium) (old : Seen D) (new : Seen E) (s : StoreState) : Type 0 where
   pub geometry : new.geometry ≡ old.geometry
   pub stands : Stands other new (record s { keep = new.keep })

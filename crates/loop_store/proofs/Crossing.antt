@@ -1,4 +1,4 @@
--- That a store, over a disk that may may go to another thread, and be looked at by several: each alone, and (`in`) as what holds it has it.
+-- That a store over a disk that may be sent to another thread, and shared by several, may be too: each alone, and (`in`) as part of what holds it.
 use denote.RattleType.{RattleType}
 use denote.Param.Send.{IsSend, IsSync, sendable}
 use Rattle.std.proofs.Crossing.{crosses}

@@ -21,7 +21,7 @@ use Rattle.loop_record.proofs.ReadBack.{length-super_bytes}
 use Rattle.loop_store.specs.Fresh.{LeavesClosed, IsClosed, IsLaid, WasOrClosed}
 use Rattle.loop_store.specs.Make.{NoneOrEmpty, WasOr}
 
--- behind a closed gate nothing is formatted
+-- with a closed gate an image isn't formatted
 pub closed-none : (image : List ℕ) → IsClosed image → reading image ≡ Err NotFormatted
 closed-none image closed = λ i. contents image (cond (all i) (checked_geometry image (format_at image 20)) (Err NotFormatted))
   where
@@ -88,7 +88,7 @@ opening-fresh h old new r laid stores =
 
 -- ---- the whole
 
--- a sync behind a closed gate
+-- a sync while the gate is closed
 pub sync-none : (h : SuperHead) (old new : Medium) → IsSound old → LeavesClosed old → Stays old new
     → LeavesOnly old new (NoneOrEmpty h)
 sync-none h old new sound closed stays =
@@ -96,7 +96,7 @@ sync-none h old new sound closed stays =
     (started old (NoneOrEmpty h) sound (λ c left. inl (closed-none c (closed c left)))) stays.time
     (λ c left. inl (closed-none c (closed c left)))
 
--- what closed the gate, and then a write behind it
+-- what closed the gate, and then a write after it
 pub closed-on : (old mid new : Medium) → LeavesOnly old mid (WasOrClosed old) → LeavesOnly mid new IsClosed
     → LeavesOnly old new (WasOrClosed old)
 closed-on old mid new first second = joined old mid new (WasOrClosed old) first (weaker mid new IsClosed (WasOrClosed old) second (λ c closed. inr closed))

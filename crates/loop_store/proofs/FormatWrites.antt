@@ -55,16 +55,16 @@ closing-done mid new r stores =
     both_ok r (λ (done : new.bytes ≡ with_bytes_at 0 (0 ∷ []) mid.bytes) (settled : IsSettled new) c left. ap
     (λ (image : List ℕ). is_open image 0) (settled c left ∙ done)) stores.done stores.settled
 
--- and so it is where it was read as closed
+-- and the same where it was read as closed
 pub closed-read : (old mid : Medium) (gate : List ℕ) → IsSettled old → Stays old mid → gate ≡ piece 0 1 old.bytes
     → get_or gate 0 0 ≢ 165 → LeavesClosed mid
 closed-read old mid gate settled stays is shut c left =
     ap (λ (image : List ℕ). is_open image 0) (settled c (stays.images c left))
     ∙ differ_test (get_or old.bytes 0 0) 165 (λ e. shut (ap (λ (bytes : List ℕ). get_or bytes 0 0) is ∙ get_or-piece 0 1 old.bytes 0 (omega arith) ∙ e))
 
--- ---- behind a closed gate
+-- ---- while the gate is closed
 
--- a write behind the gate leaves it closed
+-- a write after the gate leaves it closed
 pub closed-behind : (at n : ℕ) (m : Medium) (c : List ℕ) → 1 ≤ at → LeavesClosed m → TornAt at n m c → IsClosed c
 closed-behind at n m c behind closed torn = ap (λ (b : ℕ). eqb b 165) (torn.2.before 0 (omega (arith, behind))) ∙ closed torn.0 torn.1
 
@@ -163,7 +163,7 @@ pub gate-read : (image gate : List ℕ) → gate ≡ piece 0 1 image → get_or 
 gate-read image gate is opened = ap (λ (b : ℕ). eqb b 165) (sym (get_or-piece 0 1 image 0 (omega arith))
     ∙ sym (ap (λ (bytes : List ℕ). get_or bytes 0 0) is) ∙ opened)
 
--- the superblock at the front of zeros, but for its gate
+-- the superblock before zeros, except its gate
 pub laid-super : (h : SuperHead) (front old : List ℕ) → front ≡ super_bytes h ++ drop 512 (replicate 2560 0)
     → length front ≡ 2560 → length old ≡ disk_size h.geometry → IsLaid h 0 (with_bytes_at 1 (drop 1 front) old)
 laid-super h front old is long whole = laid-front h (drop 1 front) old (omega (arith, length-drop 1 front, long)) whole head rest super_size
@@ -213,7 +213,7 @@ header-laid h at count old new r is below laid writes =
     (sym (done ∙ (λ i. with_bytes_at (is i) (replicate 512 0) old.bytes)))
     (laid-header h count old.bytes below laid)) writes.done
 
--- a write behind the closed gate brings the disk to this
+-- a write after the closed gate leaves the disk so
 pub brings-laid : {T : Type 0} (h : SuperHead) (count : ℕ) (old new : Medium) (r : Result T DiskFault)
     → (old.honest → IsSound new) → (old.honest → LeavesOnly old new IsClosed)
     → (old.honest → OnOk r (IsLaid h count new.bytes)) → Called old new (failed_call r)

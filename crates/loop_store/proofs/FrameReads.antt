@@ -213,7 +213,7 @@ pub part-late : (number at : ℕ) (result : Result (Unit {0}) StoreFault) (out :
 part-late number at (Ok done) out said = refl
 part-late number at (Err fault) out said = late-fault fault said
 
--- so it is with a read of a part
+-- the same for a read of a part
 pub part-answered : (H : Type 0) (g : Geometry) (s : StoreState) (number at : ℕ)
     (result : Result (Unit {0}) StoreFault) (out : List ℕ) → s.must_reopen ≡ false → holds s.recording number ≡ true
     → IfErr result (λ fault. (fault ≡ Damaged SlotHead) ⊎ (is_disk fault ≡ true))

@@ -6,7 +6,8 @@ use Rattle.std.specs.List.{range_with_len}
 use Rattle.loop_record.specs.declared.geometry.Geometry.{Geometry}
 use Rattle.loop_record.specs.declared.segment.SegmentHead.{SegmentHead}
 use Rattle.loop_record.specs.Layout.{Segment}
-use Rattle.loop_record.specs.Reading.{Holds, by_block, frames_of, in_place, open_segments, parts_of}
+use Rattle.loop_record.specs.Reading.{Holds, by_block, frames_of, in_place, open_segments}
+use Rattle.loop_record.specs.Parts.{parts_of}
 use Rattle.loop_record.specs.Recording.{Picture, Recording}
 use Rattle.loop_record.proofs.Readings.{length-range}
 use Rattle.loop_ring.specs.Heads.{heads_of}

@@ -43,7 +43,7 @@ cond-same : {X : Type 0} (t : Bool) (a b x y : X) → (t ≡ true → a ≡ b) �
 cond-same true a b x y f h = f refl
 cond-same false a b x y f h = h refl
 
--- where another segment's header stands
+-- where another segment's header is
 segment-same : (g : Geometry) (heads : Heads) (clips : Clips) (j k : ℕ) (h : Option SegmentHead)
     → (2560 ≤ k → (k - 2560) / segment_size g ≢ j) → drawn_byte g (set heads j h) clips k ≡ drawn_byte g heads clips k
 segment-same g heads clips j k h apart =

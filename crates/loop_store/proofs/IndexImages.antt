@@ -16,7 +16,8 @@ use Rattle.loop_record.specs.declared.segment.SegmentHead.{SegmentHead}
 use Rattle.loop_record.specs.Geometry.{clip_at, disk_size, frame_bytes, is_good, segment_at, segment_size, slot_at, slot_size}
 use Rattle.loop_record.specs.Layout.{Slot, Segment, clip_in, entry_at, entry_bytes, version_in, geometry_in, header_at, header_bytes, is_open, is_slot_of, open_gates, segment_in, slot_bytes, slot_in, super_bytes, whole_frames}
 use Rattle.loop_record.specs.Laws.{FitsEntry}
-use Rattle.loop_record.specs.Reading.{by_block, is_bad_slot, open_segments, parts_of}
+use Rattle.loop_record.specs.Reading.{by_block, is_bad_slot, open_segments}
+use Rattle.loop_record.specs.Parts.{parts_of}
 use Rattle.loop_record.proofs.Bounds.{limits}
 use Rattle.loop_record.proofs.TestFacts.{at_most_test, equal_test, not_below_test}
 use Rattle.loop_record.proofs.Fields.{moved_number}
@@ -225,12 +226,12 @@ hold-range n number lo (suc count) f right =
     (λ k. is_slot_of n (a k) (f (b k))) ∙ right (suc i) (omega (arith, l))) in
     λ k. first k && rest k
 
--- a header that may stand there
+-- a possible header
 abbrev pub MayStand : Geometry → Option SegmentHead → Type 0
 MayStand g None = Unit {0}
 MayStand g (Some h) = (h.frames ≤ g.slots) × ((h.block + 1) * g.slots ≤ 2 ^ 62)
 
--- each header of the segments may
+-- each header of the segments is possible
 abbrev pub AllStand : Geometry → Heads → Type 0
 AllStand g heads = (j : ℕ) → j < g.segments → MayStand g (head_in heads j)
 

@@ -16,7 +16,7 @@ use Rattle.loop_store.specs.Numbers.{IsLeastFrom}
 use Rattle.loop_store.specs.Found.{IsHeadIn}
 use Rattle.loop_store.proofs.Numbers.{among-block, among-range}
 
--- a test that says the same
+-- a test with the same results
 pub least-same : (p q : ℕ → Bool) (n : ℕ) (o : Option ℕ) → ((k : ℕ) → p k ≡ q k) → IsLeastFrom p n o → IsLeastFrom q n o
 least-same p q n None same least = λ k l. sym (same k) ∙ least k l
 least-same p q n (Some m) same least = (least.0, (sym (same m) ∙ least.1.0, λ k l u. sym (same k) ∙ least.1.1 k l u))

@@ -11,7 +11,7 @@ use Rattle.loop_store.specs.Steps.{HoldsFrom, LeavesSteps}
 use Rattle.loop_store.proofs.BlockImages.{held-some, later-steps, steps-joined}
 use Rattle.loop_store.proofs.Names.{HoldsSome}
 
--- a call that only looked, on a disk that holds the recording
+-- a call that only read, on a disk that holds the recording
 pub leaves-looked : (g : Geometry) (r : Recording) (old new : Medium) → IsSound old → IsSettled old
     → Holds g r old.bytes → Stays old new → LeavesSteps g r [] [] old new
 leaves-looked g r old new sound settled held stays = record {
@@ -33,14 +33,14 @@ leaves-none g r m sound settled held = record {
     here : (c : List ℕ) → m.may_leave c → HoldsSome g r [] c
     here c left = held-some g r [] c (subst (λ (image : List ℕ). Holds g r image) (sym (settled c left)) held)
 
--- the same steps, spelled otherwise
+-- the same steps, written in another way
 pub leaves-same : (g : Geometry) (r : Recording) (made made' begun begun' : List Step) (old new : Medium)
     → made ≡ made' → begun ≡ begun' → LeavesSteps g r made begun old new → LeavesSteps g r made' begun' old new
 leaves-same g r made made' begun begun' old new a b run =
     subst (λ (l : List Step). LeavesSteps g r l begun' old new) a
     (subst (λ (l : List Step). LeavesSteps g r made l old new) b run)
 
--- calls that began nothing that they didn't make, and calls behind them
+-- calls that made all that they began, and calls after them
 pub leaves-joined : (g : Geometry) (r : Recording) (a b begun : List Step) (old mid new : Medium)
     → LeavesSteps g r a [] old mid → LeavesSteps g (plain (ring_of g) r a) b begun mid new
     → LeavesSteps g r (a ++ b) begun old new

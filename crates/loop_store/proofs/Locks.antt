@@ -17,7 +17,8 @@ use Rattle.loop_record.specs.declared.segment.SegmentHead.{SegmentHead}
 use Rattle.loop_record.specs.Change.{ShowsClip}
 use Rattle.loop_record.specs.Geometry.{clip_at, disk_size, gate_at, segment_at, segment_size}
 use Rattle.loop_record.specs.Layout.{clip_in}
-use Rattle.loop_record.specs.Reading.{Holds, Parts, parts_of, shown_by}
+use Rattle.loop_record.specs.Reading.{Holds}
+use Rattle.loop_record.specs.Parts.{Parts, parts_of, shown_by}
 use Rattle.loop_record.specs.Recording.{IsWellFormed, Picture, Recording, frame_under, Step, after_step, holds_all, clip_of, first_free, holds, last_number, lock, plain, ring_of, unlock}
 use Rattle.loop_record.proofs.Clips.{clip_of-entry, clips-are, parts-clip, reading-clip, reading-lock, reading-unlock}
 use Rattle.loop_record.proofs.Bounds.{limits}
@@ -158,7 +159,7 @@ free-none clips l = go (get_or clips (first_free clips) None) (prefix_len_stops 
     go None e = refl
     go (Some s) e = absurd cc
 
--- what an index says of an id stands in the entry
+-- what an index says of an id is in the entry
 pub entry-is : {A : Type 0} (index : Index A) (m : Medium) (id : ℕ) → IsPresent index m → id < 64
     → clip_in m.bytes id ≡ get_or index.clips id None
 entry-is index m id present l =
@@ -240,7 +241,7 @@ times-noted was now id clip r t noted same times = λ n p there.
     (λ i. time_under (geometry-same was now id clip noted i).slots (noted.heads i) (noted.times i) n)
     ∙ times n p (ap (λ (fs : List (ℕ × Picture)). frame_under fs n) (sym same) ∙ there)
 
--- with frames that are made up, the index says the recording with the step
+-- with made-up frames, the index describes the recording with the step
 pub drawn-noted : {A : Type 0} (was now : Index A) (id : ℕ) (clip : Option Span) (IsOne : Recording → Type 0)
     (step : Step) → (known : IsRecovered was (drawn_image was.ring.geometry was.table.heads was.clips)) → IsIndex was
     → IsOne known.recording → IsClipNoted was now id clip
@@ -306,7 +307,7 @@ kept-noted {A = A} medium old new was now id clip IsOne step must kept fine one 
         (times-noted was now id clip there.recording t n.noted (n.redrawn.frames there.recording)
         ((kept.present fine back).timed.each there.recording there.known.held))
 
--- each recording that the store told of before, with the step
+-- each recording that the store reported before, with the step
 pub told-noted : {D A : Type 0} (medium : D → Medium) (old new : D) (was now : Index A) (id : ℕ) (clip : Option Span)
     (IsOne : Recording → Type 0) (step : Step) (must : Bool) (r : Recording) → (kept : IsKept medium old was must)
     → Tells (seen_with old was must) r
@@ -401,7 +402,7 @@ run-held g r image table j n m h held same within l some there has low high =
         (both (leb (h.block * g.slots) n) (ltb n (h.block * g.slots + h.frames))
         (sym (among-range n (h.block * g.slots) h.frames) ∙ e)).0
 
--- the number is at most the one behind the block's frames
+-- the number is at most the one after the block's frames
 pub run-from : (slots n block frames : ℕ) (o : Option SegmentHead) → o ≡ Some (record { block = block; frames = frames })
     → has_number slots n o ≡ true → n ≤ block * slots + frames
 run-from slots n block frames o is has =
@@ -410,7 +411,7 @@ run-from slots n block frames o is has =
     let slot : suc (n % slots) ≤ frames = at_most (suc (n % slots)) frames b.1 in
     omega (arith, product, slot, div-add-mod' n slots)
 
--- the run ends behind the block's frames
+-- the run ends after the block's frames
 pub run-ends : (g : Geometry) (r : Recording) (image : List ℕ) (table : List (Option SegmentHead)) (j n end : ℕ)
     (h : SegmentHead) → Holds g r image → table ≡ heads_of g image → All (IsHeadIn g) table → j < g.segments
     → get_or table j None ≡ Some h
@@ -432,7 +433,7 @@ run-ends g r image table j n end h held same within l there has is = go (cases_l
 
 -- ---- a store
 
--- a call that adds a clip or takes one away, by what it says where it is answered, and of a recording of which it may be made
+-- a call that adds or removes a clip: by its answers, and by the recordings in which it may be made
 pub record IsClipCall (H : Type 0) (version : ℕ) (g : Geometry) (c : Call) (IsOne : Recording → Type 0) : Type 0 where
   pub leaves : (v : ℕ) → version_after v c ≡ v
   pub writes : is_look c ≡ false
@@ -551,7 +552,7 @@ none-is : (o : Option Span) → o ≡ None → not (is_some o) ≡ true
 none-is None e = refl
 none-is (Some s) e = absurd cc
 
--- a clip that stands may be taken away
+-- a clip that is there may be removed
 pub unlock-answered : (H : Type 0) (g : Geometry) (s : StoreState) (id : ℕ) (result : Result (Unit {0}) StoreFault)
     → s.must_reopen ≡ false → clip_of s.recording id ≢ None → AnswersOtherwise H s (unlocked id result)
     → IsAnswered H (ring_of g) s (unlocked id result)

@@ -1,4 +1,4 @@
--- A call that only looks leaves the store as it was.
+-- A call that only reads leaves the store as it was.
 use Rattle.std.proofs.Common.{◌≡◌, ℕ, ◌<◌, ◌≤◌, Bool, true, false, is_some, cond, eqb, Option, Some, None, List, [], ◌∷◌, get_or, length, map, refl, sym, ap, ◌∙◌, subst}
 use Rattle.std.specs.Prelude.{◌==◌}
 use Rattle.std.specs.List.{All, find, list_any, zip}
@@ -91,7 +91,7 @@ there-held g r image heads j n held same l has =
 abbrev pub times-in : {A : Type 0} → Index A → ℕ → ℕ
 times-in index = time_under index.ring.geometry.slots index.table.heads index.times.items
 
--- the time that is told beside a number
+-- the time that is reported for a number
 time-beside : (f : ℕ → ℕ) (ns : List ℕ) (n : ℕ) → is_among ns n ≡ true → time_told ns (map f ns) n ≡ f n
 time-beside f [] n e = absurd cc
 time-beside f (m ∷ ms) n e = go (eqb m n) refl (λ r. time-beside f ms n r) e
@@ -106,14 +106,14 @@ times-told : (f : ℕ → ℕ) (ns : List ℕ) (r : Recording) → AreTimes f r 
 times-told f ns r times are = λ n p there.
     time-beside f ns n (are n ∙ ap (λ (o : Option Picture). is_some o) there) ∙ times n p there
 
--- the times that a store told are those that its index has
+-- the times that a store reported are those that its index has
 pub times-known : {D A : Type 0} (disk : D) (index : Index A) (must_reopen : Bool) (r : Recording)
     → Tells (seen_with disk index must_reopen) r → AreTimes (times-in index) r
 times-known disk index must_reopen r told = λ n p there.
     sym (time-beside (times-in index) (numbers_under index.ring.geometry.slots index.table.heads) n
     (told.numbers_are n ∙ ap (λ (o : Option Picture). is_some o) there)) ∙ told.times_are n p there
 
--- what a store tells is what its index says of an image, but for pictures: of these the times alone
+-- what a store reports is what its index says of an image, except pictures: of these the times alone
 pub told-as : {D A : Type 0} (disk : D) (index : Index A) (must_reopen : Bool) (r t : Recording) (image : List ℕ)
     → 1 ≤ index.ring.geometry.slots → All (IsHeadIn index.ring.geometry) index.table.heads → IsIndexOf index r image
     → IsSame r t → AreTimes (times-in index) t → Tells (seen_with disk index must_reopen) t
@@ -137,11 +137,11 @@ pub told-by : {D A : Type 0} (disk : D) (index : Index A) (must_reopen : Bool) (
     → AreTimes (times-in index) r → Tells (seen_with disk index must_reopen) r
 told-by disk index must_reopen r image some within known times = told-as disk index must_reopen r r image some within known (itself r) times
 
--- the recording of the frames that are made up, with the times that the index has
+-- the recording of made-up frames, with the times that the index has
 abbrev pub drawn-of : {A : Type 0} (index : Index A) → SaysRecording index → Recording
 drawn-of index says = retimed (times-in index) says.recording
 
--- what the store tells of it
+-- what the store reports of it
 pub tells-drawn : {D A : Type 0} (disk : D) (index : Index A) (must_reopen : Bool) (says : SaysRecording index)
     → All (IsHeadIn index.ring.geometry) index.table.heads → Tells (seen_with disk index must_reopen) (drawn-of index says)
 tells-drawn disk index must_reopen says within =
@@ -162,7 +162,7 @@ pub one-seen : {D A : Type 0} (medium : D → Medium) (disk : D) (index : Index 
     → IsKept medium disk index must_reopen → seen_with disk index must_reopen ≡ s → TellsOne s
 one-seen medium disk index must_reopen kept is = subst TellsOne is (one-kept medium disk index must_reopen kept)
 
--- each recording that it tells of has their numbers
+-- each recording that it reports has their numbers
 pub tells-same : {D : Type 0} (s : Seen D) (r t : Recording) → Tells s r → Tells s t → IsSame r t
 tells-same s r t a b = held-same r t a.formed b.formed (λ n. sym (a.numbers_are n) ∙ b.numbers_are n)
     (sym a.next_is ∙ b.next_is) (sym a.clips_are ∙ b.clips_are)

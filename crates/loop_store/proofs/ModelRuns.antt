@@ -20,7 +20,7 @@ recording-after g s [] = refl
 recording-after g s (c ∷ calls) = recording-after g (after_store_call (ring_of g) s c) calls
     ∙ sym (plain-append (ring_of g) s.recording (made_by (ring_of g) s c) (made_in (ring_of g) (after_store_call (ring_of g) s c) calls))
 
--- ---- what hasn't failed has begun nothing that it didn't make
+-- ---- what hasn't failed has made all that it began
 
 abbrev no_steps : List Step
 no_steps = []

@@ -136,7 +136,7 @@ none-under : (slots count : ℕ) → numbers_under slots (replicate count None) 
 none-under slots zero = refl
 none-under slots (suc count) = none-under slots count
 
--- what its store tells
+-- what its store reports
 pub fresh-tells : {D A : Type 0} (s : SuperHead) (disk : D) (index : Index A) → IsNew index s
     → Tells (seen_with disk index false) empty
 fresh-tells s disk index new = record {

@@ -1,4 +1,4 @@
--- The number that comes next, behind the frames that a call stored.
+-- The next number, after the frames that a call stored.
 use Rattle.std.proofs.Common.{◌≡◌, ◌≢◌, ℕ, ◌+◌, Bool, true, false, if◌then◌else◌, Option, Some, None, Ok, Err, List, [], ◌∷◌, length, map, refl, sym, ap, ◌∙◌, arith}
 use Rattle.std.specs.Prelude.{◌==◌}
 use Rattle.loop_disk.specs.Medium.{Medium}

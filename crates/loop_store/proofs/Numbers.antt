@@ -13,7 +13,8 @@ use Rattle.loop_record.specs.declared.segment.SegmentHead.{SegmentHead}
 use Rattle.loop_record.specs.Geometry.{frame_bytes, slot_at}
 use Rattle.loop_record.specs.Layout.{Segment, slot_in}
 use Rattle.loop_record.specs.Plain.{AreIn, IsIn, segment_of, segments_of}
-use Rattle.loop_record.specs.Reading.{Holds, by_block, frames_of, open_segments, parts_of}
+use Rattle.loop_record.specs.Reading.{Holds, by_block, frames_of, open_segments}
+use Rattle.loop_record.specs.Parts.{parts_of}
 use Rattle.loop_record.specs.Recording.{Picture, Recording}
 use Rattle.loop_record.proofs.TestFacts.{at_most, at_most_test, both, equal, equal_test}
 use Rattle.loop_record.proofs.Gates.{range_append}
@@ -51,7 +52,7 @@ held-numbers g r image fs held are =
     sym (numbers-are g image fs) ∙ ap (λ (ss : List Segment). map (λ f. f.0) (all_frames g ss)) are
     ∙ ap (λ (ps : List (ℕ × Picture)). map (λ f. f.0) ps) (sorted g r image held).frames
 
--- ---- the numbers, one behind the other
+-- ---- the numbers, one after the other
 
 -- one number more
 pub number-more : (first n number : ℕ) (old new now : List ℕ) → number ≡ first + n → now ≡ old
@@ -120,7 +121,7 @@ among-range n a zero = same-test false (leb a n && ltb n (a + 0)) (λ e. absurd 
     (λ e. absurd (let t = both (leb a n) (ltb n (a + 0)) e in omega (arith, at_most a n t.0, below n (a + 0) t.1)))
 among-range n a (suc count) = ap (λ (t : Bool). eqb a n || t) (among-range n (a + 1) count) ∙ grind (arith, nat_tests)
 
--- so it is with the numbers of a block's frames
+-- the same for the numbers of a block's frames
 pub among-block : (n slots b frames : ℕ) → 1 ≤ slots → frames ≤ slots
     → is_among (range_with_len (b * slots) frames) n ≡ (eqb b (n / slots) && ltb (n % slots) frames)
 among-block n slots b frames some few = among-range n (b * slots) frames

@@ -77,7 +77,7 @@ goes-refused {D} medium s c one sound quiet answers = goes-once medium s s c (re
       (record { size = refl; honest = (λ h. h, λ h. h); failures = refl });
 })
 
--- where the store must be reopened, each call is refused so
+-- where the store must be reopened, each call is refused in that way
 pub goes-must : {D : Type 0} (medium : D → Medium) (s : Seen D) (c : Call) → TellsOne s
     → ((medium s.disk).honest → IsSound (medium s.disk)) → s.must_reopen ≡ true → IsQuiet c
     → fault_answered c ≡ Some MustReopen → Goes medium s s (c ∷ [])

@@ -19,7 +19,8 @@ use Rattle.loop_record.specs.Change.{ShowsSegment}
 use Rattle.loop_record.specs.Geometry.{frame_bytes, segment_at, segment_size, slot_at}
 use Rattle.loop_record.specs.Layout.{Segment, segment_in, slot_in, version_in, whole_frames}
 use Rattle.loop_record.specs.Plain.{AreIn, IsIn, segments_of}
-use Rattle.loop_record.specs.Reading.{Contents, Holds, by_block, recording_or_damage, lacks_frame, next_after, open_segments, parts_of, reading}
+use Rattle.loop_record.specs.Reading.{Contents, Holds, by_block, recording_or_damage, lacks_frame, next_after, open_segments, reading}
+use Rattle.loop_record.specs.Parts.{parts_of}
 use Rattle.loop_record.specs.Recording.{Recording, last_number, ring_of}
 use Rattle.loop_record.proofs.Bounds.{limits}
 use Rattle.loop_record.proofs.Changes.{shown_of, is_overfull, next_after-behind}
@@ -36,7 +37,7 @@ use Rattle.loop_store.specs.declared.index.Index.{Index}
 use Rattle.loop_store.specs.declared.fault.StoreFault.{StoreFault}
 use Rattle.loop_store.specs.Make.{WasOr}
 use Rattle.loop_store.specs.Reopen.{IsBadKeep, IsOpened, IsRefusedOpen, ReadsAlike, is_bad_keep}
-use Rattle.loop_store.specs.Found.{IsHeadIn, Recovers}
+use Rattle.loop_store.specs.Found.{IsHeadIn}
 use Rattle.loop_store.specs.Index.{IsFitting, IsRecovered, keeping}
 use Rattle.loop_store.specs.Store.{IsPresent}
 use Rattle.loop_store.specs.Times.{IsTimed}
@@ -78,7 +79,7 @@ full-before g (s ∷ []) higher u h e = full-before g [] higher u h (neither (no
 full-before g (s ∷ t ∷ lower) higher u h e = full-before g (t ∷ lower) higher u h
     (neither (not (eqb (length s.slots) g.slots)) (lacks_frame g (t ∷ lower ++ u ∷ h ∷ higher)) e).1
 
--- so has the last one, if the next number isn't of its block
+-- so does the last one, if the next number isn't of its block
 full-last : (g : Geometry) (u : Segment) (next : ℕ) → next ≡ u.block * g.slots + length u.slots
     → length u.slots ≤ g.slots → u.block ≢ next / g.slots → length u.slots ≡ g.slots
 full-last g u next is most apart = go (cases_lt (length u.slots) g.slots)
@@ -306,29 +307,6 @@ keeping-recovered keep index image was =
 pub bad-kept : {A : Type 0} (keep : ℕ) (index : Index A) (image : List ℕ) → IsRecovered index image
     → is_bad_keep index.ring.geometry.segments keep ≡ true → IsBadKeep keep image
 bad-kept keep index image was bad = (these index.ring.geometry was.recording, (was.known.held, bad))
-
--- a refusal that the image reads as is one of opening it
-pub refused-as : {T : Type 0} (keep : ℕ) (image : List ℕ) (fault : StoreFault) (P : T → Type 0)
-    → Recovers (let r : Result T StoreFault = Err fault in r) P (λ f. reading image ≡ Err f) → IsRefusedOpen keep image fault
-refused-as keep image StoreFault.NoMemory P said = tt
-refused-as keep image (StoreFault.Disk fault) P said = tt
-refused-as keep image StoreFault.NotFormatted P said = said
-refused-as keep image (StoreFault.Damaged damage) P said = said
-refused-as keep image StoreFault.MustReopen P said = absurd said
-refused-as keep image StoreFault.NotHeld P said = absurd said
-refused-as keep image StoreFault.BadGeometry P said = absurd said
-refused-as keep image StoreFault.NumbersSpent P said = absurd said
-refused-as keep image StoreFault.AllLocked P said = absurd said
-refused-as keep image StoreFault.ClipEmpty P said = absurd said
-refused-as keep image (StoreFault.ClipNotHeld number) P said = absurd said
-refused-as keep image StoreFault.ClipTableFull P said = absurd said
-refused-as keep image StoreFault.NoSuchClip P said = absurd said
-refused-as keep image StoreFault.PendingFull P said = absurd said
-refused-as keep image StoreFault.WrongSize P said = absurd said
-refused-as keep image StoreFault.HandFull P said = absurd said
-refused-as keep image StoreFault.HandEmpty P said = absurd said
-refused-as keep image StoreFault.OldLayout P said = absurd said
-refused-as keep image StoreFault.BadKeep P said = absurd said
 
 -- what an honest disk's opening refuses is what its bytes read as
 pub refused-honest : (old new : Medium) (keep : ℕ) (fault : StoreFault) → (old.honest → new.honest)

@@ -50,7 +50,7 @@ finds-err (Err x) e P Q old new said gives stays called made = record {
   called = subst (λ (y : StoreFault). Called old new (failed_by y)) (sym made) called;
 }
 
--- a refusal of the layout is answered as it is
+-- a refusal of the layout is returned as it is
 recovers-refusal : {T : Type 0} (fault : LayoutFault) (P : T → Type 0) (Q : LayoutFault → Type 0) → Q fault
     → Recovers (let s : Result T StoreFault = Err (refusal fault) in s) P Q
 recovers-refusal LayoutFault.NotFormatted P Q q = q
@@ -149,7 +149,7 @@ head-read g j at image bytes said good at_is read is =
     is ∙ ap (λ (b : List ℕ). checked_header g (header_at g b 0)) (read ∙ ap (λ (n : ℕ). take n (drop at image)) count)
     ∙ ap (checked_header g) (header_at-slice g image at (limits g good).slots.1 ∙ ap (header_at g image) at_is)
 
--- a header that is answered is the one that stands there
+-- a header that is returned is the one on the disk
 pub head-same : (g : Geometry) (said h : Option SegmentHead) → (let r : Result (Option SegmentHead) Damage = Ok said in r) ≡ checked_header g h → said ≡ h
 head-same g said None e = cc
 head-same g said (Some h) e = go (is_too_high g h.block) e

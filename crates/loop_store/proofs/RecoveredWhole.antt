@@ -10,7 +10,8 @@ use Rattle.loop_record.specs.declared.segment.SegmentHead.{SegmentHead}
 use Rattle.loop_record.specs.Geometry.{disk_size}
 use Rattle.loop_record.specs.Layout.{geometry_in}
 use Rattle.loop_record.specs.Plain.{AreIn, segments_of}
-use Rattle.loop_record.specs.Reading.{Holds, by_block, is_bad_slot, is_high, lacks_frame, next_after, open_segments, parts_of, reading, repeats}
+use Rattle.loop_record.specs.Reading.{Holds, by_block, is_bad_slot, lacks_frame, next_after, open_segments, reading, repeats}
+use Rattle.loop_record.specs.Parts.{is_high, parts_of}
 use Rattle.loop_record.specs.Recording.{Recording, last_number, ring_of}
 use Rattle.loop_record.proofs.FoundSegments.{AreFull, IsFoundIn, fault-of, found-low, found-read, read-all, read-bad_clip, reading-bad_slot, reading-high}
 use Rattle.loop_ring.specs.Heads.{clip_counts, heads_of, in_order}

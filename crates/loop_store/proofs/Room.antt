@@ -10,7 +10,8 @@ use Rattle.loop_record.specs.declared.segment.SegmentHead.{SegmentHead}
 use Rattle.loop_record.specs.Change.{ShowsSegment}
 use Rattle.loop_record.specs.Geometry.{gate_at, segment_at, segment_size}
 use Rattle.loop_record.specs.Layout.{Segment, segment_in, version_in}
-use Rattle.loop_record.specs.Reading.{Contents, Holds, empty_segment, open_segments, parts_of}
+use Rattle.loop_record.specs.Reading.{Contents, Holds, empty_segment, open_segments}
+use Rattle.loop_record.specs.Parts.{parts_of}
 use Rattle.loop_record.specs.Recording.{Picture, Recording, after_step, needs_recycling, plain, recycle, recycling_first, ring_of, victim}
 use Rattle.loop_record.proofs.TestFacts.{neither}
 use Rattle.loop_record.proofs.OwnBytes.{SameWithin, same_open, same_segment, same_whole_frames}
@@ -19,10 +20,10 @@ use Rattle.loop_record.proofs.Readings.{reading-retire, reading-same}
 use Rattle.loop_ring.specs.Heads.{heads_of}
 use Rattle.loop_ring.specs.Writes.{HasNoStray, ShowsFrames, ShowsOrNot}
 use Rattle.loop_ring.proofs.Heads.{heads-committed, heads-length, heads-shown}
-use Rattle.loop_store.specs.declared.place.Place.{Place}
-use Rattle.loop_store.specs.declared.place.Place.TheVariants.{Newest, Closed, Victim}
+use Rattle.loop_store.specs.declared.place.AppendPlace.{AppendPlace}
+use Rattle.loop_store.specs.declared.place.AppendPlace.TheVariants.{Newest, Closed, Victim}
 use Rattle.loop_store.specs.Grow.{HasNoneStray, IsFreeFor, IsNewestSegment}
-use Rattle.loop_store.specs.Place.{IsBegunAt, IsGrownAt, IsKnown, IsOldFor, IsPlaceAt, head_at, place_segment, steps_before}
+use Rattle.loop_store.specs.AppendPlace.{IsBegunAt, IsGrownAt, IsKnown, IsOldFor, IsPlaceAt, head_at, place_segment, steps_before}
 use Rattle.loop_store.proofs.Names.{HoldsSome, steps_or_none}
 
 -- ---- one image holds one recording
@@ -73,7 +74,7 @@ stray-others g i old new few same none = λ k low below.
     (record { size = same.size; bytes = λ x l u. same.bytes x (omega (arith, l)) (omega (arith, u, below, few)) })
     ∙ none k (omega (arith, low, whole)) below
 
--- so where the changed one has no stray gate, none has
+-- so where the changed one has no stray gate, no segment has one
 pub unstray-shown : (g : Geometry) (j : ℕ) (part : Option Segment) (old new : List ℕ) → g.slots ≤ 256
     → ShowsSegment g j part old new → HasNoneStray g old → (part ≢ None → HasNoStray g j new) → HasNoneStray g new
 unstray-shown g j part old new few shows none here i within open_segments = go (cases_lt i j)
@@ -241,23 +242,23 @@ newest-for g keep r next j image l known held is =
     no_segment : (s : Segment) → Some s ≡ None → ⊥
     no_segment s e = absurd cc
 
--- ---- a place that is one of these
+-- ---- a place of one of these kinds
 
-pub known-newest : (g : Geometry) (keep : ℕ) (r : Recording) (next j : ℕ) (p : Place) (image : List ℕ) → p ≡ Newest j
+pub known-newest : (g : Geometry) (keep : ℕ) (r : Recording) (next j : ℕ) (p : AppendPlace) (image : List ℕ) → p ≡ Newest j
     → place_segment p < g.segments → IsKnown g keep next p image → Holds g r image → r.next ≡ next
     → IsNewestFor g keep r next (place_segment p) image
 known-newest g keep r next j p image is l known held same =
     let e : place_segment p ≡ j = ap place_segment is in
     subst (λ (k : ℕ). IsNewestFor g keep r next k image) (sym e)
     (newest-for g keep r next j image (subst (λ (k : ℕ). k < g.segments) e l)
-    (subst (λ (q : Place). IsKnown g keep next q image) is known) held same)
+    (subst (λ (q : AppendPlace). IsKnown g keep next q image) is known) held same)
 
-pub known-closed : (g : Geometry) (keep : ℕ) (r : Recording) (next j : ℕ) (p : Place) (image : List ℕ) → p ≡ Closed j
+pub known-closed : (g : Geometry) (keep : ℕ) (r : Recording) (next j : ℕ) (p : AppendPlace) (image : List ℕ) → p ≡ Closed j
     → IsKnown g keep next p image → Holds g r image → r.next ≡ next → IsClosedFor g keep r next j image
 known-closed g keep r next j p image is known held same =
-    closed-for g keep r next j image (subst (λ (q : Place). IsKnown g keep next q image) is known) held same
+    closed-for g keep r next j image (subst (λ (q : AppendPlace). IsKnown g keep next q image) is known) held same
 
-pub closed-at : (g : Geometry) (keep next j : ℕ) (p : Place) (old new : List ℕ) → g.slots ≤ 256 → p ≡ Closed j
+pub closed-at : (g : Geometry) (keep next j : ℕ) (p : AppendPlace) (old new : List ℕ) → g.slots ≤ 256 → p ≡ Closed j
     → place_segment p < g.segments → IsKnown g keep next p old
     → ShowsSegment g j (Some (empty_segment (next / g.slots))) old new → HasNoStray g j new
     → IsBegunAt g next (place_segment p) old new
@@ -294,7 +295,7 @@ before-next g keep r = go (needs_recycling (ring_of g) r) (victim (ring_of g) ke
     go true None = refl
     go true (Some b) = refl
 
-pub grown-place : (g : Geometry) (next count k : ℕ) (p : Place) (ps : List Picture) (old mid new : List ℕ)
+pub grown-place : (g : Geometry) (next count k : ℕ) (p : AppendPlace) (ps : List Picture) (old mid new : List ℕ)
     → g.slots ≤ 256 → k ≡ place_segment p → place_segment p < g.segments → length ps ≡ count
     → IsBegunAt g next (place_segment p) old mid → ShowsFrames g k next ps mid new → HasNoStray g k new
     → IsGrownAt g next count (place_segment p) old new

@@ -16,9 +16,6 @@ pub record IsSame (r t : Recording) : Type 0 where
   pub next : r.next ≡ t.next
   pub clips : r.clips ≡ t.clips
 
-pub other : (r t : Recording) → IsSame r t → IsSame t r
-other r t same = record { numbers = sym same.numbers; next = sym same.next; clips = sym same.clips }
-
 pub then : (r s t : Recording) → IsSame r s → IsSame s t → IsSame r t
 then r s t a b = record { numbers = a.numbers ∙ b.numbers; next = a.next ∙ b.next; clips = a.clips ∙ b.clips }
 

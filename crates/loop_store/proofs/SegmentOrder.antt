@@ -7,7 +7,8 @@ use Rattle.loop_record.specs.declared.segment.SegmentHead.{SegmentHead}
 use Rattle.loop_record.specs.Geometry.{segment_at}
 use Rattle.loop_record.specs.Layout.{Segment, header_at, is_open, segment_in, whole_frames}
 use Rattle.loop_record.specs.Plain.{AreIn, IsIn, segment_of, segments_of}
-use Rattle.loop_record.specs.Reading.{by_block, in_place, open_segments, parts_of}
+use Rattle.loop_record.specs.Reading.{by_block, in_place, open_segments}
+use Rattle.loop_record.specs.Parts.{parts_of}
 use Rattle.byteorder.specs.Endian.{little_from}
 use Rattle.loop_ring.specs.Heads.{found_at, heads_of, in_order, put_before}
 use Rattle.loop_ring.proofs.SegmentOrder.{Each, order-each}

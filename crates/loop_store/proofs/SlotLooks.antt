@@ -99,7 +99,7 @@ missing-slot g r image n j h held found at few = none-held g r image n held (λ 
     let frames : h.frames ≡ u.frames = ap (λ (x : SegmentHead). x.frames) one in
     omega (arith, frames, few, l))
 
--- the number behind the frames of a segment that has room for more
+-- the number after the frames of a segment that has room for more
 pub missing-behind : (g : Geometry) (r : Recording) (image : List ℕ) (j : ℕ) (h : SegmentHead) → Holds g r image
     → get_or (heads_of g image) j None ≡ Some h → h.frames < g.slots → holds r (h.block * g.slots + h.frames) ≡ false
 missing-behind g r image j h held at room =
@@ -161,7 +161,7 @@ answers-ok g r number s h out is said bytes = record {
   bytes_are = bytes;
 }
 
--- so it is with a read of its head alone: the bytes are those that stand there
+-- the same for a read of its head alone: the bytes are those on the disk
 pub held-head : (g : Geometry) (r : Recording) (image : List ℕ) (j n slots : ℕ) (h : FrameHead) → Holds g r image
     → j < g.segments → slots ≡ g.slots → has_number g.slots n (get_or (heads_of g image) j None) ≡ true
     → slot_head (frame_bytes g) n (slot_of g image j (n % slots)) ≡ Ok h
@@ -170,7 +170,7 @@ held-head g r image j n slots h held l same has said =
     answers-ok g r n (slot_of g image j (n % g.slots)) h (bytes_under g image j n) (held-slot g r image j n held l has)
     (sym (ap (λ (m : ℕ). slot_head (frame_bytes g) n (slot_of g image j (n % m))) same) ∙ said) refl
 
--- or refused: a call of the disk has failed
+-- or refused: a call of the disk failed
 pub answers-err : (g : Geometry) (r : Recording) (number : ℕ) (s : Slot) (fault : SlotFault) (out : List ℕ)
     → IsSlotOf g r number s → AnswersHead (slot_head (frame_bytes g) number s) (Err fault)
     → AnswersFrame r number (Err (slot_refusal fault)) out
@@ -178,7 +178,7 @@ answers-err g r number s (slot.Disk fault) out is said = (refl, ap (λ (o : Opti
 answers-err g r number s (slot.Damaged damage) out is said =
     absurd (not_damaged (head number s.picture) damage (sym (right-head (frame_bytes g) number s is.right) ∙ said))
 
--- so it is with a read of a part of it
+-- the same for a read of a part of it
 pub part-ok : (g : Geometry) (r : Recording) (number at : ℕ) (s : Slot) (out : List ℕ) → IsSlotOf g r number s
     → out ≡ piece at (length out) s.picture.bytes → AnswersFramePart r number at (Ok tt) out
 part-ok g r number at s out is bytes = record { picture = s.picture; there = is.held; bytes_are = bytes }

@@ -16,7 +16,7 @@ use Rattle.loop_record.proofs.Steps.{plain-append, plain-stores}
 use Rattle.loop_ring.specs.Heads.{heads_of, is_of}
 use Rattle.loop_ring.proofs.Heads.{heads-length, one-entry}
 use Rattle.loop_store.specs.Index.{head_after}
-use Rattle.loop_store.specs.Place.{steps_before}
+use Rattle.loop_store.specs.AppendPlace.{steps_before}
 use Rattle.loop_store.specs.Times.{AreTimes, HasTimes, time_in, time_under}
 use Rattle.loop_store.proofs.Room.{before-next}
 use Rattle.loop_store.proofs.Same.{IsSame, holds-same}

@@ -42,7 +42,7 @@ slot-time n number s h e = go (is_slot_of n number s) e
         ap (λ (x : FrameHead). x.timestamp) is
     go false e = absurd cc
 
--- places of slots are told apart
+-- different slots have different places
 same-place : (slots j k m n : ℕ) → k < slots → n < slots → j * slots + k ≡ m * slots + n → (j ≡ m) × (k ≡ n)
 same-place slots j k m n low less same = (
   sym (div-mul-add j slots k low) ∙ ap (λ (x : ℕ). x / slots) same ∙ div-mul-add m slots n less,

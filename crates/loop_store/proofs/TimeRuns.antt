@@ -1,4 +1,4 @@
--- The held frames of a time, as runs of their numbers.
+-- The held frames of a span of time, as runs of their numbers.
 use Rattle.std.proofs.Common.{◌≡◌, ℕ, zero, suc, ◌+◌, ◌-◌, ◌*◌, ◌/◌, ◌%◌, ◌<◌, ◌≤◌, Bool, true, false, cond, eqb, is_some, Option, Some, List, [], ◌∷◌, ◌++◌, append_assoc, get_or, length, map, take, refl, sym, ap, ◌∙◌, subst, arith}
 use Rattle.std.proofs.Math.Nat.{mod-lt}
 use Rattle.std.proofs.lemmas.List.{append-nil, get_or_read, take_all}
@@ -90,7 +90,7 @@ ends-added m (s ∷ t ∷ ss) n h l = (h.0, ends-added m (t ∷ ss) n h.1 l)
 
 -- ---- all numbers
 
--- the runs of the first of some numbers that pass a test: each later one is behind them
+-- the runs of the first of some numbers that pass a test: each later number is after them
 pub record RunsSoFar (p : ℕ → Bool) (numbers : List ℕ) (k : ℕ) (runs : List Span) : Type 0 where
   pub are : AreRuns (filter p (take k numbers)) runs
   pub ends : (j : ℕ) → k ≤ j → j < length numbers → EndsBelow (get_or numbers j 0) runs
@@ -148,7 +148,7 @@ rise-between low high (f ∷ fs) h (suc i) (suc j) less l = rise-between (f.0 + 
 pub numbers-rise : (r : Recording) → IsWellFormed r → Rise (numbers_of r.frames)
 numbers-rise r formed = λ i j less l. rise-between 0 r.next r.frames formed.rising i j less l
 
--- a frame of the others is found behind the first
+-- a frame of the others is found after the first
 under-rest : (f : ℕ × Picture) (fs : List (ℕ × Picture)) (low high n : ℕ) (p : Picture) → f.0 + 1 ≤ low → RiseBetween low high fs
     → frame_under fs n ≡ Some p → frame_under (f ∷ fs) n ≡ Some p
 under-rest f fs low high n p above rise there =
@@ -175,14 +175,14 @@ filter-times times f low high (x ∷ fs) rise are =
     go true false e more = absurd cc
     go false true e more = absurd cc
 
--- those whose time is among these, by the times that are known
+-- those whose time lies in the span, by the times that are known
 pub sought-numbers : (times : Times) (f : ℕ → ℕ) (r : Recording) → IsWellFormed r → AreTimes f r
     → filter (λ n. is_in times (f n)) (numbers_of r.frames) ≡ numbers_in_time times r
 sought-numbers times f r formed are = filter-times times f 0 r.next r.frames formed.rising are
 
 -- ---- the code
 
--- the time that stands at the slot of a number
+-- the time at the slot of a number
 pub time-read : {A : Type 0} (index : Index A) (number from j value : ℕ) → IsIndex index → from ≡ index.ring.geometry.slots
     → j < length index.table.heads → position (is_of (number / index.ring.geometry.slots)) index.table.heads ≡ Some j
     → value ≡ get_or index.times.items (j * from + number % from) value

@@ -16,10 +16,10 @@ use Rattle.loop_store.specs.declared.fault.StoreFault.{StoreFault}
 use Rattle.loop_store.specs.declared.fault.StoreFault.TheVariants.{AllLocked, ClipEmpty, ClipNotHeld, ClipTableFull, Damaged, NoMemory, NoSuchClip, MustReopen, NotHeld, NumbersSpent, OldLayout}
 use Rattle.loop_store.specs.Faults.{disk_failed, failed_as, is_disk, is_early, is_write_fault}
 
--- a call and its answer: an append of a group, a lock of a span with the clip's id, an unlock of an id, a read of a
--- number with the head and the bytes that it gave, a read of a part of a number's frame, from a byte on, with the
--- bytes that it gave, a look for the held frames of a time with the runs of their numbers, and an upgrade of the layout
--- with whether it was made
+-- a call and its answer: an append of a group; a lock of a span, with the clip's id; an unlock of an id; a read of a
+-- number, with the head and the bytes; a read of a part of a number's frame, from a byte on, with its bytes; a search
+-- for the held frames of a span of time, with the runs of their numbers; and an upgrade of the layout, with whether it
+-- was made
 pub data Call : Type 0 where
   appended : List Picture → Result ℕ StoreFault → Call
   locked : Span → Result ℕ StoreFault → Call
@@ -29,17 +29,17 @@ pub data Call : Type 0 where
   sought : Times → Result (List Span) StoreFault → Call
   upgraded : Result Bool StoreFault → Call
 
--- what a read into lent memory answers
+-- the answer of a read into lent memory
 abbrev pub read_with : Result FrameHead StoreFault → List ℕ → Result (FrameHead × List ℕ) StoreFault
 read_with (Ok h) out = Ok (h, out)
 read_with (Err fault) out = Err fault
 
--- what a read of a part into lent memory answers
+-- the answer of a read of a part into lent memory
 abbrev pub part_with : Result (Unit {0}) StoreFault → List ℕ → Result (List ℕ) StoreFault
 part_with (Ok done) out = Ok out
 part_with (Err fault) out = Err fault
 
--- what a look for a time answers, where this is what stands in the memory of its runs
+-- the answer of a search for a time, where its memory holds these runs
 abbrev pub runs_with : {V : Type 0} → (V → List Span) → Result V StoreFault → Result (List Span) StoreFault
 runs_with items (Ok runs) = Ok (items runs)
 runs_with items (Err fault) = Err fault
@@ -71,7 +71,7 @@ is_look (was_read_part number at result) = true
 is_look (sought times result) = true
 is_look _ = false
 
--- the steps that a call is asked for; of an append none, where there are none that it could make
+-- the steps that a call is asked for; an append that can't make any has none
 abbrev pub steps_of : Ring → StoreState → Call → List Step
 steps_of ring s (appended group result) = unwrap_or (steps ring s.keep s.recording group) []
 steps_of ring s (locked span result) = lock span ∷ []
@@ -82,7 +82,7 @@ steps_of ring s _ = []
 abbrev pub made_by : Ring → StoreState → Call → List Step
 made_by ring s call = if is_some (fault_answered call) then [] else steps_of ring s call
 
--- the steps that it began, and of which a beginning may stand: all, where the disk failed
+-- the steps that it began, of which a prefix may have been made: all, where the disk failed
 abbrev pub begun_by : Ring → StoreState → Call → List Step
 begun_by ring s call = if disk_failed (fault_answered call) then steps_of ring s call else []
 
@@ -99,7 +99,7 @@ abbrev pub version_after : ℕ → Call → ℕ
 version_after version (upgraded (Ok true)) = 2
 version_after version _ = version
 
--- after a failed call of the disk within a call that writes the store must be reopened
+-- the store must be reopened after a call of the disk has failed within a call that writes
 abbrev pub after_store_call : Ring → StoreState → Call → StoreState
 after_store_call ring s call = record {
   recording = plain ring s.recording (made_by ring s call);
@@ -156,7 +156,7 @@ pub record IsHeldFrame (r : Recording) (number : ℕ) (h : FrameHead) (bytes : L
   pub head_is : h ≡ head number picture
   pub bytes_are : bytes ≡ picture.bytes
 
--- the bytes of a number's frame from byte `at` on, as many as there are
+-- the bytes of a number's frame from byte `at` on, as many as were read
 pub record IsPart (r : Recording) (number at : ℕ) (bytes : List ℕ) : Type 0 where
   pub picture : Picture
   pub there : frame_under r.frames number ≡ Some picture
@@ -167,9 +167,9 @@ pub record IsPart (r : Recording) (number at : ℕ) (bytes : List ℕ) : Type 0 
 abbrev pub ReadFails : Type 0 → StoreFault → Type 0
 ReadFails Honest fault = (is_disk fault ≡ true) ⊎ ((fault ≡ Damaged SlotHead) × (Honest → ⊥))
 
--- What a call answers where no check is due: it is done, a look lacks memory, or the disk failed, which for a call that
--- writes is a write or a sync. An upgrade is made where the version isn't 2, and otherwise can't fail. Only what a read
--- gives is known of honest disks alone.
+-- What a call answers where no check is due: it is done, a search lacks memory, or the disk failed, which for a call
+-- that writes is a write or a sync. An upgrade is made where the version isn't 2, and otherwise can't fail. What a read
+-- gives is known only of honest disks.
 abbrev pub AnswersOtherwise : Type 0 → StoreState → Call → Type 0
 AnswersOtherwise Honest s (appended group (Ok number)) = number ≡ s.recording.next
 AnswersOtherwise Honest s (locked span (Ok id)) = id ≡ first_free s.recording.clips
@@ -191,7 +191,7 @@ abbrev pub AnswersDue : Option StoreFault → Call → Type 0 → Type 0
 AnswersDue (Some fault) call Given = fault_answered call ≡ Some fault
 AnswersDue None call Given = Given
 
--- a call was answered so, where `Honest` says that the disk is honest
+-- a call was answered as above, where `Honest` says that the disk is honest
 abbrev pub IsAnswered : Type 0 → Ring → StoreState → Call → Type 0
 IsAnswered Honest ring s call = AnswersDue (first_of (checks ring s call)) call (AnswersOtherwise Honest s call)
 
@@ -201,7 +201,7 @@ IsAnswered Honest ring s call = AnswersDue (first_of (checks ring s call)) call 
 abbrev pub after_calls : Ring → StoreState → List Call → StoreState
 after_calls ring s calls = after_all (after_store_call ring) s calls
 
--- each was answered so at its point
+-- each call was answered so in its turn
 abbrev pub AreAnswered : Type 0 → Ring → StoreState → List Call → Type 0
 AreAnswered Honest ring s calls = EachIn (after_store_call ring) (IsAnswered Honest ring) s calls
 
@@ -209,6 +209,6 @@ AreAnswered Honest ring s calls = EachIn (after_store_call ring) (IsAnswered Hon
 abbrev pub made_in : Ring → StoreState → List Call → List Step
 made_in ring s calls = told_in (after_store_call ring) (made_by ring) s calls
 
--- the steps that were begun behind them
+-- the steps that were begun after them
 abbrev pub begun_in : Ring → StoreState → List Call → List Step
 begun_in ring s calls = told_in (after_store_call ring) (begun_by ring) s calls

@@ -1,4 +1,4 @@
--- The image that headers and clips alone describe, with frames that are made up.
+-- The image that headers and clips alone describe, with made-up frames.
 use Rattle.std.specs.Prelude.{ℕ, ◌+◌, ◌-◌, ◌*◌, ◌/◌, ◌%◌, nat_lt, if◌then◌else◌, Option, None, Some, List, ◌++◌, map, replicate, slice_index, slice_index_or}
 use Rattle.std.specs.List.{range_with_len}
 use Rattle.loop_record.specs.declared.clip.Span.{Span}
@@ -30,7 +30,7 @@ segment_byte g (Some head) k =
     if nat_lt k 512 then (if nat_lt (k - 256) head.frames then 0xA5 else 0) else
     slot_byte g head.block (k - 512)
 
--- byte k of the image, behind the superblock
+-- byte k of the image, after the superblock
 abbrev pub drawn_byte : Geometry → List (Option SegmentHead) → List (Option Span) → ℕ → ℕ
 drawn_byte g heads clips k =
     if nat_lt k 2560 then entry_byte (slice_index_or clips ((k - 512) / 32) None) ((k - 512) % 32) else

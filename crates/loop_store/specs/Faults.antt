@@ -1,4 +1,4 @@
--- Refusals: their numbers, and what each says of the disk.
+-- Refusals: their numbers and names, and what each says of the disk.
 use Rattle.std.specs.Prelude.{ℕ, Bool, true, false, not, ◌&&◌, Option, None, Some, Result, List, codes}
 use Rattle.std.specs.Option.{option_map_or}
 use Rattle.std.specs.Result.{result_err}
@@ -63,11 +63,11 @@ abbrev pub is_write_fault : StoreFault → Bool
 is_write_fault (Disk fault) = is_write_or_sync fault
 is_write_fault _ = false
 
--- there is a refusal, and it is that a call of the disk has failed
+-- there is a refusal, because a call of the disk failed
 abbrev pub disk_failed : Option StoreFault → Bool
 disk_failed fault = option_map_or is_disk fault false
 
--- the call of the disk that failed, if a refusal says that one did
+-- the call of the disk that failed, if the refusal says so
 abbrev pub failed_by : StoreFault → Option DiskFault
 failed_by (Disk fault) = Some fault
 failed_by _ = None
@@ -76,7 +76,7 @@ abbrev pub failed_as : Option StoreFault → Option DiskFault
 failed_as None = None
 failed_as (Some fault) = failed_by fault
 
--- and if an answer does
+-- the same of an answer
 abbrev pub failed_in : {T : Type 0} → Result T StoreFault → Option DiskFault
 failed_in result = failed_as (result_err result)
 
@@ -85,11 +85,11 @@ abbrev pub is_damage : StoreFault → Bool
 is_damage (Damaged damage) = true
 is_damage _ = false
 
--- it came before the disk was called
+-- the refusal came before the disk was called
 abbrev pub is_early : Option StoreFault → Bool
 is_early fault = option_map_or (λ f. not (is_disk f) && not (is_damage f)) fault false
 
--- the refusal of a slot as a store's
+-- the store's refusal for that of a slot
 abbrev pub slot_refusal : SlotFault → StoreFault
 slot_refusal (slot.Disk fault) = Disk fault
 slot_refusal (slot.Damaged damage) = Damaged damage

@@ -1,4 +1,5 @@
--- What is read of a disk again, part by part, and how damage is answered. Only the store's own code looks at this.
+-- What is read of a disk again, part by part, and the answers where it is damaged. Only the store's own code uses
+-- this.
 use Rattle.std.specs.Prelude.{◌≡◌, ℕ, ◌≤◌, Bool, false, Option, Some, None, Result, Ok, Err, List, map}
 use Rattle.std.specs.List.{flat_map, list_any, range_with_len}
 use Rattle.loop_disk.specs.Calls.{Called, Stays}
@@ -15,12 +16,12 @@ use Rattle.loop_record.specs.Recording.{empty}
 use Rattle.loop_store.specs.declared.fault.StoreFault.{StoreFault}
 use Rattle.loop_store.specs.Faults.{failed_in}
 
--- the refusal that stands for the layout's
+-- the store's refusal for that of the layout
 abbrev pub refusal : LayoutFault → StoreFault
 refusal LayoutFault.NotFormatted = StoreFault.NotFormatted
 refusal (LayoutFault.Damaged damage) = StoreFault.Damaged damage
 
--- The answer is as the first says, or the layout's refusal as the second, or memory was refused, or a call of
+-- The answer meets the first, or it is the layout's refusal and meets the second, or memory was refused, or a call of
 -- the disk failed.
 abbrev pub Recovers : {T : Type 0} → Result T StoreFault → (T → Type 0) → (LayoutFault → Type 0) → Type 0
 Recovers (Ok x) P Q = P x
@@ -30,8 +31,8 @@ Recovers (Err StoreFault.NotFormatted) P Q = Q LayoutFault.NotFormatted
 Recovers (Err (StoreFault.Damaged damage)) P Q = Q (LayoutFault.Damaged damage)
 Recovers (Err _) P Q = ⊥
 
--- What a call that only reads found: it answers so of each image that agrees with what was read, and leaves an honest
--- disk as it was.
+-- What a call that only reads found: the answer is right for each image that agrees with what was read, and an honest
+-- disk stays as it was.
 pub record Finds {T : Type 0} (IsSuch : List ℕ → T → Type 0) (IsRefused : List ℕ → LayoutFault → Type 0)
     (old new : Medium) (result : Result T StoreFault) : Type 0 where
   pub found : (image : List ℕ) → MayBe new image → Recovers result (IsSuch image) (IsRefused image)
@@ -48,7 +49,7 @@ IsHeadIn g (Some h) = (h.frames ≤ g.slots) × (is_too_high g h.block ≡ false
 abbrev pub clips_of : List ℕ → List (Option Span)
 clips_of image = map (clip_in image) (range_with_len 0 64)
 
--- some clip of the image is empty or has a number of which the segments have no frame
+-- some clip of the image is empty or has a number whose frame no segment has
 abbrev pub some_bad_clip : Geometry → List ℕ → List Found → Bool
 some_bad_clip g image fs =
     list_any (is_bad_clip (record empty { frames = flat_map (frames_of g) (segments_of g image fs) })) (clips_of image)

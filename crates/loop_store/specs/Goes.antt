@@ -1,4 +1,4 @@
--- What calls, one after the other, make of a store and leave on its disk.
+-- What a sequence of calls does to a store, and what it leaves on its disk.
 use Rattle.std.specs.Prelude.{◌≡◌, ◌↔◌, true, false, Option, List, map}
 use Rattle.std.specs.List.{list_all}
 use Rattle.loop_disk.specs.declared.fault.DiskFault.{DiskFault}
@@ -16,13 +16,13 @@ use Rattle.loop_store.specs.Steps.{LeavesSteps}
 abbrev pub with_each : List (Option DiskFault) → Failures → Failures
 with_each failed failures = after_all (λ before one. with_failed one before) failures failed
 
--- what a run of calls keeps of a disk, where these failed
+-- what a run of calls keeps of a disk, where these are the calls of the disk that failed
 pub record CalledEach (old new : Medium) (failed : List (Option DiskFault)) : Type 0 where
   pub size : new.size ≡ old.size
   pub honest : old.honest ↔ new.honest
   pub failures : new.failures ≡ with_each failed old.failures
 
--- the store tells what a state says
+-- what the store reports is what a state says
 pub record TellsState {D : Type 0} (store : Seen D) (s : StoreState) : Type 0 where
   pub recording : Tells store s.recording
   pub version : store.version ≡ s.version
@@ -36,25 +36,25 @@ pub record Stands {D : Type 0} (medium : D → Medium) (store : Seen D) (s : Sto
   pub keep : store.keep ≡ s.keep
   pub must_reopen : store.must_reopen ≡ s.must_reopen
 
--- The answers are said of each state that the store told of, and it told of one, whatever its disk. What a crash
--- leaves, that looks leave the disk as it was, and what a read gives, is said of an honest disk.
+-- The answers hold for each state that the store reported, and there is one, whatever the disk. What a crash leaves,
+-- what reads give, and that reads leave the disk as it was, is said of an honest disk.
 pub record Goes {D : Type 0} (medium : D → Medium) (old new : Seen D) (calls : List Call) : Type 0 where
   pub one : TellsOne old
-  -- each answer is the model's, and what a read gives too, where the store stood for the state and the disk is honest
+  -- each answer is the model's; so is what a read gives, where the store stood for the state on an honest disk
   pub answers : (s : StoreState) → TellsState old s
       → AreAnswered ((medium old.disk).honest × Stands medium old s) (ring_of old.geometry) s calls
-  -- the store tells of the state after them
+  -- the store reports the state after them
   pub tells : (s : StoreState) → TellsState old s → TellsState new (after_calls (ring_of old.geometry) s calls)
   -- and stands for it where it stood for the first
   pub stands : (s : StoreState) → Stands medium old s → Stands medium new (after_calls (ring_of old.geometry) s calls)
-  -- whatever the moment of a crash, the image reads as the recording after a beginning of the steps, and at the
-  -- end after all that were made
+  -- whatever the moment of a crash, the image reads as the recording after a prefix of the steps, and at the end after
+  -- all that were made
   pub leaves : (s : StoreState) → Stands medium old s → (medium old.disk).honest → s.must_reopen ≡ false
       → LeavesSteps old.geometry s.recording (made_in (ring_of old.geometry) s calls)
       (begun_in (ring_of old.geometry) s calls) (medium old.disk) (medium new.disk)
-  -- calls that write nothing leave the disk as it was, and what it may leave
+  -- calls that write nothing leave the disk as it was, with all that a crash may leave of it
   pub looks : list_all is_look calls ≡ true → (medium old.disk).honest → Stays (medium old.disk) (medium new.disk)
-  -- where each was refused before the disk was called, or there is none, nothing is moved
+  -- where each was refused before the disk was called, or there is none, nothing changes
   pub unmoved : list_all was_refused calls ≡ true → new ≡ old
   pub geometry : new.geometry ≡ old.geometry
   pub called : CalledEach (medium old.disk) (medium new.disk) (map failed_for calls)

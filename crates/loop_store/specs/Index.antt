@@ -1,4 +1,4 @@
--- What the index says of an image, and what is noted in it. Only the store's own code looks at this.
+-- What the index says of an image, and what is noted in it. Only the store's own code uses this.
 use Rattle.std.specs.Prelude.{◌≡◌, ℕ, ◌+◌, ◌*◌, ◌/◌, ◌%◌, ◌≤◌, Option, Some, List, All, length, slice_set}
 use Rattle.loop_record.specs.declared.clip.Span.{Span}
 use Rattle.loop_record.specs.declared.geometry.Geometry.{Geometry}
@@ -35,22 +35,21 @@ pub record IsRecovered {A : Type 0} (index : Index A) (image : List ℕ) : Type 
   pub recording : Recording
   pub known : IsIndexOf index recording image
 
--- so it is, and the index has the version of the image's layout and the times of the frames
+-- the same, and the index has the version of the image's layout and the times of the frames
 abbrev pub IsRecoveredIn : {A : Type 0} → Index A → List ℕ → Type 0
 IsRecoveredIn index image = IsRecovered index image
     × ((version_in image ≡ index.version) × IsTimed index.ring.geometry index.table.heads index.times.items image)
 
--- with frames that are made up, the index says a whole recording
+-- with made-up frames, the index describes a whole recording
 abbrev pub SaysRecording : {A : Type 0} → Index A → Type 0
 SaysRecording index = IsRecovered index (drawn_image index.ring.geometry index.table.heads index.clips)
 
--- the index that keeps so many of the newest blocks
+-- the index that keeps this many of the newest blocks
 abbrev pub keeping : {A : Type 0} → ℕ → Index A → Index A
 keeping keep index = record index { table = record index.table { keep = keep } }
 
--- whatever a disk holds: there is a header for each segment, each may stand there, no block of the numbers
--- below the next one is too high, the clips that meet each segment's block are counted, and there is a time for each
--- slot
+-- Whatever a disk holds: there is a header for each segment, and each is a possible one; no block of the numbers below
+-- the next one is too high; the clips that meet each segment's block are counted; and there is a time for each slot.
 pub record IsIndex {A : Type 0} (index : Index A) : Type 0 where
   pub count : length index.table.heads ≡ index.ring.geometry.segments
   pub within : All (IsHeadIn index.ring.geometry) index.table.heads
@@ -58,16 +57,16 @@ pub record IsIndex {A : Type 0} (index : Index A) : Type 0 where
   pub counted : index.table.clips ≡ clip_counts (ring_of index.ring.geometry) index.clips index.table.heads
   pub places : length index.times.items ≡ index.ring.geometry.segments * index.ring.geometry.slots
 
--- so it is, of a disk of this size
+-- the same, for a disk of this size
 pub record IsFitting {A : Type 0} (index : Index A) (size : ℕ) : Type 0 where
   pub size_is : size ≡ disk_size index.ring.geometry
   pub whole : IsIndex index
 
--- the header of a segment, when so many frames of its block are stored from the next number on
+-- the header of a segment once this many frames of its block are stored from the next number on
 abbrev pub head_after : Geometry → ℕ → ℕ → SegmentHead
 head_after g next count = record { block = next / g.slots; frames = next % g.slots + count }
 
--- segment j has so many frames of the block of the next number from there on
+-- segment j has this many frames of the block of the next number from that number on
 pub record IsNoted {A : Type 0} (old new : Index A) (j count : ℕ) : Type 0 where
   pub ring : new.ring ≡ old.ring
   pub version : new.version ≡ old.version
@@ -77,7 +76,7 @@ pub record IsNoted {A : Type 0} (old new : Index A) (j count : ℕ) : Type 0 whe
   pub clips : new.clips ≡ old.clips
   pub counted : new.table.clips ≡ clip_counts (ring_of old.ring.geometry) old.clips new.table.heads
 
--- under this id stands this clip, or none
+-- this id has this clip, or none
 pub record IsClipNoted {A : Type 0} (old new : Index A) (id : ℕ) (clip : Option Span) : Type 0 where
   pub ring : new.ring ≡ old.ring
   pub version : new.version ≡ old.version

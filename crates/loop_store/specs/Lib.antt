@@ -14,7 +14,7 @@ pub mod Reopen
 pub mod Found
 pub mod Index
 pub mod Chain
-pub mod Place
+pub mod AppendPlace
 pub mod Lock
 pub mod Look
 pub mod Store

@@ -26,7 +26,7 @@ abbrev pub IsBadGeometry : {D : Type 0} → Result (Seen D) (OpenRefused D) → 
 IsBadGeometry (Ok store) = ⊥
 IsBadGeometry (Err refused) = refused.fault ≡ BadGeometry
 
--- formatting is refused as one of these
+-- formatting is refused for one of these
 abbrev pub IsRefusedFormat : {D : Type 0} → OpenRefused D → Type 0
 IsRefusedFormat refused = (refused.fault ≡ BadGeometry) ⊎ ((refused.fault ≡ NoMemory) ⊎ (is_disk refused.fault ≡ true))
 
@@ -43,12 +43,12 @@ abbrev pub disk_after : {D : Type 0} → Result (Seen D) (OpenRefused D) → D
 disk_after (Ok store) = store.disk
 disk_after (Err refused) = refused.disk
 
--- the call of the disk that failed, if the answer says that one did
+-- the call of the disk that failed, if the answer says so
 abbrev pub failed_opening : {D : Type 0} → Result (Seen D) (OpenRefused D) → Option DiskFault
 failed_opening (Ok store) = None
 failed_opening (Err refused) = failed_by refused.fault
 
--- What a call that formats a disk in a version of the layout does. At each moment of a stop the image reads as before,
+-- What a call does that formats a disk in a version of the layout. At each moment of a stop the image reads as before,
 -- or isn't formatted, or is the empty recording in that version.
 pub record Formats {D : Type 0} (medium : D → Medium) (h : SuperHead) (disk : D)
     (result : Result (Seen D) (OpenRefused D)) : Type 0 where

@@ -16,7 +16,7 @@ use Rattle.loop_store.specs.Seen.{Seen, StandsFor, Tells}
 abbrev pub ReadsAlike : List ℕ → List ℕ → Type 0
 ReadsAlike old new = (reading new ≡ reading old) × (version_in new ≡ version_in old)
 
--- what a store tells is what some recording says
+-- what a store reports is what some recording says
 abbrev pub TellsOne : {D : Type 0} → Seen D → Type 0
 TellsOne store = (r : Recording) × Tells store r
 
@@ -27,16 +27,17 @@ pub record IsOpened {D : Type 0} (medium : D → Medium) (image : List ℕ) (sto
   pub version_is : version_in image ≡ store.version
   pub stands : StandsFor medium store recording
 
--- so many of the newest blocks can't be kept in a ring of so many segments: none, or so many that no block could go
+-- this many of the newest blocks can't be kept in a ring of this many segments: none, or so many that no block could
+-- go
 abbrev pub is_bad_keep : ℕ → ℕ → Bool
 is_bad_keep segments keep = (keep == 0) || nat_lt (segments - 1) keep
 
--- the image reads as a recording in whose ring so many blocks can't be kept
+-- the image reads as a recording in whose ring this many blocks can't be kept
 abbrev pub IsBadKeep : ℕ → List ℕ → Type 0
 IsBadKeep keep image =
     (c : Contents) × ((reading image ≡ Ok c) × (is_bad_keep c.geometry.segments keep ≡ true))
 
--- the refusal is what the image reads as, or so many blocks can't be kept there, or memory was refused, or a call of
+-- the refusal is what the image reads as; or this many blocks can't be kept there; or memory was refused; or a call of
 -- the disk failed
 abbrev pub IsRefusedOpen : ℕ → List ℕ → StoreFault → Type 0
 IsRefusedOpen keep image StoreFault.NoMemory = Unit {0}
@@ -46,10 +47,10 @@ IsRefusedOpen keep image (StoreFault.Damaged damage) = reading image ≡ Err (La
 IsRefusedOpen keep image StoreFault.BadKeep = IsBadKeep keep image
 IsRefusedOpen keep image _ = ⊥
 
--- What a call does that opens a disk, and keeps so many of the newest blocks. What it refuses is what each image reads
--- as that agrees with what was read. An honest disk's image reads as before then, and so does each image that a stop
--- within the call leaves, unless a stop before the call could have left it. A refusal but for a failed call of the disk
--- leaves it as it was.
+-- What a call does that opens a disk and keeps this many of the newest blocks. A refusal is right for each image that
+-- agrees with what was read. An honest disk's image then reads as before. So does each image that a stop within the
+-- call leaves, unless a stop before it could have left it. A refusal changes the disk only where a call of
+-- the disk failed.
 pub record OpensKeeping {D : Type 0} (medium : D → Medium) (keep : ℕ) (disk : D)
     (result : Result (Seen D) (OpenRefused D)) : Type 0 where
   pub opened : (medium disk).honest → IfOk result (IsOpened medium (medium disk).bytes)

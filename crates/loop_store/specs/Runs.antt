@@ -15,12 +15,12 @@ use Rattle.loop_store.specs.Seen.{Seen}
 use Rattle.loop_store.specs.declared.command.Command.TheVariants as command
 use Rattle.loop_store.specs.declared.command.Reply.TheVariants as reply
 
--- a frame that is to be stored has the size of the geometry's
+-- a frame to be stored has the geometry's size
 abbrev pub IsOfSize : {A : Type 0} → Geometry → Command A → Type 0
 IsOfSize g (command.Store frame) = length frame.bytes.items ≡ frame_bytes g
 IsOfSize g _ = Unit {0}
 
--- what a read into memory of its own answers, without where its bytes lie
+-- the answer of a read into newly allocated memory, without the place of its bytes
 abbrev pub read_of : {A : Type 0} → Result (ReadFrame A) StoreFault → Result (FrameHead × List ℕ) StoreFault
 read_of (Ok frame) = Ok (frame.head, frame.bytes.items)
 read_of (Err fault) = Err fault
@@ -33,13 +33,13 @@ IsCall (command.Unlock id) (reply.Unlock result) call = call ≡ unlocked id res
 IsCall (command.Read number) (reply.Read result) call = call ≡ was_read number (read_of result)
 IsCall _ _ call = ⊥
 
--- so are the commands of a list with the replies, one by one
+-- the commands of a list and the replies are these calls, one by one
 abbrev pub AreCalls : {A : Type 0} → List (Command A) → List (Reply A) → List Call → Type 0
 AreCalls [] [] [] = Unit {0}
 AreCalls (c ∷ cs) (p ∷ ps) (call ∷ calls) = IsCall c p call × AreCalls cs ps calls
 AreCalls _ _ _ = ⊥
 
--- The store did these commands, and answered each.
+-- The store ran these commands, and answered each.
 pub record Ran {D A : Type 0} (medium : D → Medium) (old new : Seen D) (commands : List (Command A))
     (replies : List (Reply A)) : Type 0 where
   pub calls : List Call

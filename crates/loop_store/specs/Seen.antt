@@ -12,9 +12,9 @@ use Rattle.loop_store.specs.declared.index.Index.{Index}
 use Rattle.loop_store.specs.Numbers.{is_among, numbers_under}
 use Rattle.loop_store.specs.Times.{AreTimes, time_told, time_under}
 
--- the disk, the geometry and the version of the layout, how many of the newest blocks are kept, and what a store tells
--- of its recording: the number that comes next, the numbers that are held, the time of each, the clip of each id; and
--- whether a call that writes has failed
+-- the disk; the geometry and the version of the layout; how many of the newest blocks are kept; what a store reports
+-- of its recording: the next number, the held numbers, the time of each, the clip of each id; and whether a call that
+-- writes has failed
 pub record Seen (D : Type 0) : Type 0 where
   pub disk : D
   pub geometry : Geometry
@@ -30,7 +30,7 @@ pub record Seen (D : Type 0) : Type 0 where
 abbrev pub ring_in : {D : Type 0} → Seen D → Ring
 ring_in store = ring_of store.geometry
 
--- what is seen of a disk with an index of it
+-- what callers see of a disk with an index of it
 abbrev pub seen_with : {D A : Type 0} → D → Index A → Bool → Seen D
 seen_with disk index must_reopen = record {
   disk = disk;
@@ -45,7 +45,7 @@ seen_with disk index must_reopen = record {
   must_reopen = must_reopen;
 }
 
--- What a store tells is what the recording says, one that the recorder may come to.
+-- What a store reports is what the recording says, and the recorder can reach that recording.
 pub record Tells {D : Type 0} (s : Seen D) (r : Recording) : Type 0 where
   pub formed : IsWellFormed r
   pub next_is : s.next ≡ r.next
@@ -54,20 +54,19 @@ pub record Tells {D : Type 0} (s : Seen D) (r : Recording) : Type 0 where
   pub times_are : AreTimes (time_told s.numbers s.times) r
   pub clips_are : s.clips ≡ r.clips
 
--- The store stands for a recording: it tells of that recording, after a failed call too; and where it needn't be
--- reopened, an honest disk holds it in the version that is told, and a crash leaves nothing else.
+-- The store stands for a recording: it reports that recording, after a failed call too. Where it needn't be reopened,
+-- an honest disk holds that recording in the version that the store reports, and a crash leaves nothing else.
 pub record StandsFor {D : Type 0} (medium : D → Medium) (s : Seen D) (r : Recording) : Type 0 where
   pub told : Tells s r
   pub settled : s.must_reopen ≡ false → (medium s.disk).honest → IsSettled (medium s.disk)
   pub held : s.must_reopen ≡ false → (medium s.disk).honest → Holds s.geometry r (medium s.disk).bytes
   pub version_is : s.must_reopen ≡ false → (medium s.disk).honest → version_in (medium s.disk).bytes ≡ s.version
 
--- after a failed call of the disk the store has to be opened again, and tells what it told before
+-- after a failed call of the disk the store has to be opened again, and reports what it reported before
 abbrev pub HasFailed : {D : Type 0} → Seen D → Seen D → Type 0
 HasFailed old new = new ≡ record old { disk = new.disk; must_reopen = true }
 
--- so it is with each refusal of a call that writes: after a failed call of the disk, as above; any other
--- changes nothing
+-- a refusal of a call that writes: after a failed call of the disk as above; any other changes nothing
 abbrev pub Refused : {D T : Type 0} → Seen D → Seen D → Result T StoreFault → Type 0
 Refused old new (Ok x) = Unit {0}
 Refused old new (Err (Disk fault)) = HasFailed old new

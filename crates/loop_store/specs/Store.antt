@@ -1,4 +1,4 @@
--- What a store keeps of its disk and its index. Only the store's own code looks at this.
+-- What a store keeps of its disk and its index. Only the store's own code uses this.
 use Rattle.std.specs.Prelude.{◌≡◌, Bool, false}
 use Rattle.loop_disk.specs.Medium.{Medium, IsSettled}
 use Rattle.loop_record.specs.Layout.{version_in}
@@ -7,8 +7,8 @@ use Rattle.loop_store.specs.Grow.{HasNoneStray}
 use Rattle.loop_store.specs.Index.{IsFitting, IsRecovered, SaysRecording}
 use Rattle.loop_store.specs.Times.{IsTimed}
 
--- the disk holds a recording, of which the index says all, its version and the times too, with no stray gate, and a
--- crash leaves nothing else
+-- the disk holds a recording of which the index says everything, its version and the times too; no gate is stray, and
+-- a crash leaves nothing else
 pub record IsPresent {A : Type 0} (index : Index A) (m : Medium) : Type 0 where
   pub recorded : IsRecovered index m.bytes
   pub version : version_in m.bytes ≡ index.version
@@ -16,7 +16,7 @@ pub record IsPresent {A : Type 0} (index : Index A) (m : Medium) : Type 0 where
   pub unstray : HasNoneStray index.ring.geometry m.bytes
   pub timed : IsTimed index.ring.geometry index.table.heads index.times.items m.bytes
 
--- the index fits the disk; with frames that are made up it says a whole recording; and where the store needn't be
+-- the index fits the disk; with made-up frames it describes a whole recording; and where the store needn't be
 -- reopened, it says what an honest disk holds
 pub record IsKept {D A : Type 0} (medium : D → Medium) (disk : D) (index : Index A) (must_reopen : Bool) : Type 0 where
   pub fits : IsFitting index (medium disk).size

@@ -12,11 +12,11 @@ use Rattle.loop_record.specs.Reading.{Holds}
 use Rattle.loop_record.specs.Recording.{Picture, Recording, frame_under}
 use Rattle.loop_ring.specs.Heads.{is_of}
 
--- the time of each held frame is that of its number
+-- the time of each held frame is the time of its number
 abbrev pub AreTimes : (ℕ → ℕ) → Recording → Type 0
 AreTimes times r = (n : ℕ) (p : Picture) → frame_under r.frames n ≡ Some p → times n ≡ p.timestamp
 
--- the time that stands beside a number, or 0
+-- the time beside a number, or 0
 abbrev pub time_told : List ℕ → List ℕ → ℕ → ℕ
 time_told numbers times n = option_map_or (λ beside. beside.1) (find (λ beside. beside.0 == n) (zip numbers times)) 0
 
@@ -25,11 +25,11 @@ abbrev pub time_in : ℕ → List ℕ → ℕ → Option ℕ → ℕ
 time_in slots times n None = 0
 time_in slots times n (Some j) = slice_index times (j * slots + n % slots)
 
--- so it is in the segment that has the block of the number
+-- the same, in the segment that has the block of the number
 abbrev pub time_under : ℕ → List (Option SegmentHead) → List ℕ → ℕ → ℕ
 time_under slots heads times n = time_in slots times n (position (is_of (n / slots)) heads)
 
--- ---- what is read of a disk again. Only the store's own code looks at this
+-- ---- what is read of a disk again. Only the store's own code uses this
 
 -- the time in slot k of segment j
 abbrev pub stamp_in : Geometry → List ℕ → ℕ → ℕ → ℕ
@@ -57,14 +57,14 @@ AllStamped g image times (f ∷ fs) = AreStamped g image times f.segment f.frame
 pub record IsTimed (g : Geometry) (heads : List (Option SegmentHead)) (times image : List ℕ) : Type 0 where
   pub each : (r : Recording) → Holds g r image → AreTimes (time_under g.slots heads times) r
 
--- from a place on stand the times of frames, and the others as they were
+-- the times of frames, written from a place on; the others are as they were
 pub record HasTimes (old new : List ℕ) (at : ℕ) (frames : List Picture) : Type 0 where
   pub there : (k : ℕ) (d : Picture) → k < length frames
       → slice_index new (at + k) ≡ (slice_index_or frames k d).timestamp
   pub others : (i : ℕ) → (i < at) ⊎ (at + length frames ≤ i) → slice_index new i ≡ slice_index old i
   pub long : length new ≡ length old
 
--- ---- runs of numbers, while they are found. Only the store's own code looks at this
+-- ---- runs of numbers, while they are found. Only the store's own code uses this
 
 -- a number after runs: it makes the last one longer, or is a run of its own
 abbrev pub added : List Span → ℕ → List Span

@@ -1,4 +1,5 @@
-//! Calls of a store in a row, across a crash: what these promise follows from the calls' own contracts alone.
+//! A sequence of calls of a store, across a crash. What these functions promise follows from the calls' own contracts
+//! alone.
 
 ghost use Rattle.std.specs.Prelude.{◌≡◌, ◌≤◌, All, IfOk, [], false, length, true, unwrap_or};
 ghost use Rattle.loop_record.specs.Geometry.{frame_bytes};
@@ -13,7 +14,7 @@ use loop_disk::Disk;
 use loop_record::{Frame, FrameHead, Geometry};
 use std::alloc::Allocator;
 
-/// Formats a disk and appends a first group of frames: the store stands for the recording that has them.
+/// Formats a disk and appends a first group of frames; the store then stands for the recording that has them.
 pub fn format_and_append<D: Disk + Drop, A: Allocator + Copy>(
     alloc: A,
     disk: D,
@@ -41,11 +42,10 @@ pub fn format_and_append<D: Disk + Drop, A: Allocator + Copy>(
     }
 }
 
-/// Reads a frame of a store after a crash: `crashed` is a disk that holds what a crash now may leave of the
-/// store's. What the store held is read from it, byte for byte, unless memory is refused or a call of `crashed`
-/// fails.
+/// Reads a frame of a store after a crash: `crashed` is a disk that holds what a crash now may leave of the store's
+/// disk. A frame that the store held is read byte for byte, unless memory is refused or a call of `crashed` fails.
 ///
-/// A disk that holds no store is refused as `Store::open` refuses it, and one whose frames have another size as
+/// A disk that holds no store is refused as `Store::open` refuses it. One whose frames have another size is refused as
 /// `BadGeometry`.
 pub fn read_after_crash<D: Disk + Drop, E: Disk + Drop, A: Allocator + Copy>(
     alloc: A,

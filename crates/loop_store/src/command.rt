@@ -10,7 +10,7 @@ use loop_disk::Disk;
 use loop_record::{Frame, FrameHead, Span};
 use std::alloc::{Allocator, Global};
 
-/// What a store is asked for.
+/// A request to a store.
 #[derive(Drop)]
 pub enum Command<A: Allocator = Global> {
     /// Store a frame.
@@ -32,7 +32,7 @@ pub struct ReadFrame<A: Allocator = Global> {
     pub bytes: Vec<u8, A>,
 }
 
-/// What a command's own call answers.
+/// The result of a command's own call.
 #[derive(Drop)]
 pub enum Reply<A: Allocator = Global> {
     /// The number of a stored frame.
@@ -46,8 +46,8 @@ pub enum Reply<A: Allocator = Global> {
 }
 
 impl<D: Disk + Drop, A: Allocator + Copy> Store<D, A> {
-    /// Reads a frame into memory of its own. `MustReopen`, `NotHeld`, then `NoMemory` for its bytes, then
-    /// `Disk` or `Damaged`.
+    /// Reads a frame into newly allocated memory. `MustReopen`, `NotHeld`, then `NoMemory` for its bytes, then `Disk`
+    /// or `Damaged`.
     pub fn read_frame(&mut self, alloc: A, number: u64) -> Result<ReadFrame<A>, StoreFault>
         ensures goes { Goes D.medium self.old self.new (was_read number (read_of result) ∷ []) }
         ensures same { self.new ≡ record self.old { disk = self.new.disk } }
@@ -55,7 +55,7 @@ impl<D: Disk + Drop, A: Allocator + Copy> Store<D, A> {
         self.read_frame_in(alloc, None, number)
     }
 
-    /// As `read_frame`, into spare memory, where that has a frame's length.
+    /// As `read_frame`, into spare memory where that has a frame's length.
     pub fn read_frame_in(
         &mut self,
         alloc: A,
@@ -79,7 +79,7 @@ impl<D: Disk + Drop, A: Allocator + Copy> Store<D, A> {
 }
 
 impl<D: Disk + Drop, A: Allocator + Copy> Store<D, A> {
-    // Does one command.
+    // Runs one command.
     fn answer(&mut self, alloc: A, command: &Command<A>) -> Reply<A>
         requires { IsOfSize self.old.geometry command.now }
         ensures { (call : Call) × (IsCall command.now result call × Goes D.medium self.old self.new (call ∷ [])) }
@@ -94,11 +94,11 @@ impl<D: Disk + Drop, A: Allocator + Copy> Store<D, A> {
 }
 
 impl<D: Disk + Drop, A: Allocator + Copy> Store<D, A> {
-    /// Does commands one after the other, and answers each.
+    /// Runs commands one after the other, and returns a reply to each.
     ///
-    /// `MustReopen` where a call that writes has failed before, or `NoMemory` where there is no room for the
-    /// replies; then nothing was done. A command that is refused doesn't end the list: after `Disk` of one that
-    /// writes, each later one is answered `MustReopen`.
+    /// `MustReopen` where a call that writes has failed before, or `NoMemory` where there is no room for the replies;
+    /// then nothing was done. A refused command doesn't end the list. After `Disk` of a command that writes, each
+    /// later one gets `MustReopen`.
     pub fn run(&mut self, alloc: A, commands: &[Command<A>]) -> Result<Vec<Reply<A>, A>, StoreFault>
         requires sizes { All (IsOfSize self.old.geometry) commands.now }
         ensures ran { IfOk result (λ replies. Ran D.medium self.old self.new commands.now replies.items) }

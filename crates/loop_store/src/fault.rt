@@ -12,8 +12,8 @@ use std::fmt;
 use std::fmt::{Debug, Display, Formatter};
 use thiserror::Error;
 
-/// Why a call of a store is refused. The names and numbers are this project's own; a refusal changes nothing,
-/// but for `Disk` in a call that writes.
+/// Why a call of a store is refused. The names and numbers are this project's own. A refusal changes nothing, except
+/// `Disk` in a call that writes.
 #[derive(Clone, Copy, Debug, PartialEq, Eq, Error)]
 pub enum StoreFault {
     /// Memory was refused.
@@ -22,13 +22,13 @@ pub enum StoreFault {
     /// A call of the disk failed.
     #[error("the disk failed: {0}")]
     Disk(DiskFault),
-    /// A call that writes answered `Disk` before: the disk is to be taken out and opened again.
+    /// A call that writes returned `Disk` before: take out the disk and open it again.
     #[error("the store has to be opened again")]
     MustReopen,
     /// The disk has no open superblock.
     #[error("the disk isn't formatted")]
     NotFormatted,
-    /// What stands on the disk can't be.
+    /// The contents of the disk aren't valid.
     #[error("the image is damaged: {0}")]
     Damaged(Damage),
     /// No frame has this number.
@@ -40,14 +40,14 @@ pub enum StoreFault {
     /// The next number is the first of a block whose frames would reach 2^62.
     #[error("no number is left")]
     NumbersSpent,
-    /// A block has to be recycled first, and there is none that may go: each is locked by a clip or among the newest
-    /// that are kept.
+    /// A block has to be recycled first, and no block may go: each is locked by a clip or among the newest that are
+    /// kept.
     #[error("no block may go")]
     AllLocked,
     /// The clip's first number is above its last one.
     #[error("the clip is empty")]
     ClipEmpty,
-    /// No frame has this number, which is the clip's least one of which that is so.
+    /// No frame has this number, the least such number of the clip.
     #[error("the clip has number {0}, of which no frame is held")]
     ClipNotHeld(u64),
     /// Each of the 64 ids has a clip.
@@ -56,7 +56,7 @@ pub enum StoreFault {
     /// No clip has this id.
     #[error("no clip has this id")]
     NoSuchClip,
-    /// As many frames wait at a desk as may.
+    /// As many frames wait at a desk as are allowed.
     #[error("as many frames wait as may")]
     PendingFull,
     /// The frame has another size than the geometry's.
@@ -71,13 +71,13 @@ pub enum StoreFault {
     /// A clip with a tag other than 0 in version 1 of the layout, which has no place for it.
     #[error("the layout has no tags: it is to be upgraded first")]
     OldLayout,
-    /// So many of the newest blocks can't be kept: none, or as many as there are segments or more.
+    /// This many of the newest blocks can't be kept: none, or as many as there are segments or more.
     #[error("so many blocks can't be kept")]
     BadKeep,
 }
 
 impl StoreFault {
-    /// The number that a refusal is printed with.
+    /// The number with which a refusal is printed.
     pub fn number(self) -> u8
         ensures { result ≡ fault_number self }
     {
@@ -104,7 +104,7 @@ impl StoreFault {
         }
     }
 
-    /// The name that a refusal is printed with.
+    /// The name with which a refusal is printed.
     pub fn name(self) -> &'static str
         ensures { result.now ≡ fault_name self }
     {
@@ -167,7 +167,7 @@ impl From<AllocError> for StoreFault {
     }
 }
 
-/// A disk that gives no store, and why. As an error it is its fault, and says nothing of the disk.
+/// A disk that gives no store, and why. As an error it shows its fault alone, and nothing of the disk.
 #[derive(Drop)]
 pub struct OpenRefused<D> {
     /// Why.
@@ -177,7 +177,7 @@ pub struct OpenRefused<D> {
 }
 
 impl<D> Debug for OpenRefused<D> {
-    /// The fault; the disk may hold gigabytes, and needn't be `Debug`.
+    /// Only the fault: the disk may hold gigabytes, and needn't be `Debug`.
     fn fmt<W: fmt::Write>(&self, f: &mut Formatter<W>) -> fmt::Result {
         write!(f, "OpenRefused {{ fault: {:?}, .. }}", self.fault)
     }

@@ -1,7 +1,7 @@
-//! The parts of a recording on a disk, each read alone: the superblock, the headers, the heads of the slots,
-//! the clip table. docs/recovery.md says why it is so.
+//! The parts of a recording on a disk, each read by itself: the superblock, the headers, the heads of the slots, the
+//! clip table. docs/recovery.md says why it is so.
 //!
-//! Each call reads and never writes; after a refusal the disk is as it was.
+//! Each call reads and never writes. After a refusal the disk is as it was.
 
 ghost use Rattle.std.specs.Prelude.{◌≡◌, ◌+◌, ◌*◌, ◌<◌, ◌≤◌, ℕ, List, Ok, Err, IfOk, None, All, true, false, length, slice_index_or};
 ghost use Rattle.std.specs.List.{list_any};
@@ -12,7 +12,8 @@ ghost use Rattle.loop_record.specs.declared.image.Found.{Found};
 ghost use Rattle.loop_record.specs.Geometry.{frame_bytes, segment_at, slot_at};
 ghost use Rattle.loop_record.specs.Layout.{header_at, is_slot_of, is_too_high, segment_in, slot_in, super_in, version_in};
 ghost use Rattle.loop_record.specs.Plain.{AreIn, IsSomeHigh, IsTagFit, lacks_number, segment_of, segments_of};
-ghost use Rattle.loop_record.specs.Reading.{by_block, is_bad_slot, is_high, open_segments, parts_of, reading};
+ghost use Rattle.loop_record.specs.Reading.{by_block, is_bad_slot, open_segments, reading};
+ghost use Rattle.loop_record.specs.Parts.{is_high, parts_of};
 ghost use Rattle.loop_ring.specs.Heads.{heads_of};
 ghost use Rattle.loop_store.specs.Fresh.{FitsDisk};
 ghost use Rattle.loop_store.specs.Found.{Finds, IsHeadIn, clips_of, refusal, some_bad_clip};
@@ -37,8 +38,8 @@ impl From<LayoutFault> for StoreFault {
     }
 }
 
-/// What the superblock says of a disk of its geometry's size: one read, or none where the disk has no room for a
-/// superblock.
+/// What the superblock says, where the disk has the size of its geometry: one read, or none where the disk is too
+/// small for a superblock.
 pub(crate) fn read_super<D: Disk>(disk: &mut D) -> Result<SuperHead, StoreFault>
     ensures fits { IfOk result (λ head. FitsDisk head.geometry (D.medium disk.old).size) }
     ensures finds { Finds (λ image head. super_in image ≡ Ok head) (λ image fault. reading image ≡ Err fault)
@@ -77,7 +78,7 @@ fn read_head<D: Disk>(
     Ok(head)
 }
 
-/// What the header of each segment says, in the order of the segments: a read each. `BlockTooHigh` where one
+/// What the header of each segment says, in the order of the segments: one read each. `BlockTooHigh` where a segment
 /// has such a block.
 pub(crate) fn read_heads<D: Disk, A: Allocator>(
     alloc: A,
@@ -100,7 +101,8 @@ pub(crate) fn read_heads<D: Disk, A: Allocator>(
     Ok(heads)
 }
 
-// The time of frame `number`, where a slot holds it, or `SlotHead`: one read of its first `HEAD_SIZE` bytes.
+// The time of frame `number` where the slot holds it, otherwise `SlotHead`: one read of the slot's first `HEAD_SIZE`
+// bytes.
 fn check_slot<D: Disk>(
     disk: &mut D,
     geometry: &Geometry,
@@ -124,7 +126,8 @@ fn check_slot<D: Disk>(
     Ok(head.timestamp)
 }
 
-// Whether the slots of a segment's whole frames hold these frames, or `SlotHead`: a read each. Notes their times.
+// Checks that the slots of a segment's whole frames hold these frames, otherwise `SlotHead`: one read each. Notes
+// their times.
 fn check_segment<D: Disk>(
     disk: &mut D,
     geometry: &Geometry,
@@ -153,7 +156,8 @@ fn check_segment<D: Disk>(
     Ok(())
 }
 
-/// Whether the slots of all segments' whole frames hold these frames, or `SlotHead`: a read each. Notes their times.
+/// Checks that the slots of all segments' whole frames hold these frames, otherwise `SlotHead`: one read each. Notes
+/// their times.
 pub(crate) fn check_slots<D: Disk>(
     disk: &mut D,
     geometry: &Geometry,
@@ -178,8 +182,8 @@ pub(crate) fn check_slots<D: Disk>(
     check_slots(disk, geometry, others, times)
 }
 
-/// The clip of each id, in this version, or `ClipRange` where one is empty or has a number of which no segment has the
-/// frame: one read.
+/// The clip of each id, in this version of the layout. `ClipRange` where a clip is empty or has a number whose frame
+/// no segment has. One read.
 pub(crate) fn read_table<D: Disk>(
     disk: &mut D,
     geometry: &Geometry,

@@ -1,5 +1,5 @@
-//! What formatting writes, in its order: the superblock's gate is closed first and opened last.
-//! docs/order-of-writes.md says why it is so.
+//! What formatting writes, in order: the superblock's gate is closed first and opened last. docs/order-of-writes.md
+//! says why it is so.
 
 ghost use Rattle.std.specs.Prelude.{◌≡◌, ◌+◌, ◌<◌, ◌≤◌, IsTrue, ◌++◌, drop, length};
 ghost use Rattle.loop_disk.specs.Medium.{IsSettled};
@@ -15,7 +15,7 @@ use loop_record::{HEADER_SIZE, OPEN, SUPER_SIZE, SuperHead, encode_super};
 // The bytes of the superblock and the clip table.
 const FRONT_SIZE: usize = 2560;
 
-// Closes the superblock's gate, if it is open, on a disk where a crash leaves the present bytes and nothing else.
+// Closes the superblock's gate if it is open, on a disk of which a crash leaves exactly the present bytes.
 fn close_gate<D: Disk>(disk: &mut D) -> Result<(), DiskFault>
     requires extent { 1 ≤ (D.medium disk.old).size }
     requires settled { (D.medium disk.old).honest → IsSettled (D.medium disk.old) }
@@ -39,7 +39,7 @@ fn unformat<D: Disk>(disk: &mut D) -> Result<(), DiskFault>
     close_gate(disk)
 }
 
-// Puts an open superblock at the front of some bytes.
+// Puts an open superblock at the start of some bytes.
 fn put_super(front: &mut [u8], head: &SuperHead)
     requires good { IsTrue (is_good head.now.geometry) }
     requires size { 512 ≤ length front.old }
@@ -48,7 +48,7 @@ fn put_super(front: &mut [u8], head: &SuperHead)
     encode_super(head, &mut front[0..SUPER_SIZE]);
 }
 
-// Bytes without the gate before them.
+// The bytes after the first one, which is the gate.
 fn behind_gate(bytes: &[u8]) -> &[u8]
     requires { 1 ≤ length bytes.now }
     ensures { result.now ≡ drop 1 bytes.now }
@@ -56,7 +56,7 @@ fn behind_gate(bytes: &[u8]) -> &[u8]
     &bytes[1..]
 }
 
-// Writes the superblock behind its gate, and the clip table without a clip.
+// Writes the superblock without its gate, and an empty clip table.
 fn write_front<D: Disk>(disk: &mut D, head: &SuperHead) -> Result<(), DiskFault>
     requires fits { FitsDisk head.now.geometry (D.medium disk.old).size }
     requires closed { (D.medium disk.old).honest → LeavesClosed (D.medium disk.old) }
@@ -67,7 +67,7 @@ fn write_front<D: Disk>(disk: &mut D, head: &SuperHead) -> Result<(), DiskFault>
     disk.write_at(1, behind_gate(&front))
 }
 
-// Writes the header of a segment as zeros.
+// Overwrites the header of a segment with zeros.
 fn write_header<D: Disk>(disk: &mut D, head: &SuperHead, segment: u32) -> Result<(), DiskFault>
     requires fits { FitsDisk head.now.geometry (D.medium disk.old).size }
     requires segment { segment < head.now.geometry.segments }
@@ -77,7 +77,7 @@ fn write_header<D: Disk>(disk: &mut D, head: &SuperHead, segment: u32) -> Result
     disk.write_at(head.geometry.segment_at(segment), &[0; HEADER_SIZE])
 }
 
-// Writes the headers of all segments as zeros.
+// Overwrites the headers of all segments with zeros.
 fn write_headers<D: Disk>(disk: &mut D, head: &SuperHead) -> Result<(), DiskFault>
     requires fits { FitsDisk head.now.geometry (D.medium disk.old).size }
     requires laid { (D.medium disk.old).honest → IsLaidClosed head.now 0 (D.medium disk.old) }
@@ -90,7 +90,7 @@ fn write_headers<D: Disk>(disk: &mut D, head: &SuperHead) -> Result<(), DiskFaul
     Ok(())
 }
 
-// Opens the superblock's gate, on a disk where a crash leaves the present bytes and nothing else.
+// Opens the superblock's gate, on a disk of which a crash leaves exactly the present bytes.
 fn open_gate<D: Disk>(disk: &mut D, head: &SuperHead) -> Result<(), DiskFault>
     requires fits { FitsDisk head.now.geometry (D.medium disk.old).size }
     requires version { IsVersion head.now.version }
@@ -102,7 +102,7 @@ fn open_gate<D: Disk>(disk: &mut D, head: &SuperHead) -> Result<(), DiskFault>
     store(disk, 0, &[OPEN])
 }
 
-// Settles what was laid out behind the gate, and opens it.
+// Syncs what was written after the gate, and opens the gate.
 fn finish<D: Disk>(disk: &mut D, head: &SuperHead) -> Result<(), DiskFault>
     requires fits { FitsDisk head.now.geometry (D.medium disk.old).size }
     requires version { IsVersion head.now.version }
@@ -114,7 +114,7 @@ fn finish<D: Disk>(disk: &mut D, head: &SuperHead) -> Result<(), DiskFault>
     open_gate(disk, head)
 }
 
-/// Writes an empty recording over whatever stands on a disk of the geometry's size.
+/// Writes an empty recording over the contents of a disk that has the geometry's size.
 pub(crate) fn lay_out<D: Disk>(disk: &mut D, head: &SuperHead) -> Result<(), DiskFault>
     requires fits { FitsDisk head.now.geometry (D.medium disk.old).size }
     requires version { IsVersion head.now.version }

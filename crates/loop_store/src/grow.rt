@@ -1,5 +1,5 @@
-//! What an append writes: the block that it begins, and the frames. What each of these makes of a recording is
-//! said by `Makes`. docs/order-of-writes.md says why it is so.
+//! What an append writes: the block that it begins, and the frames. `Makes` says what each of these does to a
+//! recording. docs/order-of-writes.md says why it is so.
 
 ghost use Rattle.std.specs.Prelude.{◌≡◌, ◌+◌, ◌<◌, ◌≤◌, ◌/◌, ◌%◌, ◌++◌, [], Some, length, map};
 ghost use Rattle.loop_disk.specs.Medium.{IsSettled};
@@ -8,17 +8,17 @@ ghost use Rattle.loop_record.specs.Change.{ShowsSegment};
 ghost use Rattle.loop_record.specs.Reading.{empty_segment};
 ghost use Rattle.loop_record.specs.Recording.{store};
 ghost use Rattle.loop_ring.specs.Writes.{HasNoStray, ShowsFrames};
-ghost use Rattle.loop_store.specs.declared.place.Place.TheVariants.{Victim};
+ghost use Rattle.loop_store.specs.declared.place.AppendPlace.TheVariants.{Victim};
 ghost use Rattle.loop_store.specs.Grow.{HasNext, IsFreeFor, IsNewestSegment, Makes};
-ghost use Rattle.loop_store.specs.Place.{IsBegunAt, IsGrownAt, IsKnown, place_segment, steps_before};
+ghost use Rattle.loop_store.specs.AppendPlace.{IsBegunAt, IsGrownAt, IsKnown, place_segment, steps_before};
 
 use crate::index::Index;
-use crate::place::Place;
+use crate::place::AppendPlace;
 use loop_disk::{Disk, DiskFault};
 use loop_ring::{Group, Ring};
 use std::alloc::Allocator;
 
-// Begins the block of the next number, its first, in a closed segment: the recording stays as it is.
+// Begins the block of the next number, which is its first, in a closed segment. The recording stays as it is.
 fn begin<D: Disk>(disk: &mut D, ring: &Ring, segment: u32, next: u64) -> Result<(), DiskFault>
     requires extent { (D.medium disk.old).size ≡ disk_size ring.now.geometry }
     requires segment { segment < ring.now.geometry.segments }
@@ -33,7 +33,7 @@ fn begin<D: Disk>(disk: &mut D, ring: &Ring, segment: u32, next: u64) -> Result<
     ring.begin_block(disk, segment, next / u64::from(ring.geometry.slots))
 }
 
-// Stores a group of frames in the block that has begun, behind its others.
+// Stores a group of frames in the block that has begun, after the frames that it has.
 fn store_group<D: Disk>(
     disk: &mut D,
     ring: &Ring,
@@ -57,7 +57,7 @@ fn store_group<D: Disk>(
     ring.commit(disk, segment, slot, group)
 }
 
-// Retires the victim's segment, and begins the block of the next number there.
+// Retires the victim's segment, and begins the block of the next number in it.
 fn replace<D: Disk, A: Allocator>(
     disk: &mut D,
     index: &Index<A>,
@@ -78,12 +78,11 @@ fn replace<D: Disk, A: Allocator>(
     begin(disk, &index.ring, segment, next)
 }
 
-// Makes room for the next frames at a place: a block is recycled and another begun, or one is begun, or
-// nothing is to be done.
+// Makes room for the next frames at a place: recycles a block and begins another, or begins one, or does nothing.
 fn make_room<D: Disk, A: Allocator>(
     disk: &mut D,
     index: &Index<A>,
-    place: Place,
+    place: AppendPlace,
     next: u64,
 ) -> Result<(), DiskFault>
     requires extent { (D.medium disk.old).size ≡ disk_size index.now.ring.geometry }
@@ -97,9 +96,9 @@ fn make_room<D: Disk, A: Allocator>(
         old (D.medium disk.new) result }
 {
     match place {
-        Place::Newest(_) => Ok(()),
-        Place::Closed(segment) => begin(disk, &index.ring, segment, next),
-        Place::Victim(segment) => replace(disk, index, segment, next),
+        AppendPlace::Newest(_) => Ok(()),
+        AppendPlace::Closed(segment) => begin(disk, &index.ring, segment, next),
+        AppendPlace::Victim(segment) => replace(disk, index, segment, next),
     }
 }
 
@@ -107,7 +106,7 @@ fn make_room<D: Disk, A: Allocator>(
 pub(crate) fn append_group<D: Disk, A: Allocator>(
     disk: &mut D,
     index: &Index<A>,
-    place: Place,
+    place: AppendPlace,
     group: &Group<'_>,
 ) -> Result<(), DiskFault>
     requires extent { (D.medium disk.old).size ≡ disk_size index.now.ring.geometry }

@@ -1,23 +1,23 @@
-//! What is known in memory of the recording on a disk.
+//! What a store knows in memory of the recording on a disk.
 
 ghost use Rattle.std.specs.Prelude.{◌≡◌, ◌≢◌, ◌⊎◌, ◌&&◌, ◌+◌, ◌*◌, ◌/◌, ◌%◌, ◌<◌, ◌≤◌, ◌↔◌, ℕ, Err, IfErr, IfOk, IfSome, IsTrue, List, None, Some, length, slice_index_or, slice_set};
 ghost use Rattle.std.specs.List.{position};
 ghost use Rattle.loop_record.specs.Geometry.{is_good};
 ghost use Rattle.loop_record.specs.Recording.{Recording, last_number, ring_of, victim};
 ghost use Rattle.loop_ring.specs.Heads.{IsPlaceOf, clip_counts, has_frame, heads_of, is_of};
-ghost use Rattle.loop_store.specs.Place.{AnswersPlace, IsPlace, place_segment};
+ghost use Rattle.loop_store.specs.AppendPlace.{AnswersPlace, IsPlace, place_segment};
 ghost use Rattle.loop_store.specs.Index.{IsClipNoted, IsIndex, IsIndexOf, IsNoted, IsOf};
 ghost use Rattle.loop_store.specs.Times.{HasTimes};
 
 use crate::StoreFault;
-use crate::place::Place;
+use crate::place::AppendPlace;
 use loop_clips::ClipTable;
 use loop_record::{Geometry, NUMBERS_END, SegmentHead, Span, SuperHead};
 use loop_ring::{Group, Ring, SegmentIndex, clips_on};
 use std::alloc::{AllocError, Allocator};
 
-/// The geometry and the version of the layout, what the header of each segment says with the count of the clips that
-/// meet its block, the clip of each id, the number that the next frame gets, and the time at each slot of the ring.
+/// The geometry and the version of the layout; what the header of each segment says, and how many clips meet its
+/// block; the clip of each id; the number that the next frame gets; and the time at each slot of the ring.
 #[derive(Drop)]
 pub(crate) struct Index<A: Allocator> {
     pub(crate) ring: Ring,
@@ -25,11 +25,11 @@ pub(crate) struct Index<A: Allocator> {
     pub(crate) table: SegmentIndex<A>,
     pub(crate) clips: ClipTable,
     pub(crate) next: u64,
-    /// Segment by segment. Where a slot has no whole frame, what stands here means nothing.
+    /// The times, segment by segment. Where a slot has no whole frame, the value means nothing.
     pub(crate) times: Vec<u64, A>,
 }
 
-/// Memory for the time at each slot of a ring.
+/// Memory for the time of each slot of a ring.
 pub(crate) fn times_for<A: Allocator>(
     alloc: A,
     geometry: &Geometry,
@@ -40,7 +40,7 @@ pub(crate) fn times_for<A: Allocator>(
     vec![in alloc; 0u64; geometry.segments as usize * geometry.slots as usize]
 }
 
-/// The number that no frame gets: the first of a block that would reach 2^62.
+/// The number that no frame gets: the first of a block whose frames would reach 2^62.
 pub(crate) fn last_number(geometry: &Geometry) -> u64
     requires { IsTrue (is_good geometry.now) }
     ensures { result ≡ last_number (ring_of geometry.now) }
@@ -56,7 +56,7 @@ fn has_frame_of(head: Option<SegmentHead>, block: u64) -> bool
     head.is_some_and(|head| head.block == block && head.frames > 0)
 }
 
-/// The index of what was found on a disk. It takes no memory, and what is noted in it later takes none.
+/// The index of what was found on a disk. It takes no memory, and neither does a later note in it.
 pub(crate) fn index_of<A: Allocator>(
     head: SuperHead,
     table: SegmentIndex<A>,
@@ -92,7 +92,7 @@ impl<A: Allocator> Index<A> {
         self.table.find(block).0
     }
 
-    // The segment of the block that goes when room is needed, or nothing where no block may go.
+    // The segment of the block that goes when room is needed; nothing where no block may go.
     fn victim_segment(&self) -> Option<u32>
         requires { IsIndex self.now }
         ensures within { IfSome result (λ segment. segment < length self.now.table.heads) }
@@ -103,9 +103,9 @@ impl<A: Allocator> Index<A> {
         self.find(block)
     }
 
-    // Where a block begins that no segment has: in the closed segment of least number, or in the victim's
-    // where each segment has a frame. Nothing where there is no victim then.
-    fn place_of_new(&self) -> Option<Place>
+    // Where to begin a block that no segment has: the closed segment of least number or, where every segment has a
+    // frame, the victim's. Nothing where there is no victim then.
+    fn place_of_new(&self) -> Option<AppendPlace>
         requires { IsIndex self.now }
         ensures within { IfSome result (λ place. place_segment place < self.now.ring.geometry.segments) }
         ensures place { (r : Recording) (image : List ℕ) → IsIndexOf self.now r image
@@ -115,19 +115,19 @@ impl<A: Allocator> Index<A> {
     {
         if self.table.held_blocks() == self.ring.geometry.segments {
             return match self.victim_segment() {
-                Some(segment) => Some(Place::Victim(segment)),
+                Some(segment) => Some(AppendPlace::Victim(segment)),
                 None => None,
             };
         }
         match self.table.first_closed() {
-            Some(segment) => Some(Place::Closed(segment)),
+            Some(segment) => Some(AppendPlace::Closed(segment)),
             None => None,
         }
     }
 
-    // Where the next frames go, where a number is left. Nothing where a block has to be recycled first and
-    // none may go.
-    fn place_of_next(&self) -> Option<Place>
+    // Where the next frames go, as long as a number is left. Nothing where a block has to be recycled first and none
+    // may go.
+    fn place_of_next(&self) -> Option<AppendPlace>
         requires { IsIndex self.now }
         ensures within { IfSome result (λ place. place_segment place < self.now.ring.geometry.segments) }
         ensures place { (r : Recording) (image : List ℕ) → IsIndexOf self.now r image
@@ -135,14 +135,14 @@ impl<A: Allocator> Index<A> {
             → IsPlace self.now.ring.geometry self.now.table.keep r image result }
     {
         match self.find(self.next / u64::from(self.ring.geometry.slots)) {
-            Some(segment) => Some(Place::Newest(segment)),
+            Some(segment) => Some(AppendPlace::Newest(segment)),
             None => self.place_of_new(),
         }
     }
 
-    /// Where the next frames go. `NumbersSpent` where no number is left; otherwise `AllLocked` where a block
-    /// has to be recycled first and none may go.
-    pub(crate) fn place(&self) -> Result<Place, StoreFault>
+    /// Where the next frames go. `NumbersSpent` where no number is left; otherwise `AllLocked` where a block has to be
+    /// recycled first and none may go.
+    pub(crate) fn place(&self) -> Result<AppendPlace, StoreFault>
         requires { IsIndex self.now }
         ensures within { IfOk result (λ place. place_segment place < self.now.ring.geometry.segments) }
         ensures refusals { IfErr result (λ fault. (fault ≡ StoreFault.NumbersSpent) ⊎ (fault ≡ StoreFault.AllLocked)) }
@@ -160,7 +160,8 @@ impl<A: Allocator> Index<A> {
         }
     }
 
-    /// Notes that a segment has the block of the next number, the frames before it and those of a group from it on.
+    /// Notes that a segment has the block of the next number: the frames before that number, and those of a group from
+    /// it on.
     pub(crate) fn note(&mut self, segment: u32, group: &Group<'_>)
         requires index { IsIndex self.old }
         requires segment { segment < length self.old.table.heads }
@@ -190,7 +191,7 @@ impl<A: Allocator> Index<A> {
         self.next += u64::from(count);
     }
 
-    /// Notes what stands under an id: a clip, or none.
+    /// Notes the clip of an id, or that it has none.
     pub(crate) fn note_clip(&mut self, id: u32, clip: Option<Span>)
         requires index { IsIndex self.old }
         requires id { id < 64 }
@@ -203,7 +204,7 @@ impl<A: Allocator> Index<A> {
     }
 }
 
-// Puts the times of a group's frames among others, from a place on.
+// Writes the times of a group's frames into a row of times, from a place on.
 fn put_times(times: &mut [u64], at: usize, group: &Group<'_>)
     requires { at + length group.now.frames ≤ length times.old }
     ensures { HasTimes times.old times.new at group.now.frames }
@@ -213,7 +214,7 @@ fn put_times(times: &mut [u64], at: usize, group: &Group<'_>)
     }
 }
 
-// Sets the header of a segment. A block that had a frame there only grows: its clips aren't counted anew.
+// Sets the header of a segment. A block that has a frame there only grows, so its clips aren't counted again.
 fn set_head<A: Allocator>(
     table: &mut SegmentIndex<A>,
     ring: &Ring,
@@ -237,7 +238,7 @@ fn set_head<A: Allocator>(
     table.set(segment, Some(head), count);
 }
 
-// Takes the clip of an id, if one stands there, out of the counts.
+// Subtracts the clip of an id from the counts, if the id has one.
 fn uncount_clip<A: Allocator>(
     table: &mut SegmentIndex<A>,
     ring: &Ring,
@@ -257,7 +258,7 @@ fn uncount_clip<A: Allocator>(
     }
 }
 
-// Puts a clip, if there is one, into the counts: it is to stand under an id that is free.
+// Adds a clip, if there is one, to the counts, before it gets an id that is free.
 fn count_clip<A: Allocator>(
     table: &mut SegmentIndex<A>,
     ring: &Ring,

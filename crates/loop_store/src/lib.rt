@@ -1,21 +1,21 @@
-//! A loop recording on a disk: made, appended to, read, and after a stop at any moment still there.
+//! A loop recording on a disk: it is formatted, appended to and read, and it survives a stop at any moment.
 //!
-//! A `Store` stands for a recording of the plain recorder. `specs/Seen` says how, and `specs/Steps` what a call
-//! may leave of it: whatever the moment of a stop, the disk's image reads as that recording after a beginning
-//! of the steps that were asked for.
+//! A `Store` stands for a recording of the plain recorder; `specs/Seen` says how. `specs/Steps` says what a call may
+//! leave of it. Whatever the moment of a stop, the disk's image reads as that recording after a prefix of the steps
+//! that were asked for.
 //!
-//! - `make`: formats a disk; `fresh`: the writes of it;
+//! - `make`: formats a disk; `fresh`: what formatting writes;
 //! - `reopen`: finds the recording on a disk again; `recover` and `found`: what a disk's image reads as;
-//! - `store`: the store and its calls; `index`: what it knows in memory; `put`: the append of a group, `place`:
-//!   where it goes, `grow`: what it writes there; `lock`: locks and unlocks of clips; `upgrade`: version 2 of the
-//!   layout made of version 1; `look`: what is read; `seek`: the held frames of a time;
+//! - `store`: the store and its calls; `index`: what it knows in memory; `put`: the append of a group; `place`: where
+//!   it goes; `grow`: what it writes there; `lock`: locks and unlocks of clips; `upgrade`: makes version 2 of the
+//!   layout from version 1; `look`: reads; `seek`: the held frames of a span of time;
 //! - `command`: lists of commands, and the replies; `memory`: memory for a frame;
-//! - `laws`: what calls leave, one after the other; `chain`: calls in a row, across a crash;
+//! - `laws`: what a sequence of calls leaves; `chain`: a sequence of calls across a crash;
 //! - `fault`: the refusals, with their numbers and names.
 //!
-//! Of `specs`, contracts of public calls name `Calls`, `Steps`, `Seen`, `Goes`, `Runs`, `Faults`, `Numbers`, `Make`,
-//! `Reopen` and `Chain`, and the first words of `Times`. The others are for this crate alone: `Drawn`, and those named
-//! after the files in `src` of which they speak.
+//! The contracts of public calls name only these of `specs`: `Calls`, `Steps`, `Seen`, `Goes`, `Runs`, `Faults`,
+//! `Numbers`, `Make`, `Reopen`, `Chain`, and the first definitions of `Times`. The others are for this crate alone:
+//! `AppendPlace`, `Drawn`, and those named after a file in `src`.
 //!
 //! docs/store.md and docs/recovery.md say why it is so.
 #![tactic(auto)]

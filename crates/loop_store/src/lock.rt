@@ -1,4 +1,4 @@
-//! Locks and unlocks: which are refused, what they write, and what is noted of them.
+//! Locks and unlocks of clips: which are refused, what they write, and what is noted of them.
 
 ghost use Rattle.std.specs.Prelude.{◌≡◌, ◌≢◌, ◌<◌, ◌≤◌, ◌∷◌, ℕ, [], Err, IfErr, IfOk, IsTrue, List, None, Ok, OnErr, OnOk, Some, false, slice_index_or};
 ghost use Rattle.loop_record.specs.Geometry.{disk_size};
@@ -19,8 +19,8 @@ use loop_disk::{Disk, DiskFault};
 use loop_record::{Span, TAGGED};
 use std::alloc::Allocator;
 
-// The first number from this one on that isn't held, if it is one of its block, or the one behind the block: the
-// number itself where that isn't held.
+// The first number from this one on that isn't held, if it lies in the same block; otherwise the first number after
+// the block.
 fn run_end<A: Allocator>(index: &Index<A>, number: u64) -> u64
     requires { IsIndex index.now }
     ensures from { number ≤ result }
@@ -41,8 +41,7 @@ fn run_end<A: Allocator>(index: &Index<A>, number: u64) -> u64
     }
 }
 
-// The least number of a span that isn't held. It looks at each held block of the span once, and at no number of
-// it alone.
+// The least number of a span that isn't held. It looks once at each held block of the span, and at no single number.
 fn first_missing<A: Allocator>(index: &Index<A>, span: Span) -> Option<u64>
     requires index { IsIndex index.now }
     requires some { span.from ≤ span.to }
@@ -60,15 +59,14 @@ fn first_missing<A: Allocator>(index: &Index<A>, span: Span) -> Option<u64>
     None
 }
 
-// Whether a version of the layout has a place for the tag of a clip.
+// Whether a version of the layout has a place for the clip's tag.
 fn has_place(version: u32, span: Span) -> bool
     ensures { result ≡ has_tag_place version span }
 {
     version == TAGGED || span.tag == 0
 }
 
-// The id under which a clip of a span may be added. `ClipEmpty`, then `ClipNotHeld`, then `ClipTableFull`, then
-// `OldLayout`.
+// The id that a new clip of a span gets. `ClipEmpty`, then `ClipNotHeld`, then `ClipTableFull`, then `OldLayout`.
 fn id_for<A: Allocator>(index: &Index<A>, span: Span) -> Result<u32, StoreFault>
     requires { IsIndex index.now }
     ensures id { IfOk result (λ id. ((id < 64) × (id ≡ first_free index.now.clips)) × (span.from ≤ span.to)) }
@@ -117,7 +115,7 @@ fn add_clip<D: Disk, A: Allocator>(
     written
 }
 
-// Takes away the clip of an id, and notes it.
+// Removes the clip of an id, and notes that.
 fn remove_clip<D: Disk, A: Allocator>(
     disk: &mut D,
     index: &mut Index<A>,
@@ -140,8 +138,8 @@ fn remove_clip<D: Disk, A: Allocator>(
     written
 }
 
-/// Adds a clip of a span, and answers its id. `MustReopen`, then `ClipEmpty`, `ClipNotHeld`, `ClipTableFull`,
-/// `OldLayout`, as `Store::lock` has them; after `Disk` the store must be reopened.
+/// Adds a clip of a span, and returns its id. `MustReopen`, then `ClipEmpty`, `ClipNotHeld`, `ClipTableFull`,
+/// `OldLayout`, as in `Store::lock`. After `Disk` the store must be reopened.
 pub(crate) fn lock_clip<D: Disk, A: Allocator>(
     disk: &mut D,
     index: &mut Index<A>,
@@ -169,8 +167,8 @@ pub(crate) fn lock_clip<D: Disk, A: Allocator>(
     }
 }
 
-/// Takes away the clip of an id. `MustReopen`, then `NoSuchClip`, as `Store::unlock` has them; after `Disk` the store
-/// must be reopened.
+/// Removes the clip of an id. `MustReopen`, then `NoSuchClip`, as in `Store::unlock`. After `Disk` the store must be
+/// reopened.
 pub(crate) fn unlock_clip<D: Disk, A: Allocator>(
     disk: &mut D,
     index: &mut Index<A>,

@@ -1,4 +1,4 @@
-//! What a read of a frame looks at.
+//! Reads of frames, from memory and from the disk.
 
 ghost use Rattle.std.specs.Prelude.{◌≡◌, ◌∷◌, [], ◌<◌, ◌≤◌, ◌+◌, ◌*◌, ◌++◌, ◌||◌, Bool, ℕ, List, IfNone, IfOk, IfSome, IsTrue, None, false, length, map, slice_index_or, true, vec_capacity};
 ghost use Rattle.std.specs.List.{list_any, range_with_len};
@@ -38,7 +38,7 @@ pub(crate) fn segment_with<A: Allocator>(index: &Index<A>, number: u64) -> Optio
     }
 }
 
-// The lesser of two numbers, where there are two.
+// The smaller of two numbers, or the only one of them.
 fn lesser(first: Option<u64>, second: Option<u64>) -> Option<u64>
     ensures { (p q : ℕ → Bool) (n : ℕ) → IsLeastFrom p n first → IsLeastFrom q n second
         → IsLeastFrom (λ k. p k || q k) n result }
@@ -62,8 +62,8 @@ fn least_in(geometry: &Geometry, head: Option<SegmentHead>, number: u64) -> Opti
     if least < end { Some(least) } else { None }
 }
 
-/// The least number from this one on whose frame some segment has. Only where that isn't the number itself does
-/// it look at all segments.
+/// The least number from this one on whose frame some segment has. It looks at all segments only where that isn't the
+/// number itself.
 pub(crate) fn next_held<A: Allocator>(index: &Index<A>, number: u64) -> Option<u64>
     requires { IsIndex index.now }
     ensures { IsLeastFrom (λ n. list_any (has_number index.now.ring.geometry.slots n) index.now.table.heads)
@@ -79,7 +79,7 @@ pub(crate) fn next_held<A: Allocator>(index: &Index<A>, number: u64) -> Option<u
     least
 }
 
-/// Reads the frame of a number, which its segment has.
+/// Reads the frame of a number from the segment that has it.
 pub(crate) fn read_held<D: Disk>(
     disk: &mut D,
     ring: &Ring,
@@ -97,7 +97,8 @@ pub(crate) fn read_held<D: Disk>(
     Ok(ring.read_slot(disk, segment, slot, number, out)?)
 }
 
-/// Reads the head of the frame of a number, which its segment has, and none of its bytes: those are what lies there.
+/// Reads the head of the frame of a number from the segment that has it, and none of its bytes. In contracts the bytes
+/// are those on the disk.
 pub(crate) fn read_held_head<D: Disk>(
     disk: &mut D,
     ring: &Ring,
@@ -114,7 +115,7 @@ pub(crate) fn read_held_head<D: Disk>(
     Ok(ring.read_head(disk, segment, slot, number)?)
 }
 
-/// Reads a part of the frame of a number, which its segment has, from byte `at` on.
+/// Reads a part of the frame of a number from the segment that has it, from byte `at` on.
 pub(crate) fn read_held_part<D: Disk>(
     disk: &mut D,
     ring: &Ring,
@@ -156,7 +157,7 @@ pub(crate) fn count_held<A: Allocator>(index: &Index<A>) -> u64
     count
 }
 
-// Puts the numbers of a segment's frames behind others, in memory that was taken before.
+// Appends the numbers of a segment's frames to others, in memory that was taken before.
 fn add_numbers<A: Allocator>(geometry: &Geometry, found: Found, numbers: &mut Vec<u64, A>)
     requires few { found.frames ≤ geometry.now.slots }
     requires low { is_too_high geometry.now found.block ≡ false }
@@ -171,7 +172,7 @@ fn add_numbers<A: Allocator>(geometry: &Geometry, found: Found, numbers: &mut Ve
     }
 }
 
-/// The numbers of the frames of found segments, one segment behind the other. Its memory is taken at once.
+/// The numbers of the frames of found segments, one segment after the other. It takes all memory at once.
 pub(crate) fn numbers_of<A: Allocator>(
     alloc: A,
     geometry: &Geometry,
@@ -189,7 +190,7 @@ pub(crate) fn numbers_of<A: Allocator>(
     Ok(numbers)
 }
 
-/// The numbers of the held frames, which rise. Its memory is taken at once.
+/// The numbers of the held frames, in rising order. It takes all memory at once.
 pub(crate) fn held_numbers<A: Allocator, B: Allocator>(
     alloc: B,
     index: &Index<A>,

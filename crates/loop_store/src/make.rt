@@ -1,4 +1,4 @@
-//! Makes a store on a disk.
+//! Formats a disk: makes a store on it.
 
 ghost use Rattle.std.specs.Prelude.{◌≡◌, ◌&&◌, ◌==◌};
 ghost use Rattle.loop_record.specs.Geometry.{disk_size, is_good};
@@ -14,7 +14,7 @@ use loop_record::{Geometry, SuperHead, TAGGED};
 use loop_ring::{Ring, SegmentIndex};
 use std::alloc::Allocator;
 
-// Whether a geometry is good, and a disk has its size.
+// Whether a geometry is good and the disk has its size.
 fn fits<D: Disk>(disk: &D, geometry: &Geometry) -> bool
     ensures { result ≡ (is_good geometry.now && ((D.medium disk.now).size == disk_size geometry.now)) }
 {
@@ -24,7 +24,7 @@ fn fits<D: Disk>(disk: &D, geometry: &Geometry) -> bool
     }
 }
 
-// Writes an empty recording in a version of the layout over whatever stands on a disk, and hands out its store.
+// Writes an empty recording, in a version of the layout, over the contents of a disk, and returns its store.
 fn format_as<D: Disk + Drop, A: Allocator + Copy>(
     alloc: A,
     disk: D,
@@ -72,12 +72,12 @@ fn format_as<D: Disk + Drop, A: Allocator + Copy>(
     }
 }
 
-/// Writes an empty recording over whatever stands on a disk, and hands out its store. The layout has version 2.
+/// Writes an empty recording over the contents of a disk, and returns its store. The layout has version 2.
 ///
-/// `BadGeometry` where a limit of the geometry is broken or the disk's size isn't the geometry's; otherwise
-/// `NoMemory` or `Disk`. A refusal hands the disk back, and the first two haven't called it. A stop at any
-/// moment leaves an image that reads as before the call, or isn't formatted, or is the empty recording. One
-/// read, and a write and a sync more where the disk was formatted; then 4 calls and one a segment.
+/// `BadGeometry` where a limit of the geometry is broken or the disk's size isn't the geometry's; otherwise `NoMemory`
+/// or `Disk`. A refusal hands the disk back; the first two haven't called it. A stop at any moment leaves an image
+/// that reads as before the call, or isn't formatted, or is the empty recording. It makes one read, and another write
+/// and sync where the disk was formatted; then 4 calls and one for each segment.
 pub fn format<D: Disk + Drop, A: Allocator + Copy>(
     alloc: A,
     disk: D,
@@ -95,7 +95,7 @@ pub fn format<D: Disk + Drop, A: Allocator + Copy>(
     )
 }
 
-/// Does the same in version 1 of the layout, in which clips have no tags: it is for old data.
+/// Does the same in version 1 of the layout, in which clips have no tags. It is for old data.
 pub fn format_v1<D: Disk + Drop, A: Allocator + Copy>(
     alloc: A,
     disk: D,

@@ -4,8 +4,8 @@ ghost use Rattle.std.specs.Prelude.{◌≡◌, IfOk, length};
 
 use std::alloc::{AllocError, Allocator};
 
-/// Memory for a frame of so many bytes, whose values don't matter: what is spare, where it has that length; otherwise
-/// new memory.
+/// Memory for a frame of this many bytes, whose values don't matter: the spare memory where it has that length,
+/// otherwise new memory.
 pub fn frame_memory<A: Allocator>(
     alloc: A,
     spare: Option<Vec<u8, A>>,

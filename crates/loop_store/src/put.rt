@@ -14,11 +14,11 @@ use loop_disk::Disk;
 use loop_ring::Group;
 use std::alloc::Allocator;
 
-/// Stores the frames of a group behind the others, all or none, and answers the number of the first, which is
-/// the group's.
+/// Stores the frames of a group after the others, all or none, and returns the number of the first, which is the
+/// group's.
 ///
-/// `MustReopen`, then `NumbersSpent`, then `AllLocked`, as `Store::append` has them; after `Disk` the store
-/// must be reopened.
+/// `MustReopen`, then `NumbersSpent`, then `AllLocked`, as in `Store::append`. After `Disk` the store must be
+/// reopened.
 pub(crate) fn put<D: Disk, A: Allocator>(
     disk: &mut D,
     index: &mut Index<A>,

@@ -44,15 +44,14 @@ fn recover_parts<D: Disk, A: Allocator + Copy>(
     Ok(index_of(head, table, clips, next, times))
 }
 
-/// The index of what a disk's image reads as: the geometry, the header of each segment, the clips and the
-/// number that comes next.
+/// The index of what a disk's image reads as: the geometry, the header of each segment, the clips and the next number.
 ///
-/// It reads the superblock, each header, the first `HEAD_SIZE` bytes of each slot before the first closed gate
-/// of an open segment, and the clip table. It writes nothing. Memory is taken four times: for the headers, for the
-/// counts of clips, for the open segments by block, which are sorted once, and for the times.
+/// It reads the superblock, each header, the first `HEAD_SIZE` bytes of each slot before the first closed gate of an
+/// open segment, and the clip table. It writes nothing. It takes memory four times: for the headers, for the counts of
+/// clips, for the open segments by block, which it sorts once, and for the times.
 ///
-/// `NotFormatted` where the disk has no open superblock; `Damaged` with the first damage in the layout's order;
-/// `Disk` where a read failed; `NoMemory`. After each of these the disk is as it was.
+/// `NotFormatted` where the disk has no open superblock; `Damaged` with the first damage in the layout's order; `Disk`
+/// where a read failed; `NoMemory`. After each of these the disk is as it was.
 pub(crate) fn recover<D: Disk, A: Allocator + Copy>(
     alloc: A,
     disk: &mut D,

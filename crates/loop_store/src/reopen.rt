@@ -30,8 +30,8 @@ fn reread<D: Disk, A: Allocator + Copy>(alloc: A, disk: &mut D) -> Result<Index<
     recover(alloc, disk)
 }
 
-// Clears the stray gates that a stop may have left in the block of the next number. The other segments have all their
-// frames, so that no gate of theirs can be stray.
+// Closes the stray gates that a stop may have left in the block of the next number. The other segments have all their
+// frames, so none of their gates can be stray.
 fn clear_newest<D: Disk, A: Allocator>(disk: &mut D, index: &Index<A>) -> Result<(), DiskFault>
     requires fits { IsFitting index.now (D.medium disk.old).size }
     requires settled { (D.medium disk.old).honest → IsSettled (D.medium disk.old) }
@@ -48,15 +48,15 @@ fn clear_newest<D: Disk, A: Allocator>(disk: &mut D, index: &Index<A>) -> Result
     }
 }
 
-/// Whether so many of the newest blocks can be kept in a ring of this geometry: at least one, and at most one less than
-/// there are segments.
+/// Whether this many of the newest blocks can be kept in a ring of this geometry: at least one, and fewer than there
+/// are segments.
 pub fn can_keep(geometry: &Geometry, keep: u32) -> bool
     ensures { result ≡ not (is_bad_keep geometry.now.segments keep) }
 {
     0 < keep && keep < geometry.segments
 }
 
-// Keeps so many of the newest blocks. `BadKeep` where they can't be kept.
+// Keeps this many of the newest blocks. `BadKeep` where they can't be kept.
 fn keep_newest<A: Allocator>(index: &mut Index<A>, keep: u32) -> Result<(), StoreFault>
     ensures kept { IfOk result (λ done. (index.new ≡ keeping keep index.old)
         × (is_bad_keep index.old.ring.geometry.segments keep ≡ false)) }
@@ -70,7 +70,7 @@ fn keep_newest<A: Allocator>(index: &mut Index<A>, keep: u32) -> Result<(), Stor
     Ok(())
 }
 
-// Syncs, and finds what the disk's image reads as, with so many of the newest blocks kept. It writes nothing.
+// Syncs, finds what the disk's image reads as, and keeps this many of the newest blocks. It writes nothing.
 fn find<D: Disk, A: Allocator + Copy>(
     alloc: A,
     disk: &mut D,
@@ -91,7 +91,7 @@ fn find<D: Disk, A: Allocator + Copy>(
     Ok(index)
 }
 
-// Finds the recording on a disk again, and makes the disk ready for a store.
+// Finds the recording on a disk again, and prepares the disk for a store.
 fn reopen<D: Disk, A: Allocator + Copy>(
     alloc: A,
     disk: &mut D,
@@ -116,29 +116,30 @@ fn reopen<D: Disk, A: Allocator + Copy>(
 }
 
 impl<D: Disk + Drop, A: Allocator + Copy> Store<D, A> {
-    /// Finds the recording on a disk again, and hands out its store, which keeps the newest block.
+    /// Finds the recording on a disk again, and returns its store, which keeps the newest block.
     ///
-    /// First it syncs, so that a stop leaves what a read gives. Then it reads the superblock, each header, the
-    /// first `HEAD_SIZE` bytes of each slot before the first closed gate of an open segment, and the clip
-    /// table. All memory is taken on the way. Last it closes the frame gates that a stop left open behind the first
-    /// closed one of the newest segment: one read where there is a gate behind it, and where one is open a write and
-    /// a sync.
+    /// First it syncs, so that a stop leaves what a read gives. Then it reads the superblock, each header, the first
+    /// `HEAD_SIZE` bytes of each slot before the first closed gate of an open segment, and the clip table. It takes
+    /// all memory on the way. Last it closes the frame gates of the newest segment that a stop left open after the
+    /// first closed one. That is one read where there is a gate after it, and a write and a sync where one of them is
+    /// open.
     ///
-    /// `NotFormatted` where the disk has no open superblock; `Damaged` with the first damage in the layout's
-    /// order; `NoMemory`, before the first write; `Disk` where a call failed. Each hands the disk back, and its
-    /// image reads as before. So does each image that a stop within the call leaves, unless a stop before the
-    /// call could have left it.
+    /// `NotFormatted` where the disk has no open superblock; `Damaged` with the first damage in the layout's order;
+    /// `NoMemory`, before the first write; `Disk` where a call failed. Each hands the disk back, and its image reads
+    /// as before. So does each image that a stop within the call leaves, unless a stop before the call could have left
+    /// it.
     pub fn open(alloc: A, disk: D) -> Result<Store<D, A>, OpenRefused<D>>
         ensures { OpensKeeping D.medium 1 disk result }
     {
         Store::open_keeping(alloc, disk, 1)
     }
 
-    /// Does the same, and from then on the `keep` newest blocks of held frames never go: where each other is locked by
-    /// a clip, an append is refused as `AllLocked`. How many are kept isn't on the disk: each store has its own.
+    /// Does the same, and from then on the `keep` newest blocks of held frames never go: where every other block is
+    /// locked by a clip, an append is refused as `AllLocked`. The disk doesn't record how many are kept: each store
+    /// has its own count.
     ///
     /// `BadKeep`, after `NotFormatted` and `Damaged`, where `keep` is 0 or above the number of segments less one. It
-    /// hands the disk back, to which nothing was written.
+    /// hands the disk back, with nothing written to it.
     pub fn open_keeping(alloc: A, disk: D, keep: u32) -> Result<Store<D, A>, OpenRefused<D>>
         ensures { OpensKeeping D.medium keep disk result }
     {

@@ -1,4 +1,4 @@
-//! The held frames of a time, as runs of their numbers.
+//! The held frames of a span of time, as runs of their numbers.
 
 ghost use Rattle.std.specs.Prelude.{◌≡◌, ◌==◌, ◌+◌, ℕ, List, IfOk, OnOk, map};
 ghost use Rattle.std.specs.List.{filter};
@@ -12,7 +12,7 @@ use crate::look::held_numbers;
 use loop_record::{Span, Times};
 use std::alloc::{AllocError, Allocator};
 
-// The time at the slot of a number in the segment that has its block; 0 where none has it.
+// The time at the slot of a number, in the segment that has its block; 0 where no segment has it.
 fn time_of<A: Allocator>(index: &Index<A>, number: u64) -> u64
     requires { IsIndex index.now }
     ensures { result ≡ time_under index.now.ring.geometry.slots index.now.table.heads index.now.times.items number }
@@ -26,14 +26,14 @@ fn time_of<A: Allocator>(index: &Index<A>, number: u64) -> u64
     }
 }
 
-// Whether a number comes next after a run.
+// Whether a number directly follows a run.
 fn is_next(run: Span, number: u64) -> bool
     ensures { result ≡ (run.to + 1 == number) }
 {
     run.to < number && number - run.to == 1
 }
 
-// The run of one number.
+// The run of a single number.
 fn one(number: u64) -> Span
     ensures { result ≡ record { from = number; to = number; tag = 0 } }
 {
@@ -44,7 +44,7 @@ fn one(number: u64) -> Span
     }
 }
 
-// Puts a number after the last run, or as a run of its own.
+// Adds a number to the last run where it follows it, otherwise as a run of its own.
 fn add_number<A: Allocator>(runs: &mut Vec<Span, A>, number: u64) -> Result<(), AllocError>
     ensures { OnOk result (runs.new.items ≡ added runs.old.items number) }
 {
@@ -62,7 +62,7 @@ fn add_number<A: Allocator>(runs: &mut Vec<Span, A>, number: u64) -> Result<(), 
     Ok(())
 }
 
-// The runs of those of these numbers, which rise, whose frames have their time among these.
+// Of these numbers, which rise, the runs of those whose frames have a time in the span.
 fn runs_of<A: Allocator, B: Allocator>(
     alloc: B,
     index: &Index<A>,
@@ -83,7 +83,7 @@ fn runs_of<A: Allocator, B: Allocator>(
     Ok(runs)
 }
 
-/// The runs of the held frames whose times are among these.
+/// The runs of the held frames whose times lie in the span.
 pub(crate) fn seek<A: Allocator, B: Allocator + Copy>(
     alloc: B,
     index: &Index<A>,

@@ -28,7 +28,7 @@ use loop_ring::Group;
 use std::alloc::{Allocator, Global};
 use std::marker::Model;
 
-/// A recording on a disk. It is made by `format`, and found again by `Store::open`.
+/// A recording on a disk. `format` makes it, and `Store::open` finds it again.
 #[derive(Drop)]
 pub struct Store<D: Disk + Drop, A: Allocator = Global> {
     pub(crate) disk: D,
@@ -68,7 +68,7 @@ impl<D: Disk + Drop, A: Allocator> Store<D, A> {
         self.index.table.keep()
     }
 
-    /// Whether a call that writes has failed, so that the disk is to be taken out and opened again.
+    /// Whether a call that writes has failed, so that the disk has to be taken out and opened again.
     pub fn must_reopen(&self) -> bool
         ensures { result ≡ self.now.must_reopen }
     {
@@ -83,7 +83,7 @@ impl<D: Disk + Drop, A: Allocator> Store<D, A> {
         self.index.next
     }
 
-    /// How many frames an append may store at most: as many as the block of the next number still takes.
+    /// The most frames that an append may store: as many as the block of the next number still takes.
     pub fn room(&self) -> u32
         ensures room { result ≡ self.now.geometry.slots - self.now.next % self.now.geometry.slots }
         ensures some { 1 ≤ result }
@@ -94,7 +94,7 @@ impl<D: Disk + Drop, A: Allocator> Store<D, A> {
         slots - (self.index.next % u64::from(slots)) as u32
     }
 
-    /// The number that no frame gets, since its block would reach 2^62: where it comes next, no number is left.
+    /// The number that no frame gets, since its block would reach 2^62. Once it is the next number, no number is left.
     pub fn last_number(&self) -> u64
         ensures last { result ≡ last_number (ring_in self.now) }
         ensures low { result ≤ numbers_end }
@@ -127,9 +127,9 @@ impl<D: Disk + Drop, A: Allocator> Store<D, A> {
         next_held(&self.index, number)
     }
 
-    /// The block that goes when an append needs room: the least block of a held frame that no clip meets and
-    /// that isn't among the newest that are kept. Nothing where none may go. Where the store must be reopened, it is
-    /// that of before the call that failed.
+    /// The block that goes when an append needs room: the least block of a held frame that no clip meets and that
+    /// isn't among the newest that are kept. Nothing where none may go. Where the store must be reopened, it is the
+    /// block from before the call that failed.
     pub fn victim(&self) -> Option<u64>
         ensures { (r : Recording) → StandsFor D.medium self.now r
             → result ≡ victim (ring_in self.now) self.now.keep r }
@@ -151,18 +151,18 @@ impl<D: Disk + Drop, A: Allocator> Store<D, A> {
 }
 
 impl<D: Disk + Drop, A: Allocator> Store<D, A> {
-    /// Stores a group of 1 to 8 frames behind the others, all or none, and answers the number of the first.
-    /// Each has as many bytes as the geometry says, and they fit into the block of the next number, as `room` says: a
-    /// caller that isn't proved to see to it uses loop_desk's `Desk`, which refuses a frame of another size. Where that
-    /// block has to be begun and each segment holds one, the least block that isn't locked by a clip and isn't among
-    /// the newest that are kept goes first.
+    /// Stores a group of 1 to 8 frames after the others, all or none, and returns the number of the first. Each has as
+    /// many bytes as the geometry says, and they fit into the block of the next number, as `room` says. A caller that
+    /// isn't proved to ensure this uses loop_desk's `Desk`, which refuses a frame of another size. Where that block
+    /// has to be begun and every segment holds one, a block goes first: the least one that isn't locked by a clip and
+    /// isn't among the newest that are kept.
     ///
     /// `MustReopen` where a call that writes has failed; otherwise `NumbersSpent` where no number is left; then
-    /// `AllLocked` where a block would have to go and none may. It takes no memory, and reads nothing. After
-    /// `Disk`, of a write or a sync, the store has to be opened again, and its numbers are those from before the call.
+    /// `AllLocked` where a block would have to go and none may. It takes no memory, and reads nothing. After `Disk`,
+    /// of a write or a sync, the store has to be opened again, and its numbers are those from before the call.
     ///
-    /// Four calls of the disk: the slots, a sync, the gates of the frames, a sync. Four more where a block is
-    /// begun, and two more where one goes first.
+    /// Four calls of the disk: the slots, a sync, the gates of the frames, a sync. Four more where a block is begun,
+    /// and two more where one goes first.
     pub fn append(&mut self, frames: &[Frame<A>]) -> Result<u64, StoreFault>
         requires some { 1 ≤ length frames.now }
         requires few { length frames.now ≤ 8 }
@@ -181,7 +181,7 @@ impl<D: Disk + Drop, A: Allocator> Store<D, A> {
         )
     }
 
-    /// Stores one frame, as `append` a group of one.
+    /// Stores one frame, like `append` with a group of one.
     pub(crate) fn append_one(&mut self, frame: &Frame<A>) -> Result<u64, StoreFault>
         requires { length frame.now.bytes.items ≡ frame_bytes self.old.geometry }
         ensures { Goes D.medium self.old self.new (appended (picture frame.now ∷ []) result ∷ []) }
@@ -198,16 +198,16 @@ impl<D: Disk + Drop, A: Allocator> Store<D, A> {
 }
 
 impl<D: Disk + Drop, A: Allocator> Store<D, A> {
-    /// Locks the frames from a number to another, both among them, so that their blocks stay until the clip is
-    /// unlocked, and answers its id: the least one that is free.
+    /// Locks the frames of a range of numbers, both ends included, and returns the clip's id, the least one that is
+    /// free. Their blocks stay until the clip is unlocked.
     ///
     /// `MustReopen` where a call that writes has failed; otherwise `ClipEmpty` where `from` is above `to`; then
-    /// `ClipNotHeld` with the least of the numbers that isn't held; then `ClipTableFull` where 64 clips stand; then
-    /// `OldLayout` where the tag isn't 0 and the layout has version 1. It takes no memory, and looks at each held block
-    /// once, so that no range is too long for it. After `Disk`, of a write or a sync, the store has to be opened again,
-    /// and tells what it told before.
+    /// `ClipNotHeld` with the least of the numbers that isn't held; then `ClipTableFull` where there are 64 clips;
+    /// then `OldLayout` where the tag isn't 0 and the layout has version 1. It takes no memory, and looks at each held
+    /// block once, so that no range is too long for it. After `Disk`, of a write or a sync, the store has to be opened
+    /// again, and reports what it reported before.
     ///
-    /// Four calls of the disk: the entry behind its gate, a sync, the gate, a sync.
+    /// Four calls of the disk: the entry without its gate, a sync, the gate, a sync.
     pub fn lock(&mut self, from: u64, to: u64, tag: u64) -> Result<u32, StoreFault>
         ensures goes { Goes D.medium self.old self.new
             (locked (record { from = from; to = to; tag = tag }) result ∷ []) }
@@ -223,8 +223,9 @@ impl<D: Disk + Drop, A: Allocator> Store<D, A> {
 
     /// Unlocks the clip of an id.
     ///
-    /// `MustReopen` where a call that writes has failed; otherwise `NoSuchClip` where no clip has the id. It takes
-    /// no memory. After `Disk`, of a write or a sync, the store has to be opened again, and tells what it told before.
+    /// `MustReopen` where a call that writes has failed; otherwise `NoSuchClip` where no clip has the id. It takes no
+    /// memory. After `Disk`, of a write or a sync, the store has to be opened again, and reports what it reported
+    /// before.
     ///
     /// Two calls of the disk: the gate of the entry, a sync.
     pub fn unlock(&mut self, id: u32) -> Result<(), StoreFault>
@@ -234,14 +235,14 @@ impl<D: Disk + Drop, A: Allocator> Store<D, A> {
         unlock_clip(&mut self.disk, &mut self.index, &mut self.must_reopen, id)
     }
 
-    /// Makes version 2 of a layout of version 1, so that clips may have tags, and answers whether it did: in version 2
-    /// it doesn't call the disk.
+    /// Makes version 2 of the layout from version 1, so that clips may have tags, and returns whether it did. In
+    /// version 2 it doesn't call the disk.
     ///
     /// `MustReopen` where a call that writes has failed. It takes no memory. A stop at any moment leaves an image that
     /// reads as the same recording, in version 1 or 2. After `Disk`, of a write or a sync, the store has to be opened
-    /// again, and tells what it told before.
+    /// again, and reports what it reported before.
     ///
-    /// Calls of the disk: a sync, a write a clip, a sync, the version's gate, a sync.
+    /// Calls of the disk: a sync, one write for each clip, a sync, the version's gate, a sync.
     pub fn upgrade(&mut self) -> Result<bool, StoreFault>
         ensures goes { Goes D.medium self.old self.new (upgraded result ∷ []) }
         ensures refused { Refused self.old self.new result }
@@ -273,8 +274,8 @@ impl<D: Disk + Drop, A: Allocator> Store<D, A> {
         }
     }
 
-    /// Reads the head of the frame of a number, and none of its bytes: the model's read, for the bytes that the frame
-    /// has.
+    /// Reads the head of the frame of a number, and none of its bytes. In the model it is a read, whose bytes are
+    /// those that the frame has.
     ///
     /// `MustReopen` where a call that writes has failed; otherwise `NotHeld`; then `Disk`, or `Damaged` where
     /// the disk isn't honest. It takes no memory, and makes one call of the disk, of 32 bytes.
@@ -317,7 +318,7 @@ impl<D: Disk + Drop, A: Allocator> Store<D, A> {
         }
     }
 
-    /// The numbers of the held frames, which rise. `MustReopen` where a call that writes has failed; otherwise
+    /// The numbers of the held frames, in rising order. `MustReopen` where a call that writes has failed; otherwise
     /// `NoMemory`.
     pub fn frames<B: Allocator + Copy>(&self, alloc: B) -> Result<Vec<u64, B>, StoreFault>
         ensures must_reopen { (result ≡ Err StoreFault.MustReopen) ↔ IsTrue self.now.must_reopen }
@@ -331,8 +332,8 @@ impl<D: Disk + Drop, A: Allocator> Store<D, A> {
         Ok(held_numbers(alloc, &self.index)?)
     }
 
-    /// The held frames whose times are among these, from memory, as runs of their numbers: they rise, have no tag, and
-    /// each is as long as it can be.
+    /// The held frames whose times lie in a span, as runs of their numbers, from memory. The runs rise, have no tag,
+    /// and each is as long as it can be.
     ///
     /// `MustReopen` where a call that writes has failed; otherwise `NoMemory`. It doesn't call the disk.
     pub fn sought<B: Allocator + Copy>(
@@ -351,7 +352,7 @@ impl<D: Disk + Drop, A: Allocator> Store<D, A> {
         }
     }
 
-    /// The clips that stand, by rising id. `MustReopen` where a call that writes has failed; otherwise `NoMemory`.
+    /// The clips, by rising id. `MustReopen` where a call that writes has failed; otherwise `NoMemory`.
     pub fn clips<B: Allocator>(&self, alloc: B) -> Result<Vec<Clip, B>, StoreFault>
         ensures must_reopen { (result ≡ Err StoreFault.MustReopen) ↔ IsTrue self.now.must_reopen }
         ensures clips { IfOk result (λ clips. clips.items ≡ clip_list 0 self.now.clips) }

@@ -12,8 +12,8 @@ use loop_disk::Disk;
 use loop_record::TAGGED;
 use std::alloc::Allocator;
 
-/// Makes version 2 of a layout of version 1, and answers whether it did. `MustReopen`, as `Store::upgrade` has it;
-/// after `Disk` the store must be reopened.
+/// Makes version 2 of the layout from version 1, and returns whether it did. `MustReopen`, as in `Store::upgrade`.
+/// After `Disk` the store must be reopened.
 pub(crate) fn upgrade_layout<D: Disk, A: Allocator>(
     disk: &mut D,
     index: &mut Index<A>,

@@ -1,4 +1,4 @@
--- That a queue, over planes that may, may go to another thread.
+-- A queue, over planes that may, may go to another thread.
 use denote.RattleType.{RattleType}
 use denote.Param.Send.{IsSend, sendable}
 use Rattle.std.proofs.Crossing.{Vec-send}

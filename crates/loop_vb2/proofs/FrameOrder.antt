@@ -1,4 +1,4 @@
--- The order of frames: the buffers that the application gets are a beginning of those that the device ended.
+-- The order of frames: the buffers that the application gets are a prefix of those that the device ended.
 use Rattle.std.proofs.Common.{◌≡◌, ℕ, Bool, true, false, ◌<◌, ◌||◌, ◌&&◌, ◌==◌, nat_lt, cond, List, [], ◌∷◌, ◌++◌, length, Option, Some, None, option_map, Ok, Err, refl, sym, ◌∙◌, ap, subst, append_assoc, arith, inl, inr}
 use Rattle.std.specs.List.{flat_map, list_any}
 use Rattle.std.proofs.lemmas.List.{append-nil}
@@ -106,7 +106,7 @@ runs_stopped s (take_fresh fresh) e = absurd (cc)
 
 -- ---- any other event
 
--- the line after an event: what the device ended joins it behind, and what the application got leaves it in front
+-- the line after an event: what the device ended joins it at its end, and what the application got leaves it at its front
 pub record Next (s : QueueState) (e : Event) (line : List ℕ) : Type 0 where
   pub rest : List ℕ
   pub runs : Runs (after_event s e) rest
@@ -349,7 +349,7 @@ dequeued_in_order = λ s stop events stop_buffer on a.
 neither : (n : ℕ → ℕ) (x y : ℕ) → n x < n y → n y < n x → ⊥
 neither n x y h k = omega arith
 
--- who heads one line and stands behind another's head comes after it
+-- a buffer that heads one line, and comes after another's head, comes after that
 behind_head : (n : ℕ → ℕ) (c : ℕ) (t : ℕ → Bool) (x y : ℕ) (xs ys : List ℕ) → InOrder n c t (x ∷ xs)
     → InOrder n c t (y ∷ ys) → (x ≡ y → ⊥) → n y < n x
 behind_head n c t x y xs ys a b apart =

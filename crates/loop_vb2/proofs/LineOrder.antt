@@ -20,7 +20,7 @@ use Rattle.loop_vb2.proofs.StepEvents.{idle_waits_not, idle_ended_not, active_en
 abbrev is_test : (BufferState → Bool) → List (Buffer Plane) → ℕ → Bool
 is_test test bs i = test (state_at bs i)
 
--- starting the device changes neither who waits nor who ended
+-- starting the device changes neither which buffers wait nor which ended
 test_settled : (test : BufferState → Bool) → ((s : BufferState) → test (activate s) ≡ test s)
     → (b : Body Plane) (i : ℕ) → test (state_at (settle_device b).buffers i) ≡ test (state_at b.buffers i)
 test_settled test keeps b i =

@@ -15,9 +15,6 @@ use Rattle.loop_vb2.specs.State.{Body, read_body}
 use Rattle.loop_vb2.specs.Effects.{device_runs, settle_device, with_buffer, body_streaming, body_stopped}
 
 module _ {P : Type 0} (meaning : P → Plane) where
-  abbrev read_all : List (Buffer P) → List (Buffer Plane)
-  read_all bs = map (read_buffer meaning) bs
-
   pub length_read : (bs : List (Buffer P)) → length (map (read_buffer meaning) bs) ≡ length bs
   length_read [] = refl
   length_read (b ∷ bs) = ap suc (length_read bs)

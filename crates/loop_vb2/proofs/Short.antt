@@ -54,6 +54,6 @@ module _ {P : Type 0} where
   abbrev pub body_seen : Body P → Body P
   body_seen b = record b { fresh = false }
 
--- a place is empty, or has so many bytes in use
+-- a place is empty, or has at least n bytes in use
 abbrev pub has_used_bytes : ℕ → Option Plane → Bool
 has_used_bytes count place = option_map_or (λ p. nat_le count (length p.bytes)) place true

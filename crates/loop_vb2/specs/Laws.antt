@@ -97,17 +97,17 @@ SetsAreInOnePlace =
     ≡ count_by test (held_sets s.body.buffers) + count_by test (brought_by event))
     × LeavesNone (after_event s event).body.buffers event
 
--- Between two events that stop the stream, the buffers dequeued are a beginning of those completed or failed,
--- in that order.
+-- Between two events that stop the stream, the buffers dequeued are a prefix of those completed or failed, in that
+-- order.
 abbrev pub DequeuedInOrder : Type 0
 DequeuedInOrder =
     (s : QueueState) (stop : Event) (events : List Event) → stops stop ≡ true → list_any stops events ≡ false
     → EachIn after_event MayHappen s (stop ∷ events)
     → (rest : List ℕ) × (flat_map ended_by events ≡ flat_map dequeued_by events ++ rest)
 
--- Some events, and those behind them: the buffers that were done before, and then those that the device completed or
--- failed, are those that were dequeued, in that order, and then others: where nothing is behind, those that are done
--- now.
+-- Some events, and those after them: the buffers that were done before, and then those that the device completed or
+-- failed, are those that were dequeued, in that order, and then others. If no event follows, these are the buffers that
+-- are done now.
 abbrev pub InTurn : List ℕ → List Event → List Event → List ℕ → Type 0
 InTurn done part behind now =
     (others : List ℕ) × (done ++ flat_map ended_by part ≡ flat_map dequeued_by part ++ others)
@@ -126,7 +126,7 @@ pub record KeepsOrder {P : Type 0} (old new : Lined P) (events : List Event) : T
   -- and from each stop of the stream on;
   pub from_stop : (before part behind : List Event) (stop : Event) → events ≡ before ++ stop ∷ (part ++ behind)
       → stops stop ≡ true → list_any stops part ≡ false → InTurn [] part behind new.done
-  -- and where it had nothing done unless it streamed, so it is behind them.
+  -- and where it had nothing done unless it streamed, so it is after them.
   pub still : IsStill old → IsStill new
 
 -- A queue without buffers has nothing done.

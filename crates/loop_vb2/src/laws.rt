@@ -18,13 +18,13 @@ pub fn sets_are_in_one_place()
     ensures { SetsAreInOnePlace }
 {}
 
-/// Between two events that stop the stream, the buffers dequeued are a beginning of those completed or failed,
-/// in the order of their ends.
+/// Between two events that stop the stream, the buffers dequeued are a prefix of those completed or failed, in the
+/// order of their ends.
 pub fn buffers_are_dequeued_in_order()
     ensures { DequeuedInOrder }
 {}
 
-/// A queue without buffers has nothing done: with it a run begins from which on buffers come in order.
+/// A queue without buffers has nothing done: from it on, a run dequeues buffers in order.
 pub fn new_queues_are_still<P: PlaneMemory>()
     ensures { NewQueuesAreStill P.plane }
 {}

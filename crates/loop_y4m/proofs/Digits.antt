@@ -35,7 +35,7 @@ own = numerals_by_value (λ ds. all_ascii_digits ds ≡ true) tells_all_ascii_di
 pub decimal_lacks : (c n : ℕ) → is_ascii_digit c ≡ false → n < 2 ^ 64 → Lacks c (decimal n)
 decimal_lacks c n other small = digits_lack c (decimal n) other (digits_decimal own n small)
 
--- what is written of a number is read as that number
+-- a number that is written is read as that number
 pub number_decimal : (most n : ℕ) → n ≤ most → n < 2 ^ 64 → number_at_most most (decimal n) ≡ Some n
 number_decimal most n few small = rw (lt-ltb 0 (length (decimal n)) (decimal_nonempty n small))
     (rw (digits_decimal own n small) (rw (digits_value-decimal own n small) (rw (le-leb n most few) refl)))

@@ -23,7 +23,7 @@ use Rattle.loop_y4m.proofs.Ranges.{first_between, frame_there}
 
 -- ---- the store
 
--- reads, and reads behind them
+-- reads, and reads after them
 pub only_joined : {D : Type 0} (medium : D → Medium) (old mid new : Seen D) (failed : Option DiskFault)
     → OnlyRead medium old mid None → OnlyRead medium mid new failed → OnlyRead medium old new failed
 only_joined {D} medium old mid new failed first second = record {
@@ -47,7 +47,7 @@ only_stands {D} medium old new failed r only stands = subst (λ (s : Seen D). St
 four : (done given left rest : List ℕ) → done ++ ((given ++ left) ++ rest) ≡ (done ++ given) ++ (left ++ rest)
 four done given left rest = simp append_assoc refl
 
--- a beginning of a later part is one of the whole
+-- a prefix of a later part is a prefix of the whole
 pub some_later : (old mid new : Option (List ℕ)) (done more rest whole : List ℕ) → Appends old mid done
     → AppendsSome mid new more → whole ≡ done ++ (more ++ rest) → AppendsSome old new whole
 some_later old mid new done more rest whole first some is = (
@@ -67,7 +67,7 @@ stopped_later H K old mid new (export.Store (store.Damaged SlotHead)) done more 
 stopped_later H K old mid new export.Write done more rest whole on first some is = λ h. some_later old mid new done more rest whole (first h) (some (on h)) is
 stopped_later H K old mid new _ done more rest whole on first some is = elim some [ ]
 
--- a fault that was handed on
+-- a fault that was passed on
 pub stopped_on : {T : Type 0} (H : Type 0) (old new : Option (List ℕ)) (result : Result T ExportFault)
     (fault : ExportFault) (bytes : List ℕ) → IsErrAnd result (λ made. made ≡ fault) → Stopped H fault old new bytes
     → Moved H old new result bytes
@@ -106,7 +106,7 @@ unwritten H g must_reopen frames held (Ok count) fine some failed = absurd faile
 unwritten H g must_reopen frames held (Err fault) fine some failed =
     subst (λ (f : ExportFault). IsExport H g must_reopen frames held held (Err f)) (sym failed) (fine, (some, refl))
 
--- the header was written, or a beginning of it
+-- the header was written, or a prefix of it
 pub unheaded : (H : Type 0) (g : Geometry) (must_reopen : Bool) (frames : List (List ℕ)) (old new : Option (List ℕ))
     (result : Result ℕ ExportFault) → must_reopen ≡ false → frames ≢ []
     → IsErrAnd result (λ made. made ≡ export.Write) → AppendsSome old new (header g)
@@ -122,7 +122,7 @@ unheaded H g must_reopen frames old new (Err fault) fine some failed given =
       ),
     )
 
--- and the frames behind it
+-- and the frames after it
 pub headed : (H : Type 0) (g : Geometry) (must_reopen : Bool) (frames : List (List ℕ)) (old mid new : Option (List ℕ))
     (result : Result ℕ ExportFault) → must_reopen ≡ false → frames ≢ [] → Appends old mid (header g)
     → MovedAll H mid new result frames

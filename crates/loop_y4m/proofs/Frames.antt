@@ -22,7 +22,7 @@ line_by inside long bytes l is at found = grind (arith, is, at, found, length-dr
 line_shorter : (bytes : List ℕ) (l : List ℕ × List ℕ) → line bytes ≡ Ok l → length l.1 < length bytes
 line_shorter bytes l found = line_by (nat_lt (position_or_len is_newline bytes) (min 4096 (length bytes))) (nat_le 4096 (length bytes)) bytes l refl refl found
 
--- what stands behind a frame's bytes
+-- what follows a frame's bytes
 behind_pixels : (is short : Bool) (size : ℕ) (l f rest : List ℕ) → nat_le size (length l) ≡ short
     → (if is then pixels size l else Err BadHeader) ≡ Ok (Some (f, rest)) → length rest ≤ length l
 behind_pixels is short size l f rest which found = grind (arith, which, found, length-drop)
@@ -68,12 +68,12 @@ step_by (Err fault) size bytes is = refl
 step_by (Ok None) size bytes is = refl
 step_by (Ok (Some f)) size bytes is = ap (before f.0) (enough (length bytes) (suc (length f.1)) size f.1 (frame_shorter size bytes f.0 f.1 is) (omega arith))
 
--- the frames of an input are the next one and those behind it
+-- the frames of an input are the next one and those after it
 pub frames_step : (size : ℕ) (bytes : List ℕ) → frames_within_input size bytes ≡ frames_by (frames_within_input size)
     (next_frame size bytes)
 frames_step size bytes = step_by (next_frame size bytes) size bytes refl
 
--- ---- what a call for a frame answers, by the bytes that are left
+-- ---- what a call for a frame answers, given the bytes that are left
 
 next_known : (header : Header) (size : ℕ) (bytes : List ℕ) (new : Option (List ℕ)) (result : Result Bool Y4mFault)
     (out : List ℕ) → length out ≡ size_of_frame header → FrameIs bytes result out new

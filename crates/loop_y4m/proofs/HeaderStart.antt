@@ -1,4 +1,4 @@
--- How the header's line is told from its first ten bytes.
+-- How the header's line is recognized by its first ten bytes.
 use Rattle.std.proofs.Common.{◌≡◌, ℕ, ◌+◌, ◌-◌, Bool, true, false, Option, Some, None, List, ◌++◌, length, take, drop, refl, ap, arith, sym, ◌∙◌, length-take}
 use Rattle.std.specs.Prelude.{Ok, Err, Result, IfSome, codes, bytes_eq, min, nat_le, not}
 use Rattle.std.proofs.lemmas.List.{take_at, drop-take, drop_all}
@@ -15,7 +15,7 @@ use Rattle.loop_y4m.proofs.Lines.{line_at}
 equal : (xs ys : List ℕ) → bytes_eq xs ys ≡ true → xs ≡ ys
 equal xs ys is = (bytes_eq-Decides xs ys).0 is
 
--- one that begins with other bytes
+-- an input that begins with other bytes
 another : (first rest : List ℕ) → length first ≡ 10 → bytes_eq first (codes "YUV4MPEG2 ") ≡ false
     → bytes_eq first (codes "YUV4MPEG2\n") ≡ false → header_line (first ++ rest) ≡ Err NotY4m
 another first rest ten space newline = rw (take_at first rest 10 ten) (rw space (rw newline refl))
@@ -64,7 +64,7 @@ spaced_known (Some bytes) left new first tail buf result ten same filled read =
     let is : first ≡ codes "YUV4MPEG2 " = equal first (codes "YUV4MPEG2 ") (rw (take_at first tail 10 ten) at same) in
     rw (filled.1) (spaced_from left new first tail buf filled.0 result ten is filled.2 read)
 
--- a test that was turned round
+-- a test that was negated
 pub not_so : (b r : Bool) → r ≡ not b → r ≡ true → b ≡ false
 not_so true r turned e = absurd cc
 not_so false r turned e = refl
@@ -102,6 +102,6 @@ behind_by false n text is =
     let none : n - n ≡ 0 = omega arith in
     rw few (rw none (sym (drop_all 10 (take n text) (omega (arith, leb-false 10 n is, length-take n text)))))
 
--- what stands behind the ten bytes, as a slice from there names it
+-- what follows the ten bytes, as a slice from there
 pub behind_ten : (n : ℕ) (text : List ℕ) → take (n - min n 10) (drop (min n 10) text) ≡ drop 10 (take n text)
 behind_ten n text = behind_by (nat_le 10 n) n text refl

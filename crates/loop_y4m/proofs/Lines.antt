@@ -1,4 +1,4 @@
--- How a line that is read byte by byte goes on, and ends.
+-- How a line that is read byte by byte continues, and ends.
 use Rattle.std.proofs.Common.{◌≡◌, ℕ, ◌+◌, ◌<◌, ◌≤◌, Option, Some, None, List, [], ◌∷◌, ◌++◌, length, take, drop, refl, ap, arith, false, eqb, sym, append_assoc, append-nil, length-append, ◌∙◌}
 use Rattle.std.proofs.lemmas.List.{take_at, drop_at}
 use Rattle.std.specs.Prelude.{Ok, Err, IfSome}
@@ -13,7 +13,7 @@ abbrev pub IsBegun : List ℕ → List ℕ → Option (List ℕ) → Type 0
 IsBegun bytes seen left =
     (rest : List ℕ) × (bytes ≡ seen ++ rest) × (left ≡ Some rest) × (position_or_len is_newline seen ≡ length seen)
 
--- the first newline stands where what follows begins
+-- the first newline is where what follows begins
 newline_at : (seen rest : List ℕ) → position_or_len is_newline seen ≡ length seen
     → position_or_len is_newline (seen ++ 10 ∷ rest) ≡ length seen
 newline_at seen rest none = behind 10 seen (10 ∷ rest) none ∙ omega arith

@@ -5,7 +5,7 @@ use Rattle.std.proofs.lemmas.List.{take_rest, take-append-drop}
 use Rattle.std.specs.Prelude.{Ok, Err, IsErr, Result}
 use Rattle.loop_y4m.specs.Text.{Wrote}
 
--- the writer was given all that stands before these bytes
+-- the writer was given all that comes before these bytes
 abbrev pub IsGiven : Option (List ℕ) → Option (List ℕ) → List ℕ → List ℕ → Type 0
 IsGiven old now bytes rest = (done : List ℕ) × (bytes ≡ done ++ rest) × Appends old now done
 
@@ -51,14 +51,14 @@ pub whole : (old now : Option (List ℕ)) (bytes rest : List ℕ) → IsGiven ol
     → Appends old now bytes
 whole old now bytes rest given none = rw (given.1 ∙ ap (λ r. given.0 ++ r) none ∙ append-nil given.0) given.2
 
--- a beginning is written
+-- a prefix is written
 pub beginning : (old now : Option (List ℕ)) (bytes rest : List ℕ) → IsGiven old now bytes rest → (done : List ℕ)
     × (left : List ℕ) × (bytes ≡ done ++ left) × Appends old now done
 beginning old now bytes rest given = (given.0, rest, given.1, given.2)
 
--- ---- one text behind another
+-- ---- one text after another
 
--- a beginning of the first is one of both
+-- a prefix of the first is a prefix of both
 pub first_failed : {E : Type 0} (old new : Option (List ℕ)) (e : E) (result : Result (Unit {0}) E)
     (first more : List ℕ) → IsErr result → Wrote old new (Err e) first → Wrote old new result (first ++ more)
 first_failed old new e (Ok done) first more failed wrote = absurd cc
@@ -80,7 +80,7 @@ pub written : {E : Type 0} (old new : Option (List ℕ)) (result : Result (Unit 
     → Wrote old new result line → line ≡ text → Wrote old new result text
 written old new result line text wrote same = rw (sym same) wrote
 
--- the parts of a header, as they are written one behind another
+-- the parts of a header, as they are written one after another
 pub nested : (a b c d e f g h i j k : List ℕ) → a
     ++ (b ++ (c ++ (d ++ (e ++ (f ++ (g ++ (h ++ (i ++ (j ++ k))))))))) ≡ a ++ b ++ c ++ d ++ e ++ f ++ g ++ h ++ i
     ++ j ++ k

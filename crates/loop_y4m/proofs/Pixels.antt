@@ -18,7 +18,7 @@ take_over (x ∷ xs) ys n = let step : suc (length xs) + n ≡ suc (length xs + 
 take_from : (a n : ℕ) (front ys : List ℕ) → length front ≡ a → take (a + n) (front ++ ys) ≡ front ++ take n ys
 take_from a n front ys size = rw (sym size) (take_over front ys n)
 
--- what stands so far after n bytes were put from a on
+-- the bytes so far, after n were put from a on
 put_part : (a k n : ℕ) (xs ys : List ℕ) → a ≤ length xs → n ≤ length ys → take (a + n) (put_mid a k xs ys) ≡ take a xs
     ++ take n ys
 put_part a k n xs ys inside few = sym (take-take (a + n) (a + length ys) (put_mid a k xs ys) (omega (arith, few)))

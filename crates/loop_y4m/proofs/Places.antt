@@ -1,4 +1,4 @@
--- Where a byte stands first.
+-- Where a byte is first found.
 use Rattle.std.proofs.Common.{◌≡◌, ℕ, suc, ◌+◌, Bool, true, false, List, [], ◌∷◌, ◌++◌, length, refl, ap, arith, eqb, sym, length-append, ◌∙◌}
 use Rattle.std.specs.List.{position_or_len}
 
@@ -13,7 +13,7 @@ behind_by : (same : Bool) (c b : ℕ) (bs rest : List ℕ) → eqb b c ≡ same
 behind_by true c b bs rest is more none = absurd (omega (arith, (rw is at none)))
 behind_by false c b bs rest is more none = rw is (omega (arith, more (omega (arith, (rw is at none)))))
 
--- behind bytes without it, it is where it is in what follows
+-- after bytes without it, it is where it is in what follows
 pub behind : (c : ℕ) (bs rest : List ℕ) → Lacks c bs → position_or_len (λ b. eqb b c)
     (bs ++ rest) ≡ length bs + position_or_len (λ b. eqb b c) rest
 behind c [] rest none = omega arith

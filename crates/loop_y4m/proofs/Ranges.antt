@@ -23,7 +23,7 @@ use Rattle.loop_store.proofs.CheckAnswers.{due-none, due-some, passed}
 use Rattle.loop_y4m.specs.declared.fault.ExportFault.{ExportFault}
 use Rattle.loop_y4m.specs.declared.fault.ExportFault.TheVariants.{Store, Write}
 use Rattle.loop_y4m.specs.Export.{Stopped, frames_between}
-use Rattle.loop_y4m.specs.Steps.{IsFirstBetween, Moved, MovedAll, frames_left}
+use Rattle.loop_y4m.specs.Steps.{IsFirstBetween, Moved, frames_left}
 use Rattle.loop_y4m.specs.Text.{AppendsSome, frame}
 
 -- ---- the frames of a range
@@ -31,13 +31,13 @@ use Rattle.loop_y4m.specs.Text.{AppendsSome, frame}
 abbrev inside : ℕ → ℕ → ℕ × Picture → Bool
 inside from to f = leb from f.0 && leb f.0 to
 
--- one frame more
+-- one more frame
 taken : (from to : ℕ) (f : ℕ × Picture) (fs : List (ℕ × Picture)) (b : Bool) → inside from to f ≡ b
     → frames_between from to (f ∷ fs) ≡ cond b (f.1.bytes ∷ frames_between from to fs) (frames_between from to fs)
 taken from to f fs true is = ap (λ (b : Bool). map (λ (k : ℕ × Picture). k.1.bytes) (cond b (f ∷ filter (inside from to) fs) (filter (inside from to) fs))) is
 taken from to f fs false is = ap (λ (b : Bool). map (λ (k : ℕ × Picture). k.1.bytes) (cond b (f ∷ filter (inside from to) fs) (filter (inside from to) fs))) is
 
--- a number that isn't held is that of no frame
+-- a number that isn't held is the number of no frame
 apart : (f : ℕ × Picture) (fs : List (ℕ × Picture)) (k : ℕ) → is_some (frame_under (f ∷ fs) k) ≡ false → (f.0 ≡ k → ⊥)
 apart f fs k none is = clash (is_some (frame_under (f ∷ fs) k)) (ap (λ (b : Bool). is_some (cond b (Some f.1) (frame_under fs k))) (equal_test f.0 k is)) none
 
@@ -62,7 +62,7 @@ none_between from to (f ∷ fs) none = taken from to f fs false out ∙ none_bet
         go false is = refl
         go true is = absurd (apart f fs f.0 (none f.0 (grind (arith, nat_tests, is)) (grind (arith, nat_tests, is))) refl)
 
--- numbers that aren't held, at the range's beginning
+-- numbers that aren't held, at the range's start
 pub later_between : (from first to : ℕ) (fs : List (ℕ × Picture)) → from ≤ first
     → ((k : ℕ) → from ≤ k → k < first → is_some (frame_under fs k) ≡ false)
     → frames_between from to fs ≡ frames_between first to fs
@@ -181,17 +181,7 @@ given_more H r first to count n high p next old mid new inner rise there before 
       (Appends-trans old mid new (flat_map frame before.done) (frame p.bytes) (before.given h) (more h));
 }
 
--- all of them
-pub given_all : (H : Type 0) (r : Recording) (first to count : ℕ) (old now : Option (List ℕ))
-    → Given H r first to count None old now → MovedAll H old now (Ok count) (frames_between first to r.frames)
-given_all H r first to count old now all =
-    let are = all.are ∙ append-nil all.done in (
-      λ h. subst (λ (l : List (List ℕ)). Appends old now (flat_map frame l)) (sym are) (all.given h),
-      sym all.counted
-          ∙ ap (λ (l : List (List ℕ)). length l) (sym are),
-    )
-
--- the whole text is that of the frames so far, the next frame's and that of those behind it
+-- the whole text is that of the frames so far, that of the next frame, and that of those after it
 pub given_rest : (H : Type 0) (r : Recording) (first to count n high : ℕ) (p : Picture) (old mid : Option (List ℕ))
     → n ≤ to → RiseBetween 0 high r.frames → frame_under r.frames n ≡ Some p
     → (before : Given H r first to count (Some n) old mid)
@@ -261,7 +251,7 @@ writer_failed H old new (Ok x) bytes text failed some is = absurd failed
 writer_failed H old new (Err fault) bytes text failed some is = subst (λ (f : ExportFault). Stopped H f old new text)
     (sym failed) (λ h. subst (AppendsSome old new) (is h) some)
 
--- how many numbers there are from one on
+-- how many numbers there are from this one on
 abbrev pub numbers_left : Option ℕ → ℕ
 numbers_left None = 0
 numbers_left (Some n) = 2 ^ 62 - n

@@ -45,13 +45,13 @@ frames_read size (f ∷ fs) all = frames_by_one size f (flat_map frame fs) fs (a
 abbrev with_rate : ℕ → ℕ → List ℕ
 with_rate n d = 70 ∷ (decimal n ++ 58 ∷ decimal d)
 
--- a header behind its `YUV4MPEG2` and a space
+-- a header after its `YUV4MPEG2` and a space
 abbrev parameters : ℕ → ℕ → ℕ → ℕ → PixelFormat → List ℕ
 parameters w h n d f = (87 ∷ decimal w) ++ 32
     ∷ ((72 ∷ decimal h) ++ 32 ∷ (with_rate n d ++ 32
     ∷ (codes "Ip" ++ 32 ∷ (codes "A0:0" ++ 32 ∷ (67 ∷ colour_name f)))))
 
--- how the parts of a header stand behind one another
+-- how the parts of a header follow one another
 nested : (a b c d e f g h i j k : List ℕ) → a ++ b ++ c ++ d ++ e ++ f ++ g ++ h ++ i ++ j
     ++ k ≡ (a ++ (b ++ (c ++ (d ++ (e ++ ((f ++ (g ++ h)) ++ (i ++ j))))))) ++ k
 nested a b c d e f g h i j k = simp append_assoc refl

@@ -1,4 +1,4 @@
--- A read that is made again after reads that failed and took nothing.
+-- A read that is tried again after reads that failed and took nothing.
 use Rattle.std.proofs.Common.{ℕ, Option, Some, None, List, ◌∙◌, sym}
 use Rattle.std.specs.Io.KnownBytes.{Consumes, Keeps}
 

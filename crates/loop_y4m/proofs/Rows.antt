@@ -45,9 +45,9 @@ exported_is_read = refl
 cut_by_a_byte : parse (take 74 exported) ≡ reads (pixels 0 ∷ []) (Some Truncated)
 cut_by_a_byte = refl
 
--- ---- the same cut to each length
+-- ---- the same, cut to each length
 
--- what is read of each beginning of so many bytes
+-- what is read of each prefix of so many bytes
 abbrev pub cuts : ℕ → ℕ → List (Result (Header × Frames) Y4mFault)
 cuts from count = map (λ n. parse (take n exported)) (range_with_len from count)
 
@@ -97,7 +97,7 @@ four_bytes = refl
 header_without_its_end : parse (codes "YUV4MPEG2 W4 H2 F25:1 Ip A1:1 C420jpeg XYSCSS=420JPEG") ≡ Err Truncated
 header_without_its_end = refl
 
--- ---- lenient, and not
+-- ---- what is accepted leniently, and what isn't
 
 last_counts : parse (lined (codes "YUV4MPEG2  W9 H2 W0004 F25:1 Q")) ≡ reads [] None
 last_counts = refl

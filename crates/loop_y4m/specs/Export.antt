@@ -18,17 +18,17 @@ use Rattle.loop_y4m.specs.Text.{AppendsSome, text}
 abbrev pub frames_between : ℕ → ℕ → List (ℕ × Picture) → List (List ℕ)
 frames_between from to frames = map (λ f. f.1.bytes) (filter (λ f. nat_le from f.0 && nat_le f.0 to) frames)
 
--- a read or the writer failed, when a beginning of these bytes was written; or a slot holds something else, which
--- can't be where the disk is honest
+-- a read or the writer failed, once a prefix of these bytes was written; or a slot holds something else, which can't be
+-- where the disk is honest
 abbrev pub Stopped : Type 0 → ExportFault → Option (List ℕ) → Option (List ℕ) → List ℕ → Type 0
 Stopped Honest (Store (Disk fault)) old new bytes = Honest → AppendsSome old new bytes
 Stopped Honest (Store (Damaged SlotHead)) old new bytes = Honest → ⊥
 Stopped Honest Write old new bytes = Honest → AppendsSome old new bytes
 Stopped Honest _ old new bytes = ⊥
 
--- The answer to an export of these frames: it must be reopened, or otherwise there is none of them, or otherwise
--- memory was refused, and then nothing was written; otherwise they are counted, or something failed in between. Only
--- what was written then, their text or a beginning of it, is said of honest disks alone.
+-- The answer to an export of these frames. The store must be reopened; or else there is none of them; or else memory
+-- was refused; in these cases nothing was written. Otherwise they are counted, or something failed in between. What was
+-- written then, their text or a prefix of it, is only said of honest disks.
 abbrev pub IsExport : Type 0 → Geometry → Bool → List (List ℕ) → Option (List ℕ) → Option (List ℕ)
     → Result ℕ ExportFault → Type 0
 IsExport Honest g must_reopen frames old new (Err (Store MustReopen)) = (must_reopen ≡ true) × (new ≡ old)

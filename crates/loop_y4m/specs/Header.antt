@@ -16,7 +16,7 @@ use Rattle.loop_y4m.specs.declared.header.Parameters.{Parameters}
 
 -- ---- the words of a parameter
 
--- a decimal number, judged by its value, of at most this
+-- a decimal number of at most this value, with any number of digits
 abbrev pub number_at_most : ℕ → List ℕ → Option ℕ
 number_at_most most text = if nat_lt 0 (length text) && all_ascii_digits text && nat_le (digits_value 10 text) most
     then Some (digits_value 10 text) else None
@@ -33,7 +33,7 @@ abbrev pub rate : List ℕ → Option (ℕ × ℕ)
 rate text = option_and_then (λ n. option_map (λ d. (n, d)) (number_at_most 4294967295 (after_first is_colon text)))
     (number_at_most 4294967295 (before_first is_colon text))
 
--- halved in both directions, wherever the samples of chroma lie
+-- chroma halved in both directions, wherever its samples lie
 abbrev pub is_420 : List ℕ → Bool
 is_420 text = bytes_eq text (codes "420") || bytes_eq text (codes "420jpeg") || bytes_eq text (codes "420mpeg2")
     || bytes_eq text (codes "420paldv")
@@ -47,7 +47,7 @@ colour text = if bytes_eq text (codes "mono") then Some Grey
 
 -- ---- the parameters
 
--- what is answered at Ok goes on, a fault stays
+-- an Ok continues, a fault stays
 abbrev pub and_then : {A B : Type 0} → Result A Y4mFault → (A → Result B Y4mFault) → Result B Y4mFault
 and_then (Ok x) f = f x
 and_then (Err fault) f = Err fault
@@ -63,7 +63,7 @@ interlace text = if bytes_eq text (codes "p") || bytes_eq text (codes "?") then 
     then Err UnsupportedInterlace
     else Err BadHeader
 
--- what was given, and one parameter more: W, H, F, I or C; another letter, and an empty parameter, changes nothing
+-- what was given, and one more parameter: W, H, F, I or C; another letter, or an empty parameter, changes nothing
 abbrev pub with_parameter : Parameters → List ℕ → Result Parameters Y4mFault
 with_parameter p [] = Ok p
 with_parameter p (letter ∷ text) =
@@ -101,7 +101,7 @@ complete (Some w) None p = Err BadHeader
 complete (Some w) (Some h) p =
     not_too_large (record { format = p.format; width = w; height = h; rate_num = p.rate_num; rate_den = p.rate_den })
 
--- what a header line says behind its `YUV4MPEG2` and a space
+-- what a header line says after its `YUV4MPEG2` and a space
 abbrev pub header_of : List ℕ → Result Header Y4mFault
 header_of text = and_then (with_parameters nothing_given (header_words text)) (λ p. complete p.width p.height p)
 

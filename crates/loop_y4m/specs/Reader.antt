@@ -7,25 +7,25 @@ use Rattle.loop_y4m.specs.Header.{size_of_frame}
 use Rattle.loop_y4m.specs.Stream.{Frames, before, ends, frames_within_input, parse}
 
 -- an open reader: what its header says, the fault that it met, and what is still to be read, where that is known
-pub record Opened : Type 0 where
+pub record OpenReader : Type 0 where
   pub header : Header
   pub fault : Option Y4mFault
   pub rest : Option Frames
 
--- a reader with these bytes left; behind a fault there is that fault alone
-abbrev pub opened_with : Header → Option Y4mFault → Option (List ℕ) → Opened
+-- a reader with these bytes left; after a fault there is only that fault
+abbrev pub opened_with : Header → Option Y4mFault → Option (List ℕ) → OpenReader
 opened_with header None left =
     record { header = header; fault = None; rest = option_map (frames_within_input (size_of_frame header)) left }
 opened_with header (Some fault) left = record { header = header; fault = Some fault; rest = Some (ends (Some fault)) }
 
--- what is answered to the opening of an input: what `parse` says of it, but where the reader failed
-abbrev pub OpensAs : List ℕ → Result Opened Y4mFault → Type 0
+-- the answer to the opening of an input: what `parse` says of it, except where the reader failed
+abbrev pub OpensAs : List ℕ → Result OpenReader Y4mFault → Type 0
 OpensAs bytes (Err Read) = ⊤
 OpensAs bytes (Err fault) = parse bytes ≡ Err fault
 OpensAs bytes (Ok r) = (rest : Frames) × (parse bytes ≡ Ok (r.header, rest)) × (r.rest ≡ Some rest)
 
--- what is answered to the call for a frame, and what is left to be read: the first of the frames and those behind it,
--- the end, or the fault, but where the reader failed
+-- the answer to a call for a frame, and what is left to be read: the first of the frames and those after it, the end,
+-- or the fault, except where the reader failed
 abbrev pub GivesNext : Frames → Result Bool Y4mFault → List ℕ → Option Frames → Type 0
 GivesNext frames (Err Read) out left = ⊤
 GivesNext frames (Err fault) out left = frames ≡ ends (Some fault)

@@ -1,4 +1,4 @@
--- What private functions say; no caller needs it.
+-- What the contracts of private functions say; no caller needs it.
 use Rattle.std.specs.Prelude.{◌≡◌, ◌≤◌, ◌<◌, ℕ, Bool, Option, Some, None, Result, Ok, Err, List, [], ◌++◌, flat_map, length, take, IfOk, IfSome, ⊤, true, false}
 use Rattle.std.specs.Io.KnownBytes.{Appends}
 use Rattle.loop_record.specs.Recording.{Picture, Recording, holds}
@@ -20,20 +20,20 @@ HasSmallSides p = IfSome p.width (λ w. w ≤ 16384) × IfSome p.height (λ h. h
 abbrev pub IsSmall : Header → Type 0
 IsSmall h = (h.width ≤ 16384) × (h.height ≤ 16384) × (size_of_frame h ≤ 16777216)
 
--- what was answered of the line is the line, and what comes behind it is left; a reader that failed may have lost bytes
+-- the answer is the line, and what follows it is left; a reader that failed may have lost bytes
 abbrev pub LineIs : Result (List ℕ × List ℕ) Y4mFault → Result ℕ Y4mFault → List ℕ → Option (List ℕ) → Type 0
 LineIs whole (Err Read) buf left = ⊤
 LineIs whole (Err fault) buf left = whole ≡ Err fault
 LineIs whole (Ok n) buf left = (rest : List ℕ) × (whole ≡ Ok (take n buf, rest)) × (left ≡ Some rest)
 
--- the bytes are what the input begins with, or it is too short, which this fault answers; a reader that failed may have
--- lost bytes
+-- the bytes are what the input begins with; or it is too short, and the answer is this fault; a reader that failed may
+-- have lost bytes
 abbrev pub FillsWith : Y4mFault → List ℕ → Result (Unit {0}) Y4mFault → List ℕ → Option (List ℕ) → Type 0
 FillsWith cut bytes (Err Read) out left = ⊤
 FillsWith cut bytes (Err fault) out left = (fault ≡ cut) × (length bytes < length out)
 FillsWith cut bytes (Ok done) out left = (rest : List ℕ) × (bytes ≡ out ++ rest) × (left ≡ Some rest)
 
--- what was answered of the next frame is what it is
+-- the answer is the next frame
 abbrev pub FrameIs : List ℕ → Result Bool Y4mFault → List ℕ → Option (List ℕ) → Type 0
 FrameIs bytes (Err Read) out left = ⊤
 FrameIs bytes (Err fault) out left = next_frame (length out) bytes ≡ Err fault
@@ -41,7 +41,7 @@ FrameIs bytes (Ok false) out left = (next_frame (length out) bytes ≡ Ok None) 
 FrameIs bytes (Ok true) out left =
     (rest : List ℕ) × (next_frame (length out) bytes ≡ Ok (Some (out, rest))) × (left ≡ Some rest)
 
--- what was answered of the header is what it is
+-- the answer is the header
 abbrev pub HeaderIs : List ℕ → Result Header Y4mFault → Option (List ℕ) → Type 0
 HeaderIs bytes (Err Read) left = ⊤
 HeaderIs bytes (Err fault) left = header_and_rest bytes ≡ Err fault
@@ -49,13 +49,13 @@ HeaderIs bytes (Ok header) left = (rest : List ℕ) × (header_and_rest bytes �
 
 -- ---- the export of a store
 
--- what was written of these bytes where the disk is honest: all of them, or a beginning of them where a read or the
--- writer failed
+-- what was written of these bytes where the disk is honest: all of them, or a prefix of them where a read or the writer
+-- failed
 abbrev pub Moved : {T : Type 0} → Type 0 → Option (List ℕ) → Option (List ℕ) → Result T ExportFault → List ℕ → Type 0
 Moved Honest old new (Ok x) bytes = Honest → Appends old new bytes
 Moved Honest old new (Err fault) bytes = Stopped Honest fault old new bytes
 
--- so it was of the text of these frames, and at Ok they are counted
+-- the same of the text of these frames, and at Ok they are counted
 abbrev pub MovedAll : Type 0 → Option (List ℕ) → Option (List ℕ) → Result ℕ ExportFault → List (List ℕ) → Type 0
 MovedAll Honest old new result frames =
     Moved Honest old new result (flat_map frame frames) × IfOk result (λ count. count ≡ length frames)

@@ -9,7 +9,7 @@ use Rattle.loop_y4m.specs.Header.{and_then, header_of, size_of_frame}
 abbrev pub is_newline : ℕ → Bool
 is_newline b = b == 10
 
--- the first line, and what comes behind its 0x0A; a line has at most 4,096 bytes with it
+-- the first line, and what follows its 0x0A; a line has at most 4,096 bytes with it
 abbrev pub line : List ℕ → Result (List ℕ × List ℕ) Y4mFault
 line bytes = if nat_lt (position_or_len is_newline bytes) (min 4096 (length bytes))
     then Ok (before_first is_newline bytes, after_first is_newline bytes)
@@ -19,28 +19,28 @@ line bytes = if nat_lt (position_or_len is_newline bytes) (min 4096 (length byte
 abbrev pub is_y4m : List ℕ → Bool
 is_y4m bytes = bytes_eq (take 10 bytes) (codes "YUV4MPEG2 ") || bytes_eq (take 10 bytes) (codes "YUV4MPEG2\n")
 
--- the header's line, and what comes behind it
+-- the header's line, and what follows it
 abbrev pub header_line : List ℕ → Result (List ℕ × List ℕ) Y4mFault
 header_line bytes = if is_y4m bytes then line bytes else Err NotY4m
 
--- the header, and what comes behind its line
+-- the header, and what follows its line
 abbrev pub header_and_rest : List ℕ → Result (Header × List ℕ) Y4mFault
 header_and_rest bytes = and_then (header_line bytes) (λ l. and_then (header_of (drop 10 l.0)) (λ h. Ok (h, l.1)))
 
--- `FRAME`, alone or with a space and anything behind it
+-- `FRAME`, alone or followed by a space and anything
 abbrev pub is_frame_line : List ℕ → Bool
 is_frame_line text = bytes_eq (take 5 text) (codes "FRAME") && (length text == 5 || slice_index text 5 == 32)
 
--- as many bytes as a frame has, and what comes behind them
+-- as many bytes as a frame has, and what follows them
 abbrev pub pixels : ℕ → List ℕ → Result (Option (List ℕ × List ℕ)) Y4mFault
 pixels size bytes = if nat_le size (length bytes) then Ok (Some (take size bytes, drop size bytes)) else Err Truncated
 
--- the next frame, and what comes behind it; None at the end
+-- the next frame, and what follows it; None at the end
 abbrev pub next_frame : ℕ → List ℕ → Result (Option (List ℕ × List ℕ)) Y4mFault
 next_frame size [] = Ok None
 next_frame size (b ∷ bs) = and_then (line (b ∷ bs)) (λ l. if is_frame_line l.0 then pixels size l.1 else Err BadHeader)
 
--- frames, and the fault behind them; None: the end comes behind them
+-- frames, and the fault that follows them; None: the end follows them
 pub record Frames : Type 0 where
   pub frames : List (List ℕ)
   pub fault : Option Y4mFault
@@ -57,7 +57,7 @@ ends fault = ends_after [] fault
 abbrev pub before : List ℕ → Frames → Frames
 before frame fs = record { frames = frame ∷ fs.frames; fault = fs.fault }
 
--- the next frame and those behind it, or the end, or a fault
+-- the next frame and those after it, or the end, or a fault
 abbrev pub frames_by : (List ℕ → Frames) → Result (Option (List ℕ × List ℕ)) Y4mFault → Frames
 frames_by behind (Err fault) = ends (Some fault)
 frames_by behind (Ok None) = ends None
@@ -68,7 +68,7 @@ abbrev pub frames_within : ℕ → ℕ → List ℕ → Frames
 frames_within zero size bytes = ends None
 frames_within (suc most) size bytes = frames_by (frames_within most size) (next_frame size bytes)
 
--- all frames of these bytes: with its line each takes a byte or more, so there are no more frames than bytes
+-- all frames of these bytes: with its line each frame takes at least a byte, so there are no more frames than bytes
 abbrev pub frames_within_input : ℕ → List ℕ → Frames
 frames_within_input size bytes = frames_within (suc (length bytes)) size bytes
 

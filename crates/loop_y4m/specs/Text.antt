@@ -32,11 +32,11 @@ abbrev pub header_for : Geometry → Header
 header_for g =
     record { format = g.format; width = g.width; height = g.height; rate_num = g.rate_num; rate_den = g.rate_den }
 
--- the writer was given a beginning of these bytes
+-- the writer was given a prefix of these bytes
 abbrev pub AppendsSome : Option (List ℕ) → Option (List ℕ) → List ℕ → Type 0
 AppendsSome old new bytes = (given : List ℕ) × (rest : List ℕ) × (bytes ≡ given ++ rest) × Appends old new given
 
--- what the writer was given: the whole text at Ok, a beginning of it at a fault
+-- what the writer was given: the whole text at Ok, a prefix of it at a fault
 abbrev pub Wrote : {E : Type 0} → Option (List ℕ) → Option (List ℕ) → Result (Unit {0}) E → List ℕ → Type 0
 Wrote old new (Ok done) bytes = Appends old new bytes
 Wrote old new (Err fault) bytes = AppendsSome old new bytes

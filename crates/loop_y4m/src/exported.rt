@@ -16,19 +16,18 @@ use loop_store::{Store, StoreFault};
 use std::alloc::Allocator;
 use std::io::Write;
 
-// The most bytes of a frame that are moved at once.
+// The most bytes of a frame that are copied at once.
 const MAX_PIECE: u32 = 65_536;
 
-/// Writes the held frames whose numbers are from `from` to `to`, in rising order, behind a header, and answers
-/// how many they are.
+/// Writes a header and then the held frames whose numbers are from `from` to `to`, in rising order, and returns how
+/// many they are.
 ///
-/// `MustReopen` where a call of the store that writes has failed; otherwise `NotHeld` where no frame has such a
-/// number; then `NoMemory`. Nothing was written then, whatever the disk. Afterwards `Disk` where a read fails,
-/// `Damaged` where a slot holds something else, which an honest disk has none of, and `Write` where the writer fails;
-/// of an honest disk's frames a beginning of the text was written then. Nothing is flushed.
+/// `MustReopen` where a call of the store that writes has failed; otherwise `NotHeld` where no frame has such a number;
+/// then `NoMemory`. After each of these nothing was written, whatever the disk. Later `Disk` where a read fails,
+/// `Damaged` where a slot holds something else, which never happens on an honest disk, and `Write` where the writer
+/// fails. After these, where the disk is honest, a prefix of the text was written. Nothing is flushed.
 ///
-/// Frames are moved in pieces of at most 65,536 bytes. Memory is taken for one piece, before anything is
-/// written.
+/// Frames are copied in pieces of at most 65,536 bytes. Memory is taken for one piece, before anything is written.
 pub fn export<D: Disk + Drop, A: Allocator + Copy, W: Write>(
     alloc: A,
     store: &mut Store<D, A>,
@@ -67,7 +66,7 @@ fn held_between<D: Disk + Drop, A: Allocator>(
     }
 }
 
-// Writes the held frames from `first`, which is held, to `to`, and answers how many they are.
+// Writes the held frames from `first`, which is held, to `to`, and returns how many they are.
 fn write_frames<D: Disk + Drop, A: Allocator, W: Write>(
     store: &mut Store<D, A>,
     first: u64,

@@ -18,7 +18,7 @@ fn is_frame_line(line: &[u8]) -> bool
     line.len() == 5 || line[5] == b' '
 }
 
-/// Fills `out`. Where the input ends before that it answers `cut`.
+/// Fills `out`. Where the input ends before it is full, the error is `cut`.
 pub(crate) fn fill<R: Read>(reader: &mut R, out: &mut [u8], cut: Y4mFault) -> Result<(), Y4mFault>
     ensures { IfSome (R.remaining reader.old)
         (λ bytes. FillsWith cut bytes result out.new (R.remaining reader.new)) }
@@ -34,7 +34,7 @@ pub(crate) fn fill<R: Read>(reader: &mut R, out: &mut [u8], cut: Y4mFault) -> Re
     Ok(())
 }
 
-/// Reads the next frame's line and its bytes, as many as `out` has; false at the end.
+/// Reads the next frame's line, and then its bytes into `out`, which they fill; false at the end.
 #[tactic(auto, using(crate::proofs::Pixels::pixels_whole, crate::proofs::Pixels::pixels_cut))]
 pub(crate) fn next_frame<R: Read>(reader: &mut R, out: &mut [u8]) -> Result<bool, Y4mFault>
     ensures { IfSome (R.remaining reader.old)

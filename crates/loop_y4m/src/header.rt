@@ -136,7 +136,7 @@ fn interlace(text: &[u8]) -> Result<(), Y4mFault>
     }
 }
 
-// Takes one parameter more.
+// Adds one parameter.
 fn with_parameter(mut given: Parameters, word: &[u8]) -> Result<Parameters, Y4mFault>
     ensures value { result ≡ with_parameter given word.now }
     ensures bound { HasSmallSides given → IfOk result HasSmallSides }
@@ -155,7 +155,7 @@ fn with_parameter(mut given: Parameters, word: &[u8]) -> Result<Parameters, Y4mF
     Ok(given)
 }
 
-// The header of all parameters: its width and height are given, and its frames aren't too large.
+// The header that all parameters give: its width and height are given, and its frames aren't too large.
 fn complete(given: Parameters) -> Result<Header, Y4mFault>
     requires { HasSmallSides given }
     ensures value { result ≡ complete given.width given.height given }
@@ -178,8 +178,8 @@ fn complete(given: Parameters) -> Result<Header, Y4mFault>
     }
 }
 
-/// Reads a header line behind its `YUV4MPEG2` and a space. The first parameter from the left that can't be read
-/// decides.
+/// Reads what follows `YUV4MPEG2` and a space in a header line. The first parameter from the left that can't be read
+/// decides which fault it is.
 #[tactic(auto, using(crate::proofs::Words::last_parameter, crate::proofs::Words::more_parameters))]
 pub(crate) fn parse_header(text: &[u8]) -> Result<Header, Y4mFault>
     ensures value { result ≡ header_of text.now }

@@ -13,7 +13,7 @@ use std::io::{ErrorKind, Read};
 /// The most bytes of a line, its 0x0A among them.
 pub(crate) const MAX_LINE: usize = 4096;
 
-/// One read, made again where it was interrupted. The count of tries, 2^64 - 1, is there since each call has to end.
+/// One read, tried again where it was interrupted. The tries are limited, to 2^64 - 1, since each call has to end.
 #[tactic(auto, using(crate::proofs::Retry::still_there, crate::proofs::Retry::still_read))]
 pub(crate) fn read_some<R: Read>(reader: &mut R, buf: &mut [u8]) -> Result<usize, Y4mFault>
     ensures bound { ReadsAtMost result buf.new }
@@ -44,8 +44,8 @@ pub(crate) fn next_byte<R: Read>(reader: &mut R) -> Result<Option<u8>, Y4mFault>
     Ok(Some(byte[0]))
 }
 
-/// Reads a line on into `buf`, behind its first `from` bytes, byte by byte up to its 0x0A, and answers how many bytes
-/// stand before that.
+/// Continues a line in `buf`, after its first `from` bytes, byte by byte up to its 0x0A, and returns how many bytes
+/// come before that.
 #[tactic(auto, using(crate::proofs::Lines::reading))]
 pub(crate) fn next_line<R: Read>(
     reader: &mut R,

@@ -29,15 +29,15 @@ pub fn exported_text_is_read(geometry: &Geometry)
         ≡ Ok (header_for geometry.now, ends_after (frames_between from to r.frames) None) }
 {}
 
-/// The frames of an input are the next one and those behind it, up to the end or a fault: the count that bounds
-/// the definition's recursion leaves none out.
+/// The frames of an input are the next one and those after it, up to the end or a fault: the count that bounds the
+/// definition's recursion leaves none out.
 pub fn frames_follow_one_another()
     ensures { (size : ℕ) (bytes : List ℕ)
         → frames_within_input size bytes ≡ frames_by (frames_within_input size) (next_frame size bytes) }
 {}
 
-/// Calls in turn that gave frames until the end, or a fault, was left gave all frames of what was to be read,
-/// in their order.
+/// Calls in turn that gave frames until only the end, or a fault, was left gave all frames that were to be read, in
+/// their order.
 pub fn a_run_gives_all_frames()
     ensures { (frames : Frames) (given : List (List ℕ)) (fault : Option Y4mFault)
         → Gives frames given (ends fault) → frames ≡ ends_after given fault }

@@ -2,13 +2,13 @@
 //! geometry or from a store, and read from any reader.
 //!
 //! `specs/` has the written text (`Text`), what is exported of a store (`Export`), how a header line is read
-//! (`Header`), how a whole input is (`Stream`) and what an open reader answers (`Reader`); `Steps` is what
-//! private functions say. The code:
+//! (`Header`), how a whole input is read (`Stream`) and what an open reader answers (`Reader`). `Steps` has what the
+//! contracts of private functions say. The code:
 //!
 //! - `reader`: the `Y4mReader`, which gives an input's frames one after another; `fault`: what can be wrong
 //!   with an input, why it has no geometry, and why an export ends;
-//! - `header`: what a stream's header line says, and the geometry of a store for it; `number`: decimal numbers,
-//!   judged by their value;
+//! - `header`: what a stream's header line says, and the geometry of a store for it; `number`: decimal numbers, whose
+//!   value alone is limited;
 //! - `input`: bytes and lines from a reader; `frame`: a frame's line and its bytes;
 //! - `text`: the header and the frames as they are written; `exported`: the held frames of a store, so written;
 //! - `laws`: that what is written is read back, and a run of calls gives all frames: contracts of functions

@@ -3,7 +3,7 @@
 ghost use Rattle.std.specs.Prelude.{◌≡◌, ◌<◌, ◌≤◌, IfErr, IfOk, IfSome, IsTrue, None, OnOk, Some, length};
 ghost use Rattle.loop_record.specs.Geometry.{is_good};
 ghost use Rattle.loop_y4m.specs.Header.{geometry_for, size_of_frame};
-ghost use Rattle.loop_y4m.specs.Reader.{GivesNext, Opened, OpensAs, opened_with};
+ghost use Rattle.loop_y4m.specs.Reader.{GivesNext, OpenReader, OpensAs, opened_with};
 ghost use Rattle.loop_y4m.specs.Steps.{HeaderIs, IsSmall, LineIs};
 ghost use Rattle.loop_y4m.specs.Stream.{ends, header_line};
 
@@ -15,9 +15,9 @@ use loop_record::{Geometry, PixelFormat};
 use std::io::Read;
 use std::marker::Model;
 
-/// An input whose header was read, and its frames one after another: the frames that `parse` has of the input,
-/// where the reader tells its bytes. It reads a byte a call up to the end of a line, and the rest of a frame at
-/// once, so who reads a file lends it a `BufReader`. A read that was interrupted is made again.
+/// An input whose header was read, and whose frames come one after another. Where the bytes that the reader has are
+/// known, they are the frames that `parse` finds in the input. Lines are read byte by byte, a call for each, and the
+/// bytes of a frame at once: so to read a file, lend it a `BufReader`. A read that was interrupted is tried again.
 #[derive(Drop)]
 pub struct Y4mReader<R: Read + Drop> {
     reader: R,
@@ -26,7 +26,7 @@ pub struct Y4mReader<R: Read + Drop> {
 }
 
 impl<R: Read + Drop> Model for Y4mReader<R> {
-    ghost Value = { Opened };
+    ghost Value = { OpenReader };
 
     ghost view = { λ r. opened_with r.header r.fault (R.remaining r.reader) };
 
@@ -34,10 +34,10 @@ impl<R: Read + Drop> Model for Y4mReader<R> {
 }
 
 impl<R: Read + Drop> Y4mReader<R> {
-    /// Reads the header of an input, and nothing behind its line. NotY4m: the input doesn't begin as one.
-    /// Truncated: it ends within the line. BadHeader, UnsupportedColour, UnsupportedInterlace: what the line
-    /// says can't be read. Read: the reader failed. After each of them the reader is dropped; one that was lent
-    /// has given an unknown count of bytes.
+    /// Reads the header of an input, and nothing after its line. NotY4m: the input doesn't begin as YUV4MPEG2.
+    /// Truncated: it ends within the line. BadHeader, UnsupportedColour, UnsupportedInterlace: what the line says can't
+    /// be read. Read: the reader failed. After each of them the reader is dropped; one that was lent has given an
+    /// unknown count of bytes.
     pub fn open(mut reader: R) -> Result<Self, Y4mFault>
         ensures opened { IfSome (R.remaining reader) (λ bytes. OpensAs bytes result) }
         ensures fresh { IfOk result (λ r. r.fault ≡ None) }
@@ -82,7 +82,7 @@ impl<R: Read + Drop> Y4mReader<R> {
 
     /// The geometry of a store for these frames: their format, size and rate, with so many segments, 2 to 64, and so
     /// many slots in each, 1 to 256. RateUnknown: the header has no rate, or one with a part of 0, and a store needs
-    /// one. BadGeometry: the segments or the slots are beyond their limits.
+    /// a rate. BadGeometry: the segments or the slots are beyond their limits.
     pub fn geometry(&self, segments: u32, slots: u32) -> Result<Geometry, GeometryFault>
         ensures geometry { result ≡ geometry_for self.now.header segments slots }
         ensures good { IfOk result (λ geometry. IsTrue (is_good geometry)) }
@@ -99,7 +99,7 @@ impl<R: Read + Drop> Y4mReader<R> {
     }
 
     /// Reads the next frame's bytes into `out`, which has a frame's length: the planes Y, Cb and Cr without
-    /// padding, or Y alone. It answers false at the end, and then again. Truncated: the input ends within a
+    /// padding, or Y alone. It returns false at the end, and at each later call. Truncated: the input ends within a
     /// frame or its line. BadHeader: a line isn't a frame's. Read: the reader failed. After a fault `out` may
     /// hold any bytes, and each later call answers that fault.
     pub fn next_frame(&mut self, out: &mut [u8]) -> Result<bool, Y4mFault>
@@ -120,7 +120,7 @@ impl<R: Read + Drop> Y4mReader<R> {
     }
 }
 
-// Reads the header's line, and judges it.
+// Reads the header's line, and what it says.
 fn read_header<R: Read>(reader: &mut R) -> Result<Header, Y4mFault>
     ensures header { IfSome (R.remaining reader.old)
         (λ bytes. HeaderIs bytes result (R.remaining reader.new)) }
@@ -131,7 +131,7 @@ fn read_header<R: Read>(reader: &mut R) -> Result<Header, Y4mFault>
     parse_header(&line[n.min(10)..n])
 }
 
-// Reads the header's line into `line`, and answers how many bytes it has before its 0x0A.
+// Reads the header's line into `line`, and returns how many bytes it has before its 0x0A.
 fn read_header_line<R: Read>(reader: &mut R, line: &mut [u8]) -> Result<usize, Y4mFault>
     requires { length line.old ≡ MAX_LINE }
     ensures bound { IfOk result (λ n. n < MAX_LINE) }

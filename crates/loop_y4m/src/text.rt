@@ -1,5 +1,5 @@
-//! The text that is written: a header, and frames behind it. After a fault, which is the writer's own, a
-//! beginning of what the call writes was written; nothing is flushed.
+//! The text that is written: a header, and then frames. After a fault, which is the writer's own, a prefix of what the
+//! call writes was written. Nothing is flushed.
 
 ghost use Rattle.std.specs.Prelude.{◌≡◌, ◌++◌, ◌∷◌, [], codes};
 ghost use Rattle.loop_y4m.specs.Text.{Wrote, colour_name, frame, header};
@@ -23,8 +23,8 @@ fn colour_name(format: PixelFormat) -> &'static str
     }
 }
 
-/// Writes the header of a geometry's frames: their size, rate and format, progressive and with an unknown
-/// aspect. After a fault a beginning of it was written.
+/// Writes the header of a geometry's frames: their size, rate and format, progressive and with an unknown aspect. After
+/// a fault a prefix of it was written.
 pub fn write_header<W: Write>(geometry: &Geometry, out: &mut W) -> Result<()>
     ensures { Wrote (W.contents out.old) (W.contents out.new) result (header geometry.now) }
 {
@@ -45,22 +45,22 @@ pub fn write_header<W: Write>(geometry: &Geometry, out: &mut W) -> Result<()>
     put(line.as_slice(), out)
 }
 
-/// Writes the line that stands before a frame's bytes. After a fault a beginning of it was written.
+/// Writes the line before a frame's bytes. After a fault a prefix of it was written.
 pub fn write_frame_line<W: Write>(out: &mut W) -> Result<()>
     ensures { Wrote (W.contents out.old) (W.contents out.new) result (codes "FRAME" ++ 10 ∷ []) }
 {
     put(b"FRAME\n", out)
 }
 
-/// Writes a frame's bytes, or a part of them, as they are. After a fault a beginning of them was written.
+/// Writes a frame's bytes, or a part of them, as they are. After a fault a prefix of them was written.
 pub fn write_pixels<W: Write>(bytes: &[u8], out: &mut W) -> Result<()>
     ensures { Wrote (W.contents out.old) (W.contents out.new) result bytes.now }
 {
     put(bytes, out)
 }
 
-/// Writes a frame: its line, and its bytes, as many as the header's format and size have. Their count isn't
-/// looked at. After a fault a beginning of both was written.
+/// Writes a frame: its line and its bytes, as many as the header's format and size need. Their count isn't checked.
+/// After a fault a prefix of both was written.
 pub fn write_frame<W: Write>(bytes: &[u8], out: &mut W) -> Result<()>
     ensures { Wrote (W.contents out.old) (W.contents out.new) result (frame bytes.now) }
 {
@@ -68,8 +68,8 @@ pub fn write_frame<W: Write>(bytes: &[u8], out: &mut W) -> Result<()>
     write_pixels(bytes, out)
 }
 
-// Writes all of these bytes. A write that was interrupted is made again, as `write_all` does, which doesn't
-// say how much was written before a fault.
+// Writes all of these bytes, and tries again where a write was interrupted. `write_all` does so too, but its contract
+// doesn't say how much was written before a fault.
 #[tactic(auto, using(crate::proofs::PartWrites::writing))]
 fn put<W: Write>(bytes: &[u8], out: &mut W) -> Result<()>
     ensures { Wrote (W.contents out.old) (W.contents out.new) result bytes.now }

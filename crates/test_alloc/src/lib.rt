@@ -1,13 +1,13 @@
-// An allocator for tests: it grants so many more blocks of the allocator below it, and refuses each after them.
-// A test that allows 0, 1, 2, .. blocks to a call refuses each growth of that call in turn, and sees what is
-// left after it.
-//
-// A `&Budget` is `Allocator + Copy`, and goes to whatever is generic in its allocator. Proved is that each
-// block handed out is one of the allocator below, of the size and the alignment asked for, that a block is
-// handed back there with the same two (`allocate` and `deallocate`, by hand in `proofs/BudgetAllocator`), and
-// how a block is counted (`take_one`). The count itself lies in a `Cell`, so that a `&` can change it, and no
-// contract can look into a cell: that `allocate` refuses where the count is 0, and what `left` and `allow` do,
-// is shown by tests in test_queue. Nothing but tests uses this crate.
+//! An allocator for tests: it grants a number of blocks of the allocator below it, and refuses every one after them. A
+//! test that allows a call 0, 1, 2, .. blocks refuses each growth of that call in turn, and sees what is left after
+//! it.
+//!
+//! A `&Budget` is `Allocator + Copy`, and can be passed to whatever is generic in its allocator. It is proved that
+//! each block handed out is one of the allocator below, of the size and the alignment asked for, and that a block is
+//! handed back there with the same two (`allocate` and `deallocate`, by hand in `proofs/BudgetAllocator`). It is also
+//! proved how a block is counted (`take_one`). The count itself lies in a `Cell`, so that a `&` can change it, and no
+//! contract can look into a cell. So tests in test_queue show that `allocate` refuses where the count is 0, and what
+//! `left` and `allow` do. Only tests use this crate.
 #![tactic(auto)]
 
 ghost use Rattle.std.specs.Prelude.{◌≡◌, ◌-◌, ◌<◌, ◌↔◌, IsTrue};
@@ -16,7 +16,7 @@ use std::alloc::{AllocError, Allocator, Global};
 use std::cell::Cell;
 use std::marker::Model;
 
-/// Takes one block of the `left` ones, and answers whether there was one. Where none is left it stays so.
+/// Takes one of the `left` blocks, and returns whether there was one. Where none is left, none is left after it.
 ///
 /// This is the rule by which a `Budget` counts.
 pub fn take_one(left: &mut u64) -> bool
@@ -30,13 +30,13 @@ pub fn take_one(left: &mut u64) -> bool
     granted
 }
 
-/// An allocator that hands out the blocks of the one below it, `A`, as long as its budget lasts, for tests of
+/// An allocator that hands out the blocks of the one below it, `A`, as long as its budget lasts. It is for tests of
 /// what a call does where memory is refused. In contracts it is the allocator below it.
 ///
-/// One block is one allocation of any size: a `Box`, or each capacity that a `Vec` grows or shrinks to, since
-/// both take a new block before the old one goes back. A block that goes back gives nothing back to the budget.
-/// A `Vec` grows to more than it needs at once, so not each `push` takes a block: a test says how many blocks
-/// it expects. A `&Budget` is an allocator that is copied. It stays in its thread.
+/// One block is one allocation of any size: a `Box`, or each capacity to which a `Vec` grows or shrinks, since both
+/// take a new block before they free the old one. A block that is freed gives nothing back to the budget. A `Vec`
+/// grows to more than it needs at once, so not every `push` takes a block: a test says how many blocks it expects. A
+/// `&Budget` is an allocator that is copied. It stays in its thread.
 #[derive(Drop)]
 pub struct Budget<A = Global> {
     inner: A,
@@ -67,7 +67,7 @@ impl<A> Budget<A> {
         &self.inner
     }
 
-    /// From now on grants this many blocks and refuses each after them, whatever was left before.
+    /// From now on grants this many blocks and refuses every one after them, whatever was left before.
     pub fn allow(&self, blocks: u64) {
         self.left.set(blocks);
     }
@@ -90,8 +90,8 @@ unsafe impl<A: Allocator> Allocator for Budget<A> {
     // The right to free a block is that of the allocator below.
     ghost dealloc_token = { λ budget. A.dealloc_token budget };
 
-    /// A block of the allocator below. `AllocError` where the budget is spent, and then the one below isn't
-    /// asked, or where that one refuses, which counts as a block too.
+    /// A block of the allocator below. `AllocError` where the budget is spent, which doesn't ask the one below, or
+    /// where that one refuses, which counts as a block too.
     fn allocate(&self, size: usize, align: usize) -> Result<*mut u8, AllocError> {
         if self.takes_block() {
             self.inner().allocate(size, align)

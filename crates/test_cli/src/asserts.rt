@@ -1,5 +1,5 @@
-//! Assertions that are cheap to prove. What `assert_eq!` writes stands once in a function here, and a test has a call
-//! of it: a proof of that call takes a fiftieth of the time. What fails is named by its text, with a note.
+//! Assertions that are cheap to prove. What `assert_eq!` expands to is in one function here, which each test calls. The
+//! proof of such a call takes a fiftieth of the time. A failure names the text of the assertion, with a note.
 
 use std::fmt::Debug;
 use std::process::Abort;
@@ -33,7 +33,7 @@ macro_rules! same {
     };
 }
 
-/// Fails the test unless this holds. The code behind it knows nothing of it: where it must, write `assert!`.
+/// Fails the test unless this holds. The code after it knows nothing of it: where it must, write `assert!`.
 macro_rules! holds {
     ($rt:expr; $holds:expr $(,)?) => {
         crate::asserts::is_so(&$rt, stringify!($holds), &(), $holds)

@@ -18,7 +18,7 @@ impl Write for Broken {
     }
 }
 
-/// A writer that takes nothing, and says so without an error.
+/// A writer that takes nothing, and reports no error.
 #[derive(Drop)]
 pub(crate) struct Idle;
 
@@ -32,7 +32,7 @@ impl Write for Idle {
     }
 }
 
-/// A script that comes byte by byte, each behind an interruption.
+/// A script that comes byte by byte, each after an interruption.
 #[derive(Drop)]
 pub(crate) struct Halting<'a> {
     pub(crate) script: &'a [u8],
@@ -56,7 +56,7 @@ impl Read for Halting<'_> {
     }
 }
 
-/// So many lines `list`, and then a read that fails, if it is to.
+/// This many lines `list`, and then a read that fails if it is to.
 #[derive(Drop)]
 pub(crate) struct Lists {
     pub(crate) lines: u32,
@@ -78,7 +78,7 @@ impl Read for Lists {
     }
 }
 
-/// Parts of a script, one a read; and how many bytes, in how many writes, a screen had at each read.
+/// Parts of a script, one for each read; and how many bytes, in how many writes, a screen had at each read.
 #[derive(Drop)]
 pub(crate) struct Parts<'a> {
     pub(crate) parts: &'a [&'a [u8]],

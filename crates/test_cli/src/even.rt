@@ -46,7 +46,7 @@ fn each_write_but_the_last_ends_at_an_even_place(rt: HostRuntime) {
 }
 
 #[test]
-fn multiples_of_nothing_are_those_of_one(rt: HostRuntime) {
+fn multiples_of_zero_are_taken_as_multiples_of_one(rt: HostRuntime) {
     let mut seen: Vec<u8> = Vec::new(rt.alloc());
     let written = EvenWriter::new(&mut seen, 0).write_all(b"even");
     holds!(rt; written.is_ok());

@@ -26,16 +26,16 @@ pub(crate) fn ring() -> [u8; 4360] {
     image_of(&[(0, 3, 1), (1, 1, 2), (2, 2, 2)])
 }
 
-// The same after the frames 0 to 8, where a clip kept the frames 2 and 3 up to then: 2, 3, 6, 7 and 8 are held.
+// The same after the frames 0 to 8, where a clip kept the frames 2 and 3 for that long: 2, 3, 6, 7 and 8 are held.
 fn ring_with_gap() -> [u8; 4360] {
     image_of(&[(0, 3, 2), (1, 1, 2), (2, 4, 1)])
 }
 
-// What stands before the table of clips in the image.
+// The bytes before the clip table in the image.
 const HEADER: &[u8] =
     b"\xA5LOOPREC\x01\0\0\0\x04\0\0\0\x02\0\0\0YM12\x19\0\0\0\x01\0\0\0\x03\0\0\0\x02\0\0\0\x0C";
 
-// The image whose segments hold these blocks, each so many frames.
+// The image whose segments hold these blocks, each with this many frames.
 fn image_of(segments: &[(usize, u8, usize)]) -> [u8; 4360] {
     let mut image = [0; 4360];
     put(&mut image, 0, HEADER);
@@ -45,7 +45,7 @@ fn image_of(segments: &[(usize, u8, usize)]) -> [u8; 4360] {
     image
 }
 
-// Writes a segment into an image: its header, and the heads of so many frames.
+// Writes a segment into an image: its header, and the heads of its frames.
 fn put_segment(image: &mut [u8], segment: usize, block: u8, frames: usize) {
     let at = segment.min(2) * 600 + 2560;
     put(image, at, &[0xA5]);
@@ -59,7 +59,7 @@ fn put_segment(image: &mut [u8], segment: usize, block: u8, frames: usize) {
     }
 }
 
-/// The words of a run, with a space between them; what they print, what they tell, and the status.
+/// The words of a run, with a space between them; what it prints, what it prints on standard error, and its status.
 pub(crate) type Step = (&'static str, &'static str, &'static str, u8);
 
 /// The words of a text, between its spaces.
@@ -69,7 +69,7 @@ pub(crate) fn words_of<'a>(rt: &(impl Abort + AllocGlobal), text: &'a str) -> Ve
         .expect(rt, "memory for words")
 }
 
-// Runs words, and fails the test unless what comes of it is as wanted.
+// Runs words, and fails the test unless they have this outcome.
 fn does(
     rt: &(impl Abort + AllocGlobal + Files<File = File> + Threads + Wait + Clock + Sync),
     words: &str,
@@ -126,7 +126,7 @@ pub(crate) fn has(rt: &(impl Abort + AllocGlobal + Files<File = File>), path: &s
     same!(rt; read_file(rt, path).as_slice(), bytes, path);
 }
 
-// Fails the test unless a file has so many bytes.
+// Fails the test unless a file has this many bytes.
 fn has_size(rt: &(impl Abort + AllocGlobal + Files<File = File>), path: &str, size: usize) {
     same!(rt; read_file(rt, path).len(), size, path);
 }
@@ -174,7 +174,7 @@ static STEPS: [Step; 14] = [
     ("list ring.img", "next 0\n", "", 0),
 ];
 
-// The clip 1 of the frames 3 to 6, and the clip 0 that was unlocked, as the layout has them.
+// The clip 1 of the frames 3 to 6, and the clip 0 that was unlocked, in the bytes of the layout.
 const CLIPS: [u8; 64] = [
     0, 0, 0, 0, 0, 0, 0, 0, 2, 0, 0, 0, 0, 0, 0, 0, 2, 0, 0, 0, 0, 0, 0, 0, 0, 0, 0, 0, 0, 0, 0, 0,
     0xA5, 0, 0, 0, 0, 0, 0, 0, 3, 0, 0, 0, 0, 0, 0, 0, 6, 0, 0, 0, 0, 0, 0, 0, 0, 0, 0, 0, 0, 0, 0,
@@ -243,7 +243,7 @@ fn put_clip(image: &mut [u8], id: usize, (from, to): (u8, u8), tag: u8) {
     put(image, at + 24, &[tag]);
 }
 
-// Writes what the upgrade and the clips make of the ring into an image.
+// Writes into an image what the upgrade and the clips make of the ring.
 fn put_upgrade(image: &mut [u8]) {
     put(image, 44, &[0xA5]);
     put_clip(image, 0, (2, 2), 0);
@@ -256,7 +256,7 @@ fn put_upgrade(image: &mut [u8]) {
 fn a_store_of_version_1_is_upgraded(rt: HostRuntime) {
     let path = "old.img";
     let mut image = ring();
-    // What stands in the place of a tag there is none.
+    // Zeros are in the place of a tag where there is none.
     put_clip(&mut image, 2, (4, 4), 7);
     write_file(&rt, path, &image);
     each_does(&rt, &UPGRADES);
@@ -265,7 +265,7 @@ fn a_store_of_version_1_is_upgraded(rt: HostRuntime) {
     remove_files(&rt, &[path]);
 }
 
-// Words on files that can't be had.
+// Words that name files that can't be had.
 static NO_FILES: [Step; 12] = [
     ("list missing.img", "", "cannot open missing.img\n", 1),
     ("lock missing.img 0 0", "", "cannot open missing.img\n", 1),
@@ -298,7 +298,7 @@ static NO_FILES: [Step; 12] = [
     ("list ", "", "cannot open \n", 1),
 ];
 
-// Words on a file that is in use.
+// Words that name a file that is in use.
 static IN_USE: [Step; 4] = [
     ("list used.img", "", "cannot open used.img\n", 1),
     ("lock used.img 2 2", "", "cannot open used.img\n", 1),
@@ -312,7 +312,7 @@ static IN_USE: [Step; 4] = [
 ];
 
 #[test]
-fn a_file_that_cannot_be_had_is_told_and_kept(rt: HostRuntime) {
+fn a_file_that_cannot_be_had_is_reported_and_kept(rt: HostRuntime) {
     each_does(&rt, &NO_FILES);
     let path = "used.img";
     let image = ring();
@@ -331,7 +331,7 @@ static SPOILT: [(usize, u8, usize, &str); 5] = [
     (512, 0xA5, 4360, "refused 5 Damaged 7\n"),
 ];
 
-// Writes a spoilt ring into a file; each command on it is refused, and leaves it as it is.
+// Writes a spoilt ring into a file. Each command on it is refused and leaves the file as it is.
 fn is_refused(
     rt: &(impl Abort + AllocGlobal + Files<File = File> + Threads + Wait + Clock + Sync),
     spoilt: &(usize, u8, usize, &str),
@@ -354,7 +354,7 @@ fn a_file_without_a_sound_store_is_refused_and_kept(rt: HostRuntime) {
     remove_files(&rt, &["spoilt.img"]);
 }
 
-// Words that tell or print something: the list, a text, an unlock that is refused, and a folder.
+// Words that print something on either output: the list, a text, an unlock that is refused, and a folder.
 static TOLD: [&str; 4] = [
     "list printed.img",
     "export printed.img 2 3 /dev/stdout",
@@ -362,7 +362,7 @@ static TOLD: [&str; 4] = [
     "list .",
 ];
 
-/// Runs words where nothing can be printed or told, which ends with status 1.
+/// Runs words where neither output can be printed on, which ends with status 1.
 pub(crate) fn is_unprinted(
     rt: &(impl Abort + AllocGlobal + Files<File = File> + Threads + Wait + Clock + Sync),
     words: &str,
@@ -371,7 +371,7 @@ pub(crate) fn is_unprinted(
 }
 
 #[test]
-fn what_cannot_be_printed_ends_with_status_1(rt: HostRuntime) {
+fn a_run_that_cannot_print_ends_with_status_1(rt: HostRuntime) {
     write_file(&rt, "printed.img", &ring());
     for words in &TOLD {
         is_unprinted(&rt, words);
@@ -379,7 +379,7 @@ fn what_cannot_be_printed_ends_with_status_1(rt: HostRuntime) {
     remove_files(&rt, &["printed.img"]);
 }
 
-// Exports of the ring into one file, each with how many bytes that has then: a header of 39, and 18 a frame.
+// Exports of the ring into one file, each with how many bytes the file has then: a header of 39, and 18 a frame.
 static EXPORTS: [(Step, usize); 16] = [
     (
         ("export frames.img 2 3 frames.y4m", "exported 2\n", "", 0),
@@ -394,7 +394,7 @@ static EXPORTS: [(Step, usize); 16] = [
         ),
         129,
     ),
-    // What is refused leaves what the file had.
+    // A refusal leaves what the file had.
     (
         (
             "export frames.img 7 9 frames.y4m",
@@ -413,7 +413,7 @@ static EXPORTS: [(Step, usize); 16] = [
         ),
         129,
     ),
-    // So does a range between held frames, where others are held on both its sides.
+    // So does a range between held frames, where frames are held on both sides of it.
     (
         (
             "export gap.img 4 5 frames.y4m",
@@ -423,7 +423,7 @@ static EXPORTS: [(Step, usize); 16] = [
         ),
         129,
     ),
-    // A device that takes nothing: what is gathered can't be written at the end.
+    // A device that takes nothing: the gathered text can't be written at the end.
     (
         (
             "export frames.img 2 3 /dev/full",
@@ -433,7 +433,7 @@ static EXPORTS: [(Step, usize); 16] = [
         ),
         129,
     ),
-    // The program's own output has the text, and the line behind it.
+    // The program's own output gets the text, and the line after it.
     (
         (
             "export frames.img 6 6 /dev/stdout",
@@ -443,7 +443,7 @@ static EXPORTS: [(Step, usize); 16] = [
         ),
         129,
     ),
-    // So it has by another name.
+    // So it does under another name.
     (
         (
             "export frames.img 6 6 /dev/fd/1",
@@ -501,7 +501,7 @@ static EXPORTS: [(Step, usize); 16] = [
     ),
 ];
 
-// Exports as a step says; then the text has so many bytes.
+// Exports as a step says. Then the text has this many bytes.
 fn exports(
     rt: &(impl Abort + AllocGlobal + Files<File = File> + Threads + Wait + Clock + Sync),
     step: &Step,

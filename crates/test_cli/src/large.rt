@@ -112,7 +112,7 @@ fn records<R: Threads + Wait + Clock + Abort + Sync>(
     }
 }
 
-// Whether these are so many bytes of the pattern's frame of a number.
+// Whether these are the bytes of the pattern's frame of a number.
 fn are_of(bytes: &[u8], number: u8, size: u32) -> bool {
     let mut next = number;
     for byte in bytes {
@@ -124,7 +124,7 @@ fn are_of(bytes: &[u8], number: u8, size: u32) -> bool {
     bytes.len() as u64 == u64::from(size)
 }
 
-// A desk holds the frame of a number, which is the pattern's.
+// Checks that a desk holds the frame of a number, which is the pattern's.
 fn is_held(rt: &impl Abort, alloc: Global, desk: &mut Desk<MemDisk>, number: u8, size: u32) {
     match desk.read_frame(alloc, u64::from(number)) {
         Ok(read) => holds!(rt; are_of(&read.bytes, number, size), (number, size)),
@@ -132,7 +132,7 @@ fn is_held(rt: &impl Abort, alloc: Global, desk: &mut Desk<MemDisk>, number: u8,
     }
 }
 
-// The four frames of a row are stored as the source gave them.
+// Checks that the four frames of a row are stored as the source gave them.
 fn are_stored(rt: &impl Abort, alloc: Global, ended: &mut HeapEnded, size: u32) {
     same!(rt; ended.desk.status().next, 4, size);
     same!(rt; (ended.given_up, ended.left), (0, 0), size);

@@ -1,10 +1,10 @@
 //! Tests of what loop_cli does, beside its stored run (`crates/loop_cli/stdin`, `stdout`), which is the first look.
 //!
 //! - `asserts` has assertions that are cheap to prove; `ends`: inputs and outputs that fail, or that note what they are
-//!   asked for; `ran`: a run of a script or of words, and what came of it;
-//! - `scripts`: scripts that end by a line that can't be read, or begin before a store is formatted; and those of
-//!   `whole`, a ring's, a desk's and a clip table's;
-//! - `waits`: what is printed before the next line is awaited, and inputs and outputs that fail;
+//!   asked for; `ran`: a run of a script or of words, and its outcome;
+//! - `scripts`: scripts that end with a line that can't be read, or begin before a store is formatted; and those of
+//!   `whole`, of a ring, a desk and a clip table;
+//! - `waits`: what is printed before the program waits for the next line, and inputs and outputs that fail;
 //! - `memory`: scripts and sessions where memory is refused;
 //! - `parts`: lines, numbers, refusals and frames of the pattern, each alone;
 //! - `words`: words that can't be read; `files`: commands on stores in files; `recordings`: recordings into them;

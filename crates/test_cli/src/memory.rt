@@ -13,20 +13,29 @@ use test_alloc::Budget;
 // A script that allocates in each of its lines.
 const SCRIPT: &[u8] = b"format 4 2 YM12 25:1 3 2\nstore 2\nreopen\nlist\n";
 
-// Whether it is printed that there is no memory for the format, and then no store.
+// Whether the output says that there is no memory for the format, and then that there is no store.
 fn is_refused_format(out: &[u8]) -> bool {
     let none = b"refused 4 NotFormatted\nrefused 4 NotFormatted\nrefused 4 NotFormatted\n";
     out.starts_with(b"refused 1 NoMemory\n") && out.ends_with(none)
 }
 
-// Whether it is printed that there is no memory for the first frame.
+// Whether the output says that there is no memory for the first frame.
 fn is_refused_store(out: &[u8]) -> bool {
     out.starts_with(b"formatted\nrefused 1 NoMemory\n")
 }
 
-// Whether it is printed that there is no memory for the reopen, and then no store.
+// Whether the output says that there is no memory for the reopen, and then that there is no store.
 fn is_refused_reopen(out: &[u8]) -> bool {
     out.ends_with(b"refused 1 NoMemory\nrefused 4 NotFormatted\n")
+}
+
+// What the script prints with enough memory.
+const DONE: &str = "formatted\nstored 0..1\nopened\nnext 2\nframes 0..1\n";
+
+// Whether the output says that each line was done, or each but the list, for which there is no memory.
+fn is_done(out: &[u8]) -> bool {
+    out == DONE.as_bytes()
+        || out == b"formatted\nstored 0..1\nopened\nrefused 1 NoMemory\n".as_slice()
 }
 
 // How many runs were refused the buffers, the format, a frame and the reopen.
@@ -38,7 +47,7 @@ struct Refused {
     reopens: u32,
 }
 
-// Counts a run by what it was refused. Without buffers there is the one refusal, and status 1; else the status is 0.
+// Counts a run by what it was refused. Without buffers there is only that refusal, and status 1; else the status is 0.
 fn count(rt: &impl Abort, refused: &mut Refused, ran: &Ran, blocks: u64) {
     if !ran.err.is_empty() {
         refused.buffers = refused.buffers.saturating_add(1);
@@ -53,10 +62,12 @@ fn count(rt: &impl Abort, refused: &mut Refused, ran: &Ran, blocks: u64) {
         refused.stores = refused.stores.saturating_add(1);
     } else if is_refused_reopen(&ran.out) {
         refused.reopens = refused.reopens.saturating_add(1);
+    } else {
+        holds!(rt; is_done(&ran.out), blocks);
     }
 }
 
-// Runs the script with so many blocks of memory, and counts the run.
+// Runs the script with this many blocks of memory, and counts the run.
 fn is_counted<A: Allocator + Copy>(
     rt: &impl Abort,
     refused: &mut Refused,
@@ -67,11 +78,10 @@ fn is_counted<A: Allocator + Copy>(
     count(rt, refused, &ran, blocks);
 }
 
-// Runs the script with memory enough.
+// Runs the script with enough memory.
 fn is_run<A: Allocator + Copy>(rt: &impl Abort, (alloc, home): (A, Global)) {
     let ran = run_script(alloc, home, SCRIPT);
-    let printed = "formatted\nstored 0..1\nopened\nnext 2\nframes 0..1\n";
-    comes_to(rt, &ran, printed, "", 0, &());
+    comes_to(rt, &ran, DONE, "", 0, &());
 }
 
 #[test]
@@ -82,7 +92,7 @@ fn want_of_memory_is_a_refusal_of_its_line(rt: HostRuntime) {
         budget.allow(blocks);
         is_counted(&rt, &mut refused, (&budget, rt.alloc()), blocks);
     }
-    // One store is refused, for the first frame, in whose memory the second lies.
+    // One store is refused: that of the first frame, whose memory the second one uses.
     same!(rt; (refused.buffers, refused.stores), (3, 1));
     holds!(rt; refused.formats >= 4, refused.formats);
     // A refused reopen leaves no store.
@@ -91,7 +101,7 @@ fn want_of_memory_is_a_refusal_of_its_line(rt: HostRuntime) {
     is_run(&rt, (&budget, rt.alloc()));
 }
 
-// What a flush answers that stored so many frames from this one on.
+// The answer to a flush that stored this many frames from this one on.
 fn stored(first: u64, stored: u32) -> Flushed {
     Flushed {
         first,
@@ -111,11 +121,11 @@ enum Call {
     StoreEach(u64, u64),
     // Reads the sequence of a frame.
     Read(u64, Result<u32, StoreFault>),
-    // Has an outline tell how many frames wait.
+    // Reads from an outline how many frames wait.
     Tell(Result<u32, StoreFault>),
 }
 
-// So many blocks of memory, and the call that has them.
+// How many blocks of memory are granted, and the call that has them.
 type Step = (u64, Call);
 
 // Submits the next frame of the pattern.
@@ -164,7 +174,7 @@ fn pending_of<A: Allocator>(told: Result<Outline<A>, StoreFault>) -> Result<u32,
     }
 }
 
-// Has an outline tell how many frames wait.
+// Reads from an outline how many frames wait.
 fn tells<A: Allocator + Copy>(
     rt: &impl Abort,
     alloc: A,
@@ -223,9 +233,9 @@ static FRESH: [Step; 12] = [
     (0, Call::Submit(Err(StoreFault::NoMemory))),
     (0, Call::Store(Err(StoreFault::NoMemory))),
     (1, Call::Store(Ok(FIRST))),
-    // The next frame lies in the memory of the stored one.
+    // The next frame uses the memory of the stored one.
     (0, Call::StoreEach(1, 1000)),
-    // So does a frame that is read, and the next one that is read has none.
+    // So does a frame that is read; for the next one that is read there is none.
     (0, Call::Read(999, Ok(999))),
     (0, Call::Read(999, Err(StoreFault::NoMemory))),
     (0, Call::Read(1000, Err(StoreFault::NotHeld))),
@@ -236,7 +246,7 @@ static FRESH: [Step; 12] = [
     (1, Call::Read(999, Ok(999))),
 ];
 
-// Calls of one that was opened again.
+// Calls of a session whose store was opened again.
 static OPENED: [Step; 2] = [(1000, Call::Submit(Ok(1000))), (1000, Call::Tell(Ok(1)))];
 
 // Opens the store of a session again.
@@ -249,13 +259,13 @@ fn reopened<A: Allocator + Copy>(
     session.reopen(alloc, 1).expect(rt, "memory for a session")
 }
 
-// No frame waits behind those that are stored.
+// Checks that no frame waits after those that are stored.
 fn has_none_waiting<A: Allocator + Copy>(rt: &impl Abort, session: &mut ScriptDesk<A>, next: u64) {
     same!(rt; session.next(), next);
     same!(rt; session.flush(), Ok(stored(next, 0)));
 }
 
-// Makes calls of a fresh session, and others once it was opened again.
+// Makes calls of a fresh session, and others once its store was opened again.
 fn is_tried<A: Allocator + Copy>(
     rt: &impl Abort,
     (budget, alloc): (&Budget, A),

@@ -14,7 +14,7 @@ use std::alloc::Global;
 use std::io::Write;
 use std::process::Abort;
 
-// So many bytes and then an ending, and what reading a line of them answers.
+// How many bytes there are before an ending, and the answer of a read of a line of them.
 static LINES: [(usize, &str, Result<bool, BadLine>); 7] = [
     (0, "", Ok(false)),
     (0, "\n", Ok(true)),
@@ -25,7 +25,7 @@ static LINES: [(usize, &str, Result<bool, BadLine>); 7] = [
     (9000, "\n", Err(BadLine)),
 ];
 
-// A line of so many bytes, with an ending.
+// A line of this many bytes, with an ending.
 fn line_of(rt: &impl Abort, alloc: Global, length: usize, ending: &str) -> Vec<u8> {
     let mut bytes = vec![in alloc; b'a'; length].expect(rt, "memory for a line");
     let ended = bytes.extend_from_slice(ending.as_bytes());
@@ -33,7 +33,7 @@ fn line_of(rt: &impl Abort, alloc: Global, length: usize, ending: &str) -> Vec<u
     bytes
 }
 
-// Reads a line where there is just room for it.
+// Reads a line where there is just enough room for it.
 fn reads(
     rt: &impl Abort,
     input: &mut &[u8],
@@ -44,7 +44,7 @@ fn reads(
     same!(rt; (next_line(input, line), line.capacity()), (answer, 4097), length);
 }
 
-// Reads a line, and where one is read, looks for one behind it.
+// Reads a line, and where one is read, checks that none follows it.
 fn is_read(
     rt: &impl Abort,
     alloc: Global,
@@ -90,7 +90,7 @@ static REFUSALS: [(StoreFault, &str); 10] = [
     (StoreFault::BadKeep, "refused 22 BadKeep\n"),
 ];
 
-// Prints a refusal, and answers whether it could be printed.
+// Prints a refusal. Returns whether it could be printed.
 fn prints<W: Write>(out: &mut W, fault: StoreFault) -> bool {
     print_refusal(out, fault).is_ok()
 }
@@ -138,7 +138,7 @@ fn each_is_asked(rt: &impl Abort, rows: &[(&str, Option<ScriptCommand>)]) {
 }
 
 #[test]
-fn lines_numbers_and_frames_of_the_pattern_are_made_alone(rt: HostRuntime) {
+fn lines_and_numbers_are_read_and_frames_of_the_pattern_are_made(rt: HostRuntime) {
     each_is_asked(&rt, &COMMANDS);
     let numbers = [small_number("00004294967295"), small_number("4294967296")];
     same!(rt; numbers, [Some(u32::MAX), None]);

@@ -13,7 +13,7 @@ use std::sync::Wait;
 use std::thread::Threads;
 use std::time::Clock;
 
-/// What a run printed, what it told on the other output, and its status.
+/// What a run printed, what it printed on standard error, and its status.
 #[derive(Drop)]
 pub(crate) struct Ran {
     pub(crate) out: Vec<u8>,
@@ -29,7 +29,7 @@ pub(crate) fn run_script<A: Allocator + Copy>(alloc: A, home: Global, script: &[
     Ran { out, err, status }
 }
 
-/// Runs the words behind the program's name, with a script on its input.
+/// Runs the words after the program's name, with a script on its input.
 pub(crate) fn run(
     rt: &(impl AllocGlobal + Files<File = File> + Threads + Wait + Clock + Sync),
     words: &[&str],
@@ -41,7 +41,7 @@ pub(crate) fn run(
     Ran { out, err, status }
 }
 
-/// The status of a run of words where nothing can be printed or told.
+/// The status of a run of words where neither output can be printed on.
 pub(crate) fn run_unprinted(
     rt: &(impl AllocGlobal + Files<File = File> + Threads + Wait + Clock + Sync),
     words: &[&str],
@@ -54,7 +54,7 @@ pub(crate) fn text(bytes: &[u8]) -> &str {
     str::from_utf8(bytes).unwrap_or("what isn't UTF-8")
 }
 
-/// Fails the test unless a run came to this.
+/// Fails the test unless a run has this outcome.
 pub(crate) fn comes_to(
     rt: &impl Abort,
     ran: &Ran,

@@ -28,21 +28,21 @@ const SLOW: &[u8] = b"YUV4MPEG2 W4 H2 F5:1 Ip A0:0 C420jpeg\n";
 
 const SAME: &[u8] = b"YUV4MPEG2 W4 H2 F50:2 Ip A0:0 C420jpeg\n";
 
-// What footage is recorded into: two stores of 3 segments of 2 frames.
+// The stores that footage is recorded into: two of 3 segments of 2 frames.
 static FORMATS: [Step; 2] = [
     ("format taken.img 4 2 YM12 25:1 3 2", "formatted\n", "", 0),
     ("format other.img 4 2 YM12 25:1 3 2", "formatted\n", "", 0),
 ];
 
-// Recordings from footage, each behind the one before it.
+// Recordings from footage, one after the other.
 static FOOTAGES: [Step; 12] = [
     ("record 4 two.y4m taken.img", "camera 0 next 2\n", "", 0),
     ("export taken.img 0 1 again.y4m", "exported 2\n", "", 0),
     // A source that ends at once.
     ("record 4 none.y4m taken.img", "camera 0 next 2\n", "", 0),
-    // A source that can't be read on in its second frame.
+    // A source whose second frame can't be read to its end.
     ("record 4 cut.y4m taken.img", "camera 0 next 3\n", "", 0),
-    // A source of frames of another size, which is told once, and of another rate.
+    // A source of frames of another size, which is reported once, and of another rate.
     (
         "record 4 other.y4m taken.img",
         "camera 0 next 3\n",
@@ -101,7 +101,7 @@ fn footage_is_recorded_and_comes_out_as_it_went_in(rt: HostRuntime) {
     remove_files(&rt, &FOOTAGE_FILES);
 }
 
-// What words print whose run is to have status 0.
+// What a run of words prints. Its status has to be 0.
 fn printed(
     rt: &(impl Abort + AllocGlobal + Files<File = File> + Threads + Wait + Clock + Sync),
     words: &str,
@@ -111,10 +111,10 @@ fn printed(
     ran.out
 }
 
-// A list has the number that is told of the camera.
+// Checks that a list has the number that was printed for the camera.
 fn is_listed(rt: &impl Abort, recorded: &str, listed: &str) {
     let next = recorded.strip_prefix("camera 0 ").unwrap_or("no camera");
-    holds!(rt; listed.starts_with(next), next);
+    holds!(rt; next.starts_with("next ") && listed.starts_with(next), next);
 }
 
 #[test]
@@ -127,7 +127,7 @@ fn what_is_recorded_is_listed(rt: HostRuntime) {
     remove_files(&rt, &["listed.img"]);
 }
 
-// Recordings where each block that could go is locked: the frame 7 still has room, and what is behind it isn't stored.
+// Recordings where each block that could go is locked: there is room for the frame 7, and those after it aren't stored.
 static LOCKED: [Step; 4] = [
     ("lock locked.img 2 6", "locked 0\n", "", 0),
     ("record 4 - locked.img", "camera 0 next 8\n", "", 0),
@@ -141,20 +141,20 @@ static LOCKED: [Step; 4] = [
 ];
 
 #[test]
-fn what_a_store_refuses_meanwhile_is_no_refusal(rt: HostRuntime) {
+fn frames_that_a_full_store_refuses_do_not_fail_a_recording(rt: HostRuntime) {
     let path = "locked.img";
     each_does_on_ring(&rt, path, &LOCKED);
     is_unprinted(&rt, "record 0 - locked.img");
     remove_files(&rt, &[path]);
 }
 
-// Recordings that keep blocks: 1, 2 and 3 are held, of which a clip meets the first.
+// Recordings that keep blocks: 1, 2 and 3 are held, and a clip meets the first.
 static KEPT: [Step; 8] = [
     ("lock kept.img 2 2", "locked 0\n", "", 0),
     ("record 1 - keep=3 kept.img", "", "refused 22 BadKeep\n", 1),
     ("record 1 - keep=0 kept.img", "", "refused 22 BadKeep\n", 1),
     ("list kept.img", "next 7\nframes 2..6\nclip 0 2..2\n", "", 0),
-    // The frame 7 still has room; for what is behind it no block may go.
+    // There is room for the frame 7; for those after it no block may go.
     ("record 4 - keep=2 kept.img", "camera 0 next 8\n", "", 0),
     ("list kept.img", "next 8\nframes 2..7\nclip 0 2..2\n", "", 0),
     ("record 1 - keep=1 kept.img", "camera 0 next 9\n", "", 0),
@@ -167,13 +167,13 @@ static KEPT: [Step; 8] = [
 ];
 
 #[test]
-fn the_newest_blocks_are_kept_while_it_is_recorded(rt: HostRuntime) {
+fn the_newest_blocks_are_kept_during_a_recording(rt: HostRuntime) {
     let path = "kept.img";
     each_does_on_ring(&rt, path, &KEPT);
     remove_files(&rt, &[path]);
 }
 
-// Four buffers of 1024x1024 bytes have just the pages of a ledger, of a row more they need more.
+// Four buffers of 1024x1024 bytes take all pages of a ledger. With one more row they need more.
 static SIZES: [Step; 5] = [
     (
         "format fits.img 1024 1024 GREY 1:1 2 1",
@@ -203,7 +203,7 @@ fn a_camera_has_four_buffers_of_a_ledger(rt: HostRuntime) {
     remove_files(&rt, &["fits.img", "large.img"]);
 }
 
-// Words on files that can't be had, and a store that can't be opened. The first that can't is told.
+// Words that name files that can't be had, and a store that can't be opened. The first of them is reported.
 static NOT_HAD: [Step; 9] = [
     ("record 1 - gone.img", "", "cannot open gone.img\n", 1),
     (
@@ -237,7 +237,7 @@ static NOT_HAD: [Step; 9] = [
 ];
 
 #[test]
-fn a_recording_that_cannot_begin_is_told(rt: HostRuntime) {
+fn a_recording_that_cannot_begin_is_reported(rt: HostRuntime) {
     let image = ring();
     write_file(&rt, "had.img", &image);
     write_file(&rt, "used.y4m", &image);
@@ -247,7 +247,7 @@ fn a_recording_that_cannot_begin_is_told(rt: HostRuntime) {
     remove_files(&rt, &["had.img", "used.y4m", "bad.y4m"]);
 }
 
-// When the frame of a number of a store in a file was taken.
+// The time of the frame of a number of a store in a file.
 fn time_in(rt: &(impl Abort + AllocGlobal + Files<File = File>), path: &str, number: u64) -> u64 {
     let Ok(disk) = FileDisk::open(rt, path) else {
         panic!(rt; "no file {path}")

@@ -6,7 +6,7 @@ use crate::whole::WHOLE;
 use std::alloc::Global;
 use std::process::Abort;
 
-// A script, what it prints, what it tells on the other output, and the status.
+// A script, what it prints, what it prints on standard error, and the status.
 type Row = (&'static str, &'static str, &'static str, u8);
 
 static RUNS: [Row; 10] = [
@@ -25,7 +25,7 @@ static RUNS: [Row; 10] = [
         "",
         0,
     ),
-    // Nor are clips and frames that wait to be had.
+    // Nor are there clips and waiting frames.
     (
         "lock 0 0\nunlock 0\n",
         "refused 4 NotFormatted\nrefused 4 NotFormatted\n",
@@ -44,7 +44,7 @@ static RUNS: [Row; 10] = [
         "",
         0,
     ),
-    // Numbers at their limits, which are judged after the line was read.
+    // Numbers at their limits, which are judged after the line is read.
     (
         "read 18446744073709551615\nread 00000000000000000007\nstore 18446744073709551615\n",
         "refused 4 NotFormatted\nrefused 4 NotFormatted\nrefused 4 NotFormatted\n",
@@ -145,7 +145,7 @@ fn each_comes_to(rt: &impl Abort, alloc: Global, rows: &[Row]) {
     }
 }
 
-// Runs each script, which comes to its end.
+// Runs each script to its end.
 fn each_prints(rt: &impl Abort, alloc: Global, rows: &[(&str, &str)]) {
     for (script, printed) in rows {
         is_run(rt, alloc, script.as_bytes(), (printed, "", 0));
@@ -160,12 +160,12 @@ fn each_is_bad(rt: &impl Abort, alloc: Global, lines: &[&[u8]]) {
 }
 
 #[test]
-fn scripts_print_what_their_lines_did(rt: HostRuntime) {
+fn scripts_print_what_their_lines_do(rt: HostRuntime) {
     each_comes_to(&rt, rt.alloc(), &RUNS);
     each_prints(&rt, rt.alloc(), &WHOLE);
 }
 
 #[test]
-fn lines_that_cannot_be_read_are_told(rt: HostRuntime) {
+fn lines_that_cannot_be_read_are_reported(rt: HostRuntime) {
     each_is_bad(&rt, rt.alloc(), &BAD_LINES);
 }

@@ -1,7 +1,6 @@
-//! Tests of loop_station_words: lines and configurations, read as they have to be, and what is printed.
-//!
-//! - `orders`: lines and what they ask for; `configs`: configurations, and why they are refused; `lines`: what is
-//!   printed.
+//! Tests of loop_station_words: lines and configurations are read as they should be, and what is printed.
+//! - `orders`: lines and the orders that they are; `configs`: configurations, and why they are refused; `lines`: what
+//! is printed.
 
 mod configs;
 mod lines;

@@ -3,7 +3,9 @@
 use crate::asserts::same;
 use crate::files::ring;
 use crate::ran::text;
-use loop_commands::{Beneath, NotExported, Target, export_along, export_apart, export_text, list};
+use loop_commands::{
+    Beneath, ExportTarget, NotExported, export_along, export_apart, export_text, list,
+};
 use loop_disk::MemDisk;
 use loop_store::{Store, StoreFault};
 use loop_y4m::ExportFault;
@@ -52,7 +54,7 @@ impl Write for Fake<'_> {
     }
 }
 
-impl Target for Fake<'_> {
+impl ExportTarget for Fake<'_> {
     fn empty(&mut self) -> io::Result<()> {
         self.call(Fails::Empty)?;
         self.bytes.set(0);
@@ -73,8 +75,8 @@ impl Beneath for Fails {
     }
 }
 
-// A range of numbers of the ring, which holds 2 to 6, and which call fails; why there is no text, what is printed, and
-// how many bytes a target has then that had a hundred: a header of 39, and 18 a frame.
+// A range of numbers of the ring, which holds 2 to 6, and the call that fails. Then why there is no text, what is
+// printed, and how many bytes a target has that had a hundred: a header of 39, and 18 a frame.
 static ROWS: [((u64, u64), Fails, Option<ExportFault>, &str, usize); 7] = [
     ((2, 3), Fails::Nothing, None, "exported 2\n", 75),
     ((0, u64::MAX), Fails::Nothing, None, "exported 5\n", 129),
@@ -108,7 +110,7 @@ fn fault_of(answer: Result<(u64, Fake<'_>), NotExported<Fake<'_>>>) -> Option<Ex
     }
 }
 
-// Exports frames into what is emptied before.
+// Exports frames into a target that is emptied first.
 fn writes_apart<A: Allocator + Copy, W: Write>(
     alloc: A,
     store: &mut Store<MemDisk, A>,
@@ -150,7 +152,7 @@ fn each_exports(
 }
 
 #[test]
-fn an_export_is_told_only_where_its_last_flush_and_its_sync_were_done(rt: HostRuntime) {
+fn an_export_is_reported_only_after_its_last_flush_and_its_sync(rt: HostRuntime) {
     let mut store = store_of(&rt, rt.alloc(), rt.alloc());
     each_exports(&rt, rt.alloc(), &mut store, &ROWS);
 }
@@ -158,15 +160,15 @@ fn an_export_is_told_only_where_its_last_flush_and_its_sync_were_done(rt: HostRu
 // How the frames 2 and 3 are exported.
 #[derive(Clone, Copy, Debug)]
 enum Way {
-    // Nothing is told.
+    // Nothing is printed.
     Text,
-    // Into what is emptied before.
+    // Into a target that is emptied first.
     Apart,
-    // Through what tells of it.
+    // Into the output that the line is printed on.
     Along,
 }
 
-// Exports them, and tells nothing.
+// Exports them, and prints nothing.
 fn writes_text<A: Allocator + Copy>(
     alloc: A,
     store: &mut Store<MemDisk, A>,
@@ -175,7 +177,7 @@ fn writes_text<A: Allocator + Copy>(
     export_text(alloc, store, 2, 3, target).err()
 }
 
-// Exports them through what tells of it.
+// Exports them into the output that the line is printed on.
 fn writes_along<A: Allocator + Copy>(
     alloc: A,
     store: &mut Store<MemDisk, A>,
@@ -201,8 +203,8 @@ fn writes<A: Allocator + Copy>(
     }
 }
 
-// A way, and how many blocks are granted, all of which are needed: one for what gathers the text, and one for a piece
-// of a frame. Then why there is no text, and how many bytes a target has that had a hundred.
+// A way, and how many blocks are granted, all of which are needed: one for the gathered text, and one for a piece of a
+// frame. Then why there is no text, and how many bytes a target has that had a hundred.
 static GRANTED: [(Way, u64, Option<ExportFault>, usize); 9] = [
     (
         Way::Text,
@@ -264,7 +266,7 @@ fn each_is_granted<A: Allocator + Copy>(
     }
 }
 
-// Lists a store, and answers why it isn't listed.
+// Lists a store. Returns why it isn't listed.
 fn lists<A: Allocator + Copy>(
     alloc: A,
     store: &Store<MemDisk, A>,
@@ -274,7 +276,7 @@ fn lists<A: Allocator + Copy>(
 }
 
 #[test]
-fn no_line_stands_after_a_text_whose_file_cannot_be_synced(rt: HostRuntime) {
+fn no_line_follows_a_text_whose_file_cannot_be_synced(rt: HostRuntime) {
     let mut store = store_of(&rt, rt.alloc(), rt.alloc());
     let bytes = Cell::new(0);
     let target = Fake {
@@ -285,7 +287,7 @@ fn no_line_stands_after_a_text_whose_file_cannot_be_synced(rt: HostRuntime) {
     same!(rt; (got, bytes.get()), (Some(ExportFault::Write), 75));
 }
 
-// How many blocks are granted to a list, all of which are needed. Then why there is none, and what is printed.
+// How many blocks are granted to a list, all of which are needed. Then why there is no list, and what is printed.
 static LISTED: [(u64, Option<StoreFault>, &str); 3] = [
     (0, Some(StoreFault::NoMemory), ""),
     (1, Some(StoreFault::NoMemory), ""),
@@ -307,7 +309,7 @@ fn each_lists<A: Allocator + Copy>(
     }
 }
 
-// Exports and lists the ring over memory that is granted block by block.
+// Exports and lists the ring with memory that is granted block by block.
 fn is_granted<A: Allocator + Copy>(
     rt: &impl Abort,
     (budget, alloc): (&Budget, A),

@@ -1,4 +1,4 @@
-//! What is printed before the next line is awaited, and inputs and outputs that fail.
+//! What is printed before the program waits for the next line, and inputs and outputs that fail.
 
 use crate::asserts::same;
 use crate::ends::{Broken, Halting, Idle, Lists, Parts, Screen};
@@ -10,7 +10,7 @@ use std::io;
 use std::process::Abort;
 
 #[test]
-fn what_a_line_printed_is_out_before_the_next_one_is_awaited(rt: HostRuntime) {
+fn what_a_line_prints_is_written_before_the_next_line_is_read(rt: HostRuntime) {
     let screen = Cell::new((0, 0));
     let seen = Cell::new([(9, 9); 4]);
     let parts: [&[u8]; 3] = [
@@ -31,7 +31,8 @@ fn what_a_line_printed_is_out_before_the_next_one_is_awaited(rt: HostRuntime) {
     same!(rt; seen.get(), [(0, 0), (10, 1), (34, 2), (53, 3)]);
 }
 
-// How many lines `list` an input has, whether a read behind them fails, what is told, and the status.
+// How many lines `list` an input has, whether a read after them fails, what is printed on standard error, and the
+// status.
 static INPUTS: [(u32, bool, &str, u8); 4] = [
     (3, false, "", 0),
     (3, true, "line 4: bad command\n", 1),
@@ -39,7 +40,7 @@ static INPUTS: [(u32, bool, &str, u8); 4] = [
     (1_000_001, false, "line 1000001: bad command\n", 1),
 ];
 
-// Runs each input, and prints into nothing.
+// Runs each input, and discards the output.
 fn each_input_comes_to(rt: &impl Abort, alloc: Global, rows: &[(u32, bool, &str, u8)]) {
     for (lines, fails, told, status) in rows {
         let input = Lists {
@@ -69,7 +70,7 @@ fn outputs_that_fail_end_the_run(rt: HostRuntime) {
 }
 
 #[test]
-fn an_input_that_is_interrupted_is_read_on(rt: HostRuntime) {
+fn a_read_that_is_interrupted_is_tried_again(rt: HostRuntime) {
     let alloc = rt.alloc();
     let input = Halting {
         script: b"list\nlist\n",

@@ -1,8 +1,9 @@
-//! Scripts that are run to their end, and what their lines print. The first look's script is the program's stored run.
+//! Scripts that are run to their end, and what their lines print. The script of the first look is the program's stored
+//! run.
 
 /// A script, which begins with a `format`, and what it prints.
 pub(crate) static WHOLE: [(&str, &str); 23] = [
-    // A ring that is opened again keeps what it holds, and goes on.
+    // A ring that is opened again keeps what it holds, and continues.
     (
         "format 4 2 YM12 25:1 3 2\nstore 7\nlist\nread 3\nread 1\nreopen\nlist\nstore 2\nreopen\n\
             list\nread 8\n",
@@ -23,7 +24,7 @@ pub(crate) static WHOLE: [(&str, &str); 23] = [
         "formatted\nstored 0..5\nnext 6\nframes 0..5\nstored 6..6\nnext 7\nframes 2..6\n\
             stored 7..8\nnext 9\nframes 4..8\n",
     ),
-    // A ring that is opened again before each frame goes on as one that isn't.
+    // A ring that is opened again before each frame works as one that isn't.
     (
         "format 4 2 YM12 25:1 3 2\nreopen\nstore 1\nreopen\nstore 1\nreopen\nstore 1\nreopen\n\
             store 1\nreopen\nstore 1\nreopen\nstore 1\nreopen\nstore 1\nlist\nread 3\nread 1\n",
@@ -50,8 +51,8 @@ pub(crate) static WHOLE: [(&str, &str); 23] = [
         "formatted\nstored 0..0\nalready 2\nlocked 0\nlocked 1\nrefused 10 ClipNotHeld 1\nnext 1\n\
             frames 0..0\nclip 0 0..0 tag 18446744073709551615\nclip 1 0..0\n",
     ),
-    // Blocks that are kept don't go, though no clip meets them; how many are kept isn't on the disk, and where they
-    // can't be, the newest is.
+    // Blocks that are kept don't go, though no clip meets them. How many are kept isn't stored on the disk. Where that
+    // many can't be kept, the newest one is.
     (
         "format 4 2 YM12 25:1 4 2\nstore 8\nlock 0 3\nreopen 2\nstore 1\nreopen 1\nstore 1\nread 8\nlist\n\
             reopen 4\n",
@@ -82,7 +83,7 @@ pub(crate) static WHOLE: [(&str, &str); 23] = [
             unlocked 1\nopened\nstored 10..10\nnext 11\nframes 2..3\nframes 8..10\nclip 0 2..2\n\
             refused 10 ClipNotHeld 4\n",
     ),
-    // The refused frame waits, and the flush behind the unlock stores it.
+    // The refused frame waits, and the flush after the unlock stores it.
     (
         "format 4 2 YM12 25:1 3 2\nstore 7\nlock 2 2\nstore 2\nlock 6 6\nstore 1\nstore 1\nlist\n\
             unlock 1\nflush\nlist\n",
@@ -96,7 +97,7 @@ pub(crate) static WHOLE: [(&str, &str); 23] = [
         "formatted\nsubmitted none\nstored none\nsubmitted 0..2\nstored 0..1\nstored 2..2\n\
             stored none\nnext 3\nframes 0..2\n",
     ),
-    // What waits isn't listed, and goes first.
+    // What waits isn't listed, and is stored first.
     (
         "format 4 2 YM12 25:1 3 2\nsubmit 2\nlist\nstore 0\nstore 1\nstore 2\nread 3\nflush\n\
             flush\n",
@@ -112,7 +113,7 @@ pub(crate) static WHOLE: [(&str, &str); 23] = [
             stored 32..39\nstored 40..47\nstored 48..55\nstored 56..63\nstored 64..64\n\
             frame 64 sequence 64 time 2560000 bytes 4041424344454647\nnext 65\nframes 56..64\n",
     ),
-    // A frame whose flush was refused waits with those behind it.
+    // A frame whose flush was refused waits with those after it.
     (
         "format 4 2 YM12 25:1 3 2\nstore 7\nlock 2 2\nstore 2\nlock 6 6\nsubmit 2\nflush\nflush\n\
             store 1\nunlock 1\nstore 1\nread 11\nflush\nlist\n",
@@ -121,7 +122,7 @@ pub(crate) static WHOLE: [(&str, &str); 23] = [
             frame 11 sequence 11 time 440000 bytes 0b0c0d0e0f101112\nstored 12..12\nnext 13\n\
             frames 2..3\nframes 10..12\nclip 0 2..2\n",
     ),
-    // What waits is lost where the disk is opened again, and keeps its place.
+    // Frames that wait are lost when the disk is opened again. They keep their places in the pattern.
     (
         "format 4 2 YM12 25:1 3 2\nstore 1\nsubmit 2\nread 1\nlock 1 1\nreopen\nlist\nstore 1\n\
             read 1\n",
@@ -164,7 +165,7 @@ pub(crate) static WHOLE: [(&str, &str); 23] = [
         "formatted\nstored 0..1\nframe 1 sequence 1 time 1000000 bytes 0102030405060708\n\
             refused 13 NotHeld\n",
     ),
-    // What a lock and an unlock refuse; 64 clips stand.
+    // What a lock and an unlock refuse. There are 64 clips at most.
     (
         "format 4 2 YM12 25:1 3 2\nstore 7\nlock 5 4\nlock 0 0\nlock 5 9\nlock 6 6\nlock 6 6\n\
             lock 6 6\nlock 6 6\nlock 6 6\nlock 6 6\nlock 6 6\nlock 6 6\nlock 6 6\nlock 6 6\n\

@@ -1,4 +1,4 @@
-//! Words behind the program's name that can't be read.
+//! Words after the program's name that can't be read.
 
 use crate::asserts::same;
 use crate::files::words_of;
@@ -13,7 +13,7 @@ use std::sync::Wait;
 use std::thread::Threads;
 use std::time::Clock;
 
-// Words with a space between them, what they tell beside the script's output, and the status.
+// Words with a space between them, what they print on standard error, and the status.
 static WORDS: [(&str, &str, u8); 34] = [
     ("simulate", "", 0),
     ("help", "bad command\n", 2),
@@ -81,14 +81,14 @@ fn each_comes_to(
 }
 
 #[test]
-fn words_that_cannot_be_read_are_told(rt: HostRuntime) {
+fn words_that_cannot_be_read_are_reported(rt: HostRuntime) {
     each_comes_to(&rt, &WORDS);
     for (words, told, status) in &OTHERS {
         comes_to(&rt, words, told, *status);
     }
 }
 
-// Tells why the words couldn't be had.
+// Prints why the words couldn't be had.
 fn is_told(rt: &impl Abort, alloc: Global, kind: ErrorKind, told: &str, status: u8) {
     let mut err: Vec<u8> = Vec::new(alloc);
     let got = words_refused(&Error::from(kind), &mut err);
@@ -96,7 +96,7 @@ fn is_told(rt: &impl Abort, alloc: Global, kind: ErrorKind, told: &str, status: 
 }
 
 #[test]
-fn words_that_cannot_be_had_are_told(rt: HostRuntime) {
+fn words_that_cannot_be_had_are_reported(rt: HostRuntime) {
     is_told(
         &rt,
         rt.alloc(),

@@ -1,4 +1,4 @@
-//! What the tests share: events and replies as they stand in tables, and lanes and desks over images.
+//! What the tests share: events and replies as rows of tables, and lanes and desks over images.
 
 ghost use Rattle.std.specs.Prelude.{◌≡◌, length};
 
@@ -26,7 +26,7 @@ pub(crate) const SMALL: Geometry = Geometry {
     slots: 2,
 };
 
-/// Enough frames may wait, and a group is as long as a block allows.
+/// Enough frames may wait, and a flush may store as many as a block allows.
 pub(crate) const AMPLE: DeskLimits = DeskLimits {
     pending: 64,
     group: 8,
@@ -54,7 +54,7 @@ pub(crate) enum Call {
     Read(u64),
 }
 
-/// What is told of a reply.
+/// What a reply says.
 #[derive(Clone, Copy, PartialEq, Eq, Debug)]
 pub(crate) enum Told {
     Done,
@@ -71,7 +71,7 @@ pub(crate) enum Told {
     Other,
 }
 
-/// The frame of a number, of so many bytes: byte i is the number + i.
+/// The frame of a number, with this many bytes.
 pub(crate) fn frame<A: Allocator + Copy>(
     rt: &impl Abort,
     alloc: A,
@@ -207,7 +207,7 @@ pub(crate) fn events_of<P: Drop, A: Allocator + Copy>(
     events
 }
 
-// What the queue's reply tells. Planes that come back aren't told.
+// What a reply of the queue says. Planes that come back are left out.
 fn tell_queue<P, A: Allocator>(reply: &QueueReply<P, A>) -> Told {
     match reply {
         QueueReply::Ioctl(Ok(IoctlReply::Done)) => Told::Done,
@@ -222,7 +222,7 @@ fn tell_queue<P, A: Allocator>(reply: &QueueReply<P, A>) -> Told {
     }
 }
 
-// What a refusal of the lane tells.
+// What a refusal of the lane says.
 fn tell_fault(fault: LaneFault) -> Told {
     match fault {
         LaneFault::Store(fault) => Told::Fault(fault),
@@ -230,7 +230,7 @@ fn tell_fault(fault: LaneFault) -> Told {
     }
 }
 
-/// What a reply tells.
+/// What a reply says.
 pub(crate) fn tell<P, A: Allocator>(reply: &LaneReply<P, A>) -> Told {
     match reply {
         LaneReply::Queue(Ok(reply)) => tell_queue(reply),
@@ -251,7 +251,7 @@ pub(crate) fn tell<P, A: Allocator>(reply: &LaneReply<P, A>) -> Told {
     }
 }
 
-// What the reply at a place tells, or None where there are no more.
+// What the reply at a place says, or None where there are no more.
 fn tell_at<P, A: Allocator>(replies: &[LaneReply<P, A>], at: usize) -> Option<Told> {
     match replies.get(at) {
         Some(reply) => Some(tell(reply)),
@@ -259,7 +259,7 @@ fn tell_at<P, A: Allocator>(replies: &[LaneReply<P, A>], at: usize) -> Option<To
     }
 }
 
-/// Each reply tells what is expected of it.
+/// Checks that each reply says what is expected of it.
 pub(crate) fn all_tell<P, A: Allocator>(
     rt: &impl Abort,
     replies: &[LaneReply<P, A>],
@@ -273,7 +273,8 @@ pub(crate) fn all_tell<P, A: Allocator>(
     }
 }
 
-/// The events of a table are answered as it says, in one list. The first that answers something else fails the test.
+/// Does events as one list, which have to be answered as the table says. The first that is answered otherwise fails the
+/// test.
 pub(crate) fn are_answered<D: Disk + Drop, P: PlaneMemory, A: Allocator + Copy>(
     rt: &impl Abort,
     alloc: A,
@@ -359,7 +360,7 @@ pub(crate) fn opened<D: Disk + Drop, A: Allocator + Copy>(
     }
 }
 
-/// A desk of a store, or the store where there is no memory for it.
+/// A desk of a store, or the store where there is no memory for a desk.
 pub(crate) fn desk_of<D: Disk + Drop, A: Allocator + Copy>(
     rt: &impl Abort,
     alloc: A,

@@ -1,4 +1,4 @@
-//! What a device's ticks become: its frames go through queue, lane and store to a text.
+//! What a device's ticks become: its frames go through the queue, the lane and the store to a text.
 
 ghost use Rattle.std.specs.Prelude.{[], ⊤};
 
@@ -46,7 +46,7 @@ impl FrameSource for Faulty {
     }
 }
 
-// Two buffers stream.
+// Two buffers are queued, and streaming is on.
 const START: [(Call, Told); 4] = [
     (ReqBufs(2), Count(2)),
     (QBuf(0), Done),
@@ -54,12 +54,13 @@ const START: [(Call, Told); 4] = [
     (StreamOn, Done),
 ];
 
-// Frame periods, each with its end, and the events behind them.
+// Frame periods, each with its end, and the events after them.
 type Part = (&'static [(u64, Tick)], &'static [(Call, Told)]);
 
 // What a device and a lane do.
 const PARTS: [Part; 8] = [
-    // Eight frame periods up to a stop: two find no active buffer, one has no frame, and the last one's is thrown away.
+    // Eight frame periods up to a stop. Two find no active buffer, one has no frame, and the frame of the last one is
+    // discarded.
     (
         &[(0, Completed(0)), (40_000, Completed(1)), (80_000, Missed)],
         &[
@@ -102,7 +103,7 @@ const PARTS: [Part; 8] = [
         ],
     ),
     (&[(320_000, Completed(0))], &[(StreamOff, Done)]),
-    // Frame periods behind the stop. The first that streams has no frame, so that the buffers change places; the last
+    // Frame periods after the stop. The first that streams has no frame, so that the buffers change places. The last
     // flush recycles the oldest block.
     (
         &[(340_000, Idle)],
@@ -139,8 +140,8 @@ const PARTS: [Part; 8] = [
     ),
 ];
 
-// What the disk holds at the end: number, sequence and time of each frame. Its sequence is the count of the ticks
-// before its own since streaming began, those that were missed or failed among them; numbers 0 and 1 were recycled.
+// What the disk holds at the end: number, sequence and time of each frame. The sequence counts the ticks since
+// streaming began, those that were missed or failed among them. Numbers 0 and 1 were recycled.
 const HELD: [(u64, u32, u64); 6] = [
     (2, 3, 120_000),
     (3, 5, 200_000),
@@ -159,7 +160,7 @@ const TEXT: &[u8] = b"YUV4MPEG2 W4 H2 F25:1 Ip A0:0 C420jpeg\n\
     FRAME\n\x0B\x0C\x0D\x0E\x0F\x10\x11\x12\x13\x14\x15\x16\
     FRAME\n\x0C\x0D\x0E\x0F\x10\x11\x12\x13\x14\x15\x16\x17";
 
-// Frame periods, each of which ends at its time, and then events of the lane.
+// Makes frame periods, each of which ends at its time, and then does events of the lane.
 fn plays(
     rt: &impl Abort,
     alloc: Global,
@@ -210,7 +211,7 @@ fn head(alloc: Global, store: &mut Store<MemDisk>, number: u64) -> Option<(u32, 
     }
 }
 
-// The frames of these numbers have these heads.
+// Checks the heads of the frames of these numbers.
 fn have_heads(
     rt: &impl Abort,
     alloc: Global,
@@ -222,7 +223,7 @@ fn have_heads(
     }
 }
 
-// The frames of a store become a text.
+// Checks the text of a store's frames.
 fn becomes(rt: &impl Abort, alloc: Global, store: &mut Store<MemDisk>, text: &[u8]) {
     let mut out = Vec::new(alloc);
     same!(rt; export(alloc, store, 0, u64::MAX, &mut out).ok(), Some(6));
@@ -230,7 +231,7 @@ fn becomes(rt: &impl Abort, alloc: Global, store: &mut Store<MemDisk>, text: &[u
 }
 
 #[test]
-fn what_a_device_gives_is_recorded_and_exported(rt: HostRuntime) {
+fn the_frames_of_a_device_are_recorded_and_exported(rt: HostRuntime) {
     let alloc = rt.alloc();
     let mut store = opened(&rt, alloc, recorded(&rt, alloc, &START, &PARTS));
     have_heads(&rt, alloc, &mut store, &HELD);

@@ -14,7 +14,7 @@ use std::alloc::Allocator;
 use std::process::Abort;
 use test_alloc::Budget;
 
-// A frame is at hand in the queue.
+// A frame is completed in the queue.
 const READY: [(Call, Told); 5] = [
     (ReqBufs(2), Count(2)),
     (QBuf(0), Done),
@@ -23,8 +23,8 @@ const READY: [(Call, Told); 5] = [
     (Complete(0, 0), Done),
 ];
 
-// The first growth is that of the replies, the second that of the frame's bytes, and the third that of the second read:
-// the first one has the stored frame's memory.
+// The first growth is that of the replies, the second that of the frame's bytes, and the third that of the second read.
+// The first read uses the memory of the stored frame.
 const NO_FRAME: [(Call, Told); 5] = [
     (Dequeue, Fault(StoreFault::NoMemory)),
     (Submit, Fault(StoreFault::HandEmpty)),
@@ -51,7 +51,7 @@ const ALL: [(Call, Told); 6] = [
     (Read(0), Frame(0)),
 ];
 
-// So many growths, and a table whose events need them all.
+// How many growths are granted, and a table whose events need them all.
 type Within<'a> = (u64, &'a [(Call, Told)]);
 
 // Where there is no memory for the replies, the events come back.
@@ -68,7 +68,7 @@ fn come_back<D: Disk + Drop, P: PlaneMemory, A: Allocator + Copy>(
     events
 }
 
-// Does the events of a table where so many growths are granted. Where there are none, the events come back, and are
+// Does the events of a table where this many growths are granted. Where there are none, the events come back, and are
 // answered once there are enough.
 fn runs_within<D: Disk + Drop, P: PlaneMemory, A: Allocator + Copy>(
     rt: &impl Abort,
@@ -99,8 +99,8 @@ fn run_each<D: Disk + Drop, A: Allocator + Copy>(
     }
 }
 
-// Does the events of a first table, for which there is memory, and then those of others. All memory of their lane is
-// granted by the budget.
+// Does the events of a first table with enough memory, and then those of others. All memory of their lane is granted by
+// the budget.
 fn run_all<D: Disk + Drop, A: Allocator + Copy>(
     rt: &impl Abort,
     (memory, alloc): (&Budget, A),
@@ -124,7 +124,7 @@ fn a_refused_growth_of_an_event_changes_nothing(rt: HostRuntime) {
     run_all(&rt, given, fresh(&rt, rt.alloc()), &READY, &refused);
 }
 
-// The growth behind that of the replies is the queue's.
+// The growth after that of the replies is the queue's.
 #[test]
 fn a_request_for_buffers_without_memory_is_refused(rt: HostRuntime) {
     let memory = Budget::new(rt.alloc());
@@ -158,12 +158,12 @@ fn stored<D: Disk + Drop, A: Allocator + Copy>(desk: &mut Desk<D, A>) -> Option<
     }
 }
 
-// Frame 0 is locked.
+// Locks frame 0.
 fn is_locked<D: Disk + Drop, A: Allocator + Copy>(desk: &mut Desk<D, A>) -> bool {
     desk.lock_clip(0, 0, 9).is_ok()
 }
 
-// Why what the desk holds isn't told.
+// Why the desk's outline is refused.
 fn outline_fault<D: Disk + Drop, A: Allocator + Copy>(
     alloc: A,
     desk: &Desk<D, A>,
@@ -171,7 +171,7 @@ fn outline_fault<D: Disk + Drop, A: Allocator + Copy>(
     desk.outline(alloc).err()
 }
 
-// Within so many growths frame 0 is read, and whole.
+// With this many growths granted, frame 0 is read and is whole.
 fn reads_within<D: Disk + Drop, A: Allocator + Copy>(
     allowed: u64,
     (memory, alloc): (&Budget, A),
@@ -184,7 +184,7 @@ fn reads_within<D: Disk + Drop, A: Allocator + Copy>(
     }
 }
 
-// A frame is stored and locked.
+// Stores a frame, and locks it.
 fn holds_one<D: Disk + Drop, A: Allocator + Copy>(
     rt: &impl Abort,
     alloc: A,
@@ -196,7 +196,7 @@ fn holds_one<D: Disk + Drop, A: Allocator + Copy>(
     same!(rt; desk.status().held, 1);
 }
 
-// What a desk holds needs two growths.
+// An outline of a desk needs two growths.
 fn outlines_within<D: Disk + Drop, A: Allocator + Copy>(
     rt: &impl Abort,
     (memory, alloc): (&Budget, A),
@@ -234,8 +234,8 @@ const FIRST: Span = Span {
     tag: 0,
 };
 
-// So many growths, a moment, and the first run of its frames. A run needs the second growth; where there is none, one
-// does.
+// How many growths are granted, a moment, and the first run of its frames. A run needs the second growth; where there
+// is no run, one growth is enough.
 const SOUGHT: [(u64, u64, Result<Option<Span>, StoreFault>); 4] = [
     (0, 0, Err(StoreFault::NoMemory)),
     (1, 0, Err(StoreFault::NoMemory)),
@@ -243,7 +243,7 @@ const SOUGHT: [(u64, u64, Result<Option<Span>, StoreFault>); 4] = [
     (1, 1, Ok(None)),
 ];
 
-// The held frames of a time, where each growth is refused in turn.
+// Searches the held frames of a time, where each growth is refused in turn.
 fn seeks_within<D: Disk + Drop, A: Allocator + Copy>(
     rt: &impl Abort,
     (memory, alloc): (&Budget, A),
@@ -256,7 +256,7 @@ fn seeks_within<D: Disk + Drop, A: Allocator + Copy>(
     }
 }
 
-// A desk needs more growths than these; its store comes back.
+// A desk needs more growths than these. Its store comes back.
 fn refused_within<D: Disk + Drop, A: Allocator + Copy>(
     rt: &impl Abort,
     (memory, alloc): (&Budget, A),
@@ -270,7 +270,7 @@ fn refused_within<D: Disk + Drop, A: Allocator + Copy>(
     }
 }
 
-// A desk takes its memory first: two growths, for the frames that wait and for memory to use again.
+// A desk takes its memory first, in two growths: for the frames that wait, and for memory to use again.
 fn desk_within<D: Disk + Drop, A: Allocator + Copy>(
     rt: &impl Abort,
     (memory, alloc): (&Budget, A),
@@ -291,7 +291,7 @@ fn spare<D: Disk + Drop, A: Allocator + Copy>(desk: &mut Desk<D, A>) -> usize {
     }
 }
 
-// A desk that has taken its memory: a frame's is its own, and what is read takes its own.
+// A desk that has taken its memory needs no more. A frame has its own memory, and so has a frame that is read.
 fn needs_no_more<D: Disk + Drop, A: Allocator + Copy>(
     rt: &impl Abort,
     (memory, alloc): (&Budget, A),
@@ -308,7 +308,7 @@ fn needs_no_more<D: Disk + Drop, A: Allocator + Copy>(
     same!(rt; reads_within(1, (memory, alloc), desk), Ok(true));
 }
 
-// A desk over a disk takes its memory first.
+// Checks that a desk over a disk takes its memory first.
 fn takes_its_memory<D: Disk + Drop, A: Allocator + Copy>(
     rt: &impl Abort,
     (memory, alloc): (&Budget, A),

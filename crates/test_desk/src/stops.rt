@@ -1,4 +1,4 @@
-//! What a power loss within a lane's run leaves, and what is opened of it.
+//! What a power loss within a lane's run leaves, and what an opening finds of it.
 
 use crate::asserts::same;
 use crate::common::*;
@@ -10,8 +10,8 @@ use loop_plane::{MmapPlane, PlaneMemory};
 use std::alloc::{Allocator, Global};
 use std::process::Abort;
 
-// How many calls of the disk before the end of a run the power fails, what then stands where nothing was synced, and
-// the next number of what is opened. The run's last calls are the eight of its one flush, of one frame.
+// How many calls of the disk before the end of a run the power fails, what the unsynced bytes read as then, and the
+// next number of the store that is opened. The last calls of the run are the eight of its one flush, of one frame.
 const STOPS: [(usize, Spoil, u64); 5] = [
     (8, Spoil::Keep, 0),
     (4, Spoil::Gate, 0),
@@ -32,7 +32,7 @@ fn run_to_its_end<D: Disk + Drop>(
     disk_of(lane)
 }
 
-// The next number of what is opened on a disk, behind a run that it may be left of.
+// The next number of the store that is opened on a disk, after a run that may have left that disk.
 fn next_behind<D: Disk + Drop, E: Disk + Drop, P: PlaneMemory, A: Allocator + Copy>(
     rt: &impl Abort,
     alloc: A,
@@ -46,7 +46,7 @@ fn next_behind<D: Disk + Drop, E: Disk + Drop, P: PlaneMemory, A: Allocator + Co
     }
 }
 
-// The same behind the events of a table over a disk.
+// The same after the events of a table over a disk.
 fn next_of<D: Disk + Drop, E: Disk + Drop>(
     rt: &impl Abort,
     alloc: Global,
@@ -59,7 +59,7 @@ fn next_of<D: Disk + Drop, E: Disk + Drop>(
     next_behind(rt, alloc, &mut lane, events, left)
 }
 
-// What each stop leaves is opened.
+// Checks that what each stop leaves is opened.
 fn are_opened(
     rt: &impl Abort,
     alloc: Global,
@@ -74,7 +74,7 @@ fn are_opened(
     }
 }
 
-// A disk that keeps its past, freshly formatted.
+// A freshly formatted disk that remembers its calls.
 fn crash_disk(rt: &impl Abort, alloc: Global) -> CrashDisk {
     let image = fresh(rt, alloc)
         .bytes()

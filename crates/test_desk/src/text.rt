@@ -12,7 +12,7 @@ use loop_store::StoreFault;
 use std::alloc::Allocator;
 use std::process::Abort;
 
-/// One frame comes to the disk, and one is given up by the device.
+/// One frame is stored on the disk, and one is given up by the device.
 pub(crate) const FIFTEEN: [(Call, Told); 15] = [
     (ReqBufs(2), Count(2)),
     (QBuf(0), Done),
@@ -31,11 +31,11 @@ pub(crate) const FIFTEEN: [(Call, Told); 15] = [
     (Flush, Flushed(0, 1, 0)),
 ];
 
-// The text of the one frame that the list of fifteen stores.
+// The text of the one frame that this list of fifteen stores.
 const TEXT: &[u8] =
     b"YUV4MPEG2 W4 H2 F25:1 Ip A0:0 C420jpeg\nFRAME\n\x00\x01\x02\x03\x04\x05\x06\x07\x08\x09\x0a\x0b";
 
-// What a lane records is answered as a table says, and becomes a text.
+// Checks the answers of a lane to a table, and the text of what it recorded.
 fn is_exported<D: Disk + Drop, P: PlaneMemory, A: Allocator + Copy>(
     rt: &impl Abort,
     alloc: A,

@@ -27,7 +27,7 @@ fn shows_numbers<D: Disk>(rt: &impl Abort, disk: &mut D) {
     }
 }
 
-// Without memory for a window the disk comes back.
+// Without memory for a window the disk is handed back.
 fn comes_back<A: Allocator + Copy>(rt: &impl Abort, memory: A, disk: MemDisk) -> MemDisk {
     match AheadDisk::new(memory, disk, 16) {
         Ok(ahead) => {
@@ -38,7 +38,7 @@ fn comes_back<A: Allocator + Copy>(rt: &impl Abort, memory: A, disk: MemDisk) ->
     }
 }
 
-// What is written is read, though what was read ahead is another.
+// A read returns what was written, though other bytes were read ahead.
 static OVER: [Call; 5] = [
     Call::Read(40, &[40, 41], Ok(())),
     Call::Rows(42, &[1], &[2, 3], &[4], Ok(())),

@@ -1,20 +1,20 @@
-// Calls of a disk with their answers, as rows of tables. They see to its size first, so that no test has to. Out
-// of the disk is answered as a failed sync, which no read and no write answers.
+// Calls of a disk with their answers, as rows of tables. They compare with its size first, so that no test has to. A
+// call beyond the disk is answered as a failed sync, which no read and no write returns.
 use crate::asserts::{holds, same};
 use loop_disk::{Disk, DiskFault};
 use std::process::Abort;
 use test_alloc::Budget;
 
-/// A call of a disk with what it answers.
+/// A call of a disk with its answer.
 #[derive(Drop)]
 pub(crate) enum Call<'a> {
     /// The size of the disk.
     Size(u64),
     /// A write of these bytes from a place on.
     Write(u64, &'a [u8], Result<(), DiskFault>),
-    /// A write of these rows from a place on, one behind the other.
+    /// A write of these rows from a place on, one after the other.
     Rows(u64, &'a [u8], &'a [u8], &'a [u8], Result<(), DiskFault>),
-    /// A read from a place on that gives these bytes, or fails at so many.
+    /// A read from a place on, of as many bytes as there are here. It reads these bytes, or fails.
     Read(u64, &'a [u8], Result<(), DiskFault>),
     /// A sync.
     Sync(Result<(), DiskFault>),
@@ -60,7 +60,7 @@ pub(crate) fn read_at<D: Disk>(disk: &mut D, at: u64, buf: &mut [u8]) -> Result<
     }
 }
 
-// Fails the test unless a read into this buffer is answered like this, and gives these bytes if it doesn't fail.
+// Fails the test unless a read into this buffer has this answer, and reads these bytes if it doesn't fail.
 fn gives<D: Disk>(
     rt: &impl Abort,
     disk: &mut D,
@@ -89,7 +89,7 @@ fn reads<D: Disk>(
     }
 }
 
-/// Makes one call, and fails the test unless it is answered so.
+/// Makes one call, and fails the test unless it has this answer.
 pub(crate) fn does<D: Disk>(rt: &impl Abort, disk: &mut D, call: &Call) {
     match call {
         Call::Size(size) => same!(*rt; disk.size(), *size),
@@ -109,7 +109,7 @@ pub(crate) fn plays<D: Disk>(rt: &impl Abort, disk: &mut D, calls: &[Call]) {
     }
 }
 
-/// Makes these calls in turn, each where so many blocks of memory are granted.
+/// Makes these calls in turn, each with this many blocks of memory granted.
 pub(crate) fn plays_within<D: Disk>(
     rt: &impl Abort,
     memory: &Budget,

@@ -7,7 +7,7 @@ use std::process::Abort;
 use std::test::Fail;
 use test_alloc::Budget;
 
-// Whether there is memory for the disk after a crash, if so many calls were made.
+// Whether there is memory for the disk after a crash that follows this many calls.
 fn crashes<A: Allocator + Copy>(disk: &CrashDisk<A>, calls: usize) -> bool {
     calls <= disk.calls() && disk.crash(calls, Spoil::Keep).is_ok()
 }
@@ -27,7 +27,7 @@ static FULL: [(u64, Call); 10] = [
     (1, Call::Write(8, &[7], Err(DiskFault::Write))),
 ];
 
-// Only four calls are remembered, and a crash of them takes two blocks.
+// Only four calls are remembered, and the disk after a crash takes two blocks.
 fn is_as_it_was<A: Allocator + Copy>(rt: &impl Abort, memory: &Budget, disk: &CrashDisk<A>) {
     same!(*rt; disk.calls(), 4);
     same!(*rt; disk.bytes().get(8), Some(&0));
@@ -37,7 +37,7 @@ fn is_as_it_was<A: Allocator + Copy>(rt: &impl Abort, memory: &Budget, disk: &Cr
     }
 }
 
-// Makes these calls, and then one that has its room. A disk takes two blocks.
+// Makes these calls, and then one that has enough memory. A disk takes two blocks.
 fn is_filled<A: Allocator + Copy>(
     rt: &impl Abort,
     memory: &Budget,

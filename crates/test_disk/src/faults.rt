@@ -1,4 +1,4 @@
-// A file each of whose calls fails, is short or is interrupted, and what a stop leaves of one that is made anew.
+// A file whose calls fail, are short or are interrupted, and what a stop leaves of a file that is made anew.
 use crate::asserts::{holds, same};
 use crate::calls::{Call, does};
 use crate::faulty::{Faulty, Medium};
@@ -7,15 +7,15 @@ use loop_file::{FileDisk, FileFault};
 use std::io::ErrorKind;
 use std::process::Abort;
 
-// Makes a file anew, and answers the refusal.
+// Makes a file anew. Returns the refusal.
 fn makes(file: &Medium, folder: &Medium, size: u64) -> Option<FileFault> {
     FileDisk::fresh_over(Faulty { medium: file }, &Faulty { medium: folder }, size).err()
 }
 
-// An old file, the size that it is to have, the calls of the file before its old bytes are written over, and all of
-// them. At first its length is asked for; its first byte is read, and unless that is zero it is written and synced.
-// Where it grows it gets its new length, is written and synced. Then come a new length where it shrinks, a write and
-// a sync.
+// An old file, the size that it is to have, how many calls of the file there are before its old bytes are written over,
+// and how many in all. First its length is read, and its first byte, which is written and synced unless it is zero. A
+// file that grows gets its new length, is written and synced. Then a file that shrinks gets its new length, and every
+// file is written and synced.
 static MADE: [(&[u8], u64, u32, u32); 7] = [
     (b"old", 3, 4, 6),
     (b"old", 8, 7, 9),
@@ -26,8 +26,8 @@ static MADE: [(&[u8], u64, u32, u32); 7] = [
     (b"", 0, 1, 1),
 ];
 
-// No call fails: at each moment a stop leaves the old bytes or a file that begins with a zero, and at the end it leaves
-// the new one.
+// No call fails. A stop at any moment leaves the old bytes or a file that begins with a zero, and the end leaves the
+// new file.
 fn is_made(rt: &impl Abort, (file, folder): (&Medium, &Medium), size: u64, calls: u32) {
     same!(*rt; makes(file, folder, size), None, size);
     holds!(*rt; file.is_safe.get(), size);
@@ -36,8 +36,8 @@ fn is_made(rt: &impl Abort, (file, folder): (&Medium, &Medium), size: u64, calls
     holds!(*rt; file.is_cleared(size), size);
 }
 
-// A call of the file fails, and as many behind it as are to: the refusal is told, and a stop at each moment leaves
-// the old bytes or a zero in front. Where one fails before the old bytes are written over, they and the length stand.
+// Some calls of the file fail. The refusal is returned, and a stop at any moment leaves the old bytes or a zero as the
+// first byte. Where one call fails before the old bytes are written over, they and the length stay.
 fn fails(
     rt: &impl Abort,
     (file, folder): (&Medium, &Medium),
@@ -51,7 +51,7 @@ fn fails(
     holds!(*rt; file.has(old) || (may_be_closed && file.now.get().is_closed()), (size, call));
 }
 
-// The same, of a file of its own.
+// The same with a file of its own.
 fn fails_at(
     rt: &impl Abort,
     row: &(&[u8], u64, u32, u32),
@@ -63,7 +63,7 @@ fn fails_at(
     fails(rt, (&file, &Medium::of(b"")), row, fault);
 }
 
-// Each call of the file fails, once and for ever.
+// Each call of the file fails, once and from then on.
 fn is_refused(
     rt: &impl Abort,
     row: &(&[u8], u64, u32, u32),
@@ -93,8 +93,8 @@ fn a_folder_that_cannot_be_synced_changes_nothing(rt: HostRuntime) {
     holds!(rt; file.has(b"old"));
 }
 
-// Which calls of the file fail and how, of which the first, the second or none comes through; the call of a disk of six
-// bytes, with what it answers. A write or a read is two calls of a file that moves three bytes at once, a sync is one.
+// The first call of the file that fails, how many fail from there on, and how. Then a call of a disk of six bytes with
+// its answer. A write or a read is two calls of a file that moves three bytes at once; a sync is one.
 static FAULTS: [((u32, u32, ErrorKind), Call); 18] = [
     ((0, 0, ErrorKind::Other), Call::Write(1, b"rames", Ok(()))),
     (
@@ -155,7 +155,7 @@ static FAULTS: [((u32, u32, ErrorKind), Call); 18] = [
     ),
 ];
 
-// Makes a call of a disk over a file. What is answered Ok was done whole.
+// Makes a call of a disk over a file. A call that returns Ok has to be done in full.
 fn answers(rt: &impl Abort, (first, count, kind): (u32, u32, ErrorKind), call: &Call) {
     let file = Medium::of(b"footer");
     file.at_once.set(3);
@@ -171,20 +171,20 @@ fn answers(rt: &impl Abort, (first, count, kind): (u32, u32, ErrorKind), call: &
     }
 }
 
-// No disk is had over a file whose calls don't fail.
+// Fails the test: there has to be a disk over a file whose calls don't fail.
 fn is_told(rt: &impl Abort) {
     holds!(*rt; false);
 }
 
 #[test]
-fn a_file_that_fails_is_told_and_one_that_is_short_or_interrupted_is_gone_on_with(rt: HostRuntime) {
+fn a_failed_call_is_reported_and_a_short_or_interrupted_one_is_continued(rt: HostRuntime) {
     for (fails, call) in &FAULTS {
         answers(&rt, *fails, call);
     }
 }
 
 #[test]
-fn a_file_whose_size_cannot_be_told_is_no_disk(rt: HostRuntime) {
+fn a_file_whose_size_cannot_be_read_is_no_disk(rt: HostRuntime) {
     let file = Medium::of(b"old");
     file.fails.set((0, 1, ErrorKind::Other));
     holds!(rt; FileDisk::over(Faulty { medium: &file }).is_err());

@@ -1,4 +1,4 @@
-// A file of a few bytes in memory, whose calls can fail, and which sees what a stop would leave of it.
+// A file of a few bytes in memory, whose calls can fail, and which checks what a stop would leave of it.
 use std::cell::Cell;
 use std::fs::{Metadata, OpenFile};
 use std::io;
@@ -8,7 +8,7 @@ use std::os::unix::fs::FileExt;
 /// The most bytes of such a file.
 pub(crate) const MOST: usize = 16;
 
-/// The bytes of a file; behind its length stand zeros.
+/// The bytes of a file. After its length they are zeros.
 #[derive(Clone, Copy, PartialEq, Eq)]
 pub(crate) struct Image {
     bytes: [u8; MOST],
@@ -60,12 +60,12 @@ impl Image {
         *self == Image::of(text)
     }
 
-    /// Whether it begins with a zero, or has nothing.
+    /// Whether it begins with a zero, or has no bytes.
     pub(crate) fn is_closed(&self) -> bool {
         self.bytes[0] == 0
     }
 
-    // Whether it is this image, or the same begun with a zero.
+    // Whether it is this image, or the same with a first byte of zero.
     fn is_left_of(&self, old: &Image) -> bool {
         let mut closed = *old;
         closed.bytes[0] = 0;
@@ -80,7 +80,7 @@ pub(crate) struct Medium {
     pub(crate) now: Cell<Image>,
     synced: Cell<Image>,
     pub(crate) calls: Cell<u32>,
-    /// The first call that fails, counted from 0, how many do from there on, and how.
+    /// The first call that fails, counted from 0, how many fail from there on, and how.
     pub(crate) fails: Cell<(u32, u32, ErrorKind)>,
     /// The most bytes that a call moves.
     pub(crate) at_once: Cell<usize>,
@@ -108,7 +108,7 @@ impl Medium {
         self.now.get().is(text)
     }
 
-    /// Whether so many zeros are all that the file has, and all that is on its disk.
+    /// Whether the file, and what is on its disk, has this many bytes, all zeros.
     pub(crate) fn is_cleared(&self, size: u64) -> bool {
         let now = self.now.get();
         now.bytes == [0; MOST] && now.length as u64 == size && now == self.synced.get()
@@ -126,7 +126,7 @@ impl Medium {
     }
 
     // Notes what the file has now, and whether a stop may leave it. A stop leaves any mixture of what is on the disk
-    // and what is in the file: so both begin with a zero, or they are the old ones but for a first byte of zero.
+    // and what is in the file. So both have to begin with a zero, or to be the old bytes but for a first byte of zero.
     fn note(&self, now: Image) {
         self.now.set(now);
         let synced = self.synced.get();

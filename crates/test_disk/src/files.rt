@@ -4,7 +4,7 @@ use crate::calls::{Call, does, plays, read_at, write_at, write_rows};
 use crate::paths::{creates, has, is_done, opens, removes, writes};
 use loop_disk::{Disk, DiskFault, MemDisk};
 use loop_file::{FileDisk, FileFault};
-use std::alloc::{AllocError, AllocGlobal};
+use std::alloc::{AllocError, AllocGlobal, Global};
 use std::cell::Cell;
 use std::fs::{File, Metadata, OpenFile, OpenOptions, Permissions};
 use std::io::ErrorKind;
@@ -14,7 +14,8 @@ use std::rt::Files;
 use std::test::Fail;
 use std::{fs, io};
 
-// Makes a disk at a path, and these calls of it. It is in use, also for who would make it anew, and keeps its bytes.
+// Makes a disk at a path, and these calls of it. Then the file is in use, also for anyone who would make it anew, and
+// keeps its bytes.
 fn plays_at(
     rt: &(impl Abort + AllocGlobal + Files<File = File>),
     path: &str,
@@ -36,8 +37,8 @@ fn resizes(rt: &impl Files<File = File>, path: &str, size: u64) -> io::Result<()
     OpenOptions::new().write(true).open(rt, path)?.set_len(size)
 }
 
-// The file is read back. Then it is cut short under the disk: a read fails, and is counted as a read's failure. The
-// lock is had as before.
+// Reads the file back. Then it is cut short under the disk: a read fails, and is counted as a read's failure. The lock
+// is held as before.
 fn is_cut<D: Disk>(rt: &(impl Abort + Files<File = File>), path: &str, disk: &mut D) {
     plays(
         rt,
@@ -53,7 +54,7 @@ fn is_cut<D: Disk>(rt: &(impl Abort + Files<File = File>), path: &str, disk: &mu
     opens(rt, path, Err(FileFault::Busy));
 }
 
-// The file that was written is had again.
+// Opens the file that was written.
 fn is_read_back(rt: &(impl Abort + Files<File = File>), path: &str) {
     match FileDisk::open(rt, path) {
         Ok(mut disk) => is_cut(rt, path, &mut disk),
@@ -75,7 +76,7 @@ fn a_file_is_written_and_read_back(rt: HostRuntime) {
     let path = "written.img";
     plays_at(&rt, path, 4096, &WRITTEN);
     is_read_back(&rt, path);
-    // No file has that size: the file is as it was.
+    // No file can have that size: the file stays as it was.
     creates(&rt, path, u64::MAX, Err(FileFault::Failed));
     opens(&rt, path, Ok(50));
     plays_at(&rt, path, 200, &[Call::Read(0, &[0; 200], Ok(()))]);
@@ -85,8 +86,8 @@ fn a_file_is_written_and_read_back(rt: HostRuntime) {
 // How many bytes the rows of the next test have.
 const LONG: usize = 100_000;
 
-// The place of rows, and how many bytes the first and the second have: short ones, one that ends at a page or beside
-// it, long ones behind a head, and none.
+// The place of rows, and how many bytes the first and the second have: short rows, one that ends at or beside the end
+// of a page, long rows after a short one, and empty rows.
 static ROWS: [(u64, usize, usize); 14] = [
     (0, 32, 90_000),
     (0, 32, 4_064),
@@ -104,30 +105,45 @@ static ROWS: [(u64, usize, usize); 14] = [
     (9, 100_000, 0),
 ];
 
+// Bytes of a pattern of which no page repeats another.
+fn numbered(alloc: Global) -> Result<Vec<u8>, AllocError> {
+    let mut bytes = vec![in alloc; 0u8; LONG]?;
+    for (place, byte) in bytes.iter_mut().enumerate() {
+        *byte = (place % 251) as u8;
+    }
+    Ok(bytes)
+}
+
+// Writes bytes as three rows.
+fn write_split<D: Disk>(
+    disk: &mut D,
+    bytes: &[u8],
+    (at, first, second): (u64, usize, usize),
+) -> Result<(), DiskFault> {
+    let (one, rest) = bytes.split_at(first.min(bytes.len()));
+    let (two, three) = rest.split_at(second.min(rest.len()));
+    write_rows(disk, at, one, two, three)
+}
+
 // Writes bytes as three rows, and reads the disk.
 fn shows_rows<D: Disk>(
     rt: &impl Abort,
     disk: &mut D,
     bytes: &[u8],
     seen: &mut [u8],
-    (at, first, second): (u64, usize, usize),
+    row: (u64, usize, usize),
 ) {
-    let (one, rest) = bytes.split_at(first.min(bytes.len()));
-    let (two, three) = rest.split_at(second.min(rest.len()));
-    same!(*rt; write_rows(disk, at, one, two, three), Ok(()), at);
-    same!(*rt; read_at(disk, 0, seen), Ok(()), at);
+    same!(*rt; write_split(disk, bytes, row), Ok(()), row);
+    same!(*rt; read_at(disk, 0, seen), Ok(()), row);
 }
 
-// A file shows what a disk in memory shows, of which each call is proved.
+// Checks that a file shows the same as a disk in memory, of which each call is proved.
 fn shows_alike(
     rt: &(impl Abort + AllocGlobal + Files<File = File>),
     file: &mut FileDisk,
     row: (u64, usize, usize),
 ) -> Result<(), AllocError> {
-    let mut bytes = vec![in rt.alloc(); 0u8; LONG]?;
-    for (place, byte) in bytes.iter_mut().enumerate() {
-        *byte = (place % 251) as u8;
-    }
+    let bytes = numbered(rt.alloc())?;
     let mut here = vec![in rt.alloc(); 0u8; LONG + 10_000]?;
     let mut there = vec![in rt.alloc(); 0u8; LONG + 10_000]?;
     let mut memory = MemDisk::new(rt.alloc(), 110_000)?;
@@ -142,7 +158,7 @@ fn shows_alike(
 }
 
 #[test]
-fn rows_in_a_file_stand_one_behind_the_other(rt: HostRuntime) -> Result<(), Fail> {
+fn rows_are_written_to_a_file_one_after_the_other(rt: HostRuntime) -> Result<(), Fail> {
     let path = "rows.img";
     let mut file = FileDisk::create(&rt, path, 110_000).expect(&rt, "a file");
     for row in ROWS {
@@ -153,8 +169,8 @@ fn rows_in_a_file_stand_one_behind_the_other(rt: HostRuntime) -> Result<(), Fail
     Ok(())
 }
 
-// The gate runs tests as nobody, who may not open it. A superuser may, as under `rt try`: then nothing is shown here,
-// since a test can't lay its rights down.
+// The gate runs tests as nobody, who may not open the file. A superuser may, as under `rt try`. Then nothing is checked
+// here, since a test can't give up its rights.
 fn is_denied(rt: &(impl Abort + Files<File = File>), path: &str) {
     if let Err(fault) = FileDisk::open(rt, path) {
         same!(*rt; fault, FileFault::Denied);
@@ -162,7 +178,7 @@ fn is_denied(rt: &(impl Abort + Files<File = File>), path: &str) {
 }
 
 #[test]
-fn what_is_no_file_of_ours_is_refused_by_name(rt: HostRuntime) -> Result<(), Fail> {
+fn a_path_that_is_no_usable_file_is_refused_by_name(rt: HostRuntime) -> Result<(), Fail> {
     opens(&rt, "missing.img", Err(FileFault::Missing));
     creates(&rt, "missing/new.img", 1, Err(FileFault::Missing));
     opens(&rt, ".", Err(FileFault::Folder));
@@ -233,7 +249,7 @@ impl FileExt for Halting {
 }
 
 #[test]
-fn short_counts_and_interruptions_are_gone_on_from(rt: HostRuntime) -> Result<(), Fail> {
+fn calls_continue_after_short_counts_and_interruptions(rt: HostRuntime) -> Result<(), Fail> {
     let path = "halting.img";
     creates(&rt, path, 20, Ok(20));
     let mut disk = FileDisk::over(Halting {
@@ -274,7 +290,7 @@ impl Syncs {
     }
 }
 
-// A file whose syncs are counted. They and its writes fail where they are to.
+// A file that counts its syncs. They and its writes fail if they are to.
 #[derive(Drop)]
 struct Counting<'a> {
     file: File,
@@ -362,7 +378,9 @@ fn plays_counted(
 }
 
 #[test]
-fn a_sync_is_one_of_the_file_and_a_failed_one_leaves_its_lock(rt: HostRuntime) -> Result<(), Fail> {
+fn a_sync_syncs_the_file_once_and_a_failed_one_leaves_its_lock(
+    rt: HostRuntime,
+) -> Result<(), Fail> {
     let path = "counting.img";
     creates(&rt, path, 8, Ok(8));
     plays_counted(&rt, path, &SYNCED)?;
@@ -371,7 +389,7 @@ fn a_sync_is_one_of_the_file_and_a_failed_one_leaves_its_lock(rt: HostRuntime) -
     Ok(())
 }
 
-// A file with room for so many more bytes, whose writes are counted. A write below a place takes no room.
+// A file with room for this many more bytes, which counts its writes. A write below a place takes no room.
 #[derive(Drop)]
 struct Filling<'a> {
     file: File,
@@ -418,8 +436,9 @@ impl FileExt for Filling<'_> {
     }
 }
 
-// The bytes of an old file; below which place no room is taken, the room that there is, the size that it is to have;
-// then its size or the refusal with the writes that were tried, and the bytes that it has afterwards.
+// The bytes of an old file; the place below which no room is taken, how much room there is, and the size that the file
+// is to have. Then its size or the refusal, with the number of writes that were tried, and the bytes that it has after
+// that.
 type Filled = (
     &'static [u8],
     (u64, usize, u64),
@@ -443,8 +462,8 @@ static FILLED: [Filled; 6] = [
     ),
 ];
 
-// Makes a file anew, below which place no room is taken, with so much room. Answers its size or the refusal, and the
-// writes that were tried.
+// Makes a file anew with this much room; below a place no room is taken. Returns its size or the refusal, and the
+// number of writes that were tried.
 fn fills_over(
     file: File,
     folder: &File,
@@ -470,7 +489,7 @@ fn with_folder(rt: &impl Files<File = File>, path: &str) -> io::Result<(File, Fi
     Ok((file, File::open(rt, ".")?))
 }
 
-// Makes a file anew, which has its room or is refused so, in so many writes.
+// Makes a file anew. Checks its size or the refusal, and the number of writes.
 fn fills(
     rt: &(impl Abort + Files<File = File>),
     path: &str,
@@ -492,6 +511,65 @@ fn are_filled(rt: &(impl Abort + AllocGlobal + Files<File = File>), path: &str, 
     }
 }
 
+// How much room a file has. Then the answer to a write of rows of 32, 90,000 and 9,968 bytes, and how many writes of
+// the file it tries: a page with the first row, 20 pages, a page of two rows, two pages, and the last 1,696 bytes.
+static STOPPED: [(usize, Result<(), DiskFault>, u32); 7] = [
+    (100_000, Ok(()), 5),
+    (0, Err(DiskFault::Write), 1),
+    (4_096, Err(DiskFault::Write), 2),
+    (86_016, Err(DiskFault::Write), 3),
+    (90_112, Err(DiskFault::Write), 4),
+    (98_304, Err(DiskFault::Write), 5),
+    // The 20 pages take two writes, of which the second finds no room.
+    (50_000, Err(DiskFault::Write), 3),
+];
+
+// Writes rows to a file with this much room. Returns the answer, and how many writes were tried.
+fn write_within(file: File, bytes: &[u8], allowed: usize) -> (Result<(), DiskFault>, u32) {
+    let (room, writes) = (Cell::new(allowed), Cell::new(0));
+    let filling = Filling {
+        file,
+        below: 0,
+        room: &room,
+        writes: &writes,
+    };
+    let answer = match FileDisk::over(filling) {
+        Ok(mut disk) => write_split(&mut disk, bytes, (0, 32, 90_000)),
+        Err(_) => Err(DiskFault::Sync),
+    };
+    (answer, writes.get())
+}
+
+// Checks that the file has the bytes that had room, and zeros after them.
+fn is_stopped(
+    rt: &(impl Abort + AllocGlobal + Files<File = File>),
+    path: &str,
+    (allowed, answer, count): &(usize, Result<(), DiskFault>, u32),
+) -> Result<(), AllocError> {
+    writes(rt, path, &vec![in rt.alloc(); 0u8; LONG]?);
+    let mut bytes = numbered(rt.alloc())?;
+    match opened(rt, path) {
+        Ok(file) => same!(*rt; write_within(file, &bytes, *allowed), (*answer, *count), allowed),
+        Err(error) => is_done(rt, Err(error), path),
+    }
+    let shown = (*allowed).min(bytes.len());
+    bytes[shown..].fill(0);
+    has(rt, path, Some(bytes.as_slice()), *count);
+    Ok(())
+}
+
+#[test]
+fn rows_fail_with_any_of_their_writes_and_none_is_tried_after_it(
+    rt: HostRuntime,
+) -> Result<(), Fail> {
+    let path = "stopped.img";
+    for row in &STOPPED {
+        is_stopped(&rt, path, row)?;
+    }
+    removes(&rt, path);
+    Ok(())
+}
+
 #[test]
 fn a_fresh_file_has_its_room_or_is_refused(rt: HostRuntime) {
     let path = "filling.img";
@@ -507,7 +585,7 @@ fn a_fresh_file_is_written_a_megabyte_at_a_time(rt: HostRuntime) {
     removes(&rt, path);
 }
 
-// What the system says, and the fault that it is.
+// An error of the system, and the fault that it becomes.
 static NAMED: [(ErrorKind, FileFault); 5] = [
     (ErrorKind::StorageFull, FileFault::NoRoom),
     (ErrorKind::QuotaExceeded, FileFault::NoRoom),
@@ -517,7 +595,7 @@ static NAMED: [(ErrorKind, FileFault); 5] = [
 ];
 
 #[test]
-fn what_the_system_says_is_told_by_name(rt: HostRuntime) {
+fn each_error_of_the_system_becomes_a_fault_by_name(rt: HostRuntime) {
     for (kind, fault) in &NAMED {
         same!(rt; FileFault::from(io::Error::from(*kind)), *fault);
     }

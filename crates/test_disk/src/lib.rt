@@ -1,5 +1,5 @@
 //! Tests of the disks that need Rust, in a crate of their own, since a library's own tests would prove it once more.
-//! What the other disks do stands as cases in `test_store_cases`.
+//! What the other disks do is tested by the cases of `test_store_cases`.
 //!
 //! - `memory` has the memory disk and the stores over it, `files` the disk over a file;
 //! - `faults` has files whose calls fail, over the bytes in memory of `faulty`; `places` where a file is made and how

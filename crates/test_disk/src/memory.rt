@@ -1,5 +1,5 @@
 // The memory disk, and stores over it.
-ghost use Rattle.std.specs.Prelude.{◌≡◌, ◌+◌, ◌<◌, ◌≤◌, ◌^◌, [], ◌∷◌, length, OnOk};
+ghost use Rattle.std.specs.Prelude.{◌≡◌, ◌+◌, ◌<◌, ◌≤◌, ◌^◌, [], ◌∷◌, OnOk};
 ghost use Rattle.loop_disk.specs.Medium.{IsSettled, LeavesOnly, with_bytes_at};
 ghost use Rattle.loop_disk.specs.Calls.{Called, failed_call};
 ghost use Rattle.test_disk.specs.InTurn.{TornOfThree};
@@ -12,7 +12,7 @@ use std::process::Abort;
 use std::test::Fail;
 use test_alloc::Budget;
 
-// A caller as the layers above have them: it knows nothing of the disk but the trait.
+// A caller like those in the layers above: it knows nothing of the disk but the trait.
 fn store_three<D: Disk>(disk: &mut D, at: u64, x: u8, y: u8, z: u8) -> Result<(), DiskFault>
     requires inside { at + 3 ≤ (D.medium disk.old).size }
     requires fits { at + 3 < 2 ^ 64 }
@@ -50,7 +50,7 @@ fn is_written_often<D: Disk>(rt: &impl Abort, disk: &mut D) {
     }
 }
 
-// A disk takes one block, and no more as it is written. There is none for a second.
+// A disk takes one block, and no more when it is written. There is none for a second disk.
 fn is_kept<A: Allocator + Copy>(
     rt: &impl Abort,
     memory: &Budget,

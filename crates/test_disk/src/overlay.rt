@@ -57,7 +57,7 @@ fn writes_that_overlap_are_read_and_the_disk_beneath_stays(rt: HostRuntime) -> R
     Ok(())
 }
 
-// Where this memory is granted a write finds no room, and the disk shows this.
+// With this memory granted a write finds no room, and the disk shows these bytes.
 fn has_no_room<A: Allocator + Copy>(
     rt: &impl Abort,
     disk: &mut OverlayDisk<MemDisk, A>,
@@ -93,7 +93,7 @@ fn fills<A: Allocator + Copy>(
     does(rt, disk, &Call::Read(2, b"cdEFGh", Ok(())));
 }
 
-// The disk beneath stays.
+// Fills a disk, and checks that the disk beneath stays as it was.
 fn is_filled<A: Allocator + Copy>(rt: &impl Abort, memory: &Budget, alloc: A, image: MemDisk) {
     memory.allow(0);
     let mut disk = OverlayDisk::new(alloc, image);
@@ -114,7 +114,7 @@ fn a_write_that_finds_no_room_fails_and_changes_nothing(rt: HostRuntime) -> Resu
     Ok(())
 }
 
-// What is written over a disk isn't written to it, and a write to itself fails.
+// What is written over a disk isn't written to it, and a write to the disk itself fails.
 fn is_written_over<D: Disk + Drop>(rt: &(impl Abort + AllocGlobal), beneath: D) {
     let mut disk = OverlayDisk::new(rt.alloc(), beneath);
     plays(

@@ -1,4 +1,4 @@
-// What tests do at a path. Each of these fails the test unless it is done, or answered, as it is to be.
+// What tests do at a path. Each of these functions fails the test unless the outcome is as given.
 use crate::asserts::same;
 use loop_disk::Disk;
 use loop_file::{FileDisk, FileFault};
@@ -10,7 +10,7 @@ use std::process::Abort;
 use std::rt::Files;
 use std::{fs, io};
 
-/// Opens a file as a disk that has this size, or is refused so.
+/// Opens a file as a disk, which has this size or is refused with this fault.
 pub(crate) fn opens(
     rt: &(impl Abort + Files<File = File>),
     path: &str,
@@ -23,7 +23,7 @@ pub(crate) fn opens(
     same!(*rt; size, want, path);
 }
 
-/// Makes a file that is a disk of so many bytes and has this size, or is refused so.
+/// Makes a file that is a disk of this many bytes. Its size is this, or it is refused with this fault.
 pub(crate) fn creates(
     rt: &(impl Abort + AllocGlobal + Files<File = File>),
     path: &str,
@@ -37,7 +37,7 @@ pub(crate) fn creates(
     same!(*rt; size, want, path);
 }
 
-/// What the system was asked is done.
+/// Fails the test unless a call of the system succeeded.
 pub(crate) fn is_done(rt: &impl Abort, done: io::Result<()>, path: &str) {
     if let Err(error) = done {
         same!(*rt; Some(error.kind()), None, path);
@@ -59,7 +59,7 @@ pub(crate) fn links(rt: &(impl Abort + Files<File = File>), named: &str, path: &
     is_done(rt, symlink(rt, named, path), path);
 }
 
-/// A path has a file of these bytes, or none.
+/// Fails the test unless a path has a file of these bytes, or none.
 pub(crate) fn has(
     rt: &(impl Abort + AllocGlobal + Files<File = File>),
     path: &str,

@@ -1,4 +1,4 @@
-// Where a file is made, and what a refusal leaves there, over a system whose calls fail or come late.
+// Where a file is made, and what a refusal leaves there, over a system whose calls fail or come too late.
 use crate::asserts::{holds, same};
 use crate::calls::{Call, does};
 use crate::paths::{creates, has, is_done, links, removes, writes};
@@ -29,7 +29,7 @@ struct Troubled<'a, R> {
     rt: &'a R,
     path: &'a str,
     trouble: Trouble,
-    // How many calls pass before it, and none behind it.
+    // How many calls pass before the trouble; None once it has come.
     left: Cell<Option<u32>>,
 }
 
@@ -47,6 +47,7 @@ impl<R: Files<File = File>> Troubled<'_, R> {
             Trouble::Fails => Err(io::Error::from(ErrorKind::Other)),
             Trouble::Removes => fs::remove_file(self.rt, self.path),
             Trouble::Replaces => {
+                // There may be no file to remove: what counts is the one that is written.
                 let _ = fs::remove_file(self.rt, self.path);
                 fs::write(self.rt, self.path, b"other")
             }
@@ -108,7 +109,8 @@ impl<R: Files<File = File>> Files for Troubled<'_, R> {
     }
 }
 
-// Makes a disk of 64 bytes where the system has trouble at one of its calls, and is refused so, or not.
+// Makes a disk of 64 bytes where the system has trouble at one of its calls. It is refused with this fault, or not at
+// all.
 fn makes(
     rt: &(impl Abort + AllocGlobal + Files<File = File> + Drop),
     path: &str,
@@ -125,9 +127,10 @@ fn makes(
     same!(*rt; FileDisk::create(&(troubled, rt.alloc()), path, 64).err(), want, note);
 }
 
-// Whether there was a file, the trouble and the call of the system at which it comes; the refusal, and the file that
-// there is afterwards. The path is looked at, its folder is opened, it is opened, made if it isn't there, and looked
-// at again once the lock is had. Before each that is opened, the root folder is, in case a standard stream is closed.
+// The bytes of the file that there was, the trouble, and the call of the system at which it comes. Then the refusal,
+// and the bytes of the file that there is after it. The system is asked for the path; its folder is opened; the file is
+// opened, or made if there is none; and the path is looked up again once the lock is held. Before each of these is
+// opened, the root folder is, in case a standard stream is closed.
 type Row = (
     Option<&'static [u8]>,
     (Trouble, u32),
@@ -180,7 +183,7 @@ static REFUSED: [Row; 19] = [
         FileFault::Failed,
         Some(b"old"),
     ),
-    // Another program makes the path between the two looks at it, or has removed or replaced it once the lock is had.
+    // Another program makes the path between the two looks at it, or has removed or replaced it once the lock is held.
     (
         None,
         (Trouble::Replaces, 6),
@@ -203,7 +206,7 @@ static REFUSED: [Row; 19] = [
     ),
 ];
 
-// Makes a disk of a file, or where there is none, and has trouble with it.
+// Makes a disk of a file, or where there is none, and checks what the trouble leaves.
 fn is_refused(
     rt: &(impl Abort + AllocGlobal + Files<File = File> + Drop),
     path: &str,
@@ -220,7 +223,7 @@ fn is_refused(
     }
 }
 
-// Each of these is refused so.
+// Checks each row.
 fn are_refused(
     rt: &(impl Abort + AllocGlobal + Files<File = File> + Drop),
     path: &str,
@@ -234,19 +237,19 @@ fn are_refused(
 }
 
 #[test]
-fn a_refused_file_leaves_what_there_was(rt: HostRuntime) {
+fn a_refusal_leaves_the_file_that_there_was(rt: HostRuntime) {
     let path = "troubled.img";
     are_refused(&rt, path, &REFUSED);
-    // The next call behind the last one never comes.
+    // There is no call after the last one.
     makes(&rt, path, (Trouble::Fails, 8), None, 19);
     removes(&rt, path);
 }
 
 // What happens at a path.
 enum Event {
-    // A disk of so many bytes is made, or refused.
+    // A disk of this many bytes is made, or refused.
     Creates(u64, Result<u64, FileFault>),
-    // The system fails at one of its calls, and so nothing is made.
+    // The system fails at one of its calls, so nothing is made.
     Fails(u32),
     // A file is written.
     Writes(&'static [u8]),
@@ -254,7 +257,7 @@ enum Event {
 
 // What happens at the first of two links, and the bytes of the file that the second names.
 static LINKED: [(Event, Option<&[u8]>); 7] = [
-    // No file has that size: the file is gone, and the links stand.
+    // No file can have that size: the file is gone, and the links stay.
     (Event::Creates(u64::MAX, Err(FileFault::Failed)), None),
     (Event::Creates(3, Ok(3)), Some(b"\0\0\0")),
     (Event::Writes(b"old"), Some(b"old")),
@@ -262,13 +265,13 @@ static LINKED: [(Event, Option<&[u8]>); 7] = [
         Event::Creates(u64::MAX, Err(FileFault::Failed)),
         Some(b"old"),
     ),
-    // The first link can't be read, or what it names can't be looked at.
+    // The first link can't be read, or the path that it names can't be looked up.
     (Event::Fails(1), Some(b"old")),
     (Event::Fails(2), Some(b"old")),
     (Event::Creates(5, Ok(5)), Some(b"\0\0\0\0\0")),
 ];
 
-// One event at a path.
+// Does what an event says at a path.
 fn happens(
     rt: &(impl Abort + AllocGlobal + Files<File = File> + Drop),
     path: &str,
@@ -298,7 +301,7 @@ fn is_link(rt: &impl Files<File = File>, path: &str) -> bool {
     }
 }
 
-// These events at the first link. Both links stand after each.
+// Does these events at the first link. Both links have to stay after each.
 fn are_linked(
     rt: &(impl Abort + AllocGlobal + Files<File = File> + Drop),
     events: &[(Event, Option<&[u8]>)],
@@ -326,7 +329,7 @@ fn what_a_link_names_is_made_and_removed(rt: HostRuntime) {
     is_done(&rt, fs::remove_dir_all(&rt, "linked"), "linked");
 }
 
-// A disk is made and written, and given up.
+// Makes a disk, writes it, and gives it up.
 fn is_given_up(
     rt: &(impl Abort + AllocGlobal + Files<File = File> + Drop),
     path: &str,
@@ -349,7 +352,7 @@ fn a_disk_that_is_given_up_leaves_no_new_file_and_no_old_store(rt: HostRuntime) 
     removes(&rt, path);
 }
 
-// A file of four zeros is made beside a place, and gets its name.
+// Makes a file of four zeros beside a place, and gives it the name of the place.
 fn is_finished(
     rt: &(impl Abort + AllocGlobal + Files<File = File> + Drop),
     path: &str,
@@ -374,7 +377,7 @@ fn a_file_gets_its_name_once_it_is_whole_and_takes_no_others(rt: HostRuntime) {
     removes(&rt, unfinished);
 }
 
-// A text is written to a path, in the place of what is there.
+// Writes a text to a path, in place of what is there.
 fn is_written(
     rt: &(impl Abort + AllocGlobal + Files<File = File> + Drop),
     path: &str,
@@ -388,7 +391,7 @@ fn is_written(
 }
 
 #[test]
-fn a_text_goes_to_a_file_that_nobody_has(rt: HostRuntime) {
+fn a_text_is_written_to_a_file_that_nobody_holds(rt: HostRuntime) {
     let path = "text.y4m";
     same!(rt; is_written(&rt, path, b"a long text"), Ok(()));
     has(&rt, path, Some(b"a long text"), 0);

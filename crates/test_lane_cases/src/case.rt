@@ -19,7 +19,7 @@ use std::alloc::Global;
 /// How a case begins.
 #[derive(Clone, Copy)]
 pub(crate) struct Opening {
-    /// Whether the calls are the desk's own.
+    /// Whether the calls are those of the desk itself.
     pub(crate) alone: bool,
     /// The memory of the planes at hand.
     pub(crate) memory: Memory,
@@ -93,7 +93,7 @@ fn mapped_sets(alloc: Global) -> Result<Vec<PlaneSet<AnyPlane>>> {
     Ok(sets)
 }
 
-// One set of windows of the application's.
+// One set of the application's windows.
 fn window_set(alloc: Global) -> Result<Vec<PlaneSet<AnyPlane>>> {
     let mut sets = Vec::new(alloc);
     sets.push(PlaneSet::three(window(alloc, 8)?, window(alloc, 2)?, window(alloc, 2)?))?;
@@ -109,7 +109,7 @@ fn sets_of(alloc: Global, memory: Memory) -> Result<Vec<PlaneSet<AnyPlane>>> {
     }
 }
 
-// A lane to a desk, whose queue starts with one buffer.
+// A lane to a desk. Its queue starts with one buffer.
 fn lane_to<D: Disk + Drop>(alloc: Global, desk: Desk<D>) -> Lane<D, AnyPlane> {
     Lane {
         queue: Queue::new(alloc, PixelFormat::Ym12, 4, 2, 1),
@@ -156,7 +156,7 @@ pub(crate) fn disk_of<D: Disk + Drop>(case: Case<D>) -> D {
     desk.into_disk()
 }
 
-/// Makes a call that is no event; false where it is none of a lane's or a desk's.
+/// Makes a call that is no event. Returns false where it isn't a call of a lane or a desk.
 pub(crate) fn asks<D: Disk + Drop>(
     alloc: Global,
     case: &mut Case<D>,

@@ -12,7 +12,7 @@ use loop_store::{Clip, StoreFault};
 use std::alloc::Global;
 use std::io::{self, Write};
 
-// What a submit answers, and the frame that comes back.
+// The answer to a submit, and the frame that comes back.
 fn submit<D: Disk + Drop>(
     desk: &mut Desk<D>,
     frame: Frame,
@@ -23,7 +23,7 @@ fn submit<D: Disk + Drop>(
     }
 }
 
-/// Gives the frame of so many bytes and a number to the desk. A refused one comes back as it was.
+/// Gives the desk the frame of a number, with this many bytes. A refused one comes back unchanged.
 pub(crate) fn put<D: Disk + Drop>(
     alloc: Global,
     desk: &mut Desk<D>,
@@ -65,7 +65,7 @@ pub(crate) fn unlock<D: Disk + Drop>(
     told::unlocked(out, desk.unlock_clip(call.small(0)))
 }
 
-/// Makes version 2 of the layout.
+/// Upgrades the store to version 2 of the layout.
 pub(crate) fn upgrade<D: Disk + Drop>(desk: &mut Desk<D>, out: &mut Vec<u8>) -> io::Result<()> {
     match desk.upgrade() {
         Ok(true) => out.write_all(b"upgraded"),
@@ -101,7 +101,7 @@ pub(crate) fn sought<D: Disk + Drop>(
     }
 }
 
-/// How the desk stands.
+/// Prints the status of the desk.
 pub(crate) fn status<D: Disk + Drop>(desk: &Desk<D>, out: &mut Vec<u8>) -> io::Result<()> {
     let status = desk.status();
     told::named(out, "next", status.next)?;
@@ -113,7 +113,7 @@ pub(crate) fn status<D: Disk + Drop>(desk: &Desk<D>, out: &mut Vec<u8>) -> io::R
     Ok(())
 }
 
-/// The numbers of frames that are held.
+/// Prints the numbers of the frames that are held.
 pub(crate) fn frames(out: &mut Vec<u8>, numbers: &[u64]) -> io::Result<()> {
     out.write_all(b"frames")?;
     for number in numbers {
@@ -122,7 +122,7 @@ pub(crate) fn frames(out: &mut Vec<u8>, numbers: &[u64]) -> io::Result<()> {
     Ok(())
 }
 
-/// Clips with their ids.
+/// Prints clips with their ids.
 pub(crate) fn clips(out: &mut Vec<u8>, clips: &[Clip]) -> io::Result<()> {
     for clip in clips {
         told::named(out, ", clip", u64::from(clip.id))?;
@@ -135,7 +135,7 @@ pub(crate) fn clips(out: &mut Vec<u8>, clips: &[Clip]) -> io::Result<()> {
     Ok(())
 }
 
-/// What the desk holds.
+/// Prints what the desk holds.
 pub(crate) fn outline<D: Disk + Drop>(
     alloc: Global,
     desk: &Desk<D>,
@@ -163,7 +163,7 @@ pub(crate) fn share(alloc: Global, table: &mut FdTable<AnyPlane>, out: &mut Vec<
     Ok(())
 }
 
-/// Gives an fd up.
+/// Closes an fd.
 pub(crate) fn close_fd(
     table: &mut FdTable<AnyPlane>,
     call: &Call,

@@ -1,4 +1,4 @@
-//! What a call sends to a lane, or to its queue alone.
+//! The events that calls make of a lane, or of its queue alone.
 use crate::frame::frame;
 use crate::line::{Call, Verb};
 use crate::plane::AnyPlane;
@@ -30,7 +30,7 @@ fn type_of(format: PixelFormat, other: bool) -> BufferType {
     }
 }
 
-// The fds that a call names, behind the index.
+// The fds that a call names, after the index.
 fn fds(call: &Call) -> Option<PlaneFds> {
     let count = call.numbers.len().saturating_sub(1);
     if count == 0 {
@@ -64,7 +64,7 @@ fn supply_of(
     }
 }
 
-// The ioctl of a call; DQBUF where it is none.
+// The ioctl of a call; DQBUF where it is no other one.
 fn ioctl(alloc: Global, call: &Call, supply: &mut Supply) -> Ioctl<AnyPlane> {
     let buf_type = type_of(supply.format, call.other);
     let index = call.small(0);
@@ -95,7 +95,7 @@ fn ioctl(alloc: Global, call: &Call, supply: &mut Supply) -> Ioctl<AnyPlane> {
     }
 }
 
-// A buffer was filled with the frame of a number.
+// The completion of a buffer with the frame of a number.
 fn complete(alloc: Global, call: &Call, size: usize) -> Result<QueueEvent<AnyPlane>, AllocError> {
     let frame = frame(alloc, size, call.number(1))?;
     Ok(QueueEvent::Complete {
@@ -108,7 +108,7 @@ fn complete(alloc: Global, call: &Call, size: usize) -> Result<QueueEvent<AnyPla
     })
 }
 
-/// What happens to the queue.
+/// The queue event of a call.
 pub(crate) fn queue_event(
     alloc: Global,
     call: &Call,
@@ -152,7 +152,7 @@ pub(crate) fn is_of_queue(verb: Verb) -> bool {
     )
 }
 
-/// The event of a call; None where it is none of a lane's.
+/// The lane event of a call; None where it isn't one of a lane.
 pub(crate) fn lane_event(
     alloc: Global,
     call: &Call,

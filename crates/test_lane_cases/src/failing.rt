@@ -1,4 +1,4 @@
-//! A list over a disk of which a call fails: each call in turn.
+//! A list over a disk that fails a call: each call in turn.
 use crate::case::{Case, disk_of};
 use crate::event::is_of_queue;
 use crate::line::{Call, Verb};
@@ -12,14 +12,14 @@ use std::io::Write;
 // The calls that fail, one after the other.
 #[derive(Clone, Copy)]
 struct Range {
-    // The last call of the list's.
+    // The last call of the list.
     last: u64,
-    // From this call on a failure is one of a read, which is no reason to open the disk again.
+    // From this call on a failed call is a read, which is no reason to reopen the disk.
     reads: u64,
 }
 
-// Whether a reply is right once the disk has failed: an event of the desk finds that it must be opened again, if it
-// comes to the desk at all.
+// Whether a reply is right once the disk has failed. An event that reaches the desk is refused, since the disk must be
+// reopened.
 fn is_stopped(verb: Verb, told: &[u8]) -> bool {
     is_of_queue(verb)
         || verb == Verb::Dequeue
@@ -31,14 +31,14 @@ fn is_stopped(verb: Verb, told: &[u8]) -> bool {
 // What the replies show.
 #[derive(Clone, Copy, PartialEq, Eq)]
 enum Replies {
-    // All are those without a failure.
+    // All are the same as without a failure.
     Same,
-    // One was Disk, and all behind it are right.
+    // One was Disk, and all after it are right.
     Failed,
     Wrong,
 }
 
-// One more reply behind others.
+// Adds a reply to those before it.
 fn behind(before: Replies, call: &Call, told: &[u8], want: &[u8]) -> Replies {
     match before {
         Replies::Failed if is_stopped(call.verb, told) => Replies::Failed,
@@ -48,7 +48,7 @@ fn behind(before: Replies, call: &Call, told: &[u8], want: &[u8]) -> Replies {
     }
 }
 
-// Before the Disk reply the replies are those without a failure.
+// Judges the replies. Before the Disk reply they have to be the same as without a failure.
 fn judged(list: &List, told: &[Vec<u8>]) -> Replies {
     let mut state = Replies::Same;
     if told.len() != list.told.len() {
@@ -60,13 +60,13 @@ fn judged(list: &List, told: &[Vec<u8>]) -> Replies {
     state
 }
 
-// Whether the desk says that it must be opened again just where it is so.
+// Whether the desk reports that its disk must be reopened just where that is so.
 fn is_told<D: Disk + Drop>(alloc: Global, case: &Case<D>, stopped: bool) -> bool {
     case.lane.desk.status().must_reopen == stopped
         && case.lane.desk.outline(alloc).is_err() == stopped
 }
 
-// Does a list over a disk whose call of a number fails. Answers whether all is right, and the disk.
+// Does a list over a disk that fails a call. Returns whether all is right, and the disk.
 fn tried<D: Disk + Drop>(
     alloc: Global,
     list: &List,
@@ -82,7 +82,7 @@ fn tried<D: Disk + Drop>(
     Ok((right && told, disk_of(case)))
 }
 
-// Whether the disk shows the steps that were acknowledged before the call, and some of the failed event's.
+// Whether the disk shows the steps that were acknowledged before the call, and some of those of the failed event.
 fn reopens(alloc: Global, disk: MemDisk, steps: &[Step], call: u64) -> Result<bool> {
     let mut text = Vec::new(alloc);
     shown::of_disk(alloc, disk, &mut text)?;
@@ -94,14 +94,14 @@ fn start_of(alloc: Global, list: &List) -> Result<MemDisk> {
     Ok(MemDisk::of(list.start.as_slice().to_vec(alloc)?))
 }
 
-// From a call on all fail.
+// Fails all calls from one on. Returns whether all is right.
 fn fuse(alloc: Global, list: &List, steps: &[Step], call: u64, range: Range) -> Result<bool> {
     let disk = FuseDisk::new(start_of(alloc, list)?, call);
     let (right, disk) = tried(alloc, list, disk, call, range)?;
     Ok(right && reopens(alloc, disk.into_inner(), steps, call)?)
 }
 
-// One call fails, of which so many bytes were written before.
+// Fails one call, and keeps this many bytes of a write. Returns whether all is right.
 fn once(
     alloc: Global,
     list: &List,
@@ -118,7 +118,7 @@ fn once(
     Ok(right && reopens(alloc, disk.into_inner(), steps, call)?)
 }
 
-// A call fails in each way: whether all is right.
+// Fails a call in each way. Returns whether all is right.
 fn fails(
     alloc: Global,
     list: &List,
@@ -134,8 +134,9 @@ fn fails(
     Ok(fuse(alloc, list, steps, call, range)? && once(alloc, list, steps, (call, None), range)?)
 }
 
-/// Does a list over disks of which a call fails: from a number on, up to one behind the list's last call, and those
-/// from another number on are reads. Further numbers say how many bytes of a write stay behind.
+/// Does a list over disks that fail a call. The call's first number is that of the first call that fails; the third is
+/// that of the last, one after the last call of the list. From the second number on the calls are reads. Further
+/// numbers say how many bytes of a failed write are kept.
 pub(crate) fn failing(
     alloc: Global,
     list: &List,

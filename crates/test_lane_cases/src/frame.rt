@@ -3,7 +3,7 @@ use loop_record::Frame;
 use loop_store::ReadFrame;
 use std::alloc::{AllocError, Global};
 
-/// The frame of a number, of so many bytes: byte i is the number + i.
+/// The frame of a number, with this many bytes: byte i is the number + i.
 pub(crate) fn frame(alloc: Global, size: usize, number: u64) -> Result<Frame, AllocError> {
     let n = number % 256;
     let mut bytes = vec![in alloc; 0; size]?;
@@ -20,7 +20,7 @@ pub(crate) fn frame(alloc: Global, size: usize, number: u64) -> Result<Frame, Al
     })
 }
 
-// Whether these bytes are those of the frame of a number, of 12 bytes.
+// Whether these are the 12 bytes of the frame of a number.
 fn are_of(bytes: &[u8], number: u64) -> bool {
     let mut next = (number % 256) as u8;
     for byte in bytes {
@@ -41,7 +41,7 @@ pub(crate) fn is_whole(read: &ReadFrame) -> bool {
         && are_of(&read.bytes, n)
 }
 
-/// Whether a frame is the one of a number, of so many bytes.
+/// Whether a frame is the one of a number, with this many bytes.
 pub(crate) fn is_frame(
     alloc: Global,
     found: &Frame,

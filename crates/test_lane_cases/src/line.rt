@@ -2,7 +2,7 @@
 use loop_plane::Memory;
 use std::alloc::{AllocError, Global};
 
-/// What a line asks for.
+/// The verbs of lines.
 #[derive(Clone, Copy, PartialEq, Eq)]
 pub(crate) enum Verb {
     /// An empty recording, three segments with two slots for frames of 12 bytes.
@@ -11,31 +11,31 @@ pub(crate) enum Verb {
     FormatV1,
     /// A lane over the recording: how many frames may wait.
     Lane,
-    /// A desk over the recording: how many frames may wait, and how many a group has.
+    /// A desk over the recording: how many frames may wait, and how many a flush stores at most.
     Desk,
-    /// A queue of GREY frames: their side, how many buffers start the device, and how many sets are at hand.
+    /// A queue of GREY frames: the side of a frame, how many buffers start the device, and how many sets are at hand.
     Queue,
-    /// One more set at hand, a window of so many bytes.
+    /// One more set at hand: a window of this many bytes.
     Window,
-    /// One more set at hand, of a mapped page.
+    /// One more set at hand: a mapped page.
     Page,
-    /// One more plane that an fd names.
+    /// One more plane, with an fd of its own.
     Share,
     /// An fd is closed.
     CloseFd,
-    /// The case ends; what its disk holds.
+    /// The case ends. Prints what its disk holds.
     Close,
-    /// A number is put into the closed disk, 8 bytes from a place on.
+    /// Puts a number into the closed disk: 8 bytes from a place on.
     Poke,
     /// The text of the closed case's frames from a number to another.
     Export,
-    /// The closed case again, or the queue's, as one list.
+    /// Repeats the closed case, or that of the queue, as one list.
     Again,
-    /// What may be shown once the disk had so many calls.
+    /// What may be shown once the disk has made this many calls.
     Step,
-    /// The closed case again, with a stop at each moment and each spoilt content; the numbers of mixes.
+    /// Repeats the closed case, with a stop at each moment and each spoilt content; the numbers are those of mixes.
     Stops,
-    /// The closed case again, each call failing.
+    /// Repeats the closed case, with each call failing in turn.
     Failing,
     ReqBufs,
     QueryBuf,
@@ -56,22 +56,22 @@ pub(crate) enum Verb {
     Fatal,
     Dequeue,
     Submit,
-    /// The frame of so many bytes and a number is given to the desk itself.
+    /// Gives the desk itself a frame: how many bytes, and its number.
     Put,
     Requeue,
     Flush,
     Lock,
     Unlock,
-    /// Version 2 of the layout is made of version 1.
+    /// Upgrades version 1 of the layout to version 2.
     Upgrade,
     Read,
-    /// The held frames of a time: its first moment, and its last.
+    /// The held frames of a time, from its first moment to its last.
     Sought,
     Status,
     Outline,
-    /// How many buffers a queue grants for so many.
+    /// How many buffers a queue grants for this many.
     Grants,
-    /// Whether the device has started since the last such question.
+    /// Whether the device has started since this was last asked.
     Fresh,
 }
 
@@ -128,16 +128,16 @@ const VERBS: [Row; 44] = [
 pub(crate) struct Call {
     pub(crate) verb: Verb,
     pub(crate) numbers: Vec<u64>,
-    /// The memory that is named: mapped where none is.
+    /// The memory that is named; mapped memory where none is.
     pub(crate) memory: Memory,
     /// No planes are given.
     pub(crate) bare: bool,
-    /// The buffer type is another one than the queue's.
+    /// The buffer type is not the queue's.
     pub(crate) other: bool,
 }
 
 impl Call {
-    /// A number; 0 where there is none.
+    /// A number of the call; 0 where there is none.
     pub(crate) fn number(&self, place: usize) -> u64 {
         match self.numbers.get(place) {
             Some(number) => *number,
@@ -145,7 +145,7 @@ impl Call {
         }
     }
 
-    /// A number of 32 bits; a larger one is the greatest of them.
+    /// A number of 32 bits; u32::MAX for a larger one.
     pub(crate) fn small(&self, place: usize) -> u32 {
         match u32::try_from(self.number(place)) {
             Ok(number) => number,
@@ -157,7 +157,7 @@ impl Call {
 // A call with its name, and how many numbers it needs.
 type Row = (&'static str, Verb, usize);
 
-// Whether a row is the one of a name.
+// Whether a row has a name.
 fn is_named(row: &Row, word: &str) -> bool {
     row.0 == word
 }
@@ -172,7 +172,7 @@ fn row_of(table: &[Row], word: &str) -> Option<Row> {
     None
 }
 
-// Takes in a word behind the name; false where it is none.
+// Reads a word after the name. Returns false where it is none.
 fn takes(call: &mut Call, word: &str) -> Result<bool, AllocError> {
     if let Ok(number) = word.parse::<u64>() {
         call.numbers.push(number)?;
@@ -192,7 +192,7 @@ fn takes(call: &mut Call, word: &str) -> Result<bool, AllocError> {
     Ok(true)
 }
 
-// Takes in the words behind the name; false where one is none.
+// Reads the words after the name. Returns false where one is none.
 fn takes_all(call: &mut Call, words: &[&str]) -> Result<bool, AllocError> {
     for word in words {
         if !takes(call, word)? {

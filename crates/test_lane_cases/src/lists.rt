@@ -1,4 +1,4 @@
-//! Lists of a lane's calls: events that follow one another are one list.
+//! Lists of a lane's calls. Events that follow one another are one list.
 use crate::case::{Case, Opening, asks, begin, disk_of};
 use crate::event::lane_event;
 use crate::line::Call;
@@ -13,7 +13,7 @@ use std::alloc::Global;
 use std::io::Write;
 use std::mem;
 
-/// What a case did: how it began, over which disk, and each call with what it answered.
+/// What a case did: how it began, over which disk, and each call with its answer.
 #[derive(Drop)]
 pub(crate) struct List {
     pub(crate) opening: Opening,
@@ -22,7 +22,7 @@ pub(crate) struct List {
     pub(crate) told: Vec<Vec<u8>>,
 }
 
-// The planes that a reply hands back are at hand again.
+// Puts the planes that a reply hands back at hand again.
 fn takes_back(reply: LaneReply<AnyPlane>, sets: &mut Vec<PlaneSet<AnyPlane>>) -> Result<()> {
     match reply {
         LaneReply::Queue(done) => match done {
@@ -53,14 +53,14 @@ fn replies<D: Disk + Drop>(
     }
 }
 
-// What a reply says.
+// The text of a reply.
 fn text_of(alloc: Global, reply: &LaneReply<AnyPlane>) -> Result<Vec<u8>> {
     let mut text = Vec::new(alloc);
     told::lane(&mut text, reply)?;
     Ok(text)
 }
 
-// Tells a reply, and takes in what it hands back.
+// Adds the text of a reply, and takes what it hands back.
 fn tells(
     alloc: Global,
     reply: LaneReply<AnyPlane>,
@@ -86,7 +86,7 @@ fn does<D: Disk + Drop>(
     Ok(())
 }
 
-// The event of a call; None where it is to be asked.
+// The event of a call; None where the call is no event.
 fn event<D: Disk + Drop>(
     alloc: Global,
     case: &mut Case<D>,
@@ -107,7 +107,7 @@ fn asked<D: Disk + Drop>(alloc: Global, case: &mut Case<D>, call: &Call) -> Resu
     Ok(text)
 }
 
-/// Makes calls, and tells what each answers.
+/// Makes calls, and adds the answer to each.
 pub(crate) fn runs<D: Disk + Drop>(
     alloc: Global,
     case: &mut Case<D>,
@@ -128,7 +128,7 @@ pub(crate) fn runs<D: Disk + Drop>(
     does(alloc, case, events, told)
 }
 
-/// The first line that isn't the same.
+/// The place of the first line that isn't the same.
 pub(crate) fn first_other(found: &[Vec<u8>], wanted: &[Vec<u8>]) -> Option<usize> {
     let mut place = 0usize;
     for (one, other) in found.iter().zip(wanted) {
@@ -144,7 +144,7 @@ pub(crate) fn first_other(found: &[Vec<u8>], wanted: &[Vec<u8>]) -> Option<usize
     }
 }
 
-/// Does a list over a fresh disk as one.
+/// Does a list over a fresh disk as one list.
 pub(crate) fn replay<D: Disk + Drop>(
     alloc: Global,
     list: &List,
@@ -156,7 +156,7 @@ pub(crate) fn replay<D: Disk + Drop>(
     Ok((told, case))
 }
 
-/// Does a list over a fresh disk as one: the first reply that isn't the same, and the disk.
+/// Does a list over a fresh disk as one list. Returns the place of the first reply that isn't the same, and the disk.
 pub(crate) fn done_again<D: Disk + Drop>(
     alloc: Global,
     list: &List,
@@ -167,13 +167,13 @@ pub(crate) fn done_again<D: Disk + Drop>(
     Ok((other, disk_of(case)))
 }
 
-/// A reply isn't the same.
+/// Prints which reply isn't the same.
 pub(crate) fn other_reply(place: usize, out: &mut Vec<u8>) -> Result<()> {
     told::named(out, "another reply at call", place as u64)?;
     Ok(())
 }
 
-// The bytes are the same, or aren't.
+// Prints whether the bytes are the same.
 fn tells_bytes(same: bool, count: usize, out: &mut Vec<u8>) -> Result<()> {
     if same {
         told::named(out, "the same bytes and replies:", count as u64)?;
@@ -183,7 +183,7 @@ fn tells_bytes(same: bool, count: usize, out: &mut Vec<u8>) -> Result<()> {
     Ok(())
 }
 
-/// Does a list again as one: replies and bytes are the same.
+/// Repeats a list as one. Prints whether the replies and the bytes are the same.
 pub(crate) fn again(alloc: Global, list: &List, image: &[u8], out: &mut Vec<u8>) -> Result<()> {
     let disk = MemDisk::of(list.start.as_slice().to_vec(alloc)?);
     let (other, disk) = done_again(alloc, list, disk)?;

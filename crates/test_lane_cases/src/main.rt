@@ -1,16 +1,16 @@
-//! Cases of desks, lanes and queues, one call a line of standard input with what it answers.
+//! Cases of desks, lanes and queues: each line of standard input is a call with its answer.
 //!
-//! An empty line, or one that begins with `#`, is printed as it stands. Of any other, what stands up to `=>` is
-//! printed, and then this program's own answer: so its input and its output are one text, `stdout`.
+//! An empty line, and one that begins with `#`, is printed as it is. Of any other line the text up to `=>` is printed,
+//! and then this program's own answer. So the input and the expected output are one text, `stdout`.
 //!
 //! - `line` has the calls and how they are written;
-//! - `plane` has memory of each kind, `event` what a call sends to a lane or a queue, `told` what a reply tells;
+//! - `plane` has memory of each kind, `event` the events that calls make of a lane or a queue, `told` replies as text;
 //! - `camera` is a case's device; `case` is a lane, a desk or a queue under way; `desk` makes the calls of a desk,
 //!   `queue` those of a queue;
 //! - `script` does a list of events, as `tools/queue_model.py` writes them: a line `list ..`, or each line of the input
 //!   where the program's word is `lists`;
-//! - `session` keeps the list of a case: `lists` does it again as one list, `stops` over a disk of which each moment
-//!   is a stop, `failing` over one of which each call fails; `shown` tells what a disk holds.
+//! - `session` keeps the list of a case. `lists` repeats it as one list, `stops` over a disk that is stopped at each
+//!   moment, `failing` over one that fails each call; `shown` prints what a disk holds.
 #![tactic(auto)]
 
 mod camera;

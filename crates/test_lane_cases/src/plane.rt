@@ -94,7 +94,7 @@ pub(crate) fn window(alloc: Global, size: u32) -> Result<AnyPlane> {
     }
 }
 
-/// A plane in the memory of another device.
+/// A plane in another device's memory.
 pub(crate) fn shared(alloc: Global) -> Result<AnyPlane> {
     match DmabufPlane::new(alloc, page(alloc)?) {
         Ok(plane) => Ok(AnyPlane::Shared(plane)),

@@ -13,7 +13,7 @@ use std::alloc::{AllocFailed, Global};
 use std::io::{self, Write};
 use std::mem;
 
-/// How a case of a queue begins.
+/// How a case with a queue begins.
 #[derive(Clone, Copy)]
 pub(crate) struct QueueOpening {
     /// The side of its GREY frames.
@@ -32,7 +32,7 @@ pub(crate) struct QueueCase {
     supply: Supply,
 }
 
-/// What a case of a queue did: how it began, and each call with what it answered.
+/// What a case with a queue did: how it began, and each call with its answer.
 #[derive(Drop)]
 pub(crate) struct QueueList {
     opening: QueueOpening,
@@ -40,7 +40,7 @@ pub(crate) struct QueueList {
     told: Vec<Vec<u8>>,
 }
 
-// The planes of a refusal are at hand again.
+// Puts the planes of a refusal at hand again.
 fn refused_back(
     refused: Refused<AnyPlane>,
     sets: &mut Vec<PlaneSet<AnyPlane>>,
@@ -59,7 +59,7 @@ fn refused_back(
     Ok(())
 }
 
-/// Planes that a reply hands back are at hand again.
+/// Puts the planes that a reply hands back at hand again.
 pub(crate) fn back(
     reply: QueueReply<AnyPlane>,
     sets: &mut Vec<PlaneSet<AnyPlane>>,
@@ -81,7 +81,7 @@ fn pages(alloc: Global, count: u64) -> Result<Vec<PlaneSet<AnyPlane>>> {
     Ok(sets)
 }
 
-// A queue that begins so.
+// A queue that begins in this way.
 fn begin(alloc: Global, opening: QueueOpening) -> Result<QueueCase> {
     let QueueOpening { side, least, sets } = opening;
     if 64 < side || 32 < least {
@@ -98,7 +98,8 @@ fn begin(alloc: Global, opening: QueueOpening) -> Result<QueueCase> {
     })
 }
 
-/// A queue of GREY frames: their side, how many queued buffers start the device, and how many sets are at hand.
+/// A queue of GREY frames: the side of a frame, how many queued buffers start the device, and how many sets are at
+/// hand.
 pub(crate) fn begins(alloc: Global, call: &Call) -> Result<(QueueCase, QueueList)> {
     let opening = QueueOpening {
         side: call.small(0),
@@ -130,14 +131,14 @@ fn replies(
     }
 }
 
-// What a reply says.
+// The text of a reply.
 fn text_of(alloc: Global, reply: &QueueReply<AnyPlane>) -> Result<Vec<u8>> {
     let mut text = Vec::new(alloc);
     told::queue(&mut text, reply)?;
     Ok(text)
 }
 
-// Tells a reply, and takes in what it hands back.
+// Adds the text of a reply, and takes what it hands back.
 fn tells(
     alloc: Global,
     reply: QueueReply<AnyPlane>,
@@ -163,13 +164,13 @@ fn does(
     Ok(())
 }
 
-// Whether the device has started since the last such question.
+// Prints whether the device has started since this was last asked.
 fn fresh(case: &mut QueueCase, out: &mut Vec<u8>) -> io::Result<()> {
     let fresh = case.queue.take_fresh();
     out.write_all(if fresh { b"yes" } else { b"no" })
 }
 
-// One more set at hand: how many there are.
+// Adds a set to those at hand, and prints how many there are.
 fn adds(case: &mut QueueCase, plane: AnyPlane, out: &mut Vec<u8>) -> Result<()> {
     case.supply.sets.push(PlaneSet::one(plane))?;
     told::named(out, "sets", case.supply.sets.len() as u64)?;
@@ -195,7 +196,7 @@ fn asked(alloc: Global, case: &mut QueueCase, call: &Call) -> Result<Vec<u8>> {
     Ok(text)
 }
 
-// Makes calls, and tells what each answers: events that follow one another are one list.
+// Makes calls, and adds the answer to each. Events that follow one another are one list.
 fn runs(
     alloc: Global,
     case: &mut QueueCase,
@@ -215,7 +216,7 @@ fn runs(
     does(alloc, case, events, told)
 }
 
-/// Makes a call, which comes behind the others of the list.
+/// Makes a call, and adds it to the list.
 pub(crate) fn calls(
     alloc: Global,
     case: &mut QueueCase,
@@ -235,7 +236,7 @@ pub(crate) fn calls(
     Ok(())
 }
 
-// What the calls of a list answer over a fresh queue.
+// The answers to the calls of a list over a fresh queue.
 fn told_again(alloc: Global, list: &QueueList) -> Result<Vec<Vec<u8>>> {
     let mut told = Vec::new(alloc);
     let mut case = begin(alloc, list.opening)?;
@@ -243,7 +244,7 @@ fn told_again(alloc: Global, list: &QueueList) -> Result<Vec<Vec<u8>>> {
     Ok(told)
 }
 
-/// Makes the calls of a list again, over a fresh queue: the replies are the same.
+/// Repeats the calls of a list over a fresh queue. Prints whether the replies are the same.
 pub(crate) fn again(alloc: Global, list: &QueueList, out: &mut Vec<u8>) -> Result<()> {
     let told = told_again(alloc, list)?;
     match first_other(&told, &list.told) {

@@ -1,4 +1,4 @@
-//! What lines share: the disk, the case that is under way, and the list of the case before.
+//! What lines share: the disk, the case that is under way, and the list of the case before it.
 use crate::case::{Case, Opening, begin, disk_of, opening_of};
 use crate::failing::failing;
 use crate::line::{Call, Verb, call_of};
@@ -59,7 +59,7 @@ impl CaseSession {
     }
 }
 
-// What was formatted is an image.
+// Keeps the image of a store that was formatted.
 fn formats(
     alloc: Global,
     session: &mut CaseSession,
@@ -77,7 +77,7 @@ fn formats(
     }
 }
 
-// A case is under way, which has done nothing yet.
+// Sets the case that is under way, which has done nothing yet.
 fn set_case(alloc: Global, session: &mut CaseSession, case: Case<MemDisk>, list: List) {
     session.case = Some(case);
     session.queue = None;
@@ -85,7 +85,7 @@ fn set_case(alloc: Global, session: &mut CaseSession, case: Case<MemDisk>, list:
     session.steps = Vec::new(alloc);
 }
 
-// A lane or a desk begins over the image.
+// Begins a lane or a desk over the image.
 fn begins(alloc: Global, session: &mut CaseSession, call: &Call, out: &mut Vec<u8>) -> Result<()> {
     out.write_all(b"begins")?;
     let opening = opening_of(call);
@@ -101,13 +101,13 @@ fn begins(alloc: Global, session: &mut CaseSession, call: &Call, out: &mut Vec<u
     Ok(())
 }
 
-// A queue is under way.
+// Sets the queue that is under way.
 fn set_queue(session: &mut CaseSession, queue: (QueueCase, QueueList)) {
     session.queue = Some(queue);
     session.case = None;
 }
 
-// A queue begins.
+// Begins a queue.
 fn begins_queue(
     alloc: Global,
     session: &mut CaseSession,
@@ -120,7 +120,7 @@ fn begins_queue(
     Ok(())
 }
 
-// The case ends: what its disk shows.
+// Ends the case, and prints what its disk shows.
 fn closes(alloc: Global, session: &mut CaseSession, out: &mut Vec<u8>) -> Result<()> {
     session.queue = None;
     match session.case.take() {
@@ -136,7 +136,7 @@ fn closes(alloc: Global, session: &mut CaseSession, out: &mut Vec<u8>) -> Result
     }
 }
 
-// Puts a number into the image.
+// Puts a number into the image. Returns false where there is no such place.
 fn pokes(image: &mut [u8], at: u64, number: u64) -> bool {
     let mut place = at as usize;
     for byte in number.to_le_bytes() {
@@ -149,7 +149,7 @@ fn pokes(image: &mut [u8], at: u64, number: u64) -> bool {
     true
 }
 
-// Notes what may be shown once the disk had so many calls.
+// Notes what may be shown once the disk has made this many calls.
 fn notes(
     alloc: Global,
     session: &mut CaseSession,
@@ -165,7 +165,7 @@ fn notes(
     Ok(())
 }
 
-// A call of a lane or a desk. It comes behind the others of the list.
+// Makes a call of a lane or a desk, and adds it to the list.
 fn case_calls(
     alloc: Global,
     case: &mut Case<MemDisk>,
@@ -185,7 +185,7 @@ fn case_calls(
     Ok(())
 }
 
-// A call of what is under way.
+// Makes a call of what is under way.
 fn calls(alloc: Global, session: &mut CaseSession, call: Call, out: &mut Vec<u8>) -> Result<()> {
     if let Some(case) = &mut session.case {
         return case_calls(alloc, case, &mut session.list, call, out);
@@ -204,13 +204,13 @@ fn pokes_image(session: &mut CaseSession, call: &Call, out: &mut Vec<u8>) -> Res
     Ok(())
 }
 
-// The text of frames of the closed image.
+// Prints the text of frames of the closed image.
 fn exports(alloc: Global, session: &CaseSession, call: &Call, out: &mut Vec<u8>) -> Result<()> {
     let disk = MemDisk::of(session.image.as_slice().to_vec(alloc)?);
     shown::text_of_disk(alloc, disk, call, out)
 }
 
-// Does the list again that a queue has done, or else the one of the closed case.
+// Repeats the list of the queue, or else the one of the closed case.
 fn repeats(alloc: Global, session: &CaseSession, out: &mut Vec<u8>) -> Result<()> {
     match &session.queue {
         Some((_, list)) => queue::again(alloc, list, out),
@@ -218,7 +218,7 @@ fn repeats(alloc: Global, session: &CaseSession, out: &mut Vec<u8>) -> Result<()
     }
 }
 
-// What a line answers.
+// Prints the answer to a line.
 fn does(
     alloc: Global,
     session: &mut CaseSession,
@@ -248,7 +248,7 @@ fn does(
     }
 }
 
-// What stands before the sign, or the whole line.
+// The text before the sign, or the whole line, and the text after it.
 fn before<'a>(line: &'a str, sign: &str) -> (&'a str, &'a str) {
     match line.split_once(sign) {
         Some((before, behind)) => (before, behind),
@@ -256,7 +256,7 @@ fn before<'a>(line: &'a str, sign: &str) -> (&'a str, &'a str) {
     }
 }
 
-// What a line tells: what stands before the sign.
+// The answer to a line, which is the text before the sign.
 fn tells(alloc: Global, session: &mut CaseSession, text: &str) -> Result<Vec<u8>> {
     let (asked, shown) = before(text, "shows");
     let mut told = Vec::new(alloc);

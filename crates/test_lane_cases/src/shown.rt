@@ -10,14 +10,14 @@ use loop_y4m::{ExportFault, export};
 use std::alloc::Global;
 use std::io::{self, Write};
 
-/// What is shown once a disk had so many calls.
+/// What is shown once a disk has made this many calls.
 #[derive(Drop)]
 pub(crate) struct Step {
     pub(crate) calls: u64,
     pub(crate) shown: Vec<u8>,
 }
 
-// A frame's number, and whether it is whole.
+// Prints a frame's number, and whether it is whole.
 fn frame(alloc: Global, store: &mut Store<MemDisk>, number: u64, out: &mut Vec<u8>) -> Result<()> {
     told::named(out, "", number)?;
     match store.read_frame(alloc, number) {
@@ -28,7 +28,7 @@ fn frame(alloc: Global, store: &mut Store<MemDisk>, number: u64, out: &mut Vec<u
     Ok(())
 }
 
-// What a store shows.
+// Prints what a store shows.
 fn of_store(alloc: Global, store: &mut Store<MemDisk>, out: &mut Vec<u8>) -> Result<()> {
     let Ok(numbers) = store.frames(alloc) else {
         return Err(anyhow!("memory for numbers"));
@@ -44,7 +44,7 @@ fn of_store(alloc: Global, store: &mut Store<MemDisk>, out: &mut Vec<u8>) -> Res
     Ok(())
 }
 
-/// What a disk shows.
+/// Prints what a disk shows.
 pub(crate) fn of_disk(alloc: Global, disk: MemDisk, out: &mut Vec<u8>) -> Result<()> {
     match Store::open(alloc, disk) {
         Ok(store) => {
@@ -58,7 +58,7 @@ pub(crate) fn of_disk(alloc: Global, disk: MemDisk, out: &mut Vec<u8>) -> Result
     }
 }
 
-// A text: what isn't printed stands as two hexadecimal digits behind a backslash.
+// Prints a text. A byte that isn't printable is a backslash and two hexadecimal digits.
 fn text(out: &mut Vec<u8>, bytes: &[u8]) -> io::Result<()> {
     for byte in bytes {
         if (b' '..=b'~').contains(byte) {
@@ -70,7 +70,7 @@ fn text(out: &mut Vec<u8>, bytes: &[u8]) -> io::Result<()> {
     Ok(())
 }
 
-// The text of a store's frames.
+// Prints the text of a store's frames.
 fn exported(
     alloc: Global,
     store: &mut Store<MemDisk>,
@@ -86,7 +86,7 @@ fn exported(
     Ok(())
 }
 
-/// The text of a disk's frames from a number to another.
+/// Prints the text of a disk's frames from a number to another.
 pub(crate) fn text_of_disk(
     alloc: Global,
     disk: MemDisk,
@@ -105,7 +105,7 @@ pub(crate) fn text_of_disk(
     }
 }
 
-// How many of the steps were acknowledged within so many calls.
+// How many of the steps were acknowledged within this many calls.
 fn done_within(steps: &[Step], calls: u64) -> usize {
     let mut done = 0usize;
     for step in steps {
@@ -116,7 +116,7 @@ fn done_within(steps: &[Step], calls: u64) -> usize {
     done
 }
 
-/// Whether an event ends behind so many calls.
+/// Whether an event ends after this many calls.
 pub(crate) fn is_end(steps: &[Step], calls: u64) -> bool {
     for step in steps {
         if step.calls == calls {
@@ -126,8 +126,8 @@ pub(crate) fn is_end(steps: &[Step], calls: u64) -> bool {
     false
 }
 
-/// Whether one of the steps is shown behind those that were acknowledged within so many calls: none of them, or up to
-/// those of the event that had made a further call.
+/// Whether this may be shown after this many calls: the last of the steps that were acknowledged by then, or one of the
+/// steps of an event that was under way.
 pub(crate) fn is_left(steps: &[Step], calls: u64, goes_on: bool, shown: &[u8]) -> bool {
     let done = done_within(steps, calls);
     let next = match steps.get(done) {

@@ -1,4 +1,4 @@
-//! A list over a disk of which each moment is a stop.
+//! A list over a disk that is stopped at each moment.
 use crate::line::Call;
 use crate::lists::{List, done_again, other_reply};
 use crate::shown::{self, Step, is_end, is_left};
@@ -7,7 +7,7 @@ use loop_disk::{CrashDisk, Spoil};
 use std::alloc::{AllocError, Global};
 use std::io::Write;
 
-// What what isn't synced may read as: the five contents, and a mix for each number.
+// What unsynced bytes may read as: the five contents, and a mix for each number.
 fn spoils(alloc: Global, call: &Call) -> Result<Vec<Spoil>, AllocError> {
     let mut spoils = Vec::from_slice(
         alloc,
@@ -25,7 +25,7 @@ fn spoils(alloc: Global, call: &Call) -> Result<Vec<Spoil>, AllocError> {
     Ok(spoils)
 }
 
-// What a stop behind so many calls leaves.
+// What a stop after this many calls leaves.
 fn left_at(alloc: Global, disk: &CrashDisk, calls: usize, spoil: Spoil) -> Result<Vec<u8>> {
     if disk.calls() < calls {
         return Err(anyhow!("there aren't so many calls"));
@@ -35,7 +35,7 @@ fn left_at(alloc: Global, disk: &CrashDisk, calls: usize, spoil: Spoil) -> Resul
     Ok(text)
 }
 
-// Tells the first spoilt content for which a stop leaves what it may not; false where there is none.
+// Prints the first spoilt content for which a stop leaves what it may not. Returns false where there is none.
 fn is_wrong_at(
     alloc: Global,
     disk: &CrashDisk,
@@ -57,7 +57,7 @@ fn is_wrong_at(
     Ok(false)
 }
 
-// Tells the first stop that leaves what it may not; false where there is none.
+// Prints the first stop that leaves what it may not. Returns false where there is none.
 fn is_wrong(
     alloc: Global,
     disk: &CrashDisk,
@@ -73,7 +73,7 @@ fn is_wrong(
     Ok(false)
 }
 
-// Tells the first stop that leaves what it may not, or how many there were.
+// Prints the first stop that leaves what it may not, or how many stops there were.
 fn judges(
     alloc: Global,
     disk: &CrashDisk,
@@ -93,7 +93,7 @@ fn judges(
     Ok(())
 }
 
-/// Does a list over such a disk: each stop leaves a beginning with all that was answered.
+/// Does a list over such a disk. Each stop has to leave a prefix of the steps, with all that were acknowledged.
 pub(crate) fn stops(
     alloc: Global,
     list: &List,

@@ -1,4 +1,4 @@
-//! What replies tell, as text.
+//! Replies, as text.
 use crate::frame::is_whole;
 use crate::plane::AnyPlane;
 use bitflags::Flags;
@@ -21,12 +21,12 @@ pub(crate) fn errno(out: &mut Vec<u8>, errno: Errno) -> io::Result<()> {
     write!(out, "{reason:?} {number}")
 }
 
-/// A number behind its name.
+/// A number after its name.
 pub(crate) fn named(out: &mut Vec<u8>, name: &str, number: u64) -> io::Result<()> {
     write!(out, "{name} {number}")
 }
 
-// Sets of planes that come out with an answer.
+// Prints how many sets of planes an answer has.
 fn sets(out: &mut Vec<u8>, count: usize, how: &str) -> io::Result<()> {
     if count == 0 {
         return Ok(());
@@ -81,7 +81,7 @@ fn lane_fault(out: &mut Vec<u8>, refusal: LaneFault) -> io::Result<()> {
     }
 }
 
-/// What a flush did.
+/// The outcome of a flush.
 pub(crate) fn flushed(out: &mut Vec<u8>, done: &Result<Flushed, StoreFault>) -> io::Result<()> {
     match done {
         Ok(done) => {

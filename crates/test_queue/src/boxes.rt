@@ -1,5 +1,5 @@
-//! A frame on its way through a queue of boxes, as a crate above the queue writes it: what lies in a box of any
-//! kind of plane is named by a quote of the box's impl.
+//! A frame on its way through a queue of boxes, as a crate above the queue would write it. What is in a box of any kind
+//! of plane is named by a quote of the box's impl.
 ghost use Rattle.std.specs.Prelude.{◌≡◌, length, take, true};
 ghost use Rattle.loop_vb2.specs.Planes.{frame_size, number_at};
 ghost use Rattle.loop_vb2.specs.State.{QueueState, StandsQueue};
@@ -7,9 +7,9 @@ ghost use Rattle.loop_vb2.specs.State.{QueueState, StandsQueue};
 use loop_plane::PlaneMemory;
 use loop_vb2::{PlaneSet, Queue, Stamp};
 
-/// Completes a buffer with a frame, dequeues it, and reads its first plane. True says that `out` has the first
-/// bytes of the frame; false, that a call was refused, or that another buffer was to be dequeued first. `bytes`
-/// is one whole frame.
+/// Completes a buffer with a frame, dequeues it, and reads its first plane. `bytes` is one whole frame. Returns true
+/// where `out` has the first bytes of the frame. Returns false where a call was refused, or where another buffer was
+/// dequeued first.
 pub fn read_back(queue: &mut Queue, index: u32, stamp: Stamp, bytes: &[u8], out: &mut [u8]) -> bool
     requires whole { length bytes.now ≡ frame_size queue.old.body.shape }
     ensures shape { queue.new.body.shape ≡ queue.old.body.shape }

@@ -7,7 +7,7 @@ use std::process::Abort;
 use std::test::Fail;
 use test_alloc::{Budget, take_one};
 
-// Takes a block of the last ones, which are so many, and gives it back.
+// Takes a block where this many are left, and gives it back.
 fn takes(rt: &impl Abort, memory: &Budget, left: u64) -> Result<(), AllocError> {
     same!(rt; memory.left(), left);
     let block = Box::new(memory, left)?;
@@ -15,19 +15,19 @@ fn takes(rt: &impl Abort, memory: &Budget, left: u64) -> Result<(), AllocError> 
     Ok(())
 }
 
-// No block is granted.
+// Checks that no block is granted.
 fn is_spent(rt: &impl Abort, memory: &Budget, allowed: u64) {
     same!(rt; memory.left(), 0, allowed);
     holds!(rt; Box::new(memory, 9u64).is_err(), allowed);
 }
 
-// Takes so many blocks, one after another, and then none.
+// Takes this many blocks, one after another, and checks that no more are granted.
 fn grants(rt: &impl Abort, memory: &Budget, allowed: u64) -> Result<(), AllocError> {
     memory.allow(allowed);
     for granted in 0..allowed {
         takes(rt, memory, allowed - granted)?;
     }
-    // Each box has gone back by now, and the budget is spent all the same.
+    // Each box has been given back by now, and the budget is spent all the same.
     is_spent(rt, memory, allowed);
     is_spent(rt, memory, allowed);
     Ok(())
@@ -37,7 +37,7 @@ fn grants(rt: &impl Abort, memory: &Budget, allowed: u64) -> Result<(), AllocErr
 fn exactly_the_allowed_blocks_are_granted(rt: HostRuntime) -> Result<(), Fail> {
     let memory = Budget::new(rt.alloc());
     same!(rt; memory.left(), u64::MAX);
-    // Spent by the round before, the budget grants again after each `allow`.
+    // The round before has spent the budget, and it grants again after each `allow`.
     for allowed in 0..4u64 {
         grants(&rt, &memory, allowed)?;
     }
@@ -61,7 +61,7 @@ fn a_refused_vec_keeps_its_contents(rt: HostRuntime) -> Result<(), Fail> {
     Ok(())
 }
 
-// A vec of so many bytes.
+// A vec of this many bytes.
 fn bytes<'a>(
     memory: &'a Budget<&'a LocalHeap>,
     count: usize,
@@ -73,7 +73,7 @@ fn bytes<'a>(
 fn a_dropped_block_goes_back_to_the_allocator_below(rt: HostRuntime) -> Result<(), Fail> {
     let heap = LocalHeap::new(rt.alloc(), 1024)?;
     let memory = Budget::new(&heap);
-    // Each takes half of the heap and more, so that the next one finds room only where this one has gone back.
+    // Each takes half of the heap and more, so the next one is granted only if this one was given back.
     for _ in 0..3 {
         let most = bytes(&memory, 600)?;
         holds!(rt; memory.inner().used() >= most.capacity());

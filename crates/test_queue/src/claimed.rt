@@ -1,4 +1,4 @@
-//! Claims that are granted or refused, as the tests expect it.
+//! Claims that are granted or refused, as the tests expect.
 
 ghost use Rattle.std.specs.Prelude.{◌≡◌, length};
 ghost use Rattle.std.specs.Arc.{arc_value};
@@ -10,7 +10,7 @@ use std::alloc::Allocator;
 use std::process::Abort;
 use std::sync::Arc;
 
-/// So many free pages of the ledger.
+/// This many free pages of the ledger.
 pub(crate) fn claimed<A: Allocator + Copy>(
     rt: &impl Abort,
     alloc: A,
@@ -27,7 +27,7 @@ pub(crate) fn claimed<A: Allocator + Copy>(
     }
 }
 
-/// A claim of so many pages is refused by this name, and hands its seat back.
+/// Checks that a claim of this many pages is refused by this name, and hands its seat back.
 pub(crate) fn refused<A: Allocator + Copy>(
     rt: &impl Abort,
     alloc: A,

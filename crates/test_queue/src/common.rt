@@ -1,4 +1,4 @@
-//! What the tests share: planes over claimed pages, and a queue of frames of one byte whose calls stand in tables.
+//! What the tests share: planes over claimed pages, and a queue of frames of one byte whose calls are rows of tables.
 
 ghost use Rattle.std.specs.Prelude.{◌≡◌, ◌≤◌, length};
 ghost use Rattle.std.specs.Arc.{arc_value};
@@ -33,7 +33,7 @@ pub(crate) fn page<A: Allocator + Copy>(
     }
 }
 
-/// Puts a set of one page behind the others, and gives the seat for the next.
+/// Adds a set of one page, and returns the seat for the next.
 pub(crate) fn supplied<A: Allocator + Copy>(
     rt: &impl Abort,
     alloc: A,
@@ -54,7 +54,7 @@ pub(crate) fn supplied<A: Allocator + Copy>(
     next
 }
 
-/// Puts so many sets of one page behind the others.
+/// Adds this many sets of one page.
 pub(crate) fn supplied_many<A: Allocator + Copy>(
     rt: &impl Abort,
     alloc: A,
@@ -72,7 +72,7 @@ pub(crate) fn supplied_many<A: Allocator + Copy>(
     seat
 }
 
-/// How many buffers there are, of which memory, and whether the device has started.
+/// How many buffers there are, with which memory, and whether the device has started.
 pub(crate) fn facts<P: PlaneMemory, A: Allocator + Copy>(
     queue: &Queue<P, A>,
 ) -> (usize, Memory, bool) {
@@ -99,7 +99,7 @@ pub(crate) enum Call {
     Fatal,
 }
 
-/// What a call answers.
+/// The answer to a call.
 #[derive(Clone, Copy, PartialEq, Eq, Debug)]
 pub(crate) enum Said {
     Done,
@@ -133,12 +133,12 @@ impl<P, A: Allocator + Copy> Model for Small<P, A> {
     ghost invariant = { λ s. frame_size s.queue.body.shape ≡ 1 };
 }
 
-// What a refusal says.
+// The answer that is a refusal.
 fn refused(errno: Errno) -> Said {
     Said::Refused(errno.reason, errno.number)
 }
 
-// What a call says that answers nothing.
+// The answer to a call that returns nothing.
 fn done(answer: Result<(), Errno>) -> Said {
     match answer {
         Ok(()) => Said::Done,
@@ -147,7 +147,7 @@ fn done(answer: Result<(), Errno>) -> Said {
 }
 
 impl<A: Allocator + Copy> Small<MmapPlane<A>, A> {
-    /// A queue of mapped memory, with so many buffers.
+    /// A queue of mapped memory, with this many buffers.
     pub(crate) fn new(
         rt: &impl Abort,
         alloc: A,
@@ -204,7 +204,7 @@ impl<P: PlaneMemory, A: Allocator + Copy> Small<P, A> {
         }
     }
 
-    // The device ends a frame, whose byte is the buffer's index and 100, or gives it up.
+    // The device ends a frame, whose byte is the buffer's index + 100, or gives it up.
     fn end(&mut self, index: u32, whole: bool) -> Said {
         let stamp = Stamp {
             sequence: index,
@@ -244,7 +244,7 @@ impl<P: PlaneMemory, A: Allocator + Copy> Small<P, A> {
     }
 }
 
-/// Makes the calls of a table. The first that answers something else fails the test.
+/// Makes the calls of a table. The first that is answered otherwise fails the test.
 pub(crate) fn runs<P: PlaneMemory, A: Allocator + Copy>(
     rt: &impl Abort,
     small: &mut Small<P, A>,

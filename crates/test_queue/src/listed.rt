@@ -8,7 +8,7 @@ use loop_plane::{Memory, PlaneMemory};
 use loop_vb2::Queue;
 use std::alloc::Allocator;
 
-/// Answers what stands in its list, then End; byte i of each `out` is the number of the call.
+/// Returns what its list has, then `End`. Byte i of each `out` is the number of the call.
 #[derive(Drop)]
 pub(crate) struct Listed {
     pub answers: [Next; 5],
@@ -35,8 +35,8 @@ impl FrameSource for Listed {
     }
 }
 
-/// Lends frames of one byte, those of its row, and then ends; a zero is a frame that can't be had. Whoever asks it by
-/// `next` gets none.
+/// Lends frames of one byte, those of its row, and then ends. A zero is a frame that can't be had. `next` returns no
+/// frame.
 #[derive(Drop)]
 pub(crate) struct Lender {
     pub row: [u8; 3],

@@ -20,14 +20,14 @@ type Sets<'a> = Vec<PlaneSet<Plane<'a>>, &'a Budget>;
 
 type Events<'a> = Vec<QueueEvent<Plane<'a>, &'a Budget>, &'a Budget>;
 
-// What comes of a list of one REQBUFS.
+// The outcome of a list of one REQBUFS.
 #[derive(Clone, Copy, PartialEq, Eq, Debug)]
 enum Came {
-    // So many events come back, and so many sets in them.
+    // The list isn't done. Its events come back, with this many sets in them.
     Back(Errno, usize),
-    // The request is refused, and so many sets come back.
+    // The request is refused, and this many sets come back.
     Refused(Errno, usize),
-    // So many buffers.
+    // This many buffers.
     Granted(u32),
     Other,
 }
@@ -55,7 +55,7 @@ fn sets_of(events: &[QueueEvent<Plane<'_>, &Budget>]) -> usize {
     }
 }
 
-// What the first reply says.
+// The outcome that the first reply says.
 fn come_of(replies: &[QueueReply<Plane<'_>, &Budget>]) -> Came {
     match replies.first() {
         Some(QueueReply::Ioctl(Ok(IoctlReply::Granted(granted)))) => Came::Granted(granted.count),
@@ -66,7 +66,8 @@ fn come_of(replies: &[QueueReply<Plane<'_>, &Budget>]) -> Came {
     }
 }
 
-// Does the list where so many growths are granted, all of which are needed. Where it isn't done the queue is as it was.
+// Does the list where this many growths are granted, all of which are needed. Where the list isn't done the queue is as
+// it was.
 fn does<'a>(
     rt: &impl Abort,
     memory: &'a Budget,
@@ -95,8 +96,8 @@ const NO_MEMORY: Errno = Errno {
     number: 12,
 };
 
-// How many growths are granted, and what comes of the list then: the first is that of the replies, the last that of the
-// buffers, and where there are buffers before, that of the list of their planes lies between.
+// How many growths are granted, and the outcome of the list. The first growth is that of the replies, the last that of
+// the buffers. Where there were buffers before, that of the list of their planes is between them.
 const ROWS: [(u64, Came); 6] = [
     (0, Came::Back(NO_MEMORY, 2)),
     (1, Came::Refused(NO_MEMORY, 2)),

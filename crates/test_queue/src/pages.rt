@@ -7,7 +7,7 @@ ghost use Rattle.loop_pages.specs.Place.{IsIdle};
 use crate::asserts::{holds, same};
 use crate::claimed::{claimed, refused};
 use loop_pages::{PageFault, PageHold, PageLedger, PageSeat};
-use std::alloc::{Allocator, Global};
+use std::alloc::Global;
 use std::process::Abort;
 use std::sync::Arc;
 use std::test::Fail;
@@ -35,14 +35,14 @@ fn claims_three(
     two
 }
 
-// All four pages are claimed, and given back where the hold is dropped.
+// All four pages are claimed, and given back when the hold is dropped.
 fn claims_four(rt: &impl Abort, alloc: Global, ledger: &Arc<PageLedger>, seat: PageSeat)
     requires { IsIdle (arc_value ledger.now) seat }
 {
     same!(rt; claimed(rt, alloc, ledger, seat, 4).count(), 4);
 }
 
-// Claims of no page and of more than there are.
+// Claims of no page and of more than there are, which are refused.
 fn refuses_counts(rt: &impl Abort, alloc: Global, ledger: &Arc<PageLedger>, seat: PageSeat)
     requires { IsIdle (arc_value ledger.now) seat }
 {
@@ -51,7 +51,7 @@ fn refuses_counts(rt: &impl Abort, alloc: Global, ledger: &Arc<PageLedger>, seat
     claims_four(rt, alloc, ledger, seat);
 }
 
-// Ledgers of no page and of too many.
+// Ledgers of no page and of too many, which are refused.
 fn refuses_ledgers(rt: &impl Abort, alloc: Global, counts: &[u32]) {
     for count in counts {
         let fault = PageLedger::new(alloc, *count).err();
@@ -107,7 +107,7 @@ fn a_ledger_of_1024_pages_is_claimed_whole_and_page_by_page(rt: HostRuntime) -> 
     Ok(())
 }
 
-// A ledger of four pages is made in so many growths, and refused with less.
+// A ledger of four pages takes this many growths, and is refused with fewer.
 fn is_made_in(rt: &impl Abort, budget: &Budget, growths: u64) {
     for blocks in 0..growths {
         budget.allow(blocks);

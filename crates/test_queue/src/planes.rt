@@ -64,7 +64,7 @@ fn scattered(
     Ok(Box::new(alloc, plane)?)
 }
 
-// Fills a plane of any kind with three bytes, and reads the last two of them.
+// Fills a plane of any kind with three bytes, and checks the last two of them.
 fn reads_back<P: PlaneMemory>(plane: &mut P) -> bool
     requires { 3 ≤ (P.plane plane.old).length }
 {
@@ -74,7 +74,7 @@ fn reads_back<P: PlaneMemory>(plane: &mut P) -> bool
     plane.used() == 3 && out == [2, 3]
 }
 
-// Each of the planes has room for three bytes and reads them back.
+// Fills each of the planes, and reads it back.
 fn read_back(rt: &impl Abort, planes: &mut [Plane]) {
     for plane in planes {
         assert!(rt; plane.length() >= 3);
@@ -100,7 +100,7 @@ fn three_planes(
 }
 
 #[test]
-fn three_kinds_of_plane_in_one_list(rt: HostRuntime) -> Result<(), Fail> {
+fn three_kinds_of_plane_are_used_in_one_list(rt: HostRuntime) -> Result<(), Fail> {
     let alloc = rt.alloc();
     let (ledger, seat) = PageLedger::new(alloc, 4)?;
     let (last, seat) = ledger.split(seat);
@@ -112,7 +112,7 @@ fn three_kinds_of_plane_in_one_list(rt: HostRuntime) -> Result<(), Fail> {
     Ok(())
 }
 
-// Fills a window over the edge of two pages, and reads back what lies there.
+// Fills a window that crosses the edge of two pages, and reads those bytes back.
 fn window_reads_back(rt: &impl Abort, alloc: Global, hold: PageHold) -> Result<(), Fail>
     requires { length hold.pages ≡ 2 }
 {
@@ -126,7 +126,7 @@ fn window_reads_back(rt: &impl Abort, alloc: Global, hold: PageHold) -> Result<(
     Ok(())
 }
 
-// The same of a scatter list.
+// The same with a scatter list.
 fn list_reads_back(rt: &impl Abort, alloc: Global, hold: PageHold) -> Result<(), Fail>
     requires { length hold.pages ≡ 2 }
 {
@@ -144,7 +144,7 @@ fn list_reads_back(rt: &impl Abort, alloc: Global, hold: PageHold) -> Result<(),
 }
 
 #[test]
-fn a_window_and_a_scatter_list_over_a_pages_edge(rt: HostRuntime) -> Result<(), Fail> {
+fn a_window_and_a_scatter_list_cross_the_edge_of_a_page(rt: HostRuntime) -> Result<(), Fail> {
     let alloc = rt.alloc();
     let (ledger, seat) = PageLedger::new(alloc, 4)?;
     let (one, two) = ledger.split(seat);
@@ -152,7 +152,7 @@ fn a_window_and_a_scatter_list_over_a_pages_edge(rt: HostRuntime) -> Result<(), 
     list_reads_back(&rt, alloc, claimed(&rt, alloc, &ledger, two, 2))
 }
 
-// Attaches the one plane of a table, brings it back and closes its fd; another plane isn't taken for it.
+// Attaches the one plane of a table, brings it back and closes its fd. Another plane isn't accepted in its place.
 fn attaches(rt: &impl Abort, table: &mut DmabufTable, fd: u32, other: Plane) -> Result<(), Fail> {
     let Ok(plane) = table.attach(fd) else {
         return Err("the plane".into());
@@ -186,7 +186,7 @@ fn an_fd_is_attached_brought_back_and_closed(rt: HostRuntime) -> Result<(), Fail
     attaches(&rt, &mut table, fd, other)
 }
 
-// A plane takes one block for its bytes, and hands its pages back without it.
+// A plane takes one block for its bytes. Without it, it hands its pages back.
 fn plane_grows<'a>(
     rt: &impl Abort,
     budget: &'a Budget,
@@ -201,7 +201,7 @@ fn plane_grows<'a>(
     Ok(())
 }
 
-// So does a window.
+// A window does the same.
 fn window_grows<'a>(
     rt: &impl Abort,
     budget: &'a Budget,
@@ -236,7 +236,7 @@ fn list_grows<'a>(
     Ok(())
 }
 
-// An fd takes one block, and its value comes back without it.
+// An fd takes one block. Without it, its value comes back.
 fn fd_grows(rt: &impl Abort, budget: &Budget) -> Result<(), Fail> {
     let mut table = FdTable::new(budget);
     same!(rt; table.add(7), Err((FdFault::NoMemory, 7)));

@@ -21,7 +21,7 @@ fn is_queued<P: PlaneMemory, A: Allocator + Copy>(queue: &mut Queue<P, A>, index
     queue.queue(index, Memory::Mmap, None).is_ok()
 }
 
-// REQBUFS that is granted.
+// REQBUFS, which is granted.
 fn granted<P: PlaneMemory, A: Allocator + Copy>(
     queue: &mut Queue<P, A>,
     count: u32,
@@ -31,7 +31,7 @@ fn granted<P: PlaneMemory, A: Allocator + Copy>(
     queue.request(count, kind, supply).is_ok()
 }
 
-// REQBUFS that is refused: the sets that come back.
+// REQBUFS, which is refused. Returns the sets that come back.
 fn supply_back<P: PlaneMemory, A: Allocator + Copy>(
     rt: &impl Abort,
     queue: &mut Queue<P, A>,
@@ -60,7 +60,7 @@ fn stream<P: PlaneMemory, A: Allocator + Copy>(
     holds!(rt; queue.stream_on().is_ok());
 }
 
-// A buffer's mapping begins, or ends.
+// Maps or unmaps a buffer.
 fn is_mapped<P: PlaneMemory, A: Allocator + Copy>(
     queue: &mut Queue<P, A>,
     index: u32,
@@ -88,7 +88,7 @@ const NO_MEMORY: Errno = Errno {
     number: 12,
 };
 
-// Four buffers, all of which are queued, while it streams; a request for two is refused, and their sets come back.
+// Four buffers, all of which are queued, while it streams. A request for two is refused, and their sets come back.
 fn is_busy<P: PlaneMemory, A: Allocator + Copy>(
     rt: &impl Abort,
     queue: &mut Queue<P, A>,
@@ -134,7 +134,7 @@ type Thrifty<'a> = Queue<MmapPlane<&'a Budget>, &'a Budget>;
 
 type Sets<'a> = Vec<PlaneSet<MmapPlane<&'a Budget>>, &'a Budget>;
 
-// REQBUFS where so many growths are granted and one more is needed: the queue is as it was, and the sets come back.
+// REQBUFS where this many growths are granted and one more is needed. The queue is as it was, and the sets come back.
 fn is_refused<'a>(
     rt: &impl Abort,
     memory: &'a Budget,
@@ -150,7 +150,7 @@ fn is_refused<'a>(
     supply
 }
 
-// REQBUFS that needs so many growths and is granted: there are so many buffers.
+// REQBUFS that needs this many growths and is granted. Then there are this many buffers.
 fn is_granted<'a>(
     rt: &impl Abort,
     memory: &'a Budget,
@@ -165,7 +165,7 @@ fn is_granted<'a>(
     memory.allow(u64::MAX);
 }
 
-// REQBUFS where each of so many growths is refused in turn, and then none.
+// REQBUFS where each of this many growths is refused in turn, and then none.
 fn grows<'a>(
     rt: &impl Abort,
     memory: &'a Budget,
@@ -179,8 +179,8 @@ fn grows<'a>(
     is_granted(rt, memory, queue, supply, (count, kind, growths));
 }
 
-// Requests one behind the other. The first growth is that of the list of the planes that are left, if there are
-// buffers, and the other that of the buffers.
+// Requests one after the other. The first growth is that of the list of the planes that are left, where there are
+// buffers; the other is that of the buffers.
 fn grow_all<'a>(rt: &impl Abort, memory: &'a Budget, few: Sets<'a>, many: Sets<'a>) {
     let mut queue = big(memory);
     grows(

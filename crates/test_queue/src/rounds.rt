@@ -1,4 +1,5 @@
-//! Buffers go round, call by call, with ample memory and with every growth refused once the buffers are there.
+//! Buffers are queued, filled and dequeued, call by call: with ample memory, and with every growth refused once the
+//! buffers are there.
 
 use crate::common::Call::*;
 use crate::common::Said::{Buffer, Byte, Count, Done, Flags, Frame, Is, Refused};
@@ -11,7 +12,7 @@ use std::process::Abort;
 use std::test::Fail;
 use test_alloc::Budget;
 
-// Three buffers, one of which is enough to start: frames come in the order of their ends, and those that wait
+// Three buffers, one of which is enough to start. Frames come in the order in which they ended, and those that wait
 // when streaming is turned off are lost.
 const ENDS: [(Call, Said); 33] = [
     (StreamOff, Done),
@@ -49,7 +50,7 @@ const ENDS: [(Call, Said); 33] = [
     (Query(40), Refused(Reason::BadIndex, 22)),
 ];
 
-// Two buffers, both of which the device needs to start; one is given up, and then the device fails.
+// Two buffers, both of which the device needs to start. One is given up, and then the device fails.
 const FAILURES: [(Call, Said); 27] = [
     (Grants(1), Count(2)),
     (Grants(40), Count(32)),
@@ -80,7 +81,7 @@ const FAILURES: [(Call, Said); 27] = [
     (Dequeue, Refused(Reason::NothingDone, 11)),
 ];
 
-// A queue of mapped memory with three buffers, one of which is enough to start, or with two, both of which it needs.
+// A queue of mapped memory: three buffers, of which it needs one to start, or two, of which it needs both.
 fn small<A: Allocator + Copy>(rt: &impl Abort, alloc: A, third: bool) -> Small<MmapPlane<A>, A> {
     let Ok((ledger, seat)) = PageLedger::new(alloc, 3) else {
         panic!(rt; "a ledger")
@@ -91,7 +92,7 @@ fn small<A: Allocator + Copy>(rt: &impl Abort, alloc: A, third: bool) -> Small<M
     Small::new(rt, alloc, needed, count, supply)
 }
 
-// Both tables, over planes of one allocator. The queue's calls take memory from nobody.
+// Runs both tables, over planes of one allocator. The queue's calls take no memory.
 fn run_both<A: Allocator + Copy>(
     rt: &impl Abort,
     three: &mut Small<MmapPlane<A>, A>,

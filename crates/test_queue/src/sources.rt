@@ -1,4 +1,4 @@
-//! What a source answers by itself, and what becomes of it where memory is refused.
+//! What a source returns by itself, and what becomes of it where memory is refused.
 
 use crate::asserts::{holds, same};
 use loop_capture::{Device, FrameSource, Next, Pattern, Y4mSource};
@@ -10,7 +10,7 @@ use test_alloc::Budget;
 const SMALL: &[u8; 42] = b"YUV4MPEG2 W1 H1 F25:1 Cmono\nFRAME\n\x07FRAME\n\x08";
 
 #[test]
-fn the_pattern_tells_its_frames_and_rises_modulo_256(rt: HostRuntime) -> Result<(), Fail> {
+fn the_bytes_of_the_pattern_rise_modulo_256(rt: HostRuntime) -> Result<(), Fail> {
     let mut source = Pattern::new();
     let mut out = [0; 3];
     for n in 0..300_u32 {
@@ -26,7 +26,9 @@ fn the_pattern_tells_its_frames_and_rises_modulo_256(rt: HostRuntime) -> Result<
 }
 
 #[test]
-fn another_length_is_bad_once_and_then_the_end(rt: HostRuntime) -> Result<(), Fail> {
+fn a_frame_of_another_length_is_bad_once_and_then_the_input_ends(
+    rt: HostRuntime,
+) -> Result<(), Fail> {
     let Ok(reader) = Y4mReader::open(SMALL.as_slice()) else {
         panic!(rt; "a header")
     };

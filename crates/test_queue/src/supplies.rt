@@ -16,7 +16,7 @@ const GREY: BufferType = BufferType::VideoCapture;
 // A queue of mapped memory, with its table of fds.
 type Mapped = (Queue<MmapPlane>, FdTable<MmapPlane>);
 
-// REQBUFS: how many buffers there are, or the refusal and how many sets come back.
+// REQBUFS. Returns how many buffers there are, or the refusal and how many sets come back.
 fn request(
     (queue, table): &mut Mapped,
     count: u32,
@@ -35,12 +35,12 @@ fn request(
     }
 }
 
-// An ioctl that is done.
+// Whether an ioctl is done.
 fn is_done((queue, table): &mut Mapped, call: Ioctl<MmapPlane>) -> bool {
     matches!(apply(queue, table, call), Ok(IoctlReply::Done))
 }
 
-// QBUF of so many buffers, and STREAMON.
+// QBUF of this many buffers, and STREAMON.
 fn stream(rt: &impl Abort, mapped: &mut Mapped, count: u32) {
     for index in 0..count {
         let call = Ioctl::QBuf {

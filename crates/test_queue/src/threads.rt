@@ -1,6 +1,6 @@
 //! Claims of pages by several threads.
 
-ghost use Rattle.std.specs.Prelude.{◌≡◌, ◌+◌, ◌<◌};
+ghost use Rattle.std.specs.Prelude.{◌+◌, ◌<◌};
 ghost use Rattle.std.specs.Arc.{arc_value};
 ghost use Rattle.std.specs.Thread.{IsSync};
 ghost use Rattle.loop_pages.specs.Place.{IsIdle};
@@ -14,7 +14,7 @@ use std::sync::atomic::{AtomicBool, Ordering};
 use std::test::Fail;
 use std::thread::{Threads, join};
 
-// Marks each page of the hold, and says whether none of them was marked.
+// Marks each page of the hold. Returns whether none of them was marked.
 fn marks_all(hold: &PageHold, marks: &[AtomicBool]) -> bool {
     let mut alone = true;
     for i in 0..hold.count() {
@@ -34,8 +34,8 @@ fn clears_all(hold: &PageHold, marks: &[AtomicBool]) {
     }
 }
 
-// A hundred times claims `least` pages or up to `kinds - 1` more, and says how often it got them. Nothing if
-// another held one.
+// Claims `least` pages, or up to `kinds - 1` more, a hundred times, and returns how often it got them; None if another
+// thread held one of them.
 fn takes_turns(
     alloc: Global,
     ledger: &Arc<PageLedger>,
@@ -64,7 +64,7 @@ fn takes_turns(
     Some(got)
 }
 
-// What two threads got together.
+// How often two threads got pages, together.
 fn together(one: Option<u32>, two: Option<u32>) -> Option<u32> {
     Some(one?.saturating_add(two?))
 }

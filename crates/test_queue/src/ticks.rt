@@ -1,6 +1,5 @@
 //! What a tick does to a queue, and which sequence a frame has.
 
-ghost use Rattle.std.specs.Prelude.{◌≡◌};
 ghost use Rattle.std.specs.Arc.{arc_value};
 ghost use Rattle.loop_pages.specs.Place.{IsIdle};
 
@@ -23,14 +22,14 @@ const CUT: &[u8; 74] = b"YUV4MPEG2 W4 H2 F25:1 Ip A0:0 C420jpeg\nFRAME\n\
     \x00\x01\x02\x03\x04\x05\x06\x07\x08\x09\x0A\x0BFRAME\n\
     \x01\x02\x03\x04\x05\x06\x07\x08\x09\x0A\x0B";
 
-// What a device and its queue are made to do, with the answer.
+// What a device and its queue do, with the answer.
 #[derive(Clone, Copy)]
 enum Step {
     // A tick at this time.
     Ticks(u64, Tick),
     // A frame is dequeued, and its buffer queued again.
     Takes(Option<Frame>),
-    // The one buffer is queued, and streaming goes on.
+    // The one buffer is queued, and streaming starts.
     Starts,
     // Streaming stops.
     Stops,
@@ -106,7 +105,7 @@ fn one_pixel(rt: &impl Abort, alloc: Global) -> Result<Queue<MmapPlane>, Fail> {
     Ok(queue)
 }
 
-// What a device of two bytes answers where frames have one.
+// What a device with frames of two bytes does where frames have one.
 fn is_too_wide(
     rt: &impl Abort,
     wide: &mut Device<Pattern>,
@@ -117,7 +116,7 @@ fn is_too_wide(
 }
 
 #[test]
-fn frames_are_numbered_from_the_start_on_and_those_without_a_buffer_are_missed(
+fn frames_are_numbered_from_the_start_and_those_without_a_buffer_are_missed(
     rt: HostRuntime,
 ) -> Result<(), Fail> {
     let alloc = rt.alloc();
@@ -232,7 +231,7 @@ fn a_cut_frame_gives_an_error_buffer_and_then_the_end(rt: HostRuntime) -> Result
 }
 
 #[test]
-fn a_frame_that_is_lent_goes_into_the_buffer(rt: HostRuntime) -> Result<(), Fail> {
+fn a_frame_that_is_lent_is_copied_into_the_buffer(rt: HostRuntime) -> Result<(), Fail> {
     let alloc = rt.alloc();
     let mut queue = one_pixel(&rt, alloc)?;
     let source = Lender {

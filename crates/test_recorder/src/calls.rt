@@ -1,4 +1,4 @@
-//! Calls of a recorder as they stand in tables: each row is what is noted of the call, with its answer.
+//! Calls of a recorder as rows of tables: each row is what is noted of the call, with its answer.
 
 ghost use Rattle.std.specs.Prelude.{◌<◌, length};
 
@@ -26,7 +26,7 @@ pub(crate) const SEVEN: FrameInfo = FrameInfo {
     timestamp: 280_000,
 };
 
-/// Another.
+/// Another one.
 pub(crate) const NINE: FrameInfo = FrameInfo {
     sequence: 9,
     flags: 0x2000,
@@ -41,7 +41,7 @@ pub(crate) const SEVEN_HEAD: FrameHead = FrameHead {
     timestamp: 280_000,
 };
 
-/// That of the other.
+/// The head of the other one.
 pub(crate) const NINE_HEAD: FrameHead = FrameHead {
     number: 0,
     sequence: 9,
@@ -49,14 +49,14 @@ pub(crate) const NINE_HEAD: FrameHead = FrameHead {
     timestamp: 360_000,
 };
 
-/// One frame was stored, of number 0, and none waits.
+/// A flush stored one frame, number 0, and none waits.
 pub(crate) const ONE: Flushed = Flushed {
     first: 0,
     stored: 1,
     left: 0,
 };
 
-// The desk's own answer, or why it wasn't asked.
+// The desk's own answer, or why the desk wasn't called.
 fn heard<T>(answer: Result<T, SessionFault>) -> Result<Result<T, StoreFault>, SessionFault> {
     match answer {
         Ok(told) => Ok(Ok(told)),
@@ -150,7 +150,7 @@ fn reads<R: Wait + Abort, D: Disk + Drop, P: PlaneMemory, A: Allocator + Copy>(
     Ok(Noted::Read(number, heard(answer)?))
 }
 
-// Asks how a camera's desk stands.
+// Reads the status of a camera's desk.
 fn asks<R: Wait, D: Disk + Drop, P: PlaneMemory, A: Allocator + Copy>(
     rt: &R,
     recorder: &Recorder<D, P, A>,
@@ -165,7 +165,7 @@ fn asks<R: Wait, D: Disk + Drop, P: PlaneMemory, A: Allocator + Copy>(
     }
 }
 
-/// Makes a call as it is noted, and tells it with the answer that it got, or why the desk wasn't asked.
+/// Makes a call as it is noted. Returns it with the answer that it got, or why the desk wasn't called.
 pub(crate) fn makes<R: Wait + Abort, D: Disk + Drop, P: PlaneMemory, A: Allocator + Copy, Q: Pace>(
     rt: &R,
     alloc: A,
@@ -184,7 +184,7 @@ pub(crate) fn makes<R: Wait + Abort, D: Disk + Drop, P: PlaneMemory, A: Allocato
         Noted::Unlock(id, _) => unlocks(rt, recorder, camera, pass, id),
         Noted::Read(number, _) => reads(rt, alloc, recorder, camera, pass, number),
         Noted::Status(_) => asks(rt, recorder, camera, pass),
-        // A look is a part of a keep: a row that had one would fail.
+        // A look is part of a keep: a row that had one would fail.
         Noted::Sought(_, _, _) => Err(SessionFault::NoMemory),
     }
 }
@@ -225,7 +225,7 @@ pub(crate) fn plays_by<R: Wait + Abort, D: Disk + Drop, P: PlaneMemory, A: Alloc
     }
 }
 
-/// The end of a recorder, where it is tied.
+/// The end of a recorder, whose ties hold.
 pub(crate) fn ends<D: Disk + Drop, P: PlaneMemory, A: Allocator + Copy>(
     rt: &impl Abort,
     recorder: Recorder<D, P, A>,
@@ -250,7 +250,7 @@ pub(crate) fn breaks<D: Disk + Drop, P: PlaneMemory, A: Allocator + Copy>(
     }
 }
 
-/// The calls of a table, by one pass, are the camera's history, and the pass's receipts.
+/// Checks that the calls of a table, by one pass, are the camera's history and the pass's receipts.
 pub(crate) fn are_noted<D: Disk + Drop, P: PlaneMemory, A: Allocator + Copy>(
     rt: &impl Abort,
     ended: &Ended<D, P, A>,
@@ -269,14 +269,14 @@ pub(crate) fn are_noted<D: Disk + Drop, P: PlaneMemory, A: Allocator + Copy>(
     have_receipts(rt, of_pass.receipts(), camera, table);
 }
 
-// The entries are a pass's, of these calls.
+// Checks that the entries are a pass's, of these calls.
 fn have_entries(rt: &impl Abort, history: &[Entry], pass: u32, table: &[Noted]) {
     for (entry, call) in history.iter().zip(table) {
         same!(rt; *entry, Entry { pass, call: *call });
     }
 }
 
-// The receipts are of these calls of a camera, in the order of their places.
+// Checks that the receipts are of these calls of a camera, in the order of their places.
 fn have_receipts(rt: &impl Abort, receipts: &[Receipt], camera: u32, table: &[Noted]) {
     let mut place = 0u64;
     for (receipt, call) in receipts.iter().zip(table) {

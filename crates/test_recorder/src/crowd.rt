@@ -1,5 +1,6 @@
-//! Ten thousand calls by eight threads at four desks, and what each crash of their disks leaves. Each is a replay of all
-//! calls of the disk before it: some seconds as the tests are built, and more than `rt try`, with its checks, has time for.
+//! Ten thousand calls by eight threads at four desks, and what each crash of their disks leaves. A crash replays all
+//! calls of the disk before it. That takes some seconds as the tests are built, and more than `rt try`, with its
+//! checks, has time for.
 
 ghost use Rattle.std.specs.Prelude.{◌<◌, length};
 
@@ -10,7 +11,7 @@ use crate::plain::{Deed, Plain, done};
 use loop_disk::{CrashDisk, Disk, MemDisk, Spoil};
 use loop_plane::{MmapPlane, PlaneMemory};
 use loop_record::Span;
-use loop_recorder::{Camera, EndedCamera, FrameInfo, Noted, Pass, Recorder};
+use loop_recorder::{CameraParts, EndedCamera, FrameInfo, Noted, Pass, Recorder};
 use loop_store::{Store, StoreFault};
 use std::alloc::Global;
 use std::process::Abort;
@@ -21,7 +22,7 @@ use std::thread::Threads;
 // The calls of each of eight callers.
 const TURNS: u32 = 1250;
 
-// What no answer is looked at in.
+// The answer that a call is made with, where no answer is compared.
 const UNHEARD: StoreFault = StoreFault::NoMemory;
 
 // Numbers that look random, and are the same each time.
@@ -41,7 +42,7 @@ impl Dice {
     }
 }
 
-// A caller: its dice, and the number of the frame that each camera took in last.
+// A caller: its dice, and the number of the last frame that each camera took in.
 #[derive(Drop)]
 struct Caller {
     dice: Dice,
@@ -50,7 +51,7 @@ struct Caller {
 }
 
 impl Caller {
-    // The stamp of a new frame; none is like another of this caller or of the others.
+    // The stamp of a new frame. No other frame, of this caller or another, has it.
     fn stamp(&mut self) -> FrameInfo {
         self.frames = self.frames.wrapping_add(8);
         FrameInfo {
@@ -65,7 +66,7 @@ impl Caller {
         newest.saturating_sub(self.dice.roll() % 8)
     }
 
-    // A call. The answer in it isn't looked at.
+    // A call. The answer in it isn't compared.
     fn call(&mut self, newest: u64) -> Noted {
         match self.dice.roll() % 16 {
             0..=4 => Noted::Submit(self.stamp(), SIZE, Err(UNHEARD)),
@@ -112,7 +113,7 @@ fn calls<R: Wait + Abort, D: Disk + Drop, P: PlaneMemory>(
     pass
 }
 
-// All calls, each caller on a thread of its own.
+// Makes all calls, each caller on a thread of its own.
 fn all_call<R: Threads + Wait + Abort + Sync, D: Disk + Drop + Send + Sync, P: PlaneMemory + Send>(
     rt: &R,
     alloc: Global,
@@ -136,7 +137,7 @@ fn disk(rt: &impl Abort, alloc: Global) -> CrashDisk {
     CrashDisk::new(alloc, SMALL_BYTES).expect(rt, "memory for a disk")
 }
 
-// The store of a disk after a crash, when so many calls were made.
+// The store on a disk after a crash that follows this many calls.
 fn crashed(
     rt: &impl Abort,
     alloc: Global,
@@ -152,7 +153,7 @@ fn crashed(
     }
 }
 
-// A crash at a moment of a call reads as one of these recordings.
+// Checks that a crash at a moment of a call reads as one of these recordings.
 fn is_one_of(
     rt: &impl Abort,
     alloc: Global,
@@ -169,7 +170,8 @@ fn is_one_of(
     panic!(rt; "a crash at {moment}: {spoil:?}")
 }
 
-// Crashes within a call read as the recording before it and a beginning of its changes, and right behind it as all.
+// Checks that crashes within a call read as the recording before it and a prefix of its changes, and a crash right
+// after it as all of them.
 fn are_beginnings(
     rt: &impl Abort,
     alloc: Global,
@@ -188,8 +190,8 @@ fn are_beginnings(
     }
 }
 
-// Each crash of a camera's disk since it was opened reads as its history's recording, or as that and a beginning of the
-// call that was made; whether what wasn't synced is gone or mixed.
+// Checks each crash of a camera's disk since it was opened. It reads as its history's recording, or as that and a
+// prefix of the changes of the call that was under way, whether unsynced bytes are gone or mixed.
 fn all_crashes(rt: &impl Abort, alloc: Global, opening: usize, camera: EndedCamera<CrashDisk>) {
     let EndedCamera {
         desk,
@@ -212,7 +214,7 @@ fn all_crashes(rt: &impl Abort, alloc: Global, opening: usize, camera: EndedCame
 }
 
 #[test]
-fn each_crash_reads_as_a_beginning_of_what_eight_threads_called(rt: HostRuntime) {
+fn each_crash_reads_as_a_prefix_of_the_calls_of_eight_threads(rt: HostRuntime) {
     let alloc = rt.alloc();
     let opening = store_on(&rt, alloc, disk(&rt, alloc)).into_disk().calls();
     let disks = vec![in alloc;
@@ -222,7 +224,7 @@ fn each_crash_reads_as_a_beginning_of_what_eight_threads_called(rt: HostRuntime)
         disk(&rt, alloc),
     ];
     let disks = disks.expect(&rt, "memory for a list");
-    let cameras: Vec<Camera<CrashDisk, MmapPlane>> = cameras_over(
+    let cameras: Vec<CameraParts<CrashDisk, MmapPlane>> = cameras_over(
         &rt,
         alloc,
         disks,

@@ -1,4 +1,4 @@
-//! Each growth is refused in turn: nothing changes, and with one more all goes well.
+//! Each growth is refused in turn: nothing changes, and with one more growth the call succeeds.
 
 ghost use Rattle.std.specs.Prelude.{◌≡◌, ◌<◌, All, false, length, vec_len};
 ghost use Rattle.loop_sessions.specs.Opened.{IsReady};
@@ -10,7 +10,7 @@ use loop_desk::{Flushed, Status};
 use loop_disk::MemDisk;
 use loop_plane::{MmapPlane, PlaneMemory};
 use loop_record::{FrameHead, Span};
-use loop_recorder::{Camera, Ended, NewRefused, Noted, Pass, Recorder, SessionFault};
+use loop_recorder::{CameraParts, Ended, NewRefused, Noted, Pass, Recorder, SessionFault};
 use loop_store::StoreFault;
 use std::alloc::Global;
 use std::process::Abort;
@@ -18,7 +18,7 @@ use std::sync::Wait;
 use test_alloc::Budget;
 
 // Cameras all of whose memory is granted by a budget.
-type Cameras<'a, P> = Vec<Camera<MemDisk, P, &'a Budget>, &'a Budget>;
+type Cameras<'a, P> = Vec<CameraParts<MemDisk, P, &'a Budget>, &'a Budget>;
 
 // A recorder of such cameras.
 type Thrifty<'a, P> = Recorder<MemDisk, P, &'a Budget>;
@@ -26,12 +26,12 @@ type Thrifty<'a, P> = Recorder<MemDisk, P, &'a Budget>;
 // Its passes.
 type Passes<'a> = Vec<Pass<&'a Budget>, &'a Budget>;
 
-// The growths of a new recorder of two cameras, each with a frame and a clip: two lists of locks, the lists for the
-// end and for what is given up, the passes, and twice a list of outlines, each of which takes a growth for its frames
-// and one for its clips.
+// The growths of a new recorder of two cameras, each with a frame and a clip. There are two lists of locks, the lists
+// for the end and for what is given up, the passes, and two lists of outlines. Each outline takes a growth for its
+// frames and one for its clips.
 const NEW: u64 = 15;
 
-// Within so many growths no recorder is made, and the cameras come back as they were.
+// With this many growths granted no recorder is made, and the cameras come back as they were.
 fn is_refused<'a, P: PlaneMemory>(
     rt: &impl Abort,
     memory: &'a Budget,
@@ -56,7 +56,7 @@ fn is_refused<'a, P: PlaneMemory>(
     }
 }
 
-// A recorder of two cameras takes just so many growths.
+// A recorder of two cameras, which takes just `NEW` growths.
 fn made<'a, P: PlaneMemory>(
     rt: &impl Abort,
     alloc: Global,
@@ -79,7 +79,7 @@ fn made<'a, P: PlaneMemory>(
     made
 }
 
-// A status of a desk with one frame.
+// The status of a desk with one frame.
 const STANDS: Noted = Noted::Status(Status {
     next: 1,
     held: 1,
@@ -118,9 +118,9 @@ const NOTED: [Noted; 8] = [
     Noted::Read(1, Err(StoreFault::NoMemory)),
 ];
 
-// So many growths, all of which are needed; a call; and whether it is noted, as above, or refused for want of memory
-// for an entry or a receipt. Each has room for four. What is submitted takes a growth for its frame; the first frame
-// that is read lies in the memory of the stored one, and for the second there is none.
+// How many growths are granted, all of which are needed; a call; and whether it is noted, as above, or refused for want
+// of memory for an entry or a receipt. Each list has room for four. A frame that is submitted takes a growth. The first
+// frame that is read uses the memory of the stored one, and for the second there is none.
 const ROWS: [(u64, usize, bool); 19] = [
     (0, 0, false),
     (1, 0, false),
@@ -182,7 +182,7 @@ fn grows_by_first<'a, R: Wait + Abort, P: PlaneMemory>(
     }
 }
 
-// The calls of the first pass are noted, and no others.
+// Checks that the calls of the first pass are noted, and no others.
 fn have_noted<'a, P: PlaneMemory>(rt: &impl Abort, ended: &Ended<MemDisk, P, &'a Budget>) {
     are_noted(rt, ended, (0, 0), &NOTED);
     are_noted(rt, ended, (1, 1), &[]);

@@ -1,4 +1,4 @@
-//! What a keep locks: the held frames of a time, a clip for each run of their numbers, and what it notes.
+//! What a keep locks: the held frames of a time, with a clip for each run of their numbers, and what it notes.
 
 ghost use Rattle.std.specs.Prelude.{◌<◌, length};
 
@@ -14,17 +14,18 @@ use std::alloc::Global;
 use std::process::Abort;
 use std::sync::Wait;
 
-// Frames that are stored one by one, by their times, some clips that are locked behind so many of them, and a keep.
+// Frames that are stored one by one, by their times, some clips that are locked once a number of them are stored, and a
+// keep.
 struct Case<'a> {
     times: &'a [u64],
-    // Behind so many frames those from one number to another are locked, so many times.
+    // After how many frames the frames from one number to another are locked, and how often.
     lock: (u64, u64, u64, u32),
     // The first and the last moment.
     keep: (u64, u64),
-    // The ids and numbers of the clips that the keep tells, and why no further one.
+    // The ids and numbers of the clips that the keep returns, and why there is no further one.
     clips: &'a [(u32, u64, u64)],
     fault: Option<SessionFault>,
-    // How many looks it notes: one for each run of the time, and the one that finds no more.
+    // How many looks it notes: one for each run of the time, and one that finds no more.
     looks: u64,
     // How many calls the history may have.
     calls: u32,
@@ -36,7 +37,7 @@ const NO_LOCK: (u64, u64, u64, u32) = (0, 0, 0, 0);
 
 // Three segments of two slots each.
 const CASES: [Case<'static>; 9] = [
-    // Both ends are among the time.
+    // Both ends belong to the time.
     Case {
         times: &[10, 20, 30, 40, 50, 60],
         lock: NO_LOCK,
@@ -85,7 +86,7 @@ const CASES: [Case<'static>; 9] = [
         looks: 3,
         calls: 1000,
     },
-    // Frames that went aren't held, whatever their time was.
+    // Frames that were recycled aren't held, whatever their time was.
     Case {
         times: &[10, 20, 30, 40, 50, 60, 70, 80],
         lock: NO_LOCK,
@@ -95,7 +96,7 @@ const CASES: [Case<'static>; 9] = [
         looks: 2,
         calls: 1000,
     },
-    // One id is left, and there are two runs: the first stays locked.
+    // One id is left, and there are two runs: the first run stays locked.
     Case {
         times: &[10, 50, 20, 60],
         lock: (1, 0, 0, 63),
@@ -105,7 +106,7 @@ const CASES: [Case<'static>; 9] = [
         looks: 3,
         calls: 1000,
     },
-    // The history has room for one call more: nothing is noted.
+    // The history has room for one more call: nothing is noted.
     Case {
         times: &[10, 20, 30],
         lock: NO_LOCK,
@@ -115,7 +116,7 @@ const CASES: [Case<'static>; 9] = [
         looks: 0,
         calls: 7,
     },
-    // It has room for the looks alone.
+    // The history has room for the looks alone.
     Case {
         times: &[10, 20],
         lock: NO_LOCK,
@@ -148,7 +149,7 @@ fn stores<R: Wait + Abort>(
     holds!(*rt; recorder.flush(rt, 0, pass, &AtOnce).is_ok(), sequence);
 }
 
-// Locks the frames from one number to another, so many times.
+// Locks the frames from one number to another, this often.
 fn locks<R: Wait + Abort>(rt: &R, recorder: &Rec, pass: &mut Pass, from: u64, to: u64, count: u32)
     requires { 0 < length recorder.now.outlines }
 {
@@ -157,7 +158,7 @@ fn locks<R: Wait + Abort>(rt: &R, recorder: &Rec, pass: &mut Pass, from: u64, to
     }
 }
 
-// Brings the frames of a case, and locks its clips behind so many of them.
+// Stores the frames of a case, and locks its clips once a number of them are stored.
 fn brings<R: Wait + Abort>(rt: &R, alloc: Global, recorder: &Rec, pass: &mut Pass, case: &Case<'_>)
     requires { 0 < length recorder.now.outlines }
 {
@@ -177,8 +178,8 @@ fn brings<R: Wait + Abort>(rt: &R, alloc: Global, recorder: &Rec, pass: &mut Pas
     }
 }
 
-// The receipts of a keep, after those of before: a look for each run, the look that finds no more, and then the locks
-// of these runs.
+// Checks the receipts of a keep, after those that were there before: a look for each run, the look that finds no more,
+// and then the locks of these runs.
 fn are_noted(rt: &impl Abort, pass: &Pass, before: usize, case: &Case<'_>, at: usize) {
     let noted = pass.receipts().get(before..).unwrap_or(&[]);
     let mut looks = 0u64;
@@ -204,7 +205,7 @@ fn are_noted(rt: &impl Abort, pass: &Pass, before: usize, case: &Case<'_>, at: u
     same!(*rt; (looks, clips), (case.looks, case.clips.len() as u64 + refused), at);
 }
 
-// The look found a run of these numbers, which has no tag.
+// Whether a look found a run of these numbers, which has no tag.
 fn is_run(look: Noted, span: Span) -> bool {
     match look {
         Noted::Sought(_, _, Some(run)) => { (run.from, run.to, run.tag) == (span.from, span.to, 0) }
@@ -212,7 +213,7 @@ fn is_run(look: Noted, span: Span) -> bool {
     }
 }
 
-// The clips have these ids and numbers, and the tag.
+// Checks the ids and numbers of the clips, and their tag.
 fn are_kept(rt: &impl Abort, clips: &[Clip], wanted: &[(u32, u64, u64)], at: usize) {
     same!(*rt; clips.len(), wanted.len(), at);
     for (clip, (id, from, to)) in clips.iter().zip(wanted) {
@@ -220,7 +221,7 @@ fn are_kept(rt: &impl Abort, clips: &[Clip], wanted: &[(u32, u64, u64)], at: usi
     }
 }
 
-// An outline has the clips of a keep, and its status is noted, unless the history is full.
+// Checks that an outline has the clips of a keep, and that its status is noted, unless the history is full.
 fn outlines<R: Wait + Abort>(
     rt: &R,
     alloc: Global,
@@ -257,7 +258,7 @@ fn a_keep_locks_the_held_frames_of_its_time(rt: HostRuntime) {
     }
 }
 
-// A keep of a case.
+// Checks the keep of a case.
 fn keeps<R: Wait + Abort>(rt: &R, alloc: Global, case: &Case<'_>, at: usize) {
     let (recorder, mut passes) = recorder(rt, alloc, 1, limits(64, case.calls), 1);
     let mut pass = last(rt, &mut passes);

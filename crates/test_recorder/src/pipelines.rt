@@ -1,4 +1,4 @@
-//! Cameras that are filmed: by turns and by threads, into a disk that takes all and into one that fails, and what is
+//! Cameras that are filmed, by turns and by threads, into a disk that takes all and into one that fails; and what is
 //! kept, read and unlocked meanwhile.
 
 ghost use Rattle.std.specs.Prelude.{◌≡◌};
@@ -12,8 +12,8 @@ use loop_capture::{Device, Pattern, Tick};
 use loop_desk::{Desk, Hand, LaneFault};
 use loop_disk::{Disk, FuseDisk, MemDisk};
 use loop_pipeline::{
-    Back, Begun, Brought, Camera, Ended, Front, Guide, Link, Took, end, film_camera, heap_start,
-    new_queue, start_queue,
+    Back, Begun, Brought, Camera, Ended, Front, Guide, Link, TakeOutcome, end, film_camera,
+    heap_start, new_queue, start_queue,
 };
 use loop_plane::{FdTable, HeapPlane, PlaneMemory};
 use loop_record::Times;
@@ -29,7 +29,7 @@ use std::thread;
 use std::thread::Threads;
 use std::time::Clock;
 
-// So many ticks from a first one on, each a millisecond behind the other; and what the threads told.
+// How many ticks there are from a first one on, each a millisecond after the one before; and what the threads reported.
 #[derive(Drop)]
 struct Guided {
     ticks: u64,
@@ -41,7 +41,7 @@ struct Guided {
     clips: AtomicU64,
 }
 
-// A guide that has been told nothing.
+// A guide with no reports yet.
 fn guide(ticks: u64, first: u64) -> Guided {
     Guided {
         ticks,
@@ -77,7 +77,7 @@ impl Guide for Guided {
         false
     }
 
-    /// Once, when two frames or more are held, a visitor locks them, and unlocks them again.
+    /// Once two frames or more are held, a visitor locks them and unlocks them again, once.
     fn visit<R: Wait + Clock, D: Disk + Drop>(&self, _rt: &R, alloc: Global, back: &mut Back<D>) {
         if self.clips.load(Ordering::SeqCst) > 0 || back.status().held < 2 {
             return;
@@ -91,7 +91,7 @@ impl Guide for Guided {
     }
 }
 
-// Every time.
+// All times.
 const ALL: Times = Times {
     since: 0,
     until: u64::MAX,
@@ -103,7 +103,7 @@ type TestCamera = Camera<Pattern, Fused, HeapPlane>;
 
 type TestEnded = Ended<Pattern, Fused, HeapPlane>;
 
-// A queue that streams, of four buffers in the application's memory.
+// A queue that streams, with four buffers in the application's memory.
 fn streaming(rt: &impl Abort, alloc: Global) -> (Queue<HeapPlane>, FdTable<HeapPlane>)
     ensures { IsOpen ⟦<HeapPlane as PlaneMemory>⟧.plane result.0 result.1 }
 {
@@ -123,7 +123,7 @@ fn device(rt: &impl Abort, alloc: Global) -> Device<Pattern> {
     }
 }
 
-// A camera before a store on a disk that passes so many calls; None where the store can't be opened by so many.
+// A camera before a store on a disk that passes this many calls; None where so few can't open the store.
 fn camera(rt: &impl Abort, alloc: Global, passed: u64) -> Option<TestCamera> {
     let disk = FuseDisk::new(MemDisk::of(image(rt, alloc, 0)), passed);
     let store = Store::open(alloc, disk).ok()?;
@@ -157,7 +157,7 @@ fn film<R: Threads + Wait + Clock + Abort + Sync>(
     )
 }
 
-// A desk holds the frame of a number, which is the pattern's, at the time of its tick.
+// Checks that a desk holds the frame of a number, which is the pattern's, at the time of its tick.
 fn has_frame(rt: &impl Abort, alloc: Global, desk: &mut Desk<Fused>, number: u32) {
     match desk.read_frame(alloc, u64::from(number)) {
         Ok(read) => {
@@ -168,7 +168,7 @@ fn has_frame(rt: &impl Abort, alloc: Global, desk: &mut Desk<Fused>, number: u32
     }
 }
 
-// The camera goes on as it ended.
+// The camera again, from what its filming ended with.
 fn again(rt: &impl Abort, ended: TestEnded) -> TestCamera
     requires { ended.hand ≡ Empty → IsOpen ⟦<HeapPlane as PlaneMemory>⟧.plane ended.queue ended.table }
 {
@@ -211,7 +211,7 @@ fn each_frame_is_filmed_in_one_filming_after_another(rt: HostRuntime) {
 }
 
 #[test]
-fn what_a_broken_disk_does_not_take_is_counted(rt: HostRuntime) {
+fn frames_that_a_broken_disk_does_not_take_are_counted(rt: HostRuntime) {
     let alloc = rt.alloc();
     let link = Link::new(alloc).expect(&rt, "memory for a link");
     let mut broken = false;
@@ -239,17 +239,17 @@ type TestFront = Front<Pattern, HeapPlane>;
 
 type TestBack = Back<MemDisk>;
 
-// What comes of taking a frame, in a word.
+// The outcome of taking a frame, in a word.
 fn take(alloc: Global, front: &mut TestFront) -> &'static str
     ensures { front.new ≡ front.old }
 {
     let mut spare = None;
     match front.take(alloc, &mut spare) {
-        Took::Frame => "frame",
-        Took::NoFrame => "no frame",
-        Took::RingFull => "ring full",
-        Took::Refused(LaneFault::Store(fault)) => fault.name(),
-        Took::Refused(LaneFault::Queue(_errno)) => "queue",
+        TakeOutcome::Frame => "frame",
+        TakeOutcome::NoFrame => "no frame",
+        TakeOutcome::RingFull => "ring full",
+        TakeOutcome::Refused(LaneFault::Store(fault)) => fault.name(),
+        TakeOutcome::Refused(LaneFault::Queue(_errno)) => "queue",
     }
 }
 
@@ -263,7 +263,7 @@ fn tick(front: &mut TestFront, now: u64) -> Option<u32>
     }
 }
 
-// What comes of bringing a frame, in a word.
+// The outcome of bringing a frame, in a word.
 fn bring(back: &mut TestBack) -> &'static str
     ensures { back.new ≡ record back.old { desk = back.new.desk } }
 {
@@ -275,7 +275,7 @@ fn bring(back: &mut TestBack) -> &'static str
     }
 }
 
-// Three frames are done, and two fill the ring.
+// Three frames are completed, and two fill the ring.
 fn fill_ring(rt: &impl Abort, alloc: Global, front: &mut TestFront)
     ensures { front.new ≡ front.old }
 {
@@ -313,7 +313,7 @@ fn give_up(rt: &impl Abort, back: &mut TestBack)
     }
 }
 
-// The third frame is taken, and a fourth, whose buffer stays in the hand.
+// The third frame is taken, and then a fourth, whose buffer stays in the hand.
 fn take_last(rt: &impl Abort, alloc: Global, front: &mut TestFront)
     ensures { front.new ≡ front.old }
 {
@@ -323,7 +323,7 @@ fn take_last(rt: &impl Abort, alloc: Global, front: &mut TestFront)
 }
 
 #[test]
-fn a_front_and_a_back_go_by_turns(rt: HostRuntime) {
+fn a_front_and_a_back_work_by_turns(rt: HostRuntime) {
     let alloc = rt.alloc();
     let (queue, table) = streaming(&rt, alloc);
     let device = device(&rt, alloc);
@@ -349,7 +349,7 @@ fn a_front_and_a_back_go_by_turns(rt: HostRuntime) {
     }
 }
 
-// A back of a store that holds four frames, with times 0, 10, 20 and 30.
+// A back over a store that holds four frames, with times 0, 10, 20 and 30.
 fn back_of_four(rt: &impl Abort, alloc: Global) -> TestBack {
     let disk = MemDisk::new(alloc, SMALL_BYTES).expect(rt, "memory for a disk");
     let desk = desk_of(rt, alloc, store_on(rt, alloc, disk), limits(8, 1_000_000));

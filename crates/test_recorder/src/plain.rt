@@ -1,4 +1,4 @@
-//! What a desk's history leaves on its disk, told again in plain words: the numbers of a loop recording with their
+//! What a desk's history leaves on its disk, modelled in plain terms: the numbers of a loop recording with their
 //! frames, and its clips.
 
 use crate::calls::SIZE;
@@ -53,7 +53,7 @@ fn count_blocks(frames: &[FrameHead]) -> usize {
 }
 
 impl Plain {
-    /// Nothing is recorded.
+    /// An empty recording.
     pub(crate) fn new(alloc: Global) -> Plain {
         Plain {
             next: 0,
@@ -62,7 +62,7 @@ impl Plain {
         }
     }
 
-    // The same once more.
+    // A copy.
     fn copy(&self, alloc: Global) -> Result<Plain, AllocError> {
         Ok(Plain {
             next: self.next,
@@ -94,7 +94,7 @@ impl Plain {
         Ok(())
     }
 
-    // A clip stands, behind those of lesser ids.
+    // A clip is added, after those of lower ids.
     fn lock(&mut self, alloc: Global, id: u32, span: Span) -> Result<(), AllocError> {
         let mut clips = Vec::new(alloc);
         for clip in self.clips.iter().filter(|clip| clip.id < id) {
@@ -113,12 +113,12 @@ impl Plain {
         Ok(())
     }
 
-    // The clip of an id is gone.
+    // The clip of an id is removed.
     fn unlock(&mut self, id: u32) {
         self.clips.retain(|clip| clip.id != id);
     }
 
-    /// Whether a store has just these frames, whole, and clips.
+    /// Whether a store has just these frames, whole, and these clips.
     pub(crate) fn is_in(&self, alloc: Global, store: &mut Store<MemDisk>) -> bool {
         if store.next() != self.next || store.held() != self.frames.len() as u64 {
             return false;
@@ -147,28 +147,28 @@ fn has_frame(alloc: Global, store: &mut Store<MemDisk>, head: FrameHead) -> bool
 /// What a call of a history does.
 #[derive(Drop)]
 pub(crate) struct Deed {
-    /// The recording before it, after each of its changes, and so behind it.
+    /// The recording before the call, and after each of its changes.
     pub states: Vec<Plain>,
     /// How many calls of the disk it makes.
     pub calls: usize,
 }
 
 impl Deed {
-    // Nothing is done to this recording.
+    // A call that does nothing to this recording.
     fn none(alloc: Global, plain: Plain) -> Result<Deed, AllocError> {
         let mut states = Vec::new(alloc);
         states.push(plain)?;
         Ok(Deed { states, calls: 0 })
     }
 
-    // A change is made by so many calls more.
+    // Adds a change that takes this many more calls.
     fn changes(&mut self, plain: Plain, calls: usize) -> Result<(), AllocError> {
         self.states.push(plain)?;
         self.calls = self.calls.saturating_add(calls);
         Ok(())
     }
 
-    /// The recording behind all.
+    /// The recording after all changes.
     pub(crate) fn into_last(self, alloc: Global) -> Plain {
         let Deed {
             mut states,
@@ -180,7 +180,7 @@ impl Deed {
         }
     }
 
-    // The same, of which the deed keeps its own.
+    // A copy of it.
     fn last(&self, alloc: Global) -> Result<Plain, AllocError> {
         match self.states.last() {
             Some(plain) => plain.copy(alloc),
@@ -188,7 +188,7 @@ impl Deed {
         }
     }
 
-    // The least block goes, if all are full: two calls.
+    // The least block goes, if all blocks are full: two calls.
     fn recycle(&mut self, alloc: Global) -> Result<(), AllocError> {
         let mut plain = self.last(alloc)?;
         if plain.is_full() {
@@ -198,7 +198,7 @@ impl Deed {
         Ok(())
     }
 
-    // Frames are stored as one group: four calls, and four more for the first of a block.
+    // Stores frames as one group: four calls, and four more for the first frame of a block.
     fn store(&mut self, alloc: Global, group: &[FrameInfo]) -> Result<(), AllocError> {
         self.recycle(alloc)?;
         let begins = self.last(alloc)?.next % SLOTS == 0;
@@ -211,7 +211,7 @@ impl Deed {
         Ok(())
     }
 
-    // A clip is locked, by four calls, or unlocked, by two.
+    // Locks a clip, by four calls, or unlocks it, by two.
     fn clip(&mut self, alloc: Global, id: u32, span: Option<Span>) -> Result<(), AllocError> {
         let mut plain = self.last(alloc)?;
         match span {
@@ -227,8 +227,8 @@ impl Deed {
     }
 }
 
-/// What a call does, to this recording and the frames that wait. Only what was answered Ok does something, and a frame
-/// is read by two calls.
+/// What a call does to this recording and the frames that wait. Only a call that returned Ok does something. A frame is
+/// read by two calls.
 pub(crate) fn done(
     alloc: Global,
     plain: Plain,
@@ -250,7 +250,7 @@ pub(crate) fn done(
     Ok(deed)
 }
 
-// The first frames that wait, taken out.
+// Takes the first of the waiting frames.
 fn taken(
     alloc: Global,
     waiting: &mut Vec<FrameInfo>,

@@ -1,4 +1,4 @@
-//! What the tests share: a geometry, frames of a pattern, images, and calls that see to their preconditions first.
+//! What the tests share: a geometry, frames of a pattern, images, and calls that check their preconditions first.
 
 ghost use Rattle.std.specs.Prelude.{◌≡◌, All, IsTrue, length};
 
@@ -21,8 +21,8 @@ pub(crate) const SMALL: Geometry = Geometry {
     slots: 2,
 };
 
-/// The frame that is stored under a number at an attempt at it, 0 being the first: byte i is the number + i,
-/// and 100 more for each later attempt.
+/// The frame that is stored under a number at an attempt at it, 0 being the first. Byte i is the number + i, and 100
+/// more for each later attempt.
 pub(crate) fn frame<A: Allocator + Copy>(
     alloc: A,
     size: usize,
@@ -55,7 +55,7 @@ pub(crate) fn numbers(alloc: Global, spans: &[(u64, u64)]) -> Result<Vec<u64>, A
     Ok(numbers)
 }
 
-// Whether each frame has so many bytes.
+// Whether each frame has this many bytes.
 fn have_size<A: Allocator>(frames: &[Frame<A>], size: usize) -> bool
     ensures { IsTrue result → All (λ frame. length frame.bytes.items ≡ size) frames.now }
 {
@@ -91,7 +91,7 @@ pub(crate) fn read<D: Disk + Drop, A: Allocator>(
     Ok((head, out))
 }
 
-/// Reads the frame of a number, which is held and of this attempt at it.
+/// Reads the frame of a number, which has to be held and of this attempt.
 pub(crate) fn reads<D: Disk + Drop, A: Allocator>(
     rt: &impl Abort,
     alloc: Global,
@@ -107,9 +107,9 @@ pub(crate) fn reads<D: Disk + Drop, A: Allocator>(
     Ok(())
 }
 
-/// The numbers of the held frames. Each is read, and is whole: below the number `again` it is of the first
-/// attempt, and of the second from there on. The next number isn't held, nor is the one before the first, and
-/// `next` is the number behind the last.
+/// The numbers of the held frames. Each is read and is whole: of the first attempt below the number `again`, of the
+/// second from there on. Neither the next number nor the one before the first is held, and `next` is the number after
+/// the last.
 pub(crate) fn held<D: Disk + Drop, A: Allocator>(
     rt: &impl Abort,
     alloc: Global,
@@ -129,7 +129,7 @@ pub(crate) fn held<D: Disk + Drop, A: Allocator>(
     Ok(numbers)
 }
 
-// No frame of this number is held.
+// Checks that no frame of this number is held.
 fn is_not_held<D: Disk + Drop, A: Allocator>(
     rt: &impl Abort,
     alloc: Global,
@@ -140,7 +140,7 @@ fn is_not_held<D: Disk + Drop, A: Allocator>(
     same!(rt; read(rt, alloc, store, number).err(), Some(StoreFault::NotHeld));
 }
 
-/// These frames are held.
+/// Checks that these frames are held.
 pub(crate) fn holds<D: Disk + Drop, A: Allocator>(
     rt: &impl Abort,
     alloc: Global,
@@ -178,7 +178,7 @@ pub(crate) fn append_next<D: Disk + Drop>(rt: &impl Abort, alloc: Global, store:
     same!(rt; append(rt, store, &frames), Ok(number));
 }
 
-/// The image after appends of so many frames, one by one.
+/// The image after this many appends of one frame each.
 pub(crate) fn image_of(rt: &impl Abort, alloc: Global, count: u64) -> Vec<u8> {
     let Ok(mut store) = Store::open(alloc, MemDisk::of(fresh(rt, alloc))) else {
         panic!(rt; "the disk isn't opened")

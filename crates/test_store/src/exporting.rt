@@ -1,5 +1,5 @@
-//! The held frames of a store, exported: the text, the pieces in which frames are moved, and what each fault
-//! leaves of it.
+//! The held frames of a store, exported: the text, the pieces in which frames are copied, and what each fault leaves of
+//! the text.
 
 ghost use Rattle.std.specs.Prelude.{◌≡◌, All, IsTrue, length};
 
@@ -27,7 +27,7 @@ const SMALL: Geometry = Geometry {
     slots: 2,
 };
 
-// Frames of 65,538 bytes, two more than are moved at once.
+// Frames of 65,538 bytes, two more than are copied at once.
 const LARGE: Geometry = Geometry {
     width: 331,
     height: 198,
@@ -41,7 +41,7 @@ const LARGE: Geometry = Geometry {
 // The header of its text.
 const LARGE_HEADER: &[u8; 40] = b"YUV4MPEG2 W331 H198 F25:1 Ip A0:0 Cmono\n";
 
-// Keeps how many bytes each call gave it.
+// Notes how many bytes each call gave it.
 #[derive(Drop)]
 struct Sizes {
     sizes: Vec<usize>,
@@ -74,7 +74,7 @@ fn frame<A: Allocator + Copy>(rt: &impl Abort, alloc: A, size: usize, number: u6
     }
 }
 
-// Whether each frame has so many bytes.
+// Whether each frame has this many bytes.
 fn have_size<A: Allocator>(frames: &[Frame<A>], size: usize) -> bool
     ensures { IsTrue result → All (λ frame. length frame.bytes.items ≡ size) frames.now }
 {
@@ -113,7 +113,7 @@ fn opened<D: Disk + Drop, A: Allocator + Copy>(rt: &impl Abort, alloc: A, disk: 
     store
 }
 
-// Appends so many frames to an empty store.
+// Appends this many frames to an empty store.
 fn appends<D: Disk + Drop, A: Allocator + Copy>(
     rt: &impl Abort,
     alloc: A,
@@ -125,7 +125,7 @@ fn appends<D: Disk + Drop, A: Allocator + Copy>(
     }
 }
 
-// A store on a fresh disk, with so many frames.
+// A store on a fresh disk, with this many frames.
 fn stored<A: Allocator + Copy>(
     rt: &impl Abort,
     alloc: A,
@@ -141,10 +141,10 @@ fn stored<A: Allocator + Copy>(
     store
 }
 
-// What an export answers.
+// The answer to an export.
 type Answer = Result<u64, ExportFault>;
 
-// What an export of a range writes and answers.
+// The text of an export of a range, and its answer.
 fn exported<D: Disk + Drop>(
     alloc: Global,
     store: &mut Store<D>,
@@ -156,7 +156,7 @@ fn exported<D: Disk + Drop>(
     (answer, out)
 }
 
-// The two frames are exported up to this number.
+// Checks the export of the two frames up to this number.
 fn exports_both<D: Disk + Drop>(rt: &impl Abort, alloc: Global, store: &mut Store<D>, to: u64) {
     let (answer, text) = exported(alloc, store, 0, to);
     same!(rt; answer, Ok(2), to);
@@ -171,7 +171,7 @@ fn exports_both<D: Disk + Drop>(rt: &impl Abort, alloc: Global, store: &mut Stor
     );
 }
 
-// The two frames are exported, and the second of them alone.
+// Checks the export of the two frames, and of the second one alone.
 fn exports_two<D: Disk + Drop>(rt: &impl Abort, alloc: Global, store: &mut Store<D>, ends: &[u64]) {
     for to in ends {
         exports_both(rt, alloc, store, *to);
@@ -187,7 +187,7 @@ fn two_frames_are_exported_as_these_75_bytes(rt: HostRuntime) {
     exports_two(&rt, rt.alloc(), &mut store, &[1, 2, u64::MAX]);
 }
 
-// Exports the two frames to a writer that takes one byte a call, of which the call of a number fails.
+// Exports the two frames to a writer that takes one byte a call and fails the call of a number.
 fn exports_failing<D: Disk + Drop>(
     rt: &impl Abort,
     alloc: Global,
@@ -205,7 +205,7 @@ fn exports_failing<D: Disk + Drop>(
     same!(rt; Some(out.got.as_slice()), TWO.get(..left), fails);
 }
 
-// Each call fails in turn, in each of three ways.
+// Fails each call in turn, in each of three ways.
 fn exports_failing_at<D: Disk + Drop>(
     rt: &impl Abort,
     alloc: Global,
@@ -220,7 +220,7 @@ fn exports_failing_at<D: Disk + Drop>(
 }
 
 #[test]
-fn a_writer_that_fails_has_a_beginning_of_the_text(rt: HostRuntime) {
+fn a_writer_that_fails_has_a_prefix_of_the_text(rt: HostRuntime) {
     let kinds = [
         None,
         Some(ErrorKind::BrokenPipe),
@@ -245,14 +245,14 @@ fn pixels_of(rt: &impl Abort, alloc: Global, numbers: &[u64]) -> Vec<u8> {
     pixels
 }
 
-// A text has the frames of these numbers.
+// Checks that a text has the frames of these numbers.
 fn has_frames(rt: &impl Abort, alloc: Global, text: &[u8], numbers: &[u64], note: u64) {
     let told = tell(rt, alloc, text);
     same!(rt; told.frames, pixels_of(rt, alloc, numbers), note);
     same!(rt; told.ends, [Ok(false); 2], note);
 }
 
-// The frames of each range that are exported have these numbers.
+// Checks that the frames of each range that are exported have these numbers.
 fn are_exported<D: Disk + Drop>(
     rt: &impl Abort,
     alloc: Global,
@@ -266,7 +266,7 @@ fn are_exported<D: Disk + Drop>(
     }
 }
 
-// The image of a store that was taken back to its disk.
+// The image of a store.
 fn image_of(rt: &impl Abort, alloc: Global, store: Store<MemDisk>) -> Vec<u8> {
     store
         .into_disk()
@@ -282,14 +282,14 @@ fn put_clip(rt: &impl Abort, image: &mut [u8]) {
     image[528] = 1;
 }
 
-// The disk of six frames of which a clip has 0 and 1.
+// A disk with six frames, of which 0 and 1 are a clip.
 fn clipped(rt: &impl Abort, alloc: Global) -> MemDisk {
     let mut image = image_of(rt, alloc, stored(rt, alloc, SMALL, 6));
     put_clip(rt, &mut image);
     MemDisk::of(image)
 }
 
-// A clip has kept frames 0 and 1, and 2 and 3 went for one more.
+// Frame 6 was stored in the place of 2 and 3, since a clip kept frames 0 and 1.
 fn exports_clipped<D: Disk + Drop>(
     rt: &impl Abort,
     alloc: Global,
@@ -302,7 +302,7 @@ fn exports_clipped<D: Disk + Drop>(
     same!(rt; (answer, text.len()), (Err(ExportFault::Store(StoreFault::NotHeld)), 0));
 }
 
-// The ring has taken frames 0 and 1 back, or a clip has kept them.
+// The ring has recycled frames 0 and 1, or a clip has kept them.
 #[test]
 fn the_held_frames_of_a_range_are_exported(rt: HostRuntime) {
     let alloc = rt.alloc();
@@ -317,7 +317,7 @@ fn the_held_frames_of_a_range_are_exported(rt: HostRuntime) {
     );
 }
 
-// An export of the first frame writes pieces of these sizes.
+// Checks that an export of the first frame writes pieces of these sizes.
 fn exports_pieces<D: Disk + Drop>(
     rt: &impl Abort,
     alloc: Global,
@@ -332,7 +332,7 @@ fn exports_pieces<D: Disk + Drop>(
 }
 
 #[test]
-fn a_large_frame_is_moved_in_pieces(rt: HostRuntime) {
+fn a_large_frame_is_copied_in_pieces(rt: HostRuntime) {
     let mut store = stored(&rt, rt.alloc(), LARGE, 1);
     exports_pieces(&rt, rt.alloc(), &mut store, &[40, 6, 65_536, 2]);
 }
@@ -348,17 +348,17 @@ fn large_text(rt: &impl Abort, alloc: Global) -> Vec<u8> {
     text
 }
 
-// What an export answers and writes, and what a second one answers.
+// The answer and the text of an export, and the answer to a second one.
 type Twice = (Answer, Vec<u8>, Answer);
 
-// What an export of a store writes and answers, and what a second one answers.
+// Exports a store twice.
 fn exported_twice<D: Disk + Drop>(alloc: Global, store: &mut Store<D>) -> Twice {
     let (answer, written) = exported(alloc, store, 0, u64::MAX);
     let (again, _) = exported(alloc, store, 0, 0);
     (answer, written, again)
 }
 
-// The same of an image, where the disk's call of a number fails. Nothing where the disk isn't opened.
+// Exports the store of an image twice, where the disk fails the call of a number. None where the disk isn't opened.
 fn exported_once(rt: &impl Abort, alloc: Global, image: &[u8], call: u64) -> Option<Twice> {
     let image = image.to_vec(alloc).expect(rt, "memory for an image");
     match Store::open(alloc, OnceDisk::new(MemDisk::of(image), call)) {
@@ -367,7 +367,8 @@ fn exported_once(rt: &impl Abort, alloc: Global, image: &[u8], call: u64) -> Opt
     }
 }
 
-// An export whose read failed answers so, with so many bytes of the text; it is read through a second time.
+// An export whose read failed is refused, and has written this many bytes of the text. A second export writes the whole
+// text.
 fn fails(rt: &impl Abort, told: &Twice, (text, length): (&[u8], usize), call: u64) {
     same!(rt; told.0, Err(ExportFault::Store(StoreFault::Disk(DiskFault::Read))), call);
     same!(rt; told.1.len(), length, call);
@@ -375,7 +376,7 @@ fn fails(rt: &impl Abort, told: &Twice, (text, length): (&[u8], usize), call: u6
     same!(rt; told.2, Ok(1), call);
 }
 
-// Fails each call of an export in turn: it writes so many bytes of the text.
+// Fails each call of an export in turn. It writes this many bytes of the text.
 fn fails_in_turn(rt: &impl Abort, alloc: Global, image: &[u8], text: &[u8], lengths: &[usize]) {
     let mut lengths = lengths.iter();
     for call in 0..40 {
@@ -394,7 +395,7 @@ fn fails_in_turn(rt: &impl Abort, alloc: Global, image: &[u8], text: &[u8], leng
 
 // Four reads: the frame's head, and a piece, twice.
 #[test]
-fn a_read_that_fails_leaves_a_beginning_of_the_text(rt: HostRuntime) {
+fn a_read_that_fails_leaves_a_prefix_of_the_text(rt: HostRuntime) {
     let alloc = rt.alloc();
     let image = image_of(&rt, alloc, stored(&rt, alloc, LARGE, 1));
     let text = large_text(&rt, alloc);
@@ -402,7 +403,7 @@ fn a_read_that_fails_leaves_a_beginning_of_the_text(rt: HostRuntime) {
     fails_in_turn(&rt, alloc, &image, &text, &[46, 46, 65_582, 65_582]);
 }
 
-// What an export of a range answers where so many growths are granted, and how much it writes.
+// The answer to an export where this many growths are granted, and how much it writes.
 fn granted<D: Disk + Drop, A: Allocator + Copy>(
     alloc: Global,
     (memory, given): (&Budget, A),
@@ -416,10 +417,10 @@ fn granted<D: Disk + Drop, A: Allocator + Copy>(
     (answer, out.len())
 }
 
-// How many growths are granted, the last number of the range, what an export answers, and how much it writes.
+// How many growths are granted, the last number of the range, the answer to an export, and how much it writes.
 type Growth = (u64, u64, (Answer, usize));
 
-// Exports where memory is refused answer so, and leave no growth.
+// Checks exports where memory is refused. No granted growth is left.
 fn grows<D: Disk + Drop, A: Allocator + Copy>(
     rt: &impl Abort,
     alloc: Global,
@@ -434,7 +435,7 @@ fn grows<D: Disk + Drop, A: Allocator + Copy>(
     }
 }
 
-// The same of a store all of whose memory is granted by the budget.
+// The same for a store all of whose memory is granted by the budget.
 fn grows_within<A: Allocator + Copy>(
     rt: &impl Abort,
     alloc: Global,
@@ -456,7 +457,7 @@ fn an_export_takes_memory_once_before_it_writes(rt: HostRuntime) {
     grows_within(&rt, rt.alloc(), (&memory, &memory), &rows);
 }
 
-// A store whose append fails exports nothing.
+// Checks that a store whose append fails exports nothing.
 fn exports_nothing<D: Disk + Drop, A: Allocator + Copy>(
     rt: &impl Abort,
     alloc: Global,
@@ -471,8 +472,8 @@ fn exports_nothing<D: Disk + Drop, A: Allocator + Copy>(
     }
 }
 
-// A store that is opened in so many calls of its disk exports nothing once an append has failed, at the next call.
-// False where it isn't opened.
+// Opens a store on a disk that passes this many calls. Its next call fails in an append, and then it exports nothing.
+// Returns false where the store isn't opened.
 fn is_broken<A: Allocator + Copy>(
     rt: &impl Abort,
     alloc: Global,
@@ -489,7 +490,7 @@ fn is_broken<A: Allocator + Copy>(
     }
 }
 
-// Some count of calls is enough to open it.
+// Finds how many calls are enough to open it.
 fn is_broken_once<A: Allocator + Copy>(
     rt: &impl Abort,
     alloc: Global,

@@ -1,4 +1,4 @@
-//! Inputs and outputs that give or take one byte a call, and what a whole input is read as.
+//! Inputs and outputs that give or take one byte a call, and the outcome of reading a whole input.
 
 use crate::asserts::same;
 use loop_record::PixelFormat;
@@ -86,8 +86,8 @@ impl Write for Gutter {
 /// What a header says: the format, the width, the height, and the rate.
 pub type Shape = (PixelFormat, u32, u32, (u32, u32));
 
-/// What an input is read as: its header or why it isn't opened, the bytes of all its frames, and what ends
-/// them, asked for twice.
+/// The outcome of reading an input: its header or why it isn't opened, the bytes of all its frames, and twice what ends
+/// them.
 #[derive(Drop)]
 pub struct Story {
     pub opened: Result<Shape, Y4mFault>,
@@ -95,7 +95,7 @@ pub struct Story {
     pub ends: [Result<bool, Y4mFault>; 2],
 }
 
-// The next frame, if `out` has a frame's length.
+// Reads the next frame, if `out` is as long as a frame.
 fn next<R: Read + Drop>(reader: &mut Y4mReader<R>, out: &mut [u8]) -> Result<bool, Y4mFault> {
     if out.len() != reader.frame_bytes() as usize {
         return Err(Y4mFault::NotY4m);
@@ -143,10 +143,10 @@ pub fn tell<R: Read + Drop>(rt: &impl Abort, alloc: Global, input: R) -> Story {
     }
 }
 
-/// What an input has to be read as: its header, the bytes of its frames, and what ends them both times.
+/// What the outcome of reading an input has to be: its header, the bytes of its frames, and what ends them both times.
 pub type Want<'a> = (Result<Shape, Y4mFault>, &'a [u8], Result<bool, Y4mFault>);
 
-/// Reads a whole input, which has to be read as this.
+/// Checks the outcome of reading a whole input.
 pub fn reads<R: Read + Drop>(
     rt: &impl Abort,
     alloc: Global,

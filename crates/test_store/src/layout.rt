@@ -1,4 +1,4 @@
-//! Sizes, and what stands in each part of a disk.
+//! Sizes, and the bytes of each part of a disk.
 
 use crate::asserts::{holds, same};
 use loop_record::{
@@ -33,7 +33,7 @@ const TINY: Geometry = Geometry {
 };
 
 #[test]
-fn sizes_and_places(rt: HostRuntime) {
+fn a_geometry_has_these_sizes_and_places(rt: HostRuntime) {
     assert!(rt; SMALL.check().is_ok() && TINY.check().is_ok());
     same!(rt; SMALL.frame_bytes(), 12);
     same!(rt; SMALL.segment_at(0), 2_560);
@@ -65,7 +65,7 @@ const SLOT: [u8; 44] = [
     0, 0, 0, 0, 3, 4, 5, 6, 7, 8, 9, 10, 11, 12, 13, 14,
 ];
 
-// The superblock of `SMALL` in a version has these bytes in front, then this gate and zeros, and is read as it.
+// The superblock of `SMALL` in a version has these bytes in front, then this gate and zeros. It is read back.
 fn superblock(rt: &impl Abort, front: &[u8], version: u32, gate: u8) {
     assert!(rt; SMALL.check().is_ok());
     let mut superblock = [0x5Au8; 512];
@@ -81,7 +81,7 @@ fn superblock(rt: &impl Abort, front: &[u8], version: u32, gate: u8) {
     same!(rt; decode_super(&superblock), Ok(head));
 }
 
-// A superblock of `SMALL` with this byte at a place is read so.
+// A superblock of `SMALL` with this byte at a place is read with this answer.
 fn changed(rt: &impl Abort, at: usize, byte: u8, want: Result<SuperHead, LayoutFault>) {
     assert!(rt; SMALL.check().is_ok());
     let mut superblock = [0u8; 512];
@@ -111,7 +111,7 @@ fn any_version_gate_but_an_open_one_means_version_1(rt: HostRuntime) {
     changed(&rt, 0, 0, Err(LayoutFault::NotFormatted));
 }
 
-// Frame 3 of a pattern has this slot, and its head.
+// Frame 3 of a pattern has these bytes as its slot, and its head is read back.
 fn slot(rt: &impl Abort, frame: &Frame, bytes: &[u8]) {
     assert!(rt; frame.bytes.len() == 12);
     let mut slot = [0x5Au8; 44];
@@ -138,7 +138,7 @@ fn a_superblock_and_a_slot_have_these_bytes(rt: HostRuntime) -> Result<(), Fail>
     Ok(())
 }
 
-// A segment's header with this block is read so.
+// A segment's header with this block is read with this answer.
 fn header(
     rt: &impl Abort,
     bytes: &mut [u8],
@@ -150,7 +150,7 @@ fn header(
     same!(rt; decode_header(&SMALL, bytes), want, block);
 }
 
-// The entry of a clip from this number on is read so in a version.
+// The entry of a clip from this number on is read with this answer in a version.
 fn entry(
     rt: &impl Abort,
     bytes: &mut [u8],
@@ -212,7 +212,7 @@ fn a_header_and_a_clip_entry_are_decoded(rt: HostRuntime) {
     entry(&rt, &mut bytes, 2, 4, Err(Damage::ClipRange));
 }
 
-// A segment of a block with so many frames.
+// A segment of a block with this many frames.
 fn found(segment: u32, block: u64, frames: u32) -> Found {
     Found {
         segment,
@@ -222,14 +222,14 @@ fn found(segment: u32, block: u64, frames: u32) -> Found {
 }
 
 #[test]
-fn a_block_stands_once_and_only_the_newest_may_lack_a_frame(rt: HostRuntime) {
+fn a_block_is_there_once_and_only_the_newest_may_lack_a_frame(rt: HostRuntime) {
     let open = [found(1, 3, 2), found(0, 5, 1)];
     holds!(rt; !repeats(&open) && !lacks_frame(&SMALL, &open));
     let open = [found(1, 3, 2), found(2, 5, 1), found(0, 5, 2)];
     holds!(rt; repeats(&open) && lacks_frame(&SMALL, &open));
 }
 
-// A table whose last clip goes from 7 to this number is read so.
+// A table whose last clip ends at this number, from 7 on, is read with this answer.
 fn clips(rt: &impl Abort, open: &[Found], to: u64, want: Result<Option<Span>, Damage>) {
     assert!(rt; SMALL.check().is_ok());
     let mut table = [0u8; TABLE_SIZE];
@@ -273,7 +273,7 @@ fn the_next_number_and_the_clips_are_found(rt: HostRuntime) {
     clips(&rt, &open, 9, Err(Damage::ClipRange));
 }
 
-// Of each block whether a clip locks it.
+// Checks for each block whether a clip locks it.
 fn locks(rt: &impl Abort, clips: &[Option<Span>], rows: &[(u64, bool)]) {
     assert!(rt; SMALL.check().is_ok());
     for (block, locked) in rows {
@@ -299,7 +299,7 @@ fn a_clip_locks_the_blocks_of_its_frames(rt: HostRuntime) {
     );
 }
 
-// The head of a slot, asked for by a number and a size.
+// The head of a slot, read for a number and a size, gives this answer.
 fn head(rt: &impl Abort, head: &[u8], asked: (u64, u32), want: Result<FrameHead, Damage>) {
     assert!(rt; head.len() == HEAD_SIZE);
     same!(rt; decode_head(head, asked.0, asked.1), want, asked);

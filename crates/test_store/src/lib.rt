@@ -1,12 +1,12 @@
 //! Tests of the store, of its parts and of its exports that need Rust: the bytes of each part of a disk, written and
-//! read, which stray gates are closed, which block goes, memory that is refused, looks without a write, and the names of
-//! the refusals. The worked rows of the layout and of the rules, the stops and the calls that fail are cases of
-//! `test_store_cases`; what an image reads as stands in loop_record's proofs too, computed on worked images.
+//! read, which stray gates are closed, which block goes, memory that is refused, reads over a disk that isn't written
+//! to, and the names of the refusals. The worked rows of the layout and of the rules, the stops and the calls that fail
+//! are cases of `test_store_cases`. What an image reads as is also in loop_record's proofs, computed on worked images.
 //!
-//! - `layout`: sizes, and what stands in each part of a disk; `ring`: calls of a ring, over a disk that claims nothing
+//! - `layout`: sizes, and the bytes of each part of a disk; `ring`: calls of a ring, over a disk that claims nothing
 //!   of its bytes, so that a test may begin with any image; `upgrade`: upgrades of a clip table to version 2 of the
 //!   layout; `tables`: the segments and the clips in memory;
-//! - `common`: a geometry, frames of a pattern, images, and calls that see to their preconditions first;
+//! - `common`: a geometry, frames of a pattern, images, and calls that check their preconditions first;
 //! - `looks`: a store over a disk that is never written to;
 //! - `memory`: each growth is refused in turn;
 //! - `names`: the numbers, the names and the sentences of the refusals;

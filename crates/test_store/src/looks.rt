@@ -11,7 +11,7 @@ use std::process::Abort;
 use std::test::Fail;
 
 // The image of three frames, with the gates of the last block torn as a stop may leave them: that of frame 2 is closed,
-// and the one behind it open. An opening clears that one.
+// and the one after it is open. An opening clears that one.
 fn torn(rt: &impl Abort, alloc: Global) -> Vec<u8> {
     let mut image = image_of(rt, alloc, 3);
     for (at, gate) in &[(3416usize, 0), (3417, 0xA5)] {
@@ -35,7 +35,7 @@ fn clears(rt: &impl Abort, alloc: Global, image: Vec<u8>) {
     same!(rt; cleared.into_disk().bytes().get(3417), Some(&0));
 }
 
-// A frame is stored behind the two that the store holds.
+// A frame is stored after the two that the store holds.
 fn is_tried<D: Disk + Drop>(
     rt: &impl Abort,
     alloc: Global,
@@ -46,7 +46,7 @@ fn is_tried<D: Disk + Drop>(
     holds(rt, alloc, store, &[(0, 2)])
 }
 
-// A store over a disk that is never written to is tried. That disk is as it was.
+// Stores a frame over a disk that is never written to. That disk has to stay as it was.
 fn is_left(rt: &impl Abort, alloc: Global, image: &[u8], beneath: MemDisk) -> Result<(), Fail> {
     let mut store = opens(rt, alloc, OverlayDisk::new(alloc, beneath));
     is_tried(rt, alloc, &mut store)?;
@@ -57,7 +57,9 @@ fn is_left(rt: &impl Abort, alloc: Global, image: &[u8], beneath: MemDisk) -> Re
 }
 
 #[test]
-fn a_store_is_looked_at_and_tried_without_a_write(rt: HostRuntime) -> Result<(), Fail> {
+fn a_store_is_read_and_appended_to_without_a_write_to_its_disk(
+    rt: HostRuntime,
+) -> Result<(), Fail> {
     let alloc = rt.alloc();
     let image = torn(&rt, alloc);
     clears(&rt, alloc, image.to_vec(alloc)?);
@@ -65,7 +67,7 @@ fn a_store_is_looked_at_and_tried_without_a_write(rt: HostRuntime) -> Result<(),
     is_left(&rt, alloc, &image, beneath)
 }
 
-// Reads heads over a disk that passes one call more.
+// Reads heads over a disk that passes one more call.
 fn reads_heads<D: Disk + Drop>(rt: &impl Abort, store: &mut Store<D>) {
     let head = FrameHead {
         number: 1,
@@ -80,8 +82,8 @@ fn reads_heads<D: Disk + Drop>(rt: &impl Abort, store: &mut Store<D>) {
     same!(rt; store.read_head(1), Err(StoreFault::MustReopen));
 }
 
-// The opening of three frames in three segments makes nine calls: a sync, and reads of the superblock, of the clips, of
-// each header and of each slot's head.
+// Opening three frames in three segments takes nine calls: a sync, and reads of the superblock, of the clips, of each
+// header and of each slot's head.
 #[test]
 fn a_head_is_read_with_one_call_of_the_disk(rt: HostRuntime) {
     let alloc = rt.alloc();

@@ -14,7 +14,7 @@ use std::process::Abort;
 use std::test::Fail;
 use test_alloc::Budget;
 
-// Whether a frame that is to be stored has so many bytes.
+// Whether a frame that is to be stored has the geometry's size.
 fn fits<A: Allocator>(command: &Command<A>, geometry: &Geometry) -> bool
     requires { IsTrue (is_good geometry.now) }
     ensures { IsTrue result → IsOfSize geometry.now command.now }
@@ -56,8 +56,8 @@ fn disk_of(rt: &impl Abort, alloc: Global, image: &[u8]) -> MemDisk {
     MemDisk::of(image.to_vec(alloc).expect(rt, "memory for an image"))
 }
 
-// Formats a disk of zeros where so many growths are granted: the next number, or the refusal and how many calls the
-// disk that comes back passes yet.
+// Formats a disk of zeros where this many growths are granted. Returns the next number, or the refusal and how many
+// more calls the disk passes.
 fn formats(
     rt: &impl Abort,
     alloc: Global,
@@ -80,7 +80,7 @@ fn grows_in_format(rt: &impl Abort, alloc: Global, memory: &Budget, growths: u64
     same!(rt; (formats(rt, alloc, memory, growths), memory.left()), (Ok(0), 0));
 }
 
-// The opening of an image with so many of the newest blocks kept is refused, and hands the image back.
+// The opening of an image with this many of the newest blocks kept is refused, and hands the image back.
 fn is_refused(
     rt: &impl Abort,
     alloc: Global,
@@ -96,7 +96,7 @@ fn is_refused(
     so!(rt; refused.disk.bytes() == image, keep);
 }
 
-// Opens an image with so many of the newest blocks kept, where each growth is refused in turn.
+// Opens an image with this many of the newest blocks kept, where each growth is refused in turn.
 fn grows_in_open<'a>(
     rt: &impl Abort,
     alloc: Global,
@@ -136,7 +136,7 @@ fn upgrades_without_growth(rt: &impl Abort, alloc: Global, memory: &Budget) {
     same!(rt; (store.upgrade(), memory.left()), (Ok(false), 0));
 }
 
-// Stores a frame where memory for nothing but the frame is granted.
+// Stores a frame where no memory is granted but for the frame.
 fn stores_without_growth<'a>(
     rt: &impl Abort,
     alloc: Global,
@@ -150,7 +150,7 @@ fn stores_without_growth<'a>(
     same!(rt; append(rt, store, &frames), Ok(number));
 }
 
-// The list of the numbers, where its one growth is refused, and then granted.
+// Lists the numbers, where the one growth of the list is refused, and then granted.
 fn grows_in_frames<'a>(
     rt: &impl Abort,
     memory: &'a Budget,
@@ -163,7 +163,7 @@ fn grows_in_frames<'a>(
     }
 }
 
-// The held frames of a time, where each growth is refused in turn: the frames are 40 ms apart.
+// Searches the frames of a time, where each growth is refused in turn. The frames are 40 ms apart.
 fn grows_in_sought<'a>(
     rt: &impl Abort,
     memory: &'a Budget,
@@ -186,7 +186,7 @@ fn grows_in_sought<'a>(
     }
 }
 
-// A lock and an unlock, without a growth, and the list of the clips, which is refused its one.
+// Locks and unlocks without a growth. Lists the clips, where the one growth of the list is refused, and then granted.
 fn grows_in_clips<'a>(
     rt: &impl Abort,
     memory: &'a Budget,
@@ -201,7 +201,7 @@ fn grows_in_clips<'a>(
     same!(rt; store.clips(memory).ok().map(|clips| clips.len()), Some(0));
 }
 
-// A frame that is read, where its one growth is refused, and then granted; one that isn't held needs none.
+// Reads a frame, where its one growth is refused, and then granted. A frame that isn't held needs none.
 fn grows_in_reads<'a>(
     rt: &impl Abort,
     memory: &'a Budget,
@@ -218,7 +218,7 @@ fn grows_in_reads<'a>(
     same!(rt; store.read_frame(memory, u64::MAX).err(), Some(StoreFault::NotHeld));
 }
 
-// A list of one command that reads a frame, where each growth is refused in turn.
+// Does a list of one command that reads a frame, where each growth is refused in turn.
 fn grows_in_commands<'a>(
     rt: &impl Abort,
     memory: &'a Budget,
@@ -241,7 +241,7 @@ fn has_read<A: Allocator>(replies: &[Reply<A>]) -> bool {
     }
 }
 
-// Two frames are stored, and what is held is looked at in each way.
+// Stores two frames, and reads what is held in each way.
 fn grows_on<'a>(
     rt: &impl Abort,
     alloc: Global,

@@ -22,7 +22,8 @@ const SMALL: Shape = (PixelFormat::Ym12, 4, 2, (25, 1));
 
 const TRUNCATED: Result<bool, Y4mFault> = Err(Y4mFault::Truncated);
 
-// The count of bytes that are left, what opening them answers, how many bytes of frames come, and what ends them.
+// From how many to how many bytes are left of the input; the answer to its opening, how many bytes of frames come, and
+// what ends them.
 type Cut = (
     usize,
     usize,
@@ -49,7 +50,7 @@ fn reads_cut(rt: &impl Abort, alloc: Global, rows: &[Cut]) {
     }
 }
 
-// So many bytes of the two frames are all read as this.
+// Each input of this many bytes of the two frames is read with this outcome.
 fn reads_each(rt: &impl Abort, alloc: Global, counts: RangeInclusive<usize>, want: Want<'_>) {
     for count in counts {
         let bytes = TWO.get(..count).expect(rt, "so many bytes");
@@ -63,7 +64,7 @@ fn an_input_that_is_cut_gives_its_whole_frames_and_then_truncated(rt: HostRuntim
     reads_cut(&rt, rt.alloc(), &CUTS);
 }
 
-// Reads the two frames by one byte a call, of which the call of this number fails so.
+// Reads the two frames by one byte a call, and fails the call of a number.
 fn reads_failing(
     rt: &impl Abort,
     alloc: Global,
@@ -74,7 +75,7 @@ fn reads_failing(
     reads(rt, alloc, input, want, number);
 }
 
-// What is read before the read of a number fails: the header, or nothing, and so many bytes of frames.
+// What comes before the read of a number fails: the header or nothing, and how many bytes of frames.
 fn until(number: usize) -> (Result<Shape, Y4mFault>, usize) {
     match number {
         0..=38 => (Err(Y4mFault::Read), 0),
@@ -94,9 +95,9 @@ fn reads_failing_at(rt: &impl Abort, alloc: Global, number: usize) {
     reads_failing(rt, alloc, (number, ErrorKind::Interrupted), whole);
 }
 
-// One byte a read: the read of number k is that of byte k, and that of number 75 finds the end.
+// The input gives one byte a read: read k gives byte k, and read 75 finds the end.
 #[test]
-fn a_read_that_fails_is_answered_then_and_from_then_on(rt: HostRuntime) {
+fn a_read_that_fails_is_reported_then_and_from_then_on(rt: HostRuntime) {
     for number in 0..=75usize {
         reads_failing_at(&rt, rt.alloc(), number);
     }
@@ -181,7 +182,7 @@ const HEADERS: [(&[u8], Result<Shape, Y4mFault>); 36] = [
     ),
 ];
 
-// Each of these header lines says this.
+// Checks what each of these header lines says.
 fn opens(rt: &impl Abort, alloc: Global, rows: &[(&[u8], Result<Shape, Y4mFault>)]) {
     for (row, (line, opened)) in rows.iter().enumerate() {
         same!(rt; tell(rt, alloc, *line).opened, *opened, row);
@@ -274,7 +275,7 @@ const GEOMETRIES: [(&[u8], u32, u32, Result<Geometry, GeometryFault>); 11] = [
     ),
 ];
 
-// A store of each of these headers has this geometry.
+// Checks the geometry that a store of each of these headers has.
 fn gives_geometry(rt: &impl Abort, rows: &[(&[u8], u32, u32, Result<Geometry, GeometryFault>)]) {
     for (row, (line, segments, slots, want)) in rows.iter().enumerate() {
         let given = match Y4mReader::open(*line) {
@@ -290,7 +291,7 @@ fn a_geometry_is_the_headers_or_refused_by_name(rt: HostRuntime) {
     gives_geometry(&rt, &GEOMETRIES);
 }
 
-// What stands behind a header of frames of one byte, the frames' bytes, and what ends them.
+// The bytes after a header of frames of one byte, the frames' bytes, and what ends them.
 const FRAMES: [(&[u8], &[u8], Result<bool, Y4mFault>); 9] = [
     (b"", b"", Ok(false)),
     (b"FRAME\naFRAME Ip Xof them\nb", b"ab", Ok(false)),
@@ -308,7 +309,7 @@ const POINT: &[u8; 22] = b"YUV4MPEG2 W1 H1 Cmono\n";
 
 const ONE: Result<Shape, Y4mFault> = Ok((PixelFormat::Grey, 1, 1, (0, 0)));
 
-// The header of frames of one byte, and what stands behind it.
+// The header of frames of one byte, and the bytes after it.
 fn point(rt: &impl Abort, alloc: Global, behind: &[u8]) -> Vec<u8> {
     let mut input = POINT.to_vec(alloc).expect(rt, "memory for a header");
     input
@@ -317,7 +318,7 @@ fn point(rt: &impl Abort, alloc: Global, behind: &[u8]) -> Vec<u8> {
     input
 }
 
-// What stands behind the header of frames of one byte is read as this.
+// Checks how the bytes after the header of frames of one byte are read.
 fn reads_behind(rt: &impl Abort, alloc: Global, rows: &[(&[u8], &[u8], Result<bool, Y4mFault>)]) {
     for (row, (behind, frames, end)) in rows.iter().enumerate() {
         let input = point(rt, alloc, behind);
@@ -330,7 +331,7 @@ fn frames_are_read_up_to_the_end_or_a_fault(rt: HostRuntime) {
     reads_behind(&rt, rt.alloc(), &FRAMES);
 }
 
-// Bytes, filled up to a length with one byte, and more behind it.
+// Bytes that are filled up to a length with one byte, followed by others.
 fn filled(
     rt: &impl Abort,
     alloc: Global,
@@ -344,13 +345,13 @@ fn filled(
     line
 }
 
-// A header line of so many bytes.
+// A header line of this many bytes.
 fn long_header(rt: &impl Abort, alloc: Global, length: usize) -> Vec<u8> {
     let length = length.saturating_sub(1);
     filled(rt, alloc, b"YUV4MPEG2 W1 H1 Cmono X", (length, b'x'), b"\n")
 }
 
-// A frame of one byte behind a frame's line of so many bytes.
+// A frame of one byte after a frame's line of this many bytes.
 fn long_frame(rt: &impl Abort, alloc: Global, length: usize) -> Vec<u8> {
     let length = length.saturating_add(21);
     filled(
@@ -362,7 +363,7 @@ fn long_frame(rt: &impl Abort, alloc: Global, length: usize) -> Vec<u8> {
     )
 }
 
-// A header line of so many bytes is opened so, and a frame's line ends the input so.
+// Checks a header line of this many bytes, and a frame's line of as many.
 fn long_lines(
     rt: &impl Abort,
     alloc: Global,
@@ -376,7 +377,7 @@ fn long_lines(
     }
 }
 
-// A line is read up to 4,096 bytes, its 0x0A among them.
+// A line may have 4,096 bytes, including its 0x0A.
 #[test]
 fn a_line_of_4_097_bytes_is_too_long(rt: HostRuntime) {
     let rows = [

@@ -162,7 +162,7 @@ const ROWS: [Row; 17] = [
     ),
 ];
 
-// Each of these streams is read as this.
+// Checks how each of these streams is read.
 fn reads_streams(rt: &impl Abort, alloc: Global, rows: &[Row]) {
     for (number, row) in rows.iter().enumerate() {
         reads(rt, alloc, row.0, (row.1, row.2, row.3), number);

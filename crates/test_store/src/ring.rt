@@ -1,9 +1,6 @@
 //! Calls of a ring over images.
 
-ghost use Rattle.std.specs.Prelude.{◌≡◌, ◌+◌, ◌≤◌, IfErr, IfOk, OnOk, vec_len};
-ghost use Rattle.loop_disk.specs.declared.fault.DiskFault.TheVariants.{Read, Write, Sync};
-ghost use Rattle.loop_disk.specs.Medium.{piece};
-ghost use Rattle.loop_disk.specs.Calls.{Called, Stays, Writes, Syncs, failed_call};
+ghost use Rattle.std.specs.Prelude.{◌≡◌, ◌≤◌, IfOk, vec_len};
 
 use crate::asserts::{holds, same};
 use loop_disk::{Disk, DiskFault, FuseDisk, MemDisk, OnceDisk};
@@ -64,7 +61,7 @@ fn ring() -> Ring
     Ring::new(FOUR)
 }
 
-// The disk of 0x5A with segment 0 for block 0, these frame gates of it, and frame 3 in slot 3.
+// A disk of bytes 0x5A, in which segment 0 has block 0, with these frame gates and frame 3 in slot 3.
 fn image(alloc: Global, gates: [u8; 4]) -> Result<Vec<u8>, AllocError>
     ensures { IfOk result (λ image. vec_len image ≡ 3936) }
 {
@@ -87,7 +84,7 @@ fn clear<D: Disk>(ring: &Ring, disk: &mut Bare<D>, frames: u32) -> Result<(), Di
     ring.clear_stray(disk, 0, frames)
 }
 
-// The frame gates of a segment, how many of its frames are whole, how many calls are made, and the gates afterwards.
+// The frame gates of a segment, how many of its frames are whole, how many calls are made, and the gates after them.
 type Cleared = ([u8; 4], u32, u64, [u8; 4]);
 
 const CLEARED: [Cleared; 6] = [
@@ -99,8 +96,8 @@ const CLEARED: [Cleared; 6] = [
     ([0xA5, 0xA5, 0xA5, 0xA5], 4, 0, [0xA5, 0xA5, 0xA5, 0xA5]),
 ];
 
-// The number of the call that fails, how many bytes of it are written if it is a write, its fault, and the
-// gates that are left of 0xA5, 0x07, 0xA5, 0x01.
+// The number of the call that fails, how many bytes of a write it keeps, its fault, and the gates that are left of
+// 0xA5, 0x07, 0xA5, 0x01.
 type Uncleared = (u64, usize, DiskFault, [u8; 4]);
 
 const UNCLEARED: [Uncleared; 4] = [
@@ -110,7 +107,7 @@ const UNCLEARED: [Uncleared; 4] = [
     (2, 0, DiskFault::Sync, [0xA5, 0x07, 0x00, 0x00]),
 ];
 
-// Clears the stray gates of an image, in so many calls of its disk.
+// Clears the stray gates of an image. Its disk passes just the calls that this takes.
 fn clears(rt: &impl Abort, alloc: Global, row: &Cleared) -> Result<(), Fail> {
     let (before, frames, calls, after) = *row;
     let expected = image(alloc, after)?;
@@ -122,7 +119,7 @@ fn clears(rt: &impl Abort, alloc: Global, row: &Cleared) -> Result<(), Fail> {
     Ok(())
 }
 
-// Fails one call of clearing, a write torn.
+// Fails one call of clearing. A write is torn.
 fn clears_in_part(rt: &impl Abort, alloc: Global, row: &Uncleared) -> Result<(), Fail> {
     let (call, keep, fault, after) = *row;
     let expected = image(alloc, after)?;
@@ -144,10 +141,10 @@ fn stray_gates_are_cleared_and_no_others(rt: HostRuntime) -> Result<(), Fail> {
     Ok(())
 }
 
-// How many calls pass, a change of a byte, the number that is asked for, and the answer.
+// How many calls pass, a change of a byte, the number that is read, and the answer.
 type Asked = (u64, (usize, u8), u64, Result<FrameHead, SlotFault>);
 
-// Reads slot 3 of segment 0 of an image with a change, on a disk that passes so many calls.
+// Reads slot 3 of segment 0 of an image with a change, on a disk that passes this many calls.
 fn reads(rt: &impl Abort, alloc: Global, row: &Asked) -> Result<(), Fail> {
     let (calls, (at, byte), number, expected) = *row;
     let mut image = image(alloc, [OPEN; 4])?;

@@ -40,15 +40,15 @@ fn clip(number: u64) -> Option<Span> {
     })
 }
 
-// Whether the index has these numbers.
+// Checks whether the index has these numbers.
 fn holds_these<A: Allocator>(rt: &impl Abort, index: &SegmentIndex<A>, rows: &[(u64, bool)]) {
     for (number, held) in rows {
         same!(rt; index.holds(2, *number), *held, *number);
     }
 }
 
-// What is found in the index of a block 3 with one frame, a closed segment, and a block 2 with both frames; and
-// once block 4 is begun in the closed one.
+// Checks the index of a block 3 with one frame, a closed segment, and a block 2 with both frames. Then block 4 is begun
+// in the closed segment.
 fn finds<A: Allocator>(rt: &impl Abort, index: &mut SegmentIndex<A>)
     requires { length index.old.heads ≡ 3 }
 {
@@ -76,7 +76,7 @@ fn segments_are_found_by_what_they_hold(rt: HostRuntime) -> Result<(), Fail> {
     Ok(())
 }
 
-// The open segments of an index are these, in this order: a segment, its block and its frames.
+// Checks that the open segments of an index are these, in this order: a segment, its block and its frames.
 fn stand<A: Allocator>(rt: &impl Abort, index: &SegmentIndex<A>, rows: &[(u32, u64, u32)]) {
     same!(rt; index.in_order().len(), rows.len());
     for (found, row) in index.in_order().iter().zip(rows) {
@@ -85,7 +85,7 @@ fn stand<A: Allocator>(rt: &impl Abort, index: &SegmentIndex<A>, rows: &[(u32, u
 }
 
 #[test]
-fn open_segments_stand_in_the_order_of_their_blocks(rt: HostRuntime) -> Result<(), Fail> {
+fn open_segments_are_in_the_order_of_their_blocks(rt: HostRuntime) -> Result<(), Fail> {
     let mut index = index(rt.alloc(), [open(5, 2), None, open(5, 1)])?;
     stand(&rt, &index, &[(0, 5, 2), (2, 5, 1)]);
     index.set(1, open(3, 2), 0);
@@ -95,12 +95,12 @@ fn open_segments_stand_in_the_order_of_their_blocks(rt: HostRuntime) -> Result<(
     Ok(())
 }
 
-// The block of a segment, where 64 of them lie in a mixed order: each third block from 10 on.
+// The block of a segment, where 64 blocks lie in a mixed order: every third block from 10 on.
 fn mixed_block(segment: u32) -> u64 {
     u64::from(segment) * 37 % 64 * 3 + 10
 }
 
-// 64 segments in that order. The second and the third block of memory are the counts' and the sorted entries'.
+// 64 segments in that order. The second and the third block of memory are for the counts and the sorted entries.
 fn mixed(memory: &Budget<Global>) -> Result<SegmentIndex<&Budget<Global>>, AllocError>
     ensures { IfOk result (λ index. length index.heads ≡ 64) }
 {
@@ -112,7 +112,7 @@ fn mixed(memory: &Budget<Global>) -> Result<SegmentIndex<&Budget<Global>>, Alloc
     SegmentIndex::of(memory, heads)
 }
 
-// What is found of some blocks, each by at most seven looks.
+// Checks for some blocks whether they are found, each by at most seven comparisons.
 fn finds_soon<A: Allocator>(rt: &impl Abort, index: &SegmentIndex<A>, rows: &[(u64, Option<u32>)]) {
     for (block, expected) in rows {
         let (found, looks) = index.find(*block);
@@ -122,7 +122,7 @@ fn finds_soon<A: Allocator>(rt: &impl Abort, index: &SegmentIndex<A>, rows: &[(u
 }
 
 #[test]
-fn a_block_is_found_by_few_looks(rt: HostRuntime) -> Result<(), Fail> {
+fn a_block_is_found_by_few_comparisons(rt: HostRuntime) -> Result<(), Fail> {
     let memory = Budget::new(rt.alloc());
     for blocks in 1..3 {
         memory.allow(blocks);
@@ -148,11 +148,11 @@ const ABSENT: [(u64, Option<u32>); 5] = [
     (u64::MAX, None),
 ];
 
-// What is found of the 64 segments once some of them move.
+// Checks the index of the 64 segments after some of them move.
 fn moves<A: Allocator>(rt: &impl Abort, index: &mut SegmentIndex<A>)
     requires { length index.old.heads ≡ 64 }
 {
-    // Segment 5 had block 10 + 3 * 57; 6 moves behind all blocks, and then 50 to the block of 20.
+    // Segment 5 had block 10 + 3 * 57; 6 moves after all blocks, and then 50 to the block of 20.
     index.set(5, None, 0);
     index.set(6, open(u64::MAX, 0), 0);
     index.set(50, open(mixed_block(20), 2), 0);
@@ -173,14 +173,14 @@ fn moves<A: Allocator>(rt: &impl Abort, index: &mut SegmentIndex<A>)
     finds_soon(rt, index, &[(mixed_block(20), Some(50))]);
 }
 
-// The headers of three segments of two slots, the clips, and the block that goes with its segment.
+// The headers of three segments of two slots, the clips, and the block that would go with its segment.
 type Row = (
     [Option<SegmentHead>; 3],
     [Option<Span>; 2],
     Option<(u64, u32)>,
 );
 
-// The block that goes, and its segment.
+// Checks which block would go, with its segment.
 fn goes(rt: &impl Abort, alloc: Global, row: &Row) -> Result<(), AllocError> {
     let heads = Vec::from_slice(alloc, &row.0)?;
     let mut index = SegmentIndex::of(alloc, heads)?;
@@ -192,7 +192,7 @@ fn goes(rt: &impl Abort, alloc: Global, row: &Row) -> Result<(), AllocError> {
 }
 
 #[test]
-fn the_least_block_that_no_clip_meets_goes(rt: HostRuntime) -> Result<(), Fail> {
+fn the_least_block_that_no_clip_meets_is_recycled(rt: HostRuntime) -> Result<(), Fail> {
     // Block 3 is begun and has no frame: 2 is the newest.
     let begun = [open(3, 0), open(1, 2), open(2, 2)];
     let full = [open(3, 2), open(1, 2), open(2, 2)];
@@ -254,15 +254,15 @@ fn tagged(from: u64, to: u64, tag: u64) -> Option<Span> {
     Some(Span { from, to, tag })
 }
 
-// The headers of three segments of two slots, the clips, and the block that goes where one, two or three of the newest
-// are kept.
+// The headers of three segments of two slots, the clips, and the block that would go where one, two or three of the
+// newest are kept.
 type KeptRow = (
     [Option<SegmentHead>; 3],
     [Option<Span>; 2],
     [Option<u64>; 3],
 );
 
-// The block that goes with each count.
+// Checks which block would go with each count.
 fn goes_keeping(rt: &impl Abort, alloc: Global, row: &KeptRow) -> Result<(), AllocError> {
     let heads = Vec::from_slice(alloc, &row.0)?;
     let mut index = SegmentIndex::of(alloc, heads)?;
@@ -277,7 +277,7 @@ fn goes_keeping(rt: &impl Abort, alloc: Global, row: &KeptRow) -> Result<(), All
 }
 
 #[test]
-fn so_many_of_the_newest_held_blocks_stay(rt: HostRuntime) -> Result<(), Fail> {
+fn the_kept_number_of_the_newest_held_blocks_stays(rt: HostRuntime) -> Result<(), Fail> {
     // Block 3 is begun and has no frame: 1 and 2 are the newest.
     let begun = [open(3, 0), open(1, 2), open(2, 2)];
     let full = [open(3, 2), open(1, 2), open(2, 2)];
@@ -298,7 +298,7 @@ fn so_many_of_the_newest_held_blocks_stay(rt: HostRuntime) -> Result<(), Fail> {
     Ok(())
 }
 
-// So many of the newest blocks are kept, and this one goes.
+// Keeps this many of the newest blocks. Then this block would go.
 fn keeps<A: Allocator>(rt: &impl Abort, index: &SegmentIndex<A>, keep: u32, victim: Option<u64>) {
     same!(rt; (index.keep(), index.victim()), (keep, victim));
 }
@@ -337,21 +337,21 @@ fn listed(id: u32, from: u64, to: u64, tag: u64) -> Clip {
     Clip { id, from, to, tag }
 }
 
-// The clips that a table has under ids.
+// Checks the clips that a table has under ids.
 fn has_clips(rt: &impl Abort, table: &ClipTable, rows: &[(u32, Option<Span>)]) {
     for (id, expected) in rows {
         same!(rt; table.get(*id), *expected, *id);
     }
 }
 
-// Which blocks of two frames a table's clips meet.
+// Checks which blocks of two frames a table's clips meet.
 fn meets(rt: &impl Abort, table: &ClipTable, rows: &[(u64, bool)]) {
     for (block, met) in rows {
         same!(rt; table.meets(&SMALL, *block), *met, *block);
     }
 }
 
-// The clips of a table are listed in one growth.
+// Checks the list of a table's clips, which takes one growth.
 fn lists(
     rt: &impl Abort,
     alloc: Global,

@@ -2,7 +2,7 @@
 
 ghost use Rattle.std.specs.Prelude.{◌≤◌};
 
-use crate::asserts::{holds, same};
+use crate::asserts::same;
 use crate::ring::Bare;
 use loop_clips::{CLIPS, ClipTable};
 use loop_disk::{Disk, DiskFault, FuseDisk, MemDisk, OnceDisk};
@@ -42,7 +42,7 @@ fn upgrade<D: Disk>(table: &ClipTable, disk: &mut Bare<D>) -> Result<(), DiskFau
     table.upgrade(disk)
 }
 
-// The first and the last byte of a tag's place.
+// The first and the last byte of a tag.
 fn tag(bytes: &[u8], id: usize) -> Option<(u8, u8)>
     requires { id ≤ 64 }
 {
@@ -50,8 +50,8 @@ fn tag(bytes: &[u8], id: usize) -> Option<(u8, u8)>
     Some((*bytes.get(at + 24)?, *bytes.get(at + 31)?))
 }
 
-// Upgrades a table with the clips from this id on, in so many calls and no fewer: zeros stand in the places of
-// their tags and of no other, and the version's gate is open.
+// Upgrades a table with the clips from this id on, in this many calls and no fewer. Then zeros are in the places of
+// their tags and of no other, and the gate of the version is open.
 fn upgrades(rt: &impl Abort, alloc: Global, first: usize, calls: u64) -> Result<(), Fail> {
     let front = front(alloc, first)?;
     assert!(rt; front.len() == 2560);
@@ -67,7 +67,8 @@ fn upgrades(rt: &impl Abort, alloc: Global, first: usize, calls: u64) -> Result<
     Ok(())
 }
 
-// One call of an upgrade of the last clip fails, a write torn: the version's gate and the tag's place then.
+// Fails one call of an upgrade of the last clip. A write is torn. Checks the gate of the version and the place of the
+// tag after it.
 fn fails(
     rt: &impl Abort,
     alloc: Global,

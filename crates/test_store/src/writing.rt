@@ -1,4 +1,4 @@
-//! The text that is written, and that it is read back.
+//! The text that is written, and that it can be read back.
 
 use crate::asserts::{holds, same};
 use crate::fakes::{Gutter, reads};
@@ -28,7 +28,7 @@ fn write_two<W: Write>(out: &mut W) -> io::Result<()> {
     write_frame(second, out)
 }
 
-// How the two frames are refused.
+// The refusal of a writer of the two frames.
 fn refusal<W: Write>(out: &mut W) -> Option<ErrorKind> {
     match write_two(out) {
         Ok(()) => None,
@@ -36,8 +36,8 @@ fn refusal<W: Write>(out: &mut W) -> Option<ErrorKind> {
     }
 }
 
-// Writes the two frames by one byte a call, of which the call of a number fails with a kind of error or, with none,
-// takes nothing: the refusal is this, and so many bytes are written.
+// Writes the two frames by one byte a call. The call of a number fails with a kind of error or, with none, takes
+// nothing. Checks the refusal, and how many bytes are written.
 fn writes_failing(
     rt: &impl Abort,
     alloc: Global,
@@ -49,7 +49,7 @@ fn writes_failing(
     same!(rt; Some(out.got.as_slice()), TWO.get(..want.1), fails);
 }
 
-// The call of this number fails in each of three ways.
+// Fails the call of this number in each of three ways.
 fn writes_failing_at(rt: &impl Abort, alloc: Global, number: usize) {
     let broken = Some(ErrorKind::BrokenPipe);
     let interrupted = Some(ErrorKind::Interrupted);
@@ -131,7 +131,7 @@ fn the_longest_header_is_written(rt: HostRuntime) {
     same!(rt; header(&rt, rt.alloc(), &geometry).as_slice(), line.as_slice());
 }
 
-// So many bytes, from 200 on.
+// This many bytes, from 200 on.
 fn pixels(rt: &impl Abort, alloc: Global, size: usize) -> Vec<u8> {
     let mut pixels = vec![in alloc; 0; size].expect(rt, "memory for a frame");
     let mut next = 200u8;
@@ -142,7 +142,7 @@ fn pixels(rt: &impl Abort, alloc: Global, size: usize) -> Vec<u8> {
     pixels
 }
 
-// The geometry of frames of 5 by 3 pixels of a format.
+// The geometry of frames of 5 by 3 pixels in a format.
 fn odd(format: PixelFormat) -> Geometry {
     Geometry {
         width: 5,
@@ -154,7 +154,7 @@ fn odd(format: PixelFormat) -> Geometry {
     }
 }
 
-// Writes a frame of 5 by 3 pixels, of a format and a size, behind this header, and reads it back.
+// Writes a frame of 5 by 3 pixels, of a format and a size, after this header, and reads it back.
 fn is_read_back(rt: &impl Abort, alloc: Global, row: &(PixelFormat, usize, &[u8])) {
     let pixels = pixels(rt, alloc, row.1);
     let mut out = header(rt, alloc, &odd(row.0));

@@ -13,7 +13,7 @@ use std::str::SplitWhitespace;
 /// What a store is asked for.
 #[derive(Clone, Copy)]
 pub(crate) enum Act {
-    /// To store a group of so many frames.
+    /// To store a group of this many frames.
     Append(u64),
     Lock(Span),
     Unlock(u32),
@@ -50,7 +50,7 @@ fn read_read(words: &mut SplitWhitespace) -> Result<Act> {
     Ok(Act::Read(number))
 }
 
-/// The act of a word, with the next words.
+/// Reads the act that a word names, with the words after it.
 pub(crate) fn read_act(word: &str, words: &mut SplitWhitespace) -> Result<Act> {
     match word {
         "append" => read_append(words),
@@ -79,8 +79,8 @@ pub(crate) fn writes(act: Act) -> bool {
     }
 }
 
-/// Does an act, with frames of this attempt. Answers the number of the first frame, the id of the clip or 1 for an
-/// upgrade that was made, and of what has no such number 0.
+/// Does an act, with frames of this attempt. Returns the number of the first frame, the id of the clip, 1 for an
+/// upgrade that was made, and 0 where there is no such number.
 pub(crate) fn does<D: Disk + Drop>(
     alloc: Global,
     store: &mut Store<D>,
@@ -108,7 +108,7 @@ fn print_done(out: &mut Vec<u8>, act: Act, number: u64) -> io::Result<()> {
     }
 }
 
-/// Prints what came of an act.
+/// Prints the outcome of an act.
 pub(crate) fn print_answer(
     out: &mut Vec<u8>,
     act: Act,

@@ -1,4 +1,4 @@
-//! What a line finds and leaves.
+//! The state that a line finds and leaves.
 
 use crate::acts::Act;
 use crate::counted::Counted;
@@ -15,7 +15,7 @@ use std::str::SplitWhitespace;
 /// A store over a disk that counts its calls, and may fail one.
 pub(crate) type CaseStore<'a> = Store<Counted<'a, OnceDisk<MemDisk>>>;
 
-/// What a store shows after so many calls of its disk.
+/// What a store shows after this many calls of its disk.
 #[derive(Drop)]
 pub(crate) struct Moment {
     pub(crate) at: usize,
@@ -24,25 +24,25 @@ pub(crate) struct Moment {
     pub(crate) version: u32,
 }
 
-/// An image, the store over it where one is open, and what it was asked for since it was opened.
+/// An image, the store over it where one is open, and the acts since it was opened.
 #[derive(Drop)]
 pub(crate) struct Case<'a> {
     pub(crate) alloc: Global,
     pub(crate) calls: &'a Cell<u64>,
-    /// The bytes of the disk. While a store is open, those that are left where a store is opened anew for each line.
+    /// The bytes of the disk. While a store is open: the bytes left by the stores that are opened anew for each line.
     pub(crate) image: Vec<u8>,
     /// The bytes of the disk when it was opened.
     pub(crate) base: Vec<u8>,
     /// An image to compare with.
     pub(crate) kept: Vec<u8>,
-    /// A store that the program before version 2 of the layout has left.
+    /// A store that was written by the program before version 2 of the layout.
     pub(crate) old: Vec<u8>,
     pub(crate) store: Option<CaseStore<'a>>,
     /// How many of the newest blocks its stores keep.
     pub(crate) keep: u32,
-    /// With so many kept, the image was refused.
+    /// Whether the image was refused with this many blocks kept.
     pub(crate) is_refused: bool,
-    /// No store is opened anew beside it, since one call fails.
+    /// Whether a call fails. Then no store is opened anew for each line.
     pub(crate) is_failing: bool,
     /// What was done since the opening.
     pub(crate) acts: Vec<Act>,
@@ -55,7 +55,7 @@ pub(crate) struct Case<'a> {
 }
 
 impl<'a> Case<'a> {
-    /// A case of nothing, with an old store at hand.
+    /// An empty case, with an old store at hand.
     pub(crate) fn new(alloc: Global, calls: &'a Cell<u64>, old: Vec<u8>) -> Case<'a> {
         Case {
             alloc,
@@ -77,7 +77,7 @@ impl<'a> Case<'a> {
     }
 }
 
-/// Takes the disk out of the store. Its bytes are those that stores that were opened anew for each line have left.
+/// Takes the disk out of the store, and checks that the stores that were opened anew for each line left the same bytes.
 pub(crate) fn close(case: &mut Case) -> Result<()> {
     let Some(store) = case.store.take() else {
         return Ok(());

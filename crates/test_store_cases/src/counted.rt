@@ -1,9 +1,4 @@
-//! A disk that counts its calls in a cell, which is read while a store has the disk.
-
-ghost use Rattle.std.specs.Prelude.{◌≡◌, ◌+◌, ◌≤◌, length, OnOk, IfErr};
-ghost use Rattle.loop_disk.specs.declared.fault.DiskFault.TheVariants.{Read, Write, Sync};
-ghost use Rattle.loop_disk.specs.Medium.{piece};
-ghost use Rattle.loop_disk.specs.Calls.{Called, Stays, Writes, Syncs, failed_call};
+//! A disk that counts its calls in a cell, which can be read while a store owns the disk.
 
 use loop_disk::{Disk, DiskFault};
 use std::cell::Cell;

@@ -1,4 +1,4 @@
-//! Each call of the disk fails: once, torn or not, or from a moment on.
+//! Each call of the disk fails: alone, its write torn or left out, or with all later calls.
 
 use crate::acts::{Act, does, frames_of};
 use crate::case::{Case, Moment, close};
@@ -12,13 +12,13 @@ use loop_disk::{Disk, DiskFault, FuseDisk, MemDisk, OnceDisk};
 use loop_store::{Command, Store, StoreFault};
 use std::alloc::Global;
 
-/// The most calls of an opening and of what is done then.
+/// The most calls of an opening and of the acts after it.
 pub(crate) const MAX_CALLS: u64 = 1000;
 
-// How many bytes of a torn write are kept. Where nothing stands, the write isn't done.
+// How many bytes of a torn write are kept. With None the write isn't done.
 const KEEPS: [Option<usize>; 4] = [None, Some(0), Some(1), Some(20)];
 
-// A refusal has to be that of a store that has to be opened again.
+// Checks that a refusal is `MustReopen`.
 fn must<T: Drop>(answer: Result<T, StoreFault>) -> Result<()> {
     match answer {
         Err(StoreFault::MustReopen) => Ok(()),
@@ -26,7 +26,7 @@ fn must<T: Drop>(answer: Result<T, StoreFault>) -> Result<()> {
     }
 }
 
-// Each call that locks, lists or upgrades is refused.
+// Checks that each call that locks, lists or upgrades is refused.
 fn lists_nothing<D: Disk + Drop>(alloc: Global, store: &mut Store<D>) -> Result<()> {
     must(store.frames(alloc))?;
     must(store.clips(alloc))?;
@@ -35,12 +35,12 @@ fn lists_nothing<D: Disk + Drop>(alloc: Global, store: &mut Store<D>) -> Result<
     must(store.upgrade())
 }
 
-// A list of commands is refused.
+// Checks that a list of commands is refused.
 fn runs_nothing<D: Disk + Drop>(alloc: Global, store: &mut Store<D>) -> Result<()> {
     must(store.run(alloc, &[Command::Read(0)]))
 }
 
-// Each call of a store that has to be opened again is refused, but for those that tell what it knows.
+// Checks that a store that must be reopened refuses each call, except those that report what it knows.
 fn is_stopped<D: Disk + Drop>(alloc: Global, store: &mut Store<D>, next: u64) -> Result<()> {
     must(append_next(alloc, store, 1, 0)?)?;
     must(read(alloc, store, 0)?)?;
@@ -52,7 +52,7 @@ fn is_stopped<D: Disk + Drop>(alloc: Global, store: &mut Store<D>, next: u64) ->
     Ok(())
 }
 
-// What was done of a list of acts: how many of them, and why no more.
+// How many of a list of acts were done, and why no more were.
 #[derive(Clone, Copy, PartialEq, Eq)]
 struct Done {
     count: usize,
@@ -79,7 +79,7 @@ fn does_some<D: Disk + Drop>(alloc: Global, store: &mut Store<D>, acts: &[Act]) 
     })
 }
 
-// Does what was done since the opening, until a call is refused. As many blocks are kept then.
+// Repeats the acts since the opening, with as many blocks kept, until a call is refused.
 fn does_kept<D: Disk + Drop>(case: &Case, store: &mut Store<D>) -> Result<Done> {
     let done = does_some(case.alloc, store, &case.acts)?;
     if store.keep() == case.keep {
@@ -89,7 +89,7 @@ fn does_kept<D: Disk + Drop>(case: &Case, store: &mut Store<D>) -> Result<Done> 
     }
 }
 
-// Opens a disk and does what was done since the opening, until a call is refused.
+// Opens a disk and repeats the acts since the opening, until a call is refused.
 fn tried<D: Disk + Drop>(case: &Case, disk: D) -> Result<(Done, D)> {
     match Store::open_keeping(case.alloc, disk, case.keep) {
         Ok(mut store) => {
@@ -106,8 +106,8 @@ fn tried<D: Disk + Drop>(case: &Case, disk: D) -> Result<(Done, D)> {
     }
 }
 
-// Whether a store may show what was shown at a moment, or at the next one where the act between them was refused, or
-// after a beginning of its steps.
+// Whether a store may show this. It shows what was shown at a moment. Where the act after that was refused, it may also
+// show what the act or a prefix of its steps leaves.
 fn is_left(case: &Case, store: &Store<MemDisk>, done: &Done, found: &[u64]) -> Result<bool> {
     let clips = store.clips(case.alloc).map_err(refused)?;
     let version = store.version();
@@ -127,8 +127,8 @@ fn is_left(case: &Case, store: &Store<MemDisk>, done: &Done, found: &[u64]) -> R
     })
 }
 
-// What is left shows what it may. A frame is stored then, in a second attempt, if it has a place, and its number is
-// answered.
+// Checks that what is left shows what it may. Then stores a frame in a second attempt, if there is a place for it, and
+// returns its number.
 fn goes_on(case: &Case, store: &mut Store<MemDisk>, done: &Done) -> Result<Option<u64>> {
     let found = held(case.alloc, store, u64::MAX)?;
     if !is_left(case, store, done, &found)? {
@@ -138,7 +138,7 @@ fn goes_on(case: &Case, store: &mut Store<MemDisk>, done: &Done) -> Result<Optio
     append_again(case.alloc, store, &found, &clips)
 }
 
-// The last frame is the one of this number. It is of the second attempt, and those before it are of the first.
+// Checks that the last frame has this number and is of the second attempt, and that those before it are of the first.
 fn ends_with(alloc: Global, store: &mut Store<MemDisk>, number: u64) -> Result<()> {
     let shown = held(alloc, store, number)?;
     match shown.last() {
@@ -147,7 +147,8 @@ fn ends_with(alloc: Global, store: &mut Store<MemDisk>, number: u64) -> Result<(
     }
 }
 
-// Opens what is left, and stores a frame in a second attempt. Answers its number, if it has a place, and the disk.
+// Opens what is left, and stores a frame in a second attempt. Returns its number, if there was a place for it, and the
+// disk.
 fn goes_on_over(case: &Case, disk: MemDisk, done: &Done) -> Result<(Option<u64>, MemDisk)> {
     let mut store = opened_keeping(case.alloc, disk, case.keep)?;
     let number = goes_on(case, &mut store, done)?;
@@ -168,12 +169,12 @@ fn reopens(case: &Case, disk: MemDisk, done: &Done) -> Result<()> {
     }
 }
 
-/// The image when it was opened.
+/// The image as it was opened.
 pub(crate) fn base(case: &Case) -> Result<MemDisk> {
     Ok(MemDisk::of(case.base.clone()?))
 }
 
-// Fails one call, a write torn after some bytes of it or left out.
+// Fails one call. A write is torn after some of its bytes, or left out.
 fn fails_once(case: &Case, call: u64, keep: Option<usize>) -> Result<Done> {
     let disk = match keep {
         Some(keep) => OnceDisk::torn(base(case)?, call, keep),
@@ -195,7 +196,7 @@ fn fails_from(case: &Case, call: u64) -> Result<Done> {
     Ok(done)
 }
 
-// Fails a call alone in each way. All are refused alike.
+// Fails a call alone, in each way. The refusals are all the same.
 fn fails_alike(case: &Case, call: u64, done: Done) -> Result<()> {
     for keep in &KEEPS {
         if fails_once(case, call, *keep)? != done {
@@ -205,7 +206,7 @@ fn fails_alike(case: &Case, call: u64, done: Done) -> Result<()> {
     Ok(())
 }
 
-// Fails a call in each way. All are refused alike.
+// Fails a call in each way, alone and with all later ones. The refusals are all the same.
 fn fails_at(case: &Case, call: u64) -> Result<Option<StoreFault>> {
     let done = fails_from(case, call)?;
     fails_alike(case, call, done)?;
@@ -222,7 +223,7 @@ pub(crate) fn letter(fault: StoreFault) -> u8 {
     }
 }
 
-// Fails each call up to one that isn't made any more, and prints the letters of those that failed.
+// Fails each call in turn, until there is no such call, and prints the letters of those that failed.
 fn print_fails(case: &Case, told: &mut Vec<u8>) -> Result<()> {
     for call in 0..MAX_CALLS {
         match fails_at(case, call) {
@@ -234,8 +235,8 @@ fn print_fails(case: &Case, told: &mut Vec<u8>) -> Result<()> {
     Ok(())
 }
 
-/// `fails`: fails each call of the opening and of what was done since, up to one that isn't made any more. The
-/// letters of the calls that failed, and that each left a beginning.
+/// `fails`: fails each call of the opening and of the acts since, in turn, until there is no such call. Prints the
+/// letters of the calls that failed, and that each left a prefix of the steps.
 pub(crate) fn fails(case: &mut Case, told: &mut Vec<u8>) -> Result<()> {
     close(case)?;
     if case.is_refused {

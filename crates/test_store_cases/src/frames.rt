@@ -1,4 +1,4 @@
-//! Frames of a pattern, and calls of a store that see to what these ask for first.
+//! Frames of a pattern, and calls of a store that check their preconditions first.
 
 ghost use Rattle.std.specs.Prelude.{◌≡◌, All, IsTrue, length};
 ghost use Rattle.loop_record.specs.Geometry.{frame_bytes};
@@ -9,24 +9,24 @@ use loop_record::{Frame, FrameHead, Geometry};
 use loop_store::{Clip, Store, StoreFault};
 use std::alloc::{AllocError, Global};
 
-/// A refusal that isn't expected.
+/// The error for a refusal that isn't expected.
 pub(crate) fn refused(fault: StoreFault) -> Error {
     let name = fault.name();
     anyhow!("refused {name}")
 }
 
-/// A disk that isn't opened.
+/// The error for a disk that isn't opened.
 pub(crate) fn unopened(fault: StoreFault) -> Error {
     anyhow!("{fault:?}")
 }
 
-/// Other frames are held than may be.
+/// The error for frames that may not be held.
 pub(crate) fn unexpected(numbers: &[u64]) -> Error {
     anyhow!("{numbers:?} are held")
 }
 
-/// The frame that is stored under a number at an attempt at it, 0 being the first: byte i is the number + i,
-/// and 100 more for each later attempt.
+/// The frame that is stored under a number at an attempt at it, 0 being the first. Byte i is the number + i, and 100
+/// more for each later attempt.
 pub(crate) fn frame(
     alloc: Global,
     size: usize,
@@ -48,7 +48,7 @@ pub(crate) fn frame(
     })
 }
 
-// So many frames from a number on, of this attempt at their numbers.
+// This many frames from a number on, of this attempt.
 fn group(
     alloc: Global,
     size: usize,
@@ -63,7 +63,7 @@ fn group(
     Ok(frames)
 }
 
-// Whether each frame has so many bytes.
+// Whether each frame has this many bytes.
 fn have_size(frames: &[Frame], size: usize) -> bool
     ensures { IsTrue result → All (λ frame. length frame.bytes.items ≡ size) frames.now }
 {
@@ -78,7 +78,7 @@ pub(crate) fn size_of_frames<D: Disk + Drop>(store: &Store<D>) -> usize
     geometry.frame_bytes() as usize
 }
 
-// Appends a group of frames that fit. The number of the first is the one that the store named before.
+// Appends a group of frames that fit. The first gets the number that the store gave as its next.
 fn append<D: Disk + Drop>(
     store: &mut Store<D>,
     frames: &[Frame],
@@ -96,7 +96,7 @@ fn append<D: Disk + Drop>(
     }
 }
 
-/// Appends so many frames, of this attempt at their numbers.
+/// Appends this many frames, of this attempt.
 pub(crate) fn append_next<D: Disk + Drop>(
     alloc: Global,
     store: &mut Store<D>,
@@ -107,7 +107,7 @@ pub(crate) fn append_next<D: Disk + Drop>(
     append(store, &frames)
 }
 
-/// Reads the frame of a number, if it is held: its head, and its bytes.
+/// Reads the frame of a number, if it is held: its head and its bytes.
 pub(crate) fn read<D: Disk + Drop>(
     alloc: Global,
     store: &mut Store<D>,
@@ -121,7 +121,7 @@ pub(crate) fn read<D: Disk + Drop>(
     })
 }
 
-/// Whether a frame that was read is the one of a number, and of this attempt at it.
+/// Whether a frame that was read has this number and is of this attempt.
 pub(crate) fn is_frame(
     alloc: Global,
     head: &FrameHead,
@@ -139,7 +139,7 @@ pub(crate) fn is_frame(
     )
 }
 
-/// Reads the frame of a number, which is to be of this attempt at it.
+/// Reads the frame of a number, which has to be of this attempt.
 pub(crate) fn read_whole<D: Disk + Drop>(
     alloc: Global,
     store: &mut Store<D>,
@@ -158,7 +158,7 @@ pub(crate) fn read_whole<D: Disk + Drop>(
     }
 }
 
-// The frame of a number isn't held.
+// Checks that the frame of a number isn't held.
 fn lacks<D: Disk + Drop>(alloc: Global, store: &mut Store<D>, number: u64) -> Result<()> {
     if store.holds(number) {
         return Err(anyhow!("{number} is held"));
@@ -169,7 +169,7 @@ fn lacks<D: Disk + Drop>(alloc: Global, store: &mut Store<D>, number: u64) -> Re
     }
 }
 
-// Each frame is held and whole: below the number `again` it is of the first attempt, and of the second from there on.
+// Checks that each frame is held and whole: of the first attempt below the number `again`, of the second from there on.
 fn are_whole<D: Disk + Drop>(
     alloc: Global,
     store: &mut Store<D>,
@@ -186,9 +186,9 @@ fn are_whole<D: Disk + Drop>(
     Ok(())
 }
 
-/// The numbers of the held frames. Each is read, and is whole: below the number `again` it is of the first
-/// attempt, and of the second from there on. The next number isn't held, nor is the one before the first, and
-/// `next` is the number behind the last.
+/// The numbers of the held frames. Each is read and is whole: of the first attempt below the number `again`, of the
+/// second from there on. Neither the next number nor the one before the first is held, and `next` is the number after
+/// the last.
 pub(crate) fn held<D: Disk + Drop>(
     alloc: Global,
     store: &mut Store<D>,
@@ -206,7 +206,7 @@ pub(crate) fn held<D: Disk + Drop>(
     Ok(numbers)
 }
 
-/// Whether frames are those from before an append of so many, or those after it or after a beginning of its steps.
+/// Whether frames are those from before an append of this many, those after it, or those after a prefix of its steps.
 pub(crate) fn is_beginning(found: &[u64], before: &[u64], after: &[u64], count: u64) -> bool {
     let most = found.len().saturating_add(count as usize);
     *found == *before || (most >= after.len() && after.starts_with(found))
@@ -223,7 +223,7 @@ fn meets(geometry: &Geometry, clip: &Clip, number: u64) -> bool {
     block_of(geometry, clip.from) <= block && block <= block_of(geometry, clip.to)
 }
 
-// How many blocks frames lie in from a number on. The first frame of each is held.
+// How many blocks have frames from a number on. The first frame of each is held.
 fn count_blocks(geometry: &Geometry, frames: &[u64], from: u64) -> usize {
     frames
         .iter()
@@ -233,12 +233,12 @@ fn count_blocks(geometry: &Geometry, frames: &[u64], from: u64) -> usize {
         .count()
 }
 
-// Whether the block of a frame is among so many of the newest: fewer lie above it.
+// Whether the block of a frame is among this many of the newest: fewer blocks are newer.
 fn is_kept(geometry: &Geometry, frames: &[u64], number: u64, keep: u32) -> bool {
     count_blocks(geometry, frames, number.wrapping_add(1)) < keep as usize
 }
 
-// Whether the block of each frame is among so many of the newest, or a clip meets it.
+// Whether the block of each frame is among this many of the newest, or a clip meets it.
 fn all_stay(geometry: &Geometry, frames: &[u64], keep: u32, clips: &[Clip]) -> bool {
     frames.iter().all(|number| {
         is_kept(geometry, frames, *number, keep)
@@ -246,8 +246,8 @@ fn all_stay(geometry: &Geometry, frames: &[u64], keep: u32, clips: &[Clip]) -> b
     })
 }
 
-/// Whether no frame more has a place where so many blocks are kept, by the rules: the newest block is full, each
-/// segment holds a block, and no block may go.
+/// Whether, by the rules, there is no place for another frame while this many blocks are kept: the newest block is
+/// full, each segment holds a block, and no block may go.
 pub(crate) fn is_all_locked(
     geometry: &Geometry,
     frames: &[u64],
@@ -263,8 +263,8 @@ pub(crate) fn is_all_locked(
         && all_stay(geometry, frames, keep, clips)
 }
 
-/// Stores a frame in a second attempt, and answers its number; nothing where it is refused because each block stays,
-/// which it has to be just then.
+/// Stores a frame in a second attempt and returns its number. Returns None where the append is refused because each
+/// block has to stay. It has to be refused in just that case.
 pub(crate) fn append_again<D: Disk + Drop>(
     alloc: Global,
     store: &mut Store<D>,
@@ -285,7 +285,7 @@ pub(crate) fn opened<D: Disk + Drop>(alloc: Global, disk: D) -> Result<Store<D>>
     opened_keeping(alloc, disk, 1)
 }
 
-/// The store of a disk that has a recording, with so many of the newest blocks kept.
+/// The store of a disk that has a recording, with this many of the newest blocks kept.
 pub(crate) fn opened_keeping<D: Disk + Drop>(
     alloc: Global,
     disk: D,

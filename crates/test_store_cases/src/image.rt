@@ -29,7 +29,7 @@ pub(crate) fn put(image: &mut [u8], at: usize, bytes: &[u8]) {
     }
 }
 
-/// An image that was freshly formatted in this version of the layout.
+/// A freshly formatted image in this version of the layout.
 pub(crate) fn fresh(alloc: Global, geometry: Geometry, version: u32) -> Result<Vec<u8>, AllocError>
     requires { IsTrue (is_good geometry) }
 {
@@ -40,7 +40,7 @@ pub(crate) fn fresh(alloc: Global, geometry: Geometry, version: u32) -> Result<V
     Ok(image)
 }
 
-// Stores groups of so many frames.
+// Stores groups of frames, whose sizes are the next words.
 fn store_groups(
     alloc: Global,
     store: &mut Store<MemDisk>,
@@ -52,20 +52,20 @@ fn store_groups(
     Ok(())
 }
 
-// Stores groups of so many frames on a fresh image.
+// Stores groups of frames on a fresh image. The next words are their sizes.
 fn with_groups(alloc: Global, image: Vec<u8>, words: &mut SplitWhitespace) -> Result<Vec<u8>> {
     let mut store = opened(alloc, MemDisk::of(image))?;
     store_groups(alloc, &mut store, words)?;
     bytes_of(alloc, &store.into_disk())
 }
 
-// A freshly formatted image in a version of the layout, and groups of so many frames that are stored on it.
+// A freshly formatted image in a version of the layout, with the groups of frames that the next words name.
 fn formatted(alloc: Global, version: u32, words: &mut SplitWhitespace) -> Result<Vec<u8>> {
     let geometry = good(any_geometry(words)?)?;
     with_groups(alloc, fresh(alloc, geometry, version)?, words)
 }
 
-// An image of so many times a byte.
+// An image that repeats a byte.
 fn filled(alloc: Global, words: &mut SplitWhitespace) -> Result<Vec<u8>> {
     let byte = text::next_bytes(alloc, words)?
         .first()
@@ -95,10 +95,10 @@ fn made(case: &Case, verb: Verb, words: &mut SplitWhitespace) -> Result<Vec<u8>>
 }
 
 /// Makes an image, and prints how many bytes it has.
-/// `image GEOMETRY COUNT..`: a freshly formatted image, and groups of so many frames that are stored on it; `image1` is
-/// one in version 1 of the layout.
-/// `old`: the store that the program before version 2 of the layout has left.
-/// `filled BYTE COUNT`: an image of so many times a byte.
+/// `image GEOMETRY COUNT..`: a freshly formatted image with groups of these numbers of frames; `image1` is one in
+/// version 1 of the layout.
+/// `old`: the store that was written by the program before version 2 of the layout.
+/// `filled BYTE COUNT`: an image of COUNT times a byte.
 /// `cut COUNT`: the first bytes of the image.
 pub(crate) fn makes(
     case: &mut Case,
@@ -143,7 +143,7 @@ fn put_clips(image: &mut [u8], words: &mut SplitWhitespace) -> Result<()> {
     Ok(())
 }
 
-// Puts the slot of a frame that has one byte.
+// Puts the slot of a frame of one byte into an image.
 fn put_frame(image: &mut [u8], at: u64, number: u64, frame: &Frame) -> Result<()> {
     if frame.bytes.len() != 1 {
         return Err(anyhow!("a frame of another size"));
@@ -179,8 +179,8 @@ pub(crate) fn puts(
     say(told, "put")
 }
 
-/// `bytes AT COUNT`: what stands there. While a store is open, what stores that were opened anew for each line have
-/// left, and the disk of that store has the same.
+/// `bytes AT COUNT`: the bytes at this place. While a store is open, they are those that the stores opened anew for
+/// each line have left. The disk of the open store has the same.
 pub(crate) fn bytes(case: &Case, words: &mut SplitWhitespace, told: &mut Vec<u8>) -> Result<()> {
     let (at, count) = two_numbers(words)?;
     let (at, count) = (at as usize, count as usize);
@@ -229,7 +229,7 @@ fn print_held(alloc: Global, store: &mut Store<MemDisk>, told: &mut Vec<u8>) -> 
     Ok(text::print_holds(told, &numbers)?)
 }
 
-// Prints why an image is refused. It is handed back unchanged.
+// Prints why an image is refused. It comes back unchanged.
 fn print_refused(refused: &OpenRefused<MemDisk>, image: &[u8], told: &mut Vec<u8>) -> Result<()> {
     print_fault(told, refused.fault)?;
     if *refused.disk.bytes() == *image {
@@ -239,7 +239,7 @@ fn print_refused(refused: &OpenRefused<MemDisk>, image: &[u8], told: &mut Vec<u8
     }
 }
 
-// Opens an image. It shows these frames, or it is refused, and then handed back unchanged.
+// Opens an image. Prints the frames that it shows, or why it is refused; then it comes back unchanged.
 fn print_opened(alloc: Global, image: &Vec<u8>, told: &mut Vec<u8>) -> Result<()> {
     match Store::open(alloc, MemDisk::of(image.clone()?)) {
         Ok(mut store) => print_held(alloc, &mut store, told),
@@ -247,8 +247,8 @@ fn print_opened(alloc: Global, image: &Vec<u8>, told: &mut Vec<u8>) -> Result<()
     }
 }
 
-/// `opens AT BYTES ..`: opens the image with these changes, which the image itself doesn't keep. It shows these
-/// frames, or it is refused, and then handed back unchanged.
+/// `opens AT BYTES ..`: opens the image with these changes, which the image itself doesn't keep. Prints the frames that
+/// it shows, or why it is refused; then it comes back unchanged.
 pub(crate) fn opens(
     case: &mut Case,
     words: &mut SplitWhitespace,

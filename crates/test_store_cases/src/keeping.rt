@@ -1,4 +1,4 @@
-//! Openings with so many of the newest blocks kept. One that is refused leaves the bytes as they were.
+//! Openings with a number of the newest blocks kept. One that is refused leaves the bytes as they were.
 
 use crate::case::{Case, close};
 use crate::counted::Counted;
@@ -14,12 +14,12 @@ use std::alloc::Global;
 use std::io::Write;
 use std::str::SplitWhitespace;
 
-// Other bytes are left than those that stood there.
+// The error for bytes that were changed.
 fn other_bytes() -> anyhow::Error {
     anyhow!(", and other bytes are left")
 }
 
-/// The image on a disk whose calls are counted anew.
+/// The image on a disk whose calls are counted from 0.
 pub(crate) fn counted<'a>(case: &Case<'a>) -> Result<Counted<'a, MemDisk>> {
     case.calls.set(0);
     Ok(Counted {
@@ -28,7 +28,7 @@ pub(crate) fn counted<'a>(case: &Case<'a>) -> Result<Counted<'a, MemDisk>> {
     })
 }
 
-/// Prints why the image is refused, behind so many calls. Its disk is handed back with it.
+/// Prints why the image is refused, and after how many calls. Its disk comes back with the refusal.
 pub(crate) fn print_refused(
     case: &Case,
     refused: &OpenRefused<Counted<MemDisk>>,
@@ -43,7 +43,7 @@ pub(crate) fn print_refused(
     say(told, ", handed back")
 }
 
-// Remembers that the image is refused where so many are kept.
+// Remembers that the image is refused with this many blocks kept.
 fn remember(case: &mut Case, keep: u32) -> Result<()> {
     case.keep = keep;
     case.is_refused = true;
@@ -51,14 +51,15 @@ fn remember(case: &mut Case, keep: u32) -> Result<()> {
     Ok(())
 }
 
-// Opens the image with so many kept, where as many are kept by a store of it.
+// Opens the image with this many blocks kept. A store of it keeps `kept` of them.
 fn opens(case: &mut Case, keep: u32, kept: u32, told: &mut Vec<u8>) -> Result<()> {
     line::opens(case, keep, u64::MAX, told)?;
     say(told, ", keeps ")?;
     print_count(told, u64::from(kept), "")
 }
 
-/// `open keeping COUNT`: opens the image with so many blocks kept, in so many calls of the disk, or is refused.
+/// `open keeping COUNT`: opens the image with COUNT blocks kept. Prints in how many calls of the disk, or why it is
+/// refused.
 pub(crate) fn open(case: &mut Case, keep: u32, told: &mut Vec<u8>) -> Result<()> {
     let disk = counted(case)?;
     match Store::open_keeping(case.alloc, disk, keep) {
@@ -78,7 +79,7 @@ fn print_block(told: &mut Vec<u8>, block: Option<u64>) -> Result<()> {
     }
 }
 
-// Prints which block goes next where so many are kept.
+// Prints the block that would go next with this many kept.
 fn print_victim(case: &Case, keep: u32, told: &mut Vec<u8>) -> Result<()> {
     match Store::open_keeping(case.alloc, MemDisk::of(case.image.clone()?), keep) {
         Err(refused) => print_fault(told, refused.fault),
@@ -86,7 +87,7 @@ fn print_victim(case: &Case, keep: u32, told: &mut Vec<u8>) -> Result<()> {
     }
 }
 
-// Prints the blocks that go next where so many are kept, for each of these counts.
+// Prints the block that would go next with each of these counts kept.
 fn print_victims(case: &Case, words: &mut SplitWhitespace, told: &mut Vec<u8>) -> Result<()> {
     let mut gap: &[u8] = b"";
     for word in words {
@@ -97,7 +98,7 @@ fn print_victims(case: &Case, words: &mut SplitWhitespace, told: &mut Vec<u8>) -
     Ok(())
 }
 
-/// `victims COUNT ..`: the block of the image that goes next where so many are kept, for each of these counts.
+/// `victims COUNT ..`: the block of the image that would go next with each of these counts kept.
 pub(crate) fn victims(
     case: &mut Case,
     words: &mut SplitWhitespace,
@@ -107,7 +108,7 @@ pub(crate) fn victims(
     print_victims(case, words, told)
 }
 
-// Why a disk isn't opened with so many kept, and the disk.
+// Why a disk isn't opened with this many blocks kept, and the disk.
 fn refused_by<D: Disk + Drop>(alloc: Global, disk: D, keep: u32) -> Result<(StoreFault, D)> {
     match Store::open_keeping(alloc, disk, keep) {
         Ok(_) => Err(anyhow!("it isn't refused")),
@@ -131,7 +132,7 @@ fn recorded(case: &Case) -> Result<CrashDisk> {
     Ok(disk)
 }
 
-// The image is there.
+// Checks that the disk has the image.
 fn is_there(case: &Case, disk: &MemDisk) -> Result<()> {
     if *disk.bytes() == *case.base.as_slice() {
         Ok(())
@@ -140,7 +141,7 @@ fn is_there(case: &Case, disk: &MemDisk) -> Result<()> {
     }
 }
 
-// Stops behind so many calls, with each spoilt content.
+// Stops after this many calls, with each spoilt content.
 fn stops_behind(case: &Case, disk: &CrashDisk, calls: usize) -> Result<()> {
     for spoil in &SPOILS {
         if is_there(case, &left_at(disk, calls, *spoil)?).is_err() {
@@ -150,7 +151,7 @@ fn stops_behind(case: &Case, disk: &CrashDisk, calls: usize) -> Result<()> {
     Ok(())
 }
 
-// Stops behind each call from the first of the opening on.
+// Stops after each call from the first of the opening on.
 fn stops_all(case: &Case, disk: &CrashDisk) -> Result<()> {
     for calls in 2..=disk.calls() {
         stops_behind(case, disk, calls)?;
@@ -158,7 +159,7 @@ fn stops_all(case: &Case, disk: &CrashDisk) -> Result<()> {
     Ok(())
 }
 
-/// `stops` of an opening that is refused: behind its first call, a sync, each leaves the image, whatever could have
+/// `stops` of an opening that is refused: each stop after its first call, a sync, leaves the image, whatever could have
 /// been left before it.
 pub(crate) fn stops(case: &Case, told: &mut Vec<u8>) -> Result<()> {
     let disk = recorded(case)?;
@@ -187,7 +188,7 @@ fn fails_from(case: &Case, call: u64) -> Result<StoreFault> {
     Ok(fault)
 }
 
-// Fails a call alone, and the calls from it on. Both are refused alike.
+// Fails a call alone, and the calls from it on. Both refusals are the same.
 fn fails_at(case: &Case, call: u64) -> Result<StoreFault> {
     let fault = fails_from(case, call)?;
     if fails_once(case, call)? == fault {
@@ -203,7 +204,8 @@ fn print_then(told: &mut Vec<u8>, fault: StoreFault) -> Result<()> {
     print_fault(told, fault)
 }
 
-/// `fails` of an opening that is refused: the letters of its calls, each of which fails, and why it is refused then.
+/// `fails` of an opening that is refused: the letters of its calls, each of which fails, and why it is refused after
+/// those.
 pub(crate) fn fails(case: &Case, told: &mut Vec<u8>) -> Result<()> {
     for call in 0..MAX_CALLS {
         match fails_at(case, call)? {

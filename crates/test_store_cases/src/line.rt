@@ -1,5 +1,5 @@
-//! Lines that ask the store. Each is asked twice: of the store that is open, and of one that is opened anew for it;
-//! both answer the same and leave the same bytes.
+//! Lines that ask the store. Each is asked twice: of the store that is open, and of one that is opened anew for it.
+//! Both give the same answer and leave the same bytes.
 
 use crate::acts::{Act, does, print_answer};
 use crate::case::{self, Case, CaseStore, Moment, Verb};
@@ -31,7 +31,7 @@ enum Ask {
     Act(Act),
 }
 
-// Opens an image with so many blocks kept, on a disk of which this call fails.
+// Opens an image with this many blocks kept, on a disk of which this call fails.
 fn open_image<'a>(
     alloc: Global,
     calls: &'a Cell<u64>,
@@ -43,7 +43,7 @@ fn open_image<'a>(
     opened_keeping(alloc, Counted { inner, calls }, keep)
 }
 
-// The numbers of the held frames. To read each takes two calls of the disk, and nothing else takes one.
+// The numbers of the held frames. Reading each takes two calls of the disk, and nothing else takes one.
 fn shown(alloc: Global, calls: &Cell<u64>, store: &mut CaseStore) -> Result<Vec<u64>> {
     calls.set(0);
     let numbers = held(alloc, store, u64::MAX)?;
@@ -64,7 +64,7 @@ fn print_shown(
     Ok(print_holds(told, &numbers)?)
 }
 
-// Does an act. Answers how many calls of the disk it took, and whether it was done.
+// Does an act. Returns how many calls of the disk it took, and whether it was done.
 fn tell_act(
     alloc: Global,
     calls: &Cell<u64>,
@@ -92,7 +92,7 @@ fn tell_clips(alloc: Global, store: &CaseStore, told: &mut Vec<u8>) -> Result<()
     Ok(print_clips(told, &clips)?)
 }
 
-// Prints the block that would go next, and how many calls it takes to say so.
+// Prints the block that would go next, and how many calls that takes.
 fn tell_victim(calls: &Cell<u64>, store: &CaseStore, told: &mut Vec<u8>) -> Result<()> {
     calls.set(0);
     match store.victim() {
@@ -103,7 +103,7 @@ fn tell_victim(calls: &Cell<u64>, store: &CaseStore, told: &mut Vec<u8>) -> Resu
     print_calls(told, calls)
 }
 
-// Prints the held frames of a time, and how many calls it takes to say so.
+// Prints the held frames of a time, and how many calls that takes.
 fn tell_sought(
     alloc: Global,
     calls: &Cell<u64>,
@@ -120,7 +120,7 @@ fn tell_sought(
     print_calls(told, calls)
 }
 
-// Answers what a line asks that is no act.
+// Answers a line that isn't an act.
 fn tell_other(
     alloc: Global,
     calls: &Cell<u64>,
@@ -138,7 +138,7 @@ fn tell_other(
     }
 }
 
-// Answers what a line asks. Tells of an act how many calls it took, and whether it was done.
+// Answers a line. For an act, returns how many calls it took and whether it was done.
 fn tell(
     alloc: Global,
     calls: &Cell<u64>,
@@ -164,14 +164,14 @@ fn open_anew<'a>(case: &Case<'a>) -> Result<CaseStore<'a>> {
     open_image(case.alloc, case.calls, image, (case.keep, u64::MAX))
 }
 
-// Asks a store that is opened anew. Answers the bytes that it leaves.
+// Asks a store that is opened anew. Returns the bytes that it leaves.
 fn asked_anew(case: &Case, ask: Ask, told: &mut Vec<u8>) -> Result<Vec<u8>> {
     let mut store = open_anew(case)?;
     tell(case.alloc, case.calls, &mut store, ask, told)?;
     left_by(case.alloc, store)
 }
 
-// Asks a store that is opened anew, which has to answer the same.
+// Asks a store that is opened anew, which has to give the same answer.
 fn ask_anew(case: &mut Case, ask: Ask, told: &[u8]) -> Result<()> {
     let mut again = Vec::new(case.alloc);
     case.image = asked_anew(case, ask, &mut again)?;
@@ -182,7 +182,7 @@ fn ask_anew(case: &mut Case, ask: Ask, told: &[u8]) -> Result<()> {
     }
 }
 
-// No store is open.
+// The error where no store is open.
 fn not_open() -> Error {
     anyhow!("no store is open")
 }
@@ -211,7 +211,7 @@ fn moment(alloc: Global, store: &mut CaseStore, at: usize) -> Result<Moment> {
     })
 }
 
-// Remembers what is shown after so many more calls.
+// Remembers what is shown after this many more calls.
 fn remember(case: &mut Case, calls: u64) -> Result<()> {
     let Some(store) = &mut case.store else {
         return Err(not_open());
@@ -222,8 +222,8 @@ fn remember(case: &mut Case, calls: u64) -> Result<()> {
     Ok(())
 }
 
-// Begins a case over the image with so many blocks kept, on a disk of which this call fails. Answers in how many calls
-// it is opened.
+// Begins a case over the image with this many blocks kept, on a disk of which this call fails. Returns how many calls
+// the opening takes.
 fn begin(case: &mut Case, keep: u32, fails: u64) -> Result<u64> {
     case.keep = keep;
     case.is_refused = false;
@@ -237,7 +237,7 @@ fn begin(case: &mut Case, keep: u32, fails: u64) -> Result<u64> {
     Ok(case.calls.get())
 }
 
-/// `open`, `open failing CALL` or `open keeping COUNT`: opens the image, in so many calls of the disk.
+/// `open`, `open failing CALL` or `open keeping COUNT`: opens the image, and prints in how many calls of the disk.
 pub(crate) fn open(case: &mut Case, words: &mut SplitWhitespace, told: &mut Vec<u8>) -> Result<()> {
     case::close(case)?;
     match words.next() {
@@ -247,7 +247,7 @@ pub(crate) fn open(case: &mut Case, words: &mut SplitWhitespace, told: &mut Vec<
     }
 }
 
-/// Opens the image with so many blocks kept, on a disk of which this call fails.
+/// Opens the image with this many blocks kept, on a disk of which this call fails.
 pub(crate) fn opens(case: &mut Case, keep: u32, fails: u64, told: &mut Vec<u8>) -> Result<()> {
     let count = begin(case, keep, fails)?;
     if !case.is_failing {
@@ -257,7 +257,7 @@ pub(crate) fn opens(case: &mut Case, keep: u32, fails: u64, told: &mut Vec<u8>) 
     print_count(told, count, " calls")
 }
 
-/// `close`: takes the disk out of the store, and compares it with the one of stores opened anew.
+/// `close`: takes the disk out of the store, and compares it with the one of the stores opened anew.
 pub(crate) fn close(case: &mut Case, told: &mut Vec<u8>) -> Result<()> {
     case::close(case)?;
     say(
@@ -281,7 +281,7 @@ fn ask_of(verb: Verb) -> Ask {
     }
 }
 
-/// `frames`: those that are held, of which each is read; `clips`: each with its id; `version`: that of the layout;
+/// `frames`: those that are held, each of which is read; `clips`: each with its id; `version`: that of the layout;
 /// `victim`: the block that would go next; `newest`: how many of the newest blocks are kept.
 pub(crate) fn tells(case: &mut Case, verb: Verb, told: &mut Vec<u8>) -> Result<()> {
     asks(case, ask_of(verb), told)?;
@@ -289,7 +289,7 @@ pub(crate) fn tells(case: &mut Case, verb: Verb, told: &mut Vec<u8>) -> Result<(
 }
 
 /// `sought SINCE UNTIL`: the held frames whose times are from one to the other, as runs of their numbers, and how many
-/// calls it takes to say so.
+/// calls that takes.
 pub(crate) fn sought(
     case: &mut Case,
     words: &mut SplitWhitespace,
@@ -300,7 +300,7 @@ pub(crate) fn sought(
     Ok(())
 }
 
-// Prints the number and the sequence of a frame, and so many of its bytes.
+// Prints the number and the sequence of a frame, and its first bytes.
 fn print_frame(told: &mut Vec<u8>, head: &FrameHead, bytes: &[u8], count: u64) -> Result<()> {
     let (number, sequence) = (head.number, head.sequence);
     write!(told, "frame {number} of sequence {sequence}: ")?;
@@ -317,8 +317,8 @@ pub(crate) fn look(case: &mut Case, words: &mut SplitWhitespace, told: &mut Vec<
     print_frame(told, &head, &bytes, count)
 }
 
-/// An act, as `append COUNT`, `lock FROM TO`, `tagged FROM TO TAG`, `unlock ID`, `upgrade` or `read NUMBER`, and how
-/// many calls of the disk it takes.
+/// An act: `append COUNT`, `lock FROM TO`, `tagged FROM TO TAG`, `unlock ID`, `upgrade` or `read NUMBER`. Prints its
+/// answer, and how many calls of the disk it takes.
 pub(crate) fn act(
     case: &mut Case,
     word: &str,

@@ -31,7 +31,7 @@ fn command(alloc: Global, size: usize, act: Act, number: u64) -> Result<Command>
     })
 }
 
-// Whether a frame that is to be stored has so many bytes.
+// Whether a frame that is to be stored has the geometry's size.
 fn fits(command: &Command, geometry: &Geometry) -> bool
     requires { IsTrue (is_good geometry.now) }
     ensures { IsTrue result → IsOfSize geometry.now command.now }
@@ -63,7 +63,7 @@ pub(crate) fn run<D: Disk + Drop>(
     store.run(alloc, commands).map_err(refused)
 }
 
-// What a read was answered, whose frame has to be the one of a number.
+// The outcome of a read, whose frame has to be the one of a number.
 fn read_outcome(
     alloc: Global,
     number: u64,
@@ -76,7 +76,7 @@ fn read_outcome(
     }
 }
 
-// What a command was answered, as `does` answers its act.
+// The outcome of a command, as `does` returns that of its act.
 fn outcome(alloc: Global, act: Act, reply: &Reply) -> Result<Result<u64, StoreFault>> {
     match (act, reply) {
         (Act::Append(_), Reply::Store(answer)) => Ok(*answer),
@@ -87,7 +87,7 @@ fn outcome(alloc: Global, act: Act, reply: &Reply) -> Result<Result<u64, StoreFa
     }
 }
 
-// Prints an answer behind those before it.
+// Prints an answer after those before it.
 fn print_next(told: &mut Vec<u8>, act: Act, answer: Result<u64, StoreFault>) -> Result<()> {
     if !told.is_empty() {
         say(told, ", ")?;
@@ -95,7 +95,7 @@ fn print_next(told: &mut Vec<u8>, act: Act, answer: Result<u64, StoreFault>) -> 
     Ok(print_answer(told, act, answer)?)
 }
 
-// Does the acts one by one, and prints the answers. Answers the commands of a list that does the same.
+// Does the acts one by one, and prints the answers. Returns the commands of a list that does the same.
 fn one_by_one<D: Disk + Drop>(
     alloc: Global,
     store: &mut Store<D>,
@@ -148,7 +148,7 @@ fn failing(case: &Case, fails: u64) -> Result<Store<OnceDisk<MemDisk>>> {
     opened(case.alloc, OnceDisk::new(disk, fails))
 }
 
-// Does the acts of the image one by one. Answers the commands of a list that does the same, and the disk that is
+// Does the acts over the image one by one. Returns the commands of a list that does the same, and the disk that is
 // left.
 fn singly(
     case: &Case,
@@ -161,7 +161,7 @@ fn singly(
     Ok((commands, store.into_disk().into_inner()))
 }
 
-// Does a list of commands of the image. Answers the disk that is left.
+// Does a list of commands over the image. Returns the disk that is left.
 fn together(
     case: &Case,
     fails: u64,
@@ -182,7 +182,7 @@ fn failing_call(word: &str) -> Result<u64> {
     }
 }
 
-// Does a list of commands of the image, which has to answer and leave the same as the acts one by one.
+// Does a list of commands over the image, which has to answer and leave the same as the acts one by one.
 fn is_same(
     case: &Case,
     fails: u64,
@@ -199,15 +199,15 @@ fn is_same(
     }
 }
 
-// Does acts one by one and as one list. Answers the bytes that are left.
+// Does acts one by one and as one list. Returns the bytes that are left.
 fn both(case: &Case, fails: u64, acts: &[Act], told: &mut Vec<u8>) -> Result<Vec<u8>> {
     let (commands, left) = singly(case, fails, acts, told)?;
     is_same(case, fails, (acts, &commands), told, &left)?;
     bytes_of(case.alloc, &left)
 }
 
-/// `list CALL ACT, ACT ..`, or with `never` for the call: the acts one by one and as one list, on a disk of which
-/// this call fails. Both answer the same and leave the same bytes.
+/// `list CALL ACT, ACT ..`, or with `never` for the call: the acts one by one and as one list, on a disk of which this
+/// call fails. Both give the same answers and leave the same bytes.
 pub(crate) fn list(case: &mut Case, words: &mut SplitWhitespace, told: &mut Vec<u8>) -> Result<()> {
     close(case)?;
     let fails = failing_call(word(words)?)?;

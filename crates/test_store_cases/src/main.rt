@@ -1,15 +1,15 @@
-//! Cases of disks and stores, a line each, read from standard input. A line that begins with `#` and an empty one
-//! are printed as they stand. Of each other line what stands up to and with `=> ` is printed, and then the answer
-//! that comes of it, whatever stood behind: so what is read and what has to be printed is one text.
+//! Cases of disks and stores, a line each, read from standard input. An empty line, and one that begins with `#`, is
+//! printed as it is. Of any other line the text up to and including `=> ` is printed, and then this program's own
+//! answer, whatever followed the arrow. So the input and the expected output are one text.
 //!
-//! - `words` reads the words of a line, `text` bytes that are written as text, and prints spans of numbers;
-//! - `counted` is a disk that counts its calls; `frames` has the frames, with the calls of a store that see to what
-//!   these ask for first, and `acts` what a store is asked for;
-//! - `case` is what a line finds and leaves: an image and the store over it; `image` changes the image, `line` asks
-//!   the store;
+//! - `words` reads the words of a line; `text` reads bytes that are written as text, and prints spans of numbers;
+//! - `counted` is a disk that counts its calls; `frames` has the frames, with the calls of a store that check their
+//!   preconditions first, and `acts` what a store is asked for;
+//! - `case` is the state that a line finds and leaves: an image and the store over it; `image` changes the image, `line`
+//!   asks the store;
 //! - `list` does lists of commands, `make` formats, `stops` stops at each call with each spoilt content, `fails`
 //!   fails each call in turn;
-//! - `keeping` opens with so many of the newest blocks kept;
+//! - `keeping` opens with a number of the newest blocks kept;
 //! - `pile` is a disk that remembers, fails and reads ahead, without a store.
 //!
 //! `data/version1.loop` is a store that the program wrote before there was version 2 of the layout: seven frames of its
@@ -39,7 +39,7 @@ use std::fs;
 use std::io::{BufRead, BufWriter, Write};
 use std::rt::Files;
 
-// What a line asks, up to its arrow; nothing where it is printed as it stands.
+// The question in a line, up to its arrow; None where the line is printed as it is.
 fn asked(line: &str) -> Option<&str> {
     if line.is_empty() || line.starts_with("#") {
         return None;
@@ -50,7 +50,7 @@ fn asked(line: &str) -> Option<&str> {
     }
 }
 
-// What is told of what a line asks.
+// The answer to a line.
 fn tells(case: &mut Case, asked: &str) -> Result<Vec<u8>> {
     let mut told = Vec::new(case.alloc);
     if let Err(error) = case::run(case, asked, &mut told) {
@@ -59,7 +59,7 @@ fn tells(case: &mut Case, asked: &str) -> Result<Vec<u8>> {
     Ok(told)
 }
 
-// Prints what a line asks, and what is told of it.
+// Prints a line's question and the answer.
 fn print_told<W: Write>(out: &mut W, asked: &str, told: &[u8]) -> Result<()> {
     out.write_all(asked.as_bytes())?;
     out.write_all(b"=> ")?;
@@ -80,7 +80,7 @@ fn answer<W: Write>(case: &mut Case, line: &str, out: &mut W) -> Result<()> {
     }
 }
 
-// Answers each line. It has the returns of an error, since `main` would drop its case and its output at each.
+// Answers each line. The returns on an error are here, since `main` would drop its case and its output at each of them.
 fn answers<R: BufRead + Drop, W: Write>(case: &mut Case, input: R, out: &mut W) -> Result<()> {
     for line in input.lines(case.alloc) {
         answer(case, &line?, out)?;
@@ -89,10 +89,10 @@ fn answers<R: BufRead + Drop, W: Write>(case: &mut Case, input: R, out: &mut W) 
     Ok(())
 }
 
-// Where the old store lies: in the folder that the gate runs the program in, or below the crate's.
+// Where the old store is: in the folder in which the gate runs the program, or below the crate's.
 const OLD: [&str; 2] = ["version1.loop", "data/version1.loop"];
 
-// The bytes of the old store, or none where it isn't there.
+// The bytes of the old store, or none where there is no such file.
 fn old_store(rt: &(impl AllocGlobal + Files)) -> Vec<u8> {
     for path in OLD {
         if let Ok(bytes) = fs::read(rt, path) {

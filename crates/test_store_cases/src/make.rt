@@ -35,7 +35,8 @@ fn fresh_with_slots(alloc: Global, geometry: Geometry, version: u32, old: &[u8])
     Ok(image)
 }
 
-// Whether a format of the image has left the superblock and no clip, closed segments, and all slots as they were.
+// Whether a format of the image has left the superblock, a table without a clip, closed segments, and all slots as they
+// were.
 fn is_fresh(case: &Case, disk: &MemDisk, geometry: Geometry, version: u32) -> Result<bool>
     requires { IsTrue (is_good geometry) }
 {
@@ -43,7 +44,7 @@ fn is_fresh(case: &Case, disk: &MemDisk, geometry: Geometry, version: u32) -> Re
     Ok(*disk.bytes() == *expected.as_slice())
 }
 
-// Other bytes are left than those of a fresh recording.
+// The error for other bytes than those of a fresh recording.
 fn other_bytes() -> Error {
     anyhow!(", and other bytes than those of a fresh recording")
 }
@@ -60,7 +61,7 @@ fn take_fresh(case: &mut Case, disk: &MemDisk, geometry: Geometry, version: u32)
     }
 }
 
-// Prints the next number and how many frames the rest of its block has room for.
+// Prints the next number, and how many frames the rest of its block has room for.
 fn print_next(told: &mut Vec<u8>, next: u64, room: u32) -> Result<()> {
     Ok(write!(told, ", next {next}, room {room}")?)
 }
@@ -83,7 +84,7 @@ fn take_store(
     }
 }
 
-// Takes what a format of the image has left, and prints what its store tells.
+// Takes what a format of the image has left, and prints what its store reports.
 fn formatted(
     case: &mut Case,
     store: Store<Counted<MemDisk>>,
@@ -125,7 +126,7 @@ pub(crate) fn format(
     }
 }
 
-// What a disk shows, and in which version of the layout, or nothing where it isn't formatted.
+// The frames that a disk shows and the version of the layout; None where it isn't formatted.
 type Shown = Option<(Vec<u64>, u32)>;
 
 // What a store shows.
@@ -154,9 +155,9 @@ fn recorded(case: &Case, geometry: Geometry, version: u32) -> Result<CrashDisk> 
     }
 }
 
-// Whether a stop behind so many of all calls may leave this: what isn't formatted, or what reads as before, or the
-// empty recording in this version. This one only once the gate of the superblock is written, and always after the last
-// call.
+// Whether a stop after `passed` of all calls may leave this. A disk that isn't formatted, or reads as before, may be
+// left before the last call. The empty recording in this version may be left once the gate of the superblock is
+// written.
 fn is_left(found: &Shown, before: &Shown, version: u32, passed: usize, calls: usize) -> bool {
     match found {
         Some((numbers, of)) if numbers.is_empty() && *of == version => {
@@ -167,12 +168,12 @@ fn is_left(found: &Shown, before: &Shown, version: u32, passed: usize, calls: us
     }
 }
 
-// Another thing is shown than may be.
+// The error for a disk that shows what it may not.
 fn other_shown(passed: usize, spoil: Spoil, found: &Shown) -> Error {
     anyhow!("after {passed} calls, {spoil:?}: {found:?}")
 }
 
-// Stops behind so many calls, with each spoilt content.
+// Stops after this many calls, with each spoilt content.
 fn stops_at(
     alloc: Global,
     disk: &CrashDisk,
@@ -189,7 +190,7 @@ fn stops_at(
     Ok(())
 }
 
-// Stops behind each of the calls.
+// Stops after each of the calls.
 fn stops_all(alloc: Global, disk: &CrashDisk, version: u32) -> Result<()> {
     let before = shown(alloc, left_at(disk, 0, Spoil::Keep)?)?;
     for passed in 0..=disk.calls() {

@@ -1,4 +1,4 @@
-//! Disks on one another, without a store: one that reads ahead, one that counts, one that fails from a call on, one
+//! Disks over one another, without a store: one that reads ahead, one that counts, one that fails from a call on, one
 //! that fails a call, and one that remembers its calls.
 
 ghost use Rattle.std.specs.Prelude.{◌+◌, ◌≤◌, IsTrue};
@@ -15,14 +15,14 @@ use std::cell::Cell;
 use std::io::Write;
 use std::str::SplitWhitespace;
 
-/// The disk that remembers its calls, below the others.
+/// The disk that remembers its calls, at the bottom.
 pub(crate) type Tape = CrashDisk;
 
-/// The disks, from the one that is called down.
+/// The disks, from the top down.
 pub(crate) type Pile<'a> = AheadDisk<Counted<'a, FuseDisk<OnceDisk<CrashDisk>>>>;
 
-// How the disks are made: the bytes of the window, from which call on all fail, and which call fails alone, where a
-// write may keep its first bytes.
+// How the disks are made: the bytes of the window, from which call on all fail, and which call fails alone. A write
+// that fails may keep its first bytes.
 #[derive(Clone, Copy)]
 struct Making {
     window: u64,
@@ -31,7 +31,7 @@ struct Making {
     keep: Option<usize>,
 }
 
-// The making with what a word names.
+// Adds to the making what a word names.
 fn with(making: Making, word: &str, number: u64) -> Result<Making> {
     match word {
         "window" => Ok(Making {
@@ -54,7 +54,7 @@ fn with(making: Making, word: &str, number: u64) -> Result<Making> {
     }
 }
 
-// Reads how the disks are made.
+// Reads how the disks are to be made.
 fn read_making(words: &mut SplitWhitespace) -> Result<Making> {
     let mut making = Making {
         window: 0,
@@ -94,7 +94,7 @@ fn make_pile<'a>(
     }
 }
 
-// The bytes 0, 1, 2, .., so many.
+// This many bytes: 0, 1, 2, ..
 fn counting(alloc: Global, count: u64) -> Result<Vec<u8>> {
     let mut bytes = Vec::new(alloc);
     for number in 0..count {
@@ -111,19 +111,19 @@ pub(crate) enum Call {
     Sync,
 }
 
-// A write, of the next words.
+// Reads a write from the next words.
 fn read_write(alloc: Global, words: &mut SplitWhitespace) -> Result<Call> {
     let at = number(words)?;
     Ok(Call::Write(at, next_bytes(alloc, words)?))
 }
 
-// A read, of the next words.
+// Reads a read from the next words.
 fn read_read(words: &mut SplitWhitespace) -> Result<Call> {
     let (at, count) = two_numbers(words)?;
     Ok(Call::Read(at, count as usize))
 }
 
-// The call of a word, with the next words.
+// Reads the call of a word, with the next words.
 fn read_call(alloc: Global, word_of: &str, words: &mut SplitWhitespace) -> Result<Call> {
     match word_of {
         "write" => read_write(alloc, words),
@@ -133,14 +133,14 @@ fn read_call(alloc: Global, word_of: &str, words: &mut SplitWhitespace) -> Resul
     }
 }
 
-// Whether a disk of a size has so many places from one on.
+// Whether a disk of this size has `count` bytes from a place on.
 fn has(size: u64, at: u64, count: u64) -> bool
     ensures { IsTrue result → at + count ≤ size }
 {
     count <= size && at <= size - count
 }
 
-// Writes, where the disk has the places.
+// Writes, if the disk has the places.
 fn write<D: Disk>(disk: &mut D, at: u64, bytes: &[u8]) -> Result<Result<(), DiskFault>> {
     if has(disk.size(), at, bytes.len() as u64) {
         Ok(disk.write_at(at, bytes))
@@ -149,7 +149,7 @@ fn write<D: Disk>(disk: &mut D, at: u64, bytes: &[u8]) -> Result<Result<(), Disk
     }
 }
 
-// Reads into this place, where the disk has the places, and prints the bytes.
+// Reads into this buffer, if the disk has the places, and prints the bytes.
 fn read_into<D: Disk>(
     disk: &mut D,
     at: u64,
@@ -166,7 +166,7 @@ fn read_into<D: Disk>(
     Ok(answer)
 }
 
-// Reads so many bytes.
+// Reads this many bytes, and prints them.
 fn read<D: Disk>(
     alloc: Global,
     disk: &mut D,
@@ -177,7 +177,7 @@ fn read<D: Disk>(
     read_into(disk, at, seen.as_mut_slice(), told)
 }
 
-// Makes a call. What is read is printed.
+// Makes a call. Prints what is read.
 fn does<D: Disk>(
     alloc: Global,
     disk: &mut D,
@@ -198,7 +198,7 @@ fn print_failures(told: &mut Vec<u8>, failures: &Failures) -> Result<()> {
     print_count(told, failures.syncs, "")
 }
 
-// Prints how many calls would pass yet.
+// Prints how many more calls would pass.
 fn print_left(told: &mut Vec<u8>, left: u64) -> Result<()> {
     if left < 1000 {
         print_count(told, left, " pass, ")
@@ -207,7 +207,7 @@ fn print_left(told: &mut Vec<u8>, left: u64) -> Result<()> {
     }
 }
 
-// Prints how many calls would pass yet, how many failed in which kinds above, and how many beneath.
+// Prints how many more calls would pass, and how many failed above and beneath, by kind.
 fn print_fuse(told: &mut Vec<u8>, fuse: &FuseDisk<OnceDisk<CrashDisk>>) -> Result<()> {
     print_left(told, fuse.left)?;
     say(told, "failed ")?;
@@ -216,7 +216,7 @@ fn print_fuse(told: &mut Vec<u8>, fuse: &FuseDisk<OnceDisk<CrashDisk>>) -> Resul
     print_failures(told, &fuse.inner.failures)
 }
 
-// Takes the disks from one another, and prints what they tell.
+// Takes the disks apart, and prints what they report.
 fn apart(case: &mut Case, pile: Pile, told: &mut Vec<u8>) -> Result<()> {
     let fuse = pile.into_inner().inner;
     print_fuse(told, &fuse)?;
@@ -244,7 +244,7 @@ fn of(
     print_count(told, size, " bytes")
 }
 
-// `disk end`: takes the disks from one another.
+// `disk end`: takes the disks apart.
 fn end(case: &mut Case, told: &mut Vec<u8>) -> Result<()> {
     match case.pile.take() {
         Some(pile) => apart(case, pile, told),
@@ -252,7 +252,7 @@ fn end(case: &mut Case, told: &mut Vec<u8>) -> Result<()> {
     }
 }
 
-// The disk that remembers its calls, once the others are taken from it.
+// The disk that remembers its calls, once the disks are taken apart.
 fn tape<'c>(case: &'c Case) -> Result<&'c Tape> {
     match &case.tape {
         Some(tape) => Ok(tape),
@@ -260,7 +260,7 @@ fn tape<'c>(case: &'c Case) -> Result<&'c Tape> {
     }
 }
 
-// `disk passed`: how many calls the disk that reads ahead has made of those beneath.
+// `disk passed`: how many calls of the disks beneath the disk that reads ahead has made.
 fn passed(case: &Case, told: &mut Vec<u8>) -> Result<()> {
     print_count(told, case.calls.get(), "")
 }
@@ -271,13 +271,13 @@ fn made(case: &Case, told: &mut Vec<u8>) -> Result<()> {
     print_count(told, count as u64, "")
 }
 
-// `disk bytes AT COUNT`: what stands at the bottom.
+// `disk bytes AT COUNT`: the bytes at this place at the bottom.
 fn bytes(case: &Case, words: &mut SplitWhitespace, told: &mut Vec<u8>) -> Result<()> {
     let (at, count) = two_numbers(words)?;
     print_part(told, tape(case)?.bytes(), (at, count))
 }
 
-// What a crash leaves.
+// Prints what a crash leaves.
 fn print_crash(tape: &Tape, calls: usize, spoil: Spoil, told: &mut Vec<u8>) -> Result<()> {
     if calls > tape.calls() {
         return Err(bad_line());
@@ -285,7 +285,7 @@ fn print_crash(tape: &Tape, calls: usize, spoil: Spoil, told: &mut Vec<u8>) -> R
     Ok(print_bytes(told, tape.crash(calls, spoil)?.bytes())?)
 }
 
-// What crashes leave, each of these words a spoilt content.
+// Prints what crashes leave. Each of the words is a spoilt content.
 fn print_crashes(
     tape: &Tape,
     calls: usize,
@@ -301,7 +301,7 @@ fn print_crashes(
     Ok(())
 }
 
-// `disk crash CALLS SPOIL ..`, or with `last` for the calls: what a crash behind so many calls at the bottom leaves.
+// `disk crash CALLS SPOIL ..`, or with `last` for the calls: what a crash after CALLS calls at the bottom leaves.
 fn crash(case: &Case, words: &mut SplitWhitespace, told: &mut Vec<u8>) -> Result<()> {
     let tape = tape(case)?;
     let calls = match word(words)? {
@@ -320,7 +320,7 @@ fn print_done(answer: Result<(), DiskFault>, is_read: bool, told: &mut Vec<u8>) 
     }
 }
 
-// A call of the uppermost disk.
+// Makes a call of the top disk.
 fn one(case: &mut Case, call: &Call, told: &mut Vec<u8>) -> Result<()> {
     let Some(pile) = &mut case.pile else {
         return Err(bad_line());
@@ -329,7 +329,7 @@ fn one(case: &mut Case, call: &Call, told: &mut Vec<u8>) -> Result<()> {
     print_done(answer, matches!(call, Call::Read(_, _)), told)
 }
 
-// The letter of an answer: a point where the call was made.
+// The letter of an answer; a point where the call was done.
 fn letter(answer: Result<(), DiskFault>) -> u8 {
     match answer {
         Ok(()) => b'.',
@@ -339,7 +339,7 @@ fn letter(answer: Result<(), DiskFault>) -> u8 {
     }
 }
 
-// The calls of the next words.
+// Reads calls from the next words.
 fn read_calls(alloc: Global, words: &mut SplitWhitespace) -> Result<Vec<Call>> {
     let mut list = Vec::new(alloc);
     for _ in 0..100 {
@@ -357,7 +357,7 @@ fn calls(case: &mut Case, words: &mut SplitWhitespace, told: &mut Vec<u8>) -> Re
     say(told, "remembered")
 }
 
-// Makes calls, and prints a letter for each, with a comma behind them. What is read isn't printed.
+// Makes calls, and prints a letter for each and then a comma. What is read isn't printed.
 fn play_all(
     alloc: Global,
     list: &[Call],
@@ -370,7 +370,7 @@ fn play_all(
     say(told, ", ")
 }
 
-// Makes the remembered calls of the disks over these bytes, and takes them from one another.
+// Makes the remembered calls over these bytes, and takes the disks apart.
 fn play_over(
     case: &mut Case,
     bytes: Vec<u8>,
@@ -387,7 +387,7 @@ fn play_over(
     apart(case, pile, told)
 }
 
-// `disk play BYTES MAKING`: the remembered calls over these bytes, a letter each, and what is left.
+// `disk play BYTES MAKING`: makes the remembered calls over these bytes. Prints a letter for each, and what is left.
 fn play(case: &mut Case, words: &mut SplitWhitespace, told: &mut Vec<u8>) -> Result<()> {
     let bytes = next_bytes(case.alloc, words)?;
     play_over(case, bytes, words, told)?;
@@ -407,7 +407,7 @@ fn of_counting(case: &mut Case, words: &mut SplitWhitespace, told: &mut Vec<u8>)
     of(case, bytes, words, told)
 }
 
-// A call of the uppermost disk, of its words.
+// Makes the call of the top disk that the words name.
 fn make_call(
     case: &mut Case,
     word_of: &str,
@@ -430,7 +430,7 @@ enum Asked {
     Made,
     Passed,
     Bytes,
-    // A call of the uppermost disk.
+    // A call of the top disk.
     Makes,
 }
 

@@ -1,5 +1,5 @@
-//! What stops leave: each moment of what was done since the opening, with the places that were written since the last
-//! sync as bad as a crash may make them, is opened, and goes on.
+//! What stops leave. A stop is made at each moment of what was done since the opening. The places that were written
+//! since the last sync are as bad as a crash may make them. What is left is opened and written to again.
 
 use crate::acts::{Act, does, frames_of};
 use crate::case::{Case, Moment};
@@ -33,10 +33,10 @@ pub(crate) const SPOILS: [Spoil; 10] = [
     Spoil::Mix(197),
 ];
 
-// Those of stops behind which a second attempt is made, and of its own stops.
+// The contents for stops that are followed by a second attempt, and for stops of that attempt.
 const AGAIN: [Spoil; 2] = [Spoil::Gate, Spoil::Mix(254)];
 
-/// The disk after a crash behind so many calls.
+/// The disk after a crash that follows this many calls.
 pub(crate) fn left_at(disk: &CrashDisk, calls: usize, spoil: Spoil) -> Result<MemDisk> {
     if calls > disk.calls() {
         return Err(anyhow!("there aren't so many calls"));
@@ -52,7 +52,8 @@ fn does_all(alloc: Global, store: &mut Store<CrashDisk>, acts: &[Act]) -> Result
     Ok(())
 }
 
-// The commands that store so many frames from a number on. Behind each, one is read that isn't there yet.
+// The commands that store this many frames from a number on. Each is followed by a read of the next one, which isn't
+// there yet.
 fn storing(alloc: Global, size: usize, first: u64, count: usize) -> Result<Vec<Command>> {
     let mut commands = Vec::new(alloc);
     let mut number = first;
@@ -64,7 +65,8 @@ fn storing(alloc: Global, size: usize, first: u64, count: usize) -> Result<Vec<C
     Ok(commands)
 }
 
-// Stores as many frames by one list of commands. Behind each, one is read that isn't there yet, without a call.
+// Stores this many frames by one list of commands. Each is followed by a read of the next one, which isn't there yet
+// and takes no call.
 fn stores_by_list(alloc: Global, store: &mut Store<CrashDisk>, count: usize) -> Result<()> {
     let first = store.next();
     let commands = storing(alloc, size_of_frames(store), first, count)?;
@@ -76,7 +78,7 @@ fn stores_by_list(alloc: Global, store: &mut Store<CrashDisk>, count: usize) -> 
     }
 }
 
-// Does what was done since the opening.
+// Repeats the acts since the opening.
 fn does_again(case: &Case, store: &mut Store<CrashDisk>, by_list: bool) -> Result<()> {
     if by_list {
         stores_by_list(case.alloc, store, case.acts.len())
@@ -85,7 +87,7 @@ fn does_again(case: &Case, store: &mut Store<CrashDisk>, by_list: bool) -> Resul
     }
 }
 
-/// A disk that remembers its calls, of these bytes.
+/// A disk of these bytes that remembers its calls.
 pub(crate) fn remembering(alloc: Global, bytes: &[u8]) -> Result<CrashDisk> {
     Ok(CrashDisk::of(alloc, bytes.to_vec(alloc)?)?)
 }
@@ -109,7 +111,7 @@ fn recorded(case: &Case, by_list: bool) -> Result<CrashDisk> {
     }
 }
 
-// How many of the moments have come after so many calls, and at least one.
+// How many of the moments there are by the time of this many calls, and at least one.
 fn count_passed(moments: &[Moment], calls: usize) -> usize {
     let mut count = 0usize;
     for moment in moments {
@@ -120,13 +122,13 @@ fn count_passed(moments: &[Moment], calls: usize) -> usize {
     count.max(1)
 }
 
-// Whether these clips and this version are just those of a moment.
+// Whether these clips and this version are those of a moment.
 fn has_clips(moment: &Moment, clips: &[Clip], version: u32) -> bool {
     *moment.clips.as_slice() == *clips && moment.version == version
 }
 
-// Whether a store may show this after so many calls. Where no act is under way, that is what was shown before. Else
-// it is that with a beginning of what the act does.
+// Whether a store may show this after this many calls. Where no act is under way, it has to be what was shown before.
+// Else it may also be what the act or a prefix of its steps leaves.
 fn may_show(case: &Case, calls: usize, frames: &[u64], clips: &[Clip], version: u32) -> bool {
     let passed = count_passed(&case.moments, calls);
     let last = passed.wrapping_sub(1);
@@ -142,7 +144,7 @@ fn may_show(case: &Case, calls: usize, frames: &[u64], clips: &[Clip], version: 
     }
 }
 
-// The number of the frame that a second attempt has stored; behind all numbers where it had no place.
+// The number of the frame that a second attempt has stored; u64::MAX where there was no place for it.
 fn again_from(found: &[u64], after: &[u64]) -> u64 {
     match after.last() {
         Some(last) if *found != *after => *last,
@@ -150,8 +152,8 @@ fn again_from(found: &[u64], after: &[u64]) -> u64 {
     }
 }
 
-// After a stop in the second attempt the frames are those from before it or after it, and what was given up isn't
-// back.
+// Checks that after a stop in the second attempt the frames are those from before it or after it, and that what was
+// given up isn't back.
 fn is_again(alloc: Global, left: MemDisk, found: &[u64], after: &[u64]) -> Result<()> {
     let mut store = opened(alloc, left)?;
     let shown = held(alloc, &mut store, again_from(found, after))?;
@@ -162,7 +164,7 @@ fn is_again(alloc: Global, left: MemDisk, found: &[u64], after: &[u64]) -> Resul
     }
 }
 
-// Opens what a stop in the second attempt left behind so many calls.
+// Opens what a stop in the second attempt left after this many calls.
 fn stops_again_at(
     alloc: Global,
     disk: &CrashDisk,
@@ -175,7 +177,7 @@ fn stops_again_at(
     Ok(())
 }
 
-// Opens what a stop in the second attempt left, at its last calls.
+// Opens what stops in the second attempt leave, at its last calls.
 fn stops_again(alloc: Global, disk: &CrashDisk, found: &[u64], after: &[u64]) -> Result<()> {
     for calls in disk.calls().saturating_sub(8)..=disk.calls() {
         stops_again_at(alloc, disk, calls, (found, after))?;
@@ -183,7 +185,8 @@ fn stops_again(alloc: Global, disk: &CrashDisk, found: &[u64], after: &[u64]) ->
     Ok(())
 }
 
-// Stores a frame in a second attempt, if it has a place, and answers which frames are held then.
+// Stores a frame in a second attempt, if there is a place for it, and returns the numbers of the frames that are held
+// then.
 fn stores_again(
     alloc: Global,
     store: &mut Store<CrashDisk>,
@@ -194,7 +197,8 @@ fn stores_again(
     held(alloc, store, again.unwrap_or(u64::MAX))
 }
 
-// Stores a frame in a second attempt on a disk that remembers its calls. Answers it, and which frames are held then.
+// Stores a frame in a second attempt on a disk that remembers its calls. Returns the disk, and the numbers of the
+// frames that are held then.
 fn stored_again(
     case: &Case,
     left: &MemDisk,
@@ -207,8 +211,8 @@ fn stored_again(
     Ok((store.into_disk(), after))
 }
 
-// Opens what a stop left on a disk that remembers its calls, and stores a frame in a second attempt, which is
-// stopped too. A stop within an unlock may leave the clip, and then the frame may have no place.
+// Opens what a stop left on a disk that remembers its calls, and stores a frame in a second attempt, which is stopped
+// too. A stop within an unlock may leave the clip, and then there may be no place for the frame.
 fn tries_again(case: &Case, left: &MemDisk, found: &[u64], clips: &[Clip]) -> Result<()> {
     let (disk, after) = stored_again(case, left, found, clips)?;
     stops_again(case.alloc, &disk, found, &after)
@@ -219,13 +223,13 @@ fn copy_of(alloc: Global, disk: &MemDisk) -> Result<MemDisk> {
     Ok(MemDisk::of(disk.bytes().to_vec(alloc)?))
 }
 
-// The frames of what a stop behind so many calls leaves.
+// The frames of what a stop leaves.
 fn found_at(alloc: Global, left: &MemDisk) -> Result<Vec<u64>> {
     let mut store = opened(alloc, copy_of(alloc, left)?)?;
     held(alloc, &mut store, u64::MAX)
 }
 
-// The clips of what a stop behind so many calls leaves, and the version of the layout.
+// The clips of what a stop leaves, and the version of the layout.
 fn clips_at(alloc: Global, left: &MemDisk) -> Result<(Vec<Clip>, u32)> {
     let store = opened(alloc, copy_of(alloc, left)?)?;
     let version = store.version();
@@ -233,7 +237,8 @@ fn clips_at(alloc: Global, left: &MemDisk) -> Result<(Vec<Clip>, u32)> {
     Ok((clips, version))
 }
 
-// Opens what a stop left, which shows these frames, and these clips in a version.
+// Checks that what a stop left may show these frames, and these clips in a version, and makes a second attempt if it is
+// to.
 fn goes_on(
     case: &Case,
     left: &MemDisk,
@@ -252,14 +257,14 @@ fn goes_on(
     }
 }
 
-// Opens what a stop behind so many calls leaves.
+// Opens what a stop after this many calls leaves.
 fn stops_at(case: &Case, left: &MemDisk, calls: usize, again: bool) -> Result<()> {
     let found = found_at(case.alloc, left)?;
     let (clips, version) = clips_at(case.alloc, left)?;
     goes_on(case, left, calls, &found, (&clips, version), again)
 }
 
-// Opens what stops behind so many calls leave.
+// Opens what stops after this many calls leave.
 fn stops_behind(case: &Case, disk: &CrashDisk, calls: usize) -> Result<()> {
     for spoil in &SPOILS {
         let left = left_at(disk, calls, *spoil)?;
@@ -278,9 +283,9 @@ fn stops_all(case: &Case, disk: &CrashDisk) -> Result<()> {
     Ok(())
 }
 
-/// `stops`, or `stops of a list`: opens what each stop of what was done since the opening may leave. It is what was
-/// shown before or after the act that is stopped, or after a beginning of its steps, and goes on. The frames can be
-/// stored by one list of commands.
+/// `stops`, or `stops of a list`: opens what each stop of what was done since the opening may leave. It has to be what
+/// was shown before or after the act that is stopped, or after a prefix of its steps, and a second attempt has to
+/// succeed. With `of a list` the frames are stored by one list of commands.
 pub(crate) fn stops(
     case: &mut Case,
     words: &mut SplitWhitespace,
@@ -298,7 +303,7 @@ pub(crate) fn stops(
     )
 }
 
-// Prints the frames that are held after stops behind so many calls, with each of these spoilt contents.
+// Prints the frames that are held after stops that follow this many calls, with each of these spoilt contents.
 fn print_stops(
     alloc: Global,
     disk: &CrashDisk,
@@ -314,14 +319,14 @@ fn print_stops(
     Ok(())
 }
 
-/// `stop CALLS SPOIL ..`: the frames that are held after a stop behind so many calls, with each of these spoilt
+/// `stop CALLS SPOIL ..`: the frames that are held after a stop that follows CALLS calls, with each of these spoilt
 /// contents.
 pub(crate) fn stop(case: &mut Case, words: &mut SplitWhitespace, told: &mut Vec<u8>) -> Result<()> {
     let disk = recorded(case, false)?;
     print_stops(case.alloc, &disk, words, told)
 }
 
-// How many clips stand where a crash leaves this byte in a place.
+// How many clips there are where a crash leaves this byte in a place.
 fn clips_with(alloc: Global, disk: &CrashDisk, (calls, at): (u64, u64), byte: u8) -> Result<usize> {
     // The mix has 167 * at more, which is a multiple of 256.
     let left = left_at(disk, calls as usize, Spoil::Mix(byte))?;
@@ -332,7 +337,7 @@ fn clips_with(alloc: Global, disk: &CrashDisk, (calls, at): (u64, u64), byte: u8
     Ok(clips.len())
 }
 
-// Prints with which bytes in a place a clip stands after a stop behind so many calls.
+// Prints the bytes in a place with which there is a clip after a stop that follows this many calls.
 fn print_torn(
     alloc: Global,
     disk: &CrashDisk,
@@ -347,8 +352,8 @@ fn print_torn(
     Ok(())
 }
 
-/// `torn CALLS AT`: a stop behind so many calls leaves any byte in this place, a multiple of 256. With which of them
-/// a clip stands.
+/// `torn CALLS AT`: a stop after CALLS calls leaves any byte in this place, a multiple of 256. Prints with which of
+/// them there is a clip.
 pub(crate) fn torn(case: &mut Case, words: &mut SplitWhitespace, told: &mut Vec<u8>) -> Result<()> {
     let disk = recorded(case, false)?;
     let place = two_numbers(words)?;

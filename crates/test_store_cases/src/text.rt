@@ -48,7 +48,7 @@ fn pair(high: u8, low: u8) -> Result<u8> {
     }
 }
 
-// The number at the beginning of a text, and what stands behind the semicolon after it.
+// The number at the front of a text, and what follows the semicolon after it.
 fn count(text: &[u8]) -> Result<(u64, &[u8])> {
     let mut number = 0u64;
     for (place, byte) in text.iter().enumerate() {
@@ -60,7 +60,7 @@ fn count(text: &[u8]) -> Result<(u64, &[u8])> {
     Err(bad_line())
 }
 
-// The first byte of a text, and what stands behind it.
+// The first byte of a text, and the rest.
 fn first(text: &[u8]) -> Result<(u8, &[u8])> {
     match text {
         [b'\\', high, low, rest @ ..] => Ok((pair(*high, *low)?, rest)),
@@ -69,7 +69,7 @@ fn first(text: &[u8]) -> Result<(u8, &[u8])> {
     }
 }
 
-// The first byte of a text with how often it stands there, and what stands behind it.
+// The first byte of a text with its count, and the rest.
 fn run(text: &[u8]) -> Result<(u8, u64, &[u8])> {
     let (byte, rest) = first(text)?;
     match rest {
@@ -112,7 +112,7 @@ fn print_byte(out: &mut Vec<u8>, byte: u8) -> io::Result<()> {
     }
 }
 
-// How many times the first byte stands at the beginning.
+// How many times the first byte is repeated at the front.
 fn times_first(bytes: &[u8], first: u8) -> usize {
     let mut times = 0usize;
     for byte in bytes {
@@ -124,7 +124,7 @@ fn times_first(bytes: &[u8], first: u8) -> usize {
     times
 }
 
-// Prints a byte that stands there so often.
+// Prints a byte that is repeated this many times.
 fn print_run(out: &mut Vec<u8>, byte: u8, times: usize) -> io::Result<()> {
     if 4 <= times {
         print_byte(out, byte)?;
@@ -150,7 +150,7 @@ pub(crate) fn print_bytes(out: &mut Vec<u8>, bytes: &[u8]) -> io::Result<()> {
     Ok(())
 }
 
-/// Prints so many bytes from a place on, or nothing where there are no such bytes.
+/// Prints this many bytes from a place on, or nothing where there are no such bytes.
 pub(crate) fn print_part(out: &mut Vec<u8>, bytes: &[u8], (at, count): (u64, u64)) -> Result<()> {
     let at = at as usize;
     match bytes.get(at..at.saturating_add(count as usize)) {
@@ -164,7 +164,7 @@ fn print_span(out: &mut Vec<u8>, from: u64, to: u64) -> io::Result<()> {
     write!(out, " {from}..{to}")
 }
 
-/// Prints numbers as spans, each behind a space: ` 2..3 6..8`, or ` none`.
+/// Prints numbers as spans, each after a space: ` 2..3 6..8`, or ` none`.
 pub(crate) fn print_numbers(out: &mut Vec<u8>, numbers: &[u64]) -> io::Result<()> {
     let mut rest = numbers.iter();
     let Some(first) = rest.next() else {
@@ -187,7 +187,7 @@ pub(crate) fn print_holds(out: &mut Vec<u8>, numbers: &[u64]) -> io::Result<()> 
     print_numbers(out, numbers)
 }
 
-/// Prints runs of numbers, each behind a space: `finds 2..3 6..8`, or `finds none`.
+/// Prints runs of numbers, each after a space: `finds 2..3 6..8`, or `finds none`.
 pub(crate) fn print_runs(out: &mut Vec<u8>, runs: &[Span]) -> io::Result<()> {
     out.write_all(b"finds")?;
     if runs.is_empty() {
@@ -212,7 +212,7 @@ fn print_clip(out: &mut Vec<u8>, clip: &Clip) -> io::Result<()> {
     write!(out, " tag {tag}")
 }
 
-/// Prints clips, each behind a space: ` 0:2..3 1:6..6 tag 9`, or ` none`.
+/// Prints clips, each after a space: ` 0:2..3 1:6..6 tag 9`, or ` none`.
 pub(crate) fn print_clips(out: &mut Vec<u8>, clips: &[Clip]) -> io::Result<()> {
     if clips.is_empty() {
         return out.write_all(b" none");

@@ -21,7 +21,7 @@ pub(crate) fn word<'a>(words: &mut SplitWhitespace<'a>) -> Result<&'a str> {
     }
 }
 
-/// What the row of a word in a table has, or else another.
+/// What the row of a word in a table has, or else `other`.
 pub(crate) fn row_of<T: Copy>(table: &[(&'static str, T)], word: &str, other: T) -> T {
     for row in table {
         if row.0 == word {
@@ -31,7 +31,7 @@ pub(crate) fn row_of<T: Copy>(table: &[(&'static str, T)], word: &str, other: T)
     other
 }
 
-/// The number that a word is, with or without a comma behind it.
+/// The number that a word is, with or without a comma after it.
 pub(crate) fn number_of(word: &str) -> Result<u64> {
     match word.strip_suffix(",").unwrap_or(word).parse::<u64>() {
         Ok(number) => Ok(number),
@@ -84,7 +84,7 @@ const PIXEL: Geometry = Geometry {
     slots: 1,
 };
 
-/// The geometry of the next words, good or not: `small` or `pixel`, how many segments, and how many slots in each.
+/// The geometry of the next words, valid or not: `small` or `pixel`, how many segments, and how many slots in each.
 pub(crate) fn any_geometry(words: &mut SplitWhitespace) -> Result<Geometry> {
     let base = match word(words)? {
         "small" => SMALL,
@@ -98,7 +98,7 @@ pub(crate) fn any_geometry(words: &mut SplitWhitespace) -> Result<Geometry> {
     })
 }
 
-/// A geometry that is good.
+/// Checks that a geometry is valid.
 pub(crate) fn good(geometry: Geometry) -> Result<Geometry>
     ensures { IfOk result (λ geometry. IsTrue (is_good geometry)) }
 {

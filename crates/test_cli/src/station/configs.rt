@@ -3,7 +3,7 @@
 use crate::asserts::{holds, same};
 use loop_record::PixelFormat;
 use loop_station_words::{
-    CameraConfig, CameraFault, Config, ConfigFault, FrameShape, Memory, Source, StoreSize,
+    CameraConfig, CameraFault, Config, ConfigFault, FrameShape, MemoryLimit, Source, StoreSize,
     read_config,
 };
 use std::alloc::Global;
@@ -193,7 +193,7 @@ const ROWS: [(&str, Option<ConfigFault>); 48] = [
     ),
 ];
 
-// Minutes as they are written, and the seconds that they are.
+// Minutes as they are written, and their seconds.
 const MINUTES: [(&str, u64); 4] = [("5", 300), ("0.5", 30), ("2.51", 151), ("0.001", 1)];
 
 // Why a configuration is refused.
@@ -204,7 +204,7 @@ fn fault_of(alloc: Global, text: &str) -> Option<ConfigFault> {
     }
 }
 
-// A row is so.
+// Checks a row.
 fn is_read(rt: &impl Abort, alloc: Global, row: &(&str, Option<ConfigFault>)) {
     let (text, fault) = *row;
     same!(*rt; fault_of(alloc, text), fault, text);
@@ -231,7 +231,7 @@ fn seconds_of(alloc: Global, text: &str) -> Option<u64> {
     }
 }
 
-// Minutes are so many seconds.
+// Checks that minutes are this many seconds.
 fn lasts(rt: &impl Abort, alloc: Global, row: &(&str, u64)) {
     let (minutes, seconds) = *row;
     let text = format!(in alloc;
@@ -254,7 +254,7 @@ const WHOLE: &str = "orders='from'\nanswers='to'\ntimes=false\nevents=false\n\
 buffers=13\nmemory=14\nsave_to='clips'\nrelease=true\n\
 [[camera]]\nname='right'\nsource='r.y4m'\nstore='r.loop'\nbytes=15\nkeep=16\ntag=17\nbuffers=18\nmemory='19 s'\nsave_to='more'\n";
 
-// The pattern of the first camera.
+// The shape of the first camera's pattern.
 const SHAPE: FrameShape = FrameShape {
     width: 4,
     height: 2,
@@ -263,7 +263,7 @@ const SHAPE: FrameShape = FrameShape {
     rate_den: 7,
 };
 
-// Just two cameras, what the file says of all, and of each.
+// Whether there are just two cameras, with all the values of the file.
 fn says_all(config: &Config) -> bool {
     match config.cameras.as_slice() {
         [left, right] => {
@@ -284,7 +284,7 @@ fn is_left(camera: &CameraConfig) -> bool {
         && camera.store.as_str() == "l.loop"
         && camera.room == StoreSize::Seconds(180)
         && (camera.seconds, camera.tag, camera.buffers) == (11, 12, 13)
-        && camera.memory == Some(Memory::Bytes(14))
+        && camera.memory == Some(MemoryLimit::Bytes(14))
         && camera.save_to.as_deref() == Some("clips")
         && camera.release
 }
@@ -295,12 +295,12 @@ fn is_right(camera: &CameraConfig) -> bool {
         && camera.store.as_str() == "r.loop"
         && camera.room == StoreSize::Bytes(15)
         && (camera.seconds, camera.tag, camera.buffers) == (16, 17, 18)
-        && camera.memory == Some(Memory::Seconds(19))
+        && camera.memory == Some(MemoryLimit::Seconds(19))
         && camera.save_to.as_deref() == Some("more")
         && !camera.release
 }
 
-// The file has nothing but one camera without a word that may be left out.
+// Whether there is just one camera, with no word that may be left out.
 fn says_least(config: &Config) -> bool {
     match config.cameras.as_slice() {
         [camera] => {
@@ -319,7 +319,7 @@ fn says_least(config: &Config) -> bool {
 }
 
 #[test]
-fn each_word_is_read_back(rt: HostRuntime) {
+fn each_word_of_a_configuration_is_read(rt: HostRuntime) {
     let whole = read_config(rt.alloc(), WHOLE);
     holds!(rt; matches!(&whole, Ok(config) if says_all(config)));
     let least = read_config(

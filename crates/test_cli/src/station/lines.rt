@@ -15,7 +15,7 @@ use loop_store::{Clip, StoreFault};
 use std::alloc::Global;
 use std::process::Abort;
 
-// What each line says, one below the other.
+// The printed lines, one below the other.
 const PRINTED: &[u8] = b"kept left 63 3..9 tag 7\n\
 kept left 0 3..3\n\
 kept left none\n\
@@ -61,7 +61,7 @@ const fn clip(id: u32, to: u64, tag: u64) -> Clip {
 // 22 November 2026, 15:38:00.123456, in microseconds since 1970.
 const NOVEMBER: u64 = 1_795_361_880_123_456;
 
-// What a source may have.
+// A geometry that a source may have.
 const OTHER: Geometry = Geometry {
     width: 320,
     height: 240,
@@ -102,7 +102,7 @@ fn prints(out: &mut Vec<u8>) -> bool {
         && prints_heads(out)
 }
 
-// Prints what happens by itself.
+// Prints what happens without an order.
 fn prints_events(out: &mut Vec<u8>) -> bool {
     print_done(out).is_ok()
         && print_stopped(out).is_ok()
@@ -119,7 +119,7 @@ fn prints_events(out: &mut Vec<u8>) -> bool {
         && print_no_answers(out, "a pipe").is_ok()
 }
 
-// Prints what stands before lines, and the name of a clip's file.
+// Prints the words that begin lines, and the name of a clip's file.
 fn prints_heads(out: &mut Vec<u8>) -> bool {
     print_head(out, Some(0), Some("a-1")).is_ok()
         && print_head(out, None, Some("b")).is_ok()
@@ -128,7 +128,7 @@ fn prints_heads(out: &mut Vec<u8>) -> bool {
         && print_clip_path(out, " out", "left", NOVEMBER, 7, 2).is_ok()
 }
 
-// Prints what becomes of saves.
+// Prints the outcomes of saves.
 fn prints_saves(out: &mut Vec<u8>) -> bool {
     print_saved(out, "left", 3, "a clip.y4m", 7).is_ok()
         && print_not_saved(out, "left", 3, "a clip.y4m", &"CannotOpen").is_ok()
@@ -137,13 +137,13 @@ fn prints_saves(out: &mut Vec<u8>) -> bool {
 }
 
 #[test]
-fn lines_are_printed_so(rt: HostRuntime) {
+fn each_kind_of_line_is_printed(rt: HostRuntime) {
     let mut out = Vec::new(rt.alloc());
     holds!(rt; prints(&mut out));
     same!(rt; out.as_slice(), PRINTED);
 }
 
-// Frames that come at the same rate, written otherwise.
+// The same frames at the same rate, which is written in another way.
 const SAME: Geometry = Geometry {
     rate_num: 60_000,
     rate_den: 2002,
@@ -164,13 +164,13 @@ const TALL: Geometry = Geometry {
 };
 
 #[test]
-fn frames_are_alike_whatever_their_rings(rt: HostRuntime) {
+fn frames_are_compared_whatever_their_rings(rt: HostRuntime) {
     same!(rt; compare_frames(&OTHER, &SAME), Likeness::Alike);
     same!(rt; compare_frames(&OTHER, &SLOW), Likeness::OtherRate);
     same!(rt; compare_frames(&OTHER, &TALL), Likeness::OtherGeometry);
 }
 
-// So many frames, and the segments and slots for them; none where there are no such.
+// How many frames a store is to hold, and the segments and slots for them; zeros where there is no such store.
 const RINGS: [(u64, u32, u32); 8] = [
     (0, 2, 64),
     (65, 2, 64),
@@ -182,7 +182,7 @@ const RINGS: [(u64, u32, u32); 8] = [
     (16_130, 0, 0),
 ];
 
-// The largest ring of frames of 12 bytes within so many bytes.
+// The largest ring of frames of 12 bytes within this many bytes.
 const WITHIN: [(u64, u32, u32); 5] = [
     (3_671, 0, 0),
     (3_672, 2, 1),
@@ -191,7 +191,7 @@ const WITHIN: [(u64, u32, u32); 5] = [
     (u64::MAX, 64, 256),
 ];
 
-// The segments and slots of a ring; none where there is no ring.
+// The segments and slots of a ring; zeros where there is no ring.
 fn sizes(ring: Option<RingSize>) -> (u32, u32) {
     match ring {
         Some(RingSize { segments, slots }) => (segments, slots),
@@ -200,7 +200,7 @@ fn sizes(ring: Option<RingSize>) -> (u32, u32) {
 }
 
 #[test]
-fn stores_are_as_large_as_has_to_be(rt: HostRuntime) {
+fn stores_are_as_large_as_they_have_to_be(rt: HostRuntime) {
     for (frames, segments, slots) in &RINGS {
         same!(rt; sizes(ring_for(*frames)), (*segments, *slots), *frames);
     }
@@ -209,7 +209,7 @@ fn stores_are_as_large_as_has_to_be(rt: HostRuntime) {
     }
 }
 
-// Each line that `help` lists is the shape of an order, or of a labelled one.
+// Each line that `help` lists has the shape of an order, or of an order with a label.
 #[test]
 fn help_lists_each_order(rt: HostRuntime) {
     let mut out = Vec::new(rt.alloc());

@@ -5,7 +5,7 @@ use loop_station_words::{Name, Order, label_of, read_order};
 use std::alloc::{AllocError, Global};
 use std::process::Abort;
 
-// A line, and what it asks for, written out; nothing where it can't be read.
+// A line, and the order that it is, written out; nothing where it can't be read.
 const ROWS: [(&str, &str); 58] = [
     ("keep", "keep all - -"),
     ("keep 60", "keep all 60 -"),
@@ -141,7 +141,7 @@ fn written(alloc: Global, line: &str) -> Result<String, AllocError> {
     }
 }
 
-// A keep, written out.
+// Writes a keep out.
 fn keep_written(
     alloc: Global,
     camera: Option<Name<'_>>,
@@ -160,7 +160,7 @@ fn keep_written(
     }
 }
 
-// A keep of what was held between two times, written out.
+// Writes out a keep of the frames that were held between two times.
 fn between_written(
     alloc: Global,
     camera: Option<Name<'_>>,
@@ -178,7 +178,7 @@ fn between_written(
     }
 }
 
-// A line, its label, and what is left of it; nothing where it has no label.
+// A line, its label, and the rest of it; nothing where it has no label.
 const LABELS: [(&str, &str, &str); 8] = [
     ("@a keep 5", "a", "keep 5"),
     ("@60 @b stop", "60", "@b stop"),
@@ -190,7 +190,7 @@ const LABELS: [(&str, &str, &str); 8] = [
     ("@abcdefghijklmnopqrstuvwxyzabcdefg keep", "", ""),
 ];
 
-// A row is so.
+// Checks a row.
 fn is_labelled(rt: &impl Abort, row: &(&str, &str, &str)) {
     let (line, label, rest) = *row;
     match label_of(line) {
@@ -203,20 +203,20 @@ fn is_labelled(rt: &impl Abort, row: &(&str, &str, &str)) {
 }
 
 #[test]
-fn labels_stand_before_orders(rt: HostRuntime) {
+fn a_label_is_read_before_its_order(rt: HostRuntime) {
     for row in &LABELS {
         is_labelled(&rt, row);
     }
 }
 
 #[test]
-fn lines_ask_for_what_they_say(rt: HostRuntime) {
+fn lines_are_read_as_orders(rt: HostRuntime) {
     for row in &ROWS {
         is_asked(&rt, rt.alloc(), row);
     }
 }
 
-// A row is so.
+// Checks a row.
 fn is_asked(rt: &impl Abort, alloc: Global, row: &(&str, &str)) {
     let (line, meaning) = *row;
     let got = written(alloc, line).expect(rt, "memory for a line");

@@ -8,7 +8,7 @@ use std::alloc::{AllocError, Global};
 // The buffer type of the queue.
 const GREY: BufferType = BufferType::VideoCapture;
 
-/// The set of one plane of this kind.
+/// The set of one plane of this kind of memory.
 pub(crate) fn set(kind: Memory, short: bool) -> PlaneSet<Cell> {
     PlaneSet::one(Cell {
         kind,
@@ -17,7 +17,7 @@ pub(crate) fn set(kind: Memory, short: bool) -> PlaneSet<Cell> {
     })
 }
 
-/// So many sets of MMAP planes.
+/// This many sets of MMAP planes.
 pub(crate) fn supply(alloc: Global, count: u32) -> Result<Vec<PlaneSet<Cell>>, AllocError> {
     let mut sets = Vec::new(alloc);
     for _ in 0..count {
@@ -46,7 +46,7 @@ fn planes(kind: Memory, fd: u32) -> BufferMemory<Cell> {
     }
 }
 
-// What QBUF and PREPARE_BUF bring; None for another letter.
+// The memory that QBUF or PREPARE_BUF brings; None for another letter.
 fn memory(kind: Memory, letter: u8) -> Option<BufferMemory<Cell>> {
     match letter {
         b'q' | b'p' => Some(no_planes(kind)),

@@ -3,10 +3,10 @@ use super::cell::Cell;
 use bitflags::Flags;
 use loop_ioctl::{IoctlReply, QueueReply};
 use loop_plane::FdTable;
-use loop_vb2::{Errno, Queue, Refused};
+use loop_vb2::{Errno, Queue};
 use std::io::{self, Write};
 
-// A refusal: reason, number of the errno, whether planes come back, how many sets of a supply come back.
+// A refusal: the reason, the number of the errno, whether planes come back, and how many sets of a supply come back.
 fn refusal<W: Write>(out: &mut W, errno: Errno, planes: bool, supply: usize) -> io::Result<()> {
     let reason = errno.reason as u32;
     let number = errno.number;
@@ -68,7 +68,7 @@ fn buffer<W: Write>(out: &mut W, queue: &Queue<Cell>, index: u32) -> io::Result<
     }
 }
 
-/// What is there after the events: the first three buffers, which of the fds are not attached, whether the device has
+/// The state after the events: the first three buffers, which of the fds are not attached, whether the device has
 /// started, and the buffer that has been active longest.
 pub(crate) fn state<W: Write>(
     out: &mut W,

@@ -2,7 +2,7 @@ use Rattle.std.proofs.Common.{◌≤◌, ◌-◌, max}
 use Rattle.loop_ring.proofs.Oldest.{IsLeft}
 use Rattle.loop_ring.proofs.victim.floor_block.Given as goal
 
--- so many of the entries behind the rest have a frame as are passed
+-- as many of the entries after the rest have a frame as were passed
 abbrev pub invariant-loop-entry : goal.invariant-loop-entry
 invariant-loop-entry l =
     IsLeft l.fn.heads l.fn.entries l.entry-iterator.iter.rest.now (max 1 l.fn.keep - l.left)

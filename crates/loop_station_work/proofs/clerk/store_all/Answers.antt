@@ -1,4 +1,4 @@
-use Rattle.std.proofs.Common.{◌≡◌, ◌++◌, [], ◌∷◌, Ok, Err}
+use Rattle.std.proofs.Common.{◌++◌, [], ◌∷◌, Ok, Err}
 use Rattle.loop_station_work.proofs.FlushRuns.{one-more, same-but-desk}
 use Rattle.loop_station_work.proofs.clerk.store_all.Goals as goal
 

@@ -5,7 +5,7 @@ use Rattle.loop_record.specs.Reading.{Holds}
 use Rattle.loop_record.specs.Recording.{Recording, plain, ring_of, store}
 use Rattle.loop_record.proofs.Bounds.{limits}
 use Rattle.loop_record.proofs.Steps.{plain-append}
-use Rattle.loop_store.specs.Place.{IsBegunAt, place_segment, steps_before}
+use Rattle.loop_store.specs.AppendPlace.{IsBegunAt, place_segment, steps_before}
 use Rattle.loop_store.proofs.BlockImages.{earlier-steps, steps-joined}
 use Rattle.loop_store.proofs.Room.{before-next, grown-place}
 use Rattle.loop_store.proofs.grow.append_group.Goals as goal

@@ -4,9 +4,9 @@ use Rattle.loop_disk.specs.Medium.{LeavesOnly}
 use Rattle.loop_record.specs.Reading.{Holds}
 use Rattle.loop_record.specs.Recording.{Step, plain, ring_of}
 use Rattle.loop_record.proofs.Bounds.{limits}
-use Rattle.loop_store.specs.declared.place.Place.{Place}
+use Rattle.loop_store.specs.declared.place.AppendPlace.{AppendPlace}
 use Rattle.loop_store.specs.Grow.{IsNewestSegment}
-use Rattle.loop_store.specs.Place.{place_segment}
+use Rattle.loop_store.specs.AppendPlace.{place_segment}
 use Rattle.loop_store.proofs.AnswerPairs.{called-none}
 use Rattle.loop_store.proofs.Room.{closed-at, known-closed, known-newest}
 use Rattle.loop_store.proofs.Stands.{unmoved-some}
@@ -48,7 +48,7 @@ returns-in-Closed g c =
           (sym at.steps) (c.begin.ensures.held r is honest held);
       such = λ honest.
           on_ok_weaker c.begin.result (λ begun. (
-            subst (λ (p : Place). IsNewestSegment h c.args.next (place_segment p) new.bytes) (sym c.in-Closed.is) begun.0,
+            subst (λ (p : AppendPlace). IsNewestSegment h c.args.next (place_segment p) new.bytes) (sym c.in-Closed.is) begun.0,
             closed-at h c.args.index.now.table.keep c.args.next c.in-Closed.segment c.args.place old.bytes new.bytes
                 (limits h c.args.index.now.ring.good).slots.1 c.in-Closed.is c.requires.segment
                 (c.requires.known honest) begun.1 begun.0.stray,

@@ -5,7 +5,7 @@ use Rattle.loop_store.specs.Lock.{AreHeld}
 use Rattle.loop_store.proofs.UnheldNumbers.{missing-is, missing-none}
 use Rattle.loop_store.proofs.lock.first_missing.Goals as goal
 
--- two runs, one behind the other
+-- two runs, one after the other
 runs-join : (r : Recording) (from next end : ℕ) → AreHeld r from next → AreHeld r next end → AreHeld r from end
 runs-join r from next end before behind m low high = go (cases_lt m next)
   where

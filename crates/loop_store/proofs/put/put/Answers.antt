@@ -7,8 +7,8 @@ use Rattle.loop_ring.specs.declared.ring.Ring.{Ring}
 use Rattle.loop_store.specs.declared.fault.StoreFault.{StoreFault}
 use Rattle.loop_store.specs.declared.fault.StoreFault.TheVariants.{MustReopen, NumbersSpent}
 use Rattle.loop_store.specs.Calls.{appended}
-use Rattle.loop_store.specs.declared.place.Place.{Place}
-use Rattle.loop_store.specs.Place.{IsKnown, place_segment}
+use Rattle.loop_store.specs.declared.place.AppendPlace.{AppendPlace}
+use Rattle.loop_store.specs.AppendPlace.{IsKnown, place_segment}
 use Rattle.loop_store.specs.Seen.{seen_with}
 use Rattle.loop_store.specs.Drawn.{drawn_image}
 use Rattle.loop_store.proofs.Alike.{refuses-same}
@@ -19,7 +19,7 @@ use Rattle.loop_store.proofs.AppendAnswers.{place-alike, place-refused, put-fail
 use Rattle.loop_store.proofs.put.put.Goals as goal
 use Rattle.loop_store.proofs.Names.{HoldsSome}
 
-not-refused : (place : Place) → let x : Result Place StoreFault = Ok place in let y : Result Place StoreFault = Err NumbersSpent in x ≡ y → ⊥
+not-refused : (place : AppendPlace) → let x : Result AppendPlace StoreFault = Ok place in let y : Result AppendPlace StoreFault = Err NumbersSpent in x ≡ y → ⊥
 not-refused place e = absurd cc
 
 pub returns-then-must_reopen-clause-goes : goal.returns-then-must_reopen-clause-goes

@@ -3,7 +3,7 @@ use Rattle.loop_y4m.specs.Header.{with_parameters, header_words, nothing_given}
 use Rattle.loop_y4m.specs.Steps.{HasSmallSides}
 use Rattle.loop_y4m.proofs.header.parse_header.Given as goal
 
--- what is left of the parameters goes on with what is given
+-- the parameters that are left continue what is given so far
 abbrev pub invariant-loop-given : goal.invariant-loop-given
 invariant-loop-given l = record {
   shorter : length l.rest ≤ length l.text;

@@ -1,4 +1,4 @@
--- It owns nothing that could stay behind.
+-- It owns nothing that a thread could leave behind.
 use denote.Param.Send.{IsSend, owning_send, sendable}
 use Rattle.loop_disk.specs.contracts.past.Past.{the_row, the_type}
 

@@ -15,7 +15,7 @@ use Rattle.loop_script.proofs.session.ScriptDesk.submit_next.Given.{Over}
 use Rattle.loop_script.proofs.session.ScriptDesk.submit_next.Goals as goal
 use Rattle.loop_script.proofs.session.ScriptDesk.submit_next.Goals.{in-Ok-submit, in-Err-submit}
 
--- the desk whose spare memory was taken is the desk of before
+-- a desk is the same after its spare memory was taken
 pub returns-in-Err-clause-goes : goal.returns-in-Err-clause-goes
 returns-in-Err-clause-goes g c =
     let d = c.args.self.now.desk in

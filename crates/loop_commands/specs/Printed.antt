@@ -11,17 +11,17 @@ use Rattle.loop_commands.specs.declared.on_store.NotExported.{NotExported}
 abbrev pub line_of : List ℕ → ℕ → List ℕ
 line_of word number = word ++ codes " " ++ decimal number ++ 10 ∷ []
 
--- What a command answered is told by this line, where that could be printed; of a refusal nothing is printed.
+-- This line was printed for what a command returned, where it could be printed; for a refusal nothing is printed.
 abbrev pub IsPrinted : {W T E F : Type 0} → (W → Option (List ℕ)) → W → W → (T → List ℕ) → Result T E
     → Result (Unit {0}) F → Type 0
 IsPrinted contents old new line (Ok x) printed = OnOk printed (Appends (contents old) (contents new) (line x))
 IsPrinted contents old new line (Err fault) printed = new ≡ old
 
--- none of these numbers is one from a number on to another
+-- none of these numbers is in the range from one number to another
 abbrev pub HoldsNone : List ℕ → ℕ → ℕ → Type 0
 HoldsNone numbers from to = (n : ℕ) → from ≤ n → n ≤ to → is_among numbers n ≡ false
 
--- These frames are counted, and of an honest disk a writer was given the whole text of them.
+-- These frames are counted, and where the disk is honest, a writer was given their whole text.
 abbrev pub IsText : Type 0 → Geometry → List (List ℕ) → Option (List ℕ) → Option (List ℕ) → ℕ → Type 0
 IsText Honest g frames old new count = (Honest → Appends old new (text g frames)) × (count ≡ length frames)
 

@@ -1,4 +1,4 @@
-// The writes that are kept in memory.
+// The writes that an overlay holds in memory.
 ghost use Rattle.std.specs.Prelude.{◌≡◌, ◌≤◌, ◌+◌, ◌++◌, [], ◌∷◌, List, OnErr, OnOk, length, ℕ};
 ghost use Rattle.loop_disk.specs.Medium.{with_bytes_at};
 ghost use Rattle.loop_overlay.specs.Layers.{laid, laid_on};
@@ -7,22 +7,22 @@ ghost use Rattle.loop_overlay.specs.Parts.{IsBufferOf};
 use std::alloc::{AllocError, Allocator};
 use std::marker::Model;
 
-/// A write that is kept: the place that it begins at, and its bytes.
+/// A write that lies over the disk beneath: where it begins, and its bytes.
 #[derive(Drop)]
-pub(crate) struct Kept<A: Allocator> {
+pub(crate) struct OverlaidWrite<A: Allocator> {
     at: u64,
     bytes: Vec<u8, A>,
 }
 
-impl<A: Allocator> Model for Kept<A> {
-    ghost use Rattle.loop_overlay.specs.Layers.{KeptWrite};
+impl<A: Allocator> Model for OverlaidWrite<A> {
+    ghost use Rattle.loop_overlay.specs.Layers.{LaidWrite};
 
-    ghost Value = { KeptWrite };
+    ghost Value = { LaidWrite };
 
-    ghost view = { λ kept. record { at = kept.at; bytes = kept.bytes.items } };
+    ghost view = { λ write. record { at = write.at; bytes = write.bytes.items } };
 }
 
-impl<A: Allocator> Kept<A> {
+impl<A: Allocator> OverlaidWrite<A> {
     // Lays the write over a buffer that holds a disk's bytes from `at` on.
     fn lay(&self, at: u64, buf: &mut [u8])
         ensures { (image : List ℕ) → IsBufferOf at image buf.old → IsBufferOf at (laid_on image self.now) buf.new }
@@ -46,27 +46,27 @@ fn put(buf: &mut [u8], at: usize, bytes: &[u8])
 }
 
 /// Lays the writes over a buffer that holds a disk's bytes from `at` on, the first one first.
-pub(crate) fn lay_all<A: Allocator>(writes: &[Kept<A>], at: u64, buf: &mut [u8])
+pub(crate) fn lay_all<A: Allocator>(writes: &[OverlaidWrite<A>], at: u64, buf: &mut [u8])
     ensures { (image : List ℕ) → IsBufferOf at image buf.old → IsBufferOf at (laid writes.now image) buf.new }
 {
-    for kept in writes {
-        kept.lay(at, buf);
+    for write in writes {
+        write.lay(at, buf);
     }
 }
 
-/// Puts a write behind the others, or changes nothing where there is no room.
+/// Adds a write after the others, or changes nothing where memory is refused.
 pub(crate) fn add_write<A: Allocator + Copy>(
     alloc: A,
-    writes: &mut Vec<Kept<A>, A>,
+    writes: &mut Vec<OverlaidWrite<A>, A>,
     at: u64,
     bytes: &[u8],
 ) -> Result<(), AllocError>
-    ensures kept { OnOk result (writes.new.items
+    ensures added { OnOk result (writes.new.items
         ≡ writes.old.items ++ record { at = at; bytes = bytes.now } ∷ []) }
     ensures same { OnErr result (writes.new.items ≡ writes.old.items) }
 {
     let bytes = Vec::from_slice(alloc, bytes)?;
     writes.reserve(1)?;
-    writes.push_reserved(Kept { at, bytes });
+    writes.push_reserved(OverlaidWrite { at, bytes });
     Ok(())
 }

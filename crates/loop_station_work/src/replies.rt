@@ -1,4 +1,4 @@
-//! What a camera answered, as lines.
+//! The answers of cameras, as lines.
 
 use crate::absent::Absent;
 use crate::clerk::Answer;
@@ -17,10 +17,10 @@ use std::io::Write;
 use std::sync::Wait;
 use std::sync::atomic::Ordering;
 
-/// What an inbox answers.
+/// The answer that an inbox returns.
 pub(crate) type Answered = Option<Result<Answer, Absent>>;
 
-/// Tells what a keep locked, a line for each clip, and why not all was.
+/// Prints what a keep locked, a line for each clip, and why not everything was locked.
 pub(crate) fn tell_kept<L: Write>(
     state: &CameraState,
     answered: &Answered,
@@ -47,7 +47,7 @@ pub(crate) fn tell_kept<L: Write>(
     }
 }
 
-/// Tells what became of a release.
+/// Prints the result of a release.
 pub(crate) fn tell_released<L: Write>(
     state: &CameraState,
     id: u32,
@@ -63,7 +63,7 @@ pub(crate) fn tell_released<L: Write>(
     }
 }
 
-/// Tells what a camera holds.
+/// Prints what a camera holds.
 pub(crate) fn tell_listed<L: Write>(
     state: &CameraState,
     answered: Answered,
@@ -80,7 +80,7 @@ pub(crate) fn tell_listed<L: Write>(
     }
 }
 
-/// Tells how a camera stands.
+/// Prints the status of a camera.
 pub(crate) fn tell_status<R: Wait, L: Write>(
     rt: &R,
     state: &CameraState,
@@ -118,8 +118,8 @@ pub(crate) fn tell_status<R: Wait, L: Write>(
     )
 }
 
-// How many blocks may still be locked before no block may go: those of the ring but for the newest held one and those
-// that clips meet.
+// How many blocks may still be locked before no block can be reused: all blocks of the ring but the newest held one and
+// those that clips meet.
 fn free_blocks(geometry: &Geometry, outline: &Outline) -> u64 {
     let slots = u64::from(geometry.slots.max(1));
     let numbers = outline.frames.as_slice();
