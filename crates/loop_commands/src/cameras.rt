@@ -8,7 +8,7 @@ use loop_desk::Desk;
 use loop_file::FileDisk;
 use loop_pages::PageFault;
 use loop_pipeline::{
-    Camera, Ended, Guide, Link, Unfilmed, film_camera, mapped_start, new_queue, start_queue,
+    Camera, Ended, Guide, Link, Unfilmed, Visits, film_camera, mapped_start, new_queue, start_queue,
 };
 use loop_plane::MmapPlane;
 use loop_record::Geometry;
@@ -36,6 +36,31 @@ const NO_MEMORY: Unrecorded = Unrecorded::Refused(StoreFault::NoMemory);
 impl From<AllocError> for Unrecorded {
     fn from(_: AllocError) -> Self {
         NO_MEMORY
+    }
+}
+
+/// What a camera recorded, and which frames were lost.
+#[derive(Clone, Copy)]
+pub(crate) struct Take {
+    /// The number of its store's next frame.
+    pub next: u64,
+    /// Frames that the desk accepted, and that aren't stored: no flush was made any more.
+    pub waiting: u64,
+    /// Frames that the desk refused, or that were given up before they came to it.
+    pub given_up: u64,
+    /// Frames that came from the camera, and that nobody brought to the desk.
+    pub left: u64,
+    /// Frames for which no buffer was there.
+    pub missed: u64,
+    /// Frames that couldn't be got from the source.
+    pub failed: u64,
+}
+
+impl Take {
+    /// Whether a frame was lost.
+    pub fn has_lost(&self) -> bool {
+        let on_the_way = self.given_up > 0 || self.left > 0;
+        self.waiting > 0 || on_the_way || self.missed > 0 || self.failed > 0
     }
 }
 
@@ -109,17 +134,19 @@ fn tick_time(n: u64, geometry: &Geometry) -> u64
     pattern_timestamp(n, geometry.rate_num, geometry.rate_den)
 }
 
+/// Nobody visits the desk of a recording: it makes no call but submits and flushes.
+impl Visits for Post {
+    ghost asks = { λ call. ⊥ };
+
+    const VISITED: bool = false;
+}
+
 impl Guide for Post {
     fn next_tick<R: Wait + Clock>(&self, rt: &R, n: u64) -> Option<u64> {
         if n == 0 && !self.barrier.wait(rt) || n >= u64::from(self.frames) {
             return None;
         }
-        let Geometry {
-            rate_num,
-            rate_den,
-            ..
-        } = self.geometry;
-        Some(pattern_timestamp(n, rate_num.max(1), rate_den))
+        Some(tick_time(n, &self.geometry))
     }
 
     fn flushes_again(&self, _fault: StoreFault) -> bool {
@@ -162,19 +189,29 @@ fn add<T: Drop>(list: &mut Vec<T>, one: T) -> Result<(), AllocError> {
     }
 }
 
-// Films a camera, and returns the number of its next frame. Where it can't be filmed, no camera is.
+// Films a camera, and returns what it recorded. Where it can't be filmed, no camera is.
 fn film<R: Threads + Wait + Clock + Sync>(
     rt: &R,
     alloc: Global,
     post: &Post,
     camera: RecordCamera,
-) -> Option<u64> {
+) -> Option<Take> {
     let (rt, post) = (&*rt, &*post);
     let filmed = thread::scope(thread::scope_env(), rt, move |scope| -> Recorded {
         film_camera(rt, alloc, scope, &post.link, post, camera)
     });
     match filmed {
-        Ok(ended) => Some(ended.desk.status().next),
+        Ok(ended) => {
+            let status = ended.desk.status();
+            Some(Take {
+                next: status.next,
+                waiting: u64::from(status.pending),
+                given_up: ended.given_up,
+                left: ended.left,
+                missed: ended.missed,
+                failed: ended.failed,
+            })
+        }
         Err(_refused) => {
             post.barrier.stop(rt);
             None
@@ -182,16 +219,16 @@ fn film<R: Threads + Wait + Clock + Sync>(
     }
 }
 
-// Films each camera by a thread of its own, and returns the number of each one's next frame.
+// Films each camera by a thread of its own, and returns what each recorded.
 fn film_all<'s, E, R: Threads + Wait + Clock + Sync>(
     rt: &'s R,
     alloc: Global,
     scope: &Scope<'s, E>,
     posts: &'s [Post],
     cameras: Vec<RecordCamera>,
-) -> Result<Vec<u64>, Unrecorded> {
+) -> Result<Vec<Take>, Unrecorded> {
     let mut handles = Vec::with_capacity(alloc, cameras.len())?;
-    let mut next = Vec::with_capacity(alloc, cameras.len())?;
+    let mut takes = Vec::with_capacity(alloc, cameras.len())?;
     let mut all = true;
     for (post, camera) in posts.iter().zip(cameras) {
         match scope.spawn(move || film(rt, alloc, post, camera)) {
@@ -209,15 +246,15 @@ fn film_all<'s, E, R: Threads + Wait + Clock + Sync>(
     }
     for handle in handles {
         match handle.join(rt) {
-            Some(number) => add(&mut next, number)?,
+            Some(take) => add(&mut takes, take)?,
             None => all = false,
         }
     }
-    if all { Ok(next) } else { Err(NO_MEMORY) }
+    if all { Ok(takes) } else { Err(NO_MEMORY) }
 }
 
 /// Records from each source into the store at its place, for so many frame periods or until the source has ended, at
-/// the script's limits. Returns the number of each store's next frame.
+/// the script's limits. Returns what each camera recorded.
 ///
 /// `TooLarge` where the buffers of a camera need more than 1,024 pages; `NoMemory` where memory or a thread is refused.
 /// Then nothing is recorded: no camera ticks before each has begun. What a store refuses is counted by its camera, and
@@ -228,7 +265,7 @@ pub(crate) fn record_stores<R: Threads + Wait + Clock + Sync>(
     sources: Vec<RecordSource>,
     stores: Vec<Store<FileDisk>>,
     frames: u32,
-) -> Result<Vec<u64>, Unrecorded> {
+) -> Result<Vec<Take>, Unrecorded> {
     let mut posts = Vec::with_capacity(alloc, stores.len())?;
     let mut cameras = Vec::with_capacity(alloc, stores.len())?;
     let count = u32::try_from(stores.len().min(sources.len())).unwrap_or(u32::MAX);
@@ -253,6 +290,8 @@ pub(crate) fn record_stores<R: Threads + Wait + Clock + Sync>(
     thread::scope(
         thread::scope_env(),
         rt,
-        move |scope| -> Result<Vec<u64>, Unrecorded> { film_all(rt, alloc, scope, posts, cameras) },
+        move |scope| -> Result<Vec<Take>, Unrecorded> {
+            film_all(rt, alloc, scope, posts, cameras)
+        },
     )
 }

@@ -1,7 +1,7 @@
 // Recordings into stores in files.
-ghost use Rattle.std.specs.Prelude.{[], ◌≡◌, ⊤, IfOk, length, vec_len};
+ghost use Rattle.std.specs.Prelude.{[], ◌≡◌, IfOk, length, vec_len};
 
-use crate::cameras::{Unrecorded, record_stores};
+use crate::cameras::{Take, Unrecorded, record_stores};
 use crate::files::print_path;
 use loop_capture::{FrameSource, Next, Pattern, Y4mSource};
 use loop_disk::Disk;
@@ -63,7 +63,9 @@ pub(crate) enum RecordSource {
 }
 
 impl FrameSource for RecordSource {
-    ghost next_gives = { λ source answer bytes after. ⊤ };
+    ghost use Rattle.loop_commands.specs.Recorded.{GivesRecorded};
+
+    ghost next_gives = { GivesRecorded };
 
     ghost lends = { λ source. [] };
 
@@ -81,7 +83,8 @@ impl FrameSource for RecordSource {
 
 /// Records into the stores in files, prints each camera's next number, and returns the program's status: 0; 1 where a
 /// file can't be opened, a store can't be opened or can't keep so many blocks, or a camera can't be set up, which is
-/// then printed on `err`, and where `out` or `err` fails. What a store refuses during the recording leaves it at 0.
+/// then printed on `err`, and where `out` or `err` fails. What a store refuses during the recording leaves it at 0; which
+/// frames a camera lost is printed on `err`.
 pub(crate) fn run_record<
     R: AllocGlobal + Files<File = File> + Threads + Wait + Clock + Sync,
     W: Write,
@@ -122,12 +125,13 @@ fn perform<
     let disks = open_disks(rt, paths)?;
     let stores = find_stores(rt.alloc(), disks, recording.keep)?;
     let told = tell_others(recording.source, &sources, &stores, err);
-    let next = match record_stores(rt, rt.alloc(), sources, stores, recording.frames) {
-        Ok(next) => next,
+    let takes = match record_stores(rt, rt.alloc(), sources, stores, recording.frames) {
+        Ok(takes) => takes,
         Err(unrecorded) => return Err(blame(unrecorded, paths)),
     };
-    print_next(next.as_slice(), &mut out)?;
+    print_next(takes.as_slice(), &mut out)?;
     out.flush()?;
+    print_lost(takes.as_slice(), err)?;
     told?;
     Ok(())
 }
@@ -255,10 +259,30 @@ fn find_stores<'a, D: Disk + Drop>(
 }
 
 // Prints the number of each camera's next frame.
-fn print_next<W: Write>(next: &[u64], out: &mut W) -> io::Result<()> {
+fn print_next<W: Write>(takes: &[Take], out: &mut W) -> io::Result<()> {
     let mut camera = 0u64;
-    for number in next {
-        print_line(out, "camera", &[(" ", camera), (" next ", *number)])?;
+    for take in takes {
+        print_line(out, "camera", &[(" ", camera), (" next ", take.next)])?;
+        camera = camera.saturating_add(1);
+    }
+    Ok(())
+}
+
+// Prints how many frames each camera lost, and how, where it lost one.
+fn print_lost<E: Write>(takes: &[Take], err: &mut E) -> io::Result<()> {
+    let mut camera = 0u64;
+    for take in takes {
+        if take.has_lost() {
+            let counts = [
+                (" ", camera),
+                (" lost waiting ", take.waiting),
+                (" given up ", take.given_up),
+                (" left ", take.left),
+                (" missed ", take.missed),
+                (" failed ", take.failed),
+            ];
+            print_line(err, "camera", &counts)?;
+        }
         camera = camera.saturating_add(1);
     }
     Ok(())

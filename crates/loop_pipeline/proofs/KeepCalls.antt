@@ -1,7 +1,7 @@
--- A keep submits nothing.
-use Rattle.std.proofs.Common.{◌≡◌, ℕ, ◌+◌, inl, inr, Option, Some, None, List, [], ◌∷◌, ◌++◌, map, refl, ap, ◌∙◌}
+-- A keep submits nothing, and makes calls that visits may make.
+use Rattle.std.proofs.Common.{◌≡◌, ℕ, ◌+◌, inl, inr, Option, Some, None, List, [], ◌∷◌, ◌++◌, All, map, refl, sym, subst, ap, ◌∙◌, Err}
 use Rattle.std.specs.List.{filter}
-use Rattle.std.proofs.lemmas.List.Elements.{filter-append}
+use Rattle.std.proofs.lemmas.List.Elements.{All-append, All-cons, All-nil, filter-append}
 use Rattle.loop_clips.specs.declared.clip.Clip.{Clip}
 use Rattle.loop_record.specs.declared.clip.Span.{Span}
 use Rattle.loop_record.specs.declared.times.Times.{Times}
@@ -10,7 +10,7 @@ use Rattle.loop_desk.specs.declared.keep.Kept.{Kept}
 use Rattle.loop_desk.specs.Desk.{DeskCall, runs_told}
 use Rattle.loop_desk.specs.Keeps.{Keeps, LocksEnd, lock_of}
 use Rattle.loop_desk.specs.Seen.{SeenDesk}
-use Rattle.loop_pipeline.specs.Backs.{is_submit}
+use Rattle.loop_pipeline.specs.Backs.{MayKeep, is_submit}
 
 none-sought : (times : Times) (place : ℕ) (runs : List Span) → filter is_submit (runs_told times place runs) ≡ []
 none-sought times place [] = refl
@@ -41,3 +41,35 @@ none-submitted times tag desk calls kept (inr (inr h)) =
     ∙ none-both (runs_told times 0 h.runs) (map lock_of kept.clips.items ++ e.refusal) (none-sought times 0 h.runs)
     (none-both (map lock_of kept.clips.items) e.refusal (none-locked kept.clips.items)
     (none-ended e.left kept.fault e.refusal e.ended))
+
+-- ---- its calls are those of a keep
+
+module _ (asks : DeskCall → Type 0) (may : MayKeep asks) where
+  all-sought : (times : Times) (place : ℕ) (runs : List Span) → All asks (runs_told times place runs)
+  all-sought times place [] = All-cons asks _ [] (may.0 times place None) (All-nil asks)
+  all-sought times place (r ∷ rs) =
+      All-cons asks _ (runs_told times (place + 1) rs) (may.0 times place (Some r)) (all-sought times (place + 1) rs)
+
+  all-locked : (clips : List Clip) → All asks (map lock_of clips)
+  all-locked [] = All-nil asks
+  all-locked (c ∷ cs) = All-cons asks (lock_of c) (map lock_of cs) (may.1 _ _) (all-locked cs)
+
+  all-ended : (left : List Span) (fault : Option StoreFault) (calls : List DeskCall) → LocksEnd left fault calls
+      → All asks calls
+  all-ended [] None calls ends = subst (All asks) (sym ends) (All-nil asks)
+  all-ended [] (Some fault) calls ends = absurd ends
+  all-ended (r ∷ left) None calls ends = absurd ends
+  all-ended (r ∷ left) (Some fault) calls ends =
+      subst (All asks) (sym ends) (All-cons asks _ [] (may.1 r (Err fault)) (All-nil asks))
+
+  pub all-asked : {D A : Type 0} (times : Times) (tag : ℕ) (desk : SeenDesk D) (calls : List DeskCall) (kept : Kept A)
+      → Keeps times tag desk calls kept → All asks calls
+  all-asked times tag desk calls kept (inl n) = subst (All asks) (sym n.uncalled) (All-nil asks)
+  all-asked times tag desk calls kept (inr (inl n)) = subst (All asks) (sym n.calls_are) (all-sought times 0 n.runs)
+  all-asked times tag desk calls kept (inr (inr h)) =
+      let e = h.are in
+      subst (All asks) (sym (h.calls_are ∙ ap (λ l. runs_told times 0 h.runs ++ l) e.calls_are))
+      (All-append asks (runs_told times 0 h.runs) (map lock_of kept.clips.items ++ e.refusal)
+      (all-sought times 0 h.runs)
+      (All-append asks (map lock_of kept.clips.items) e.refusal (all-locked kept.clips.items)
+      (all-ended e.left kept.fault e.refusal e.ended)))

@@ -1,8 +1,8 @@
 -- A camera's front and back, on the two ends of one ring.
-use Rattle.std.proofs.Common.{◌≡◌, ◌++◌, ◌+◌, ℕ, List, [], ◌∷◌, length, map, refl, sym, ap, ◌∙◌}
+use Rattle.std.proofs.Common.{◌≡◌, ◌++◌, ◌+◌, ℕ, Bool, true, false, List, [], ◌∷◌, length, map, refl, sym, ap, ◌∙◌}
 use Rattle.std.proofs.lemmas.Grind.{flat_map-append}
 use Rattle.std.proofs.lemmas.List.{append-nil, length-append, length-map, map-append}
-use Rattle.std.specs.List.{flat_map}
+use Rattle.std.specs.List.{flat_map, list_any}
 use Rattle.rtrb.specs.declared.AnyItems.{AnyItems}
 use Rattle.rtrb.specs.declared.consumer.Consumer.{Consumer}
 use Rattle.rtrb.specs.declared.producer.Producer.{Producer}
@@ -18,7 +18,7 @@ use Rattle.loop_desk.specs.Desk.{DeskCall}
 use Rattle.loop_desk.specs.Lane.{without_flags}
 use Rattle.loop_desk.specs.Waiting.{frames_waiting}
 use Rattle.loop_desk.proofs.FootageRuns.{keeps-footage}
-use Rattle.loop_pipeline.specs.Backs.{BackKeeps, Came, IsFed, SeenBack, calls_by, lost_by, picture_of, unasked}
+use Rattle.loop_pipeline.specs.Backs.{BackKeeps, Came, IsFed, SeenBack, calls_by, is_refused_flush, lost_by, picture_of, unasked, unasked_by}
 use Rattle.loop_pipeline.specs.Cameras.{CameraKeeps}
 use Rattle.loop_pipeline.specs.Fronts.{FrontKeeps, SeenFront}
 
@@ -35,6 +35,16 @@ left-lost : (ps : List Picture) → flat_map lost_by (map unasked ps) ≡ ps
 left-lost [] = refl
 left-lost (p ∷ ps) = ap (λ l. p ∷ l) (left-lost ps)
 
+left-unasked : (ps : List Picture) → flat_map unasked_by (map unasked ps) ≡ ps
+left-unasked [] = refl
+left-unasked (p ∷ ps) = ap (λ l. p ∷ l) (left-unasked ps)
+
+-- no flush was refused
+not-refused : (refused : Bool) (calls : List DeskCall) → (refused ≡ true → list_any is_refused_flush calls ≡ true)
+    → list_any is_refused_flush calls ≡ false → refused ≡ false
+not-refused true calls tried quiet = absurd (let is : true ≡ false = sym (tried refl) ∙ quiet in cc)
+not-refused false calls tried quiet = refl
+
 -- with these, all that came is what was sent
 fed-all : (got : List Picture) (calls : List DeskCall) (given_up : ℕ) (came : List Came) (left : List Picture)
     → IsFed got calls given_up came → IsFed (got ++ left) calls (given_up + length left) (came ++ map unasked left)
@@ -49,15 +59,16 @@ fed-all got calls given_up came left fed = record {
       ∙ (λ i. fed.lost i + length (left-lost left i)));
 }
 
-module _ {S D P A : Type 0} (medium : D → Medium) (gives : S → Next → List ℕ → S → Type 0) (m : P → Plane) where
+module _ {S D P A : Type 0} (medium : D → Medium) (gives : S → Next → List ℕ → S → Type 0) (m : P → Plane)
+    (asks : DeskCall → Type 0) where
   pub ends : (seen : SeenFront S P A) (back : SeenBack D A) (device : SeenDevice S) (queue : Lined P)
-      (to up : Producer (Frame A) A AnyItems) (from down : Consumer (Frame A) A AnyItems) (given_up left : ℕ)
-      → FrontKeeps gives m seen device queue to → BackKeeps medium back from given_up
+      (to up : Producer (Frame A) A AnyItems) (from down : Consumer (Frame A) A AnyItems) (given_up left missed failed : ℕ) (refused : Bool)
+      → FrontKeeps gives m seen device queue to missed failed → BackKeeps medium asks back from given_up refused
       → ProducerLooked to up → ConsumerLooked from down → received down ++ known_items down ≡ sent up
       → left ≡ length (known_items down)
-      → CameraKeeps medium gives m (record { device = seen.device; queue = seen.queue; desk = back.began })
-      (record { device = device; queue = queue; desk = back.desk }) (given_up + left)
-  ends seen back device queue to up from down given_up left front keeps up_looked down_looked fifo count =
+      → CameraKeeps medium gives m asks (record { device = seen.device; queue = seen.queue; desk = back.began })
+      (record { device = device; queue = queue; desk = back.desk }) given_up left missed failed
+  ends seen back device queue to up from down given_up left missed failed refused front keeps up_looked down_looked fifo count =
       let items = map picture (known_items down) in
       let fed = fed-all (map picture (received from)) keeps.calls given_up keeps.came items keeps.fed in
       let all : map picture (received from) ++ items ≡ map picture (sent to) =
@@ -66,6 +77,8 @@ module _ {S D P A : Type 0} (medium : D → Medium) (gives : S → Next → List
       record {
         given = front.given;
         source = front.source;
+        missing = front.missing;
+        failing = front.failing;
         completed = front.completed;
         shows = front.shows;
         first = front.first;
@@ -79,5 +92,12 @@ module _ {S D P A : Type 0} (medium : D → Medium) (gives : S → Next → List
         calls = keeps.calls;
         submits = fed.submits;
         goes = keeps.goes;
+        parts = keeps.parts;
+        are = keeps.are;
+        went = keeps.went;
+        rightful = keeps.rightful;
+        excused = λ quiet. ap length (flat_map-append unasked_by keeps.came (map unasked items)
+            ∙ (ap (λ l. l ++ flat_map unasked_by (map unasked items)) (keeps.excused (not-refused refused keeps.calls keeps.tried quiet))
+            ∙ left-unasked items)) ∙ (length-map (known_items down) picture ∙ sym count);
         footage = λ s stands now. keeps-footage medium back.began back.desk keeps.calls s keeps.goes stands now;
       }

@@ -1,5 +1,5 @@
 -- A tick, as what it adds to what a front has done.
-use Rattle.std.proofs.Common.{◌≡◌, ◌++◌, ℕ, false, List, [], ◌∷◌, length, map, Option, Some, None, refl, sym, ap, ◌∙◌, subst, option_to_list}
+use Rattle.std.proofs.Common.{◌≡◌, ◌⊎◌, inl, inr, ◌++◌, ℕ, Bool, true, false, cond, List, [], ◌∷◌, length, map, Option, Some, None, refl, sym, ap, ◌∙◌, subst, option_to_list}
 use Rattle.std.proofs.lemmas.List.{append-nil}
 use Rattle.std.specs.List.{flat_map, list_any}
 use Rattle.rtrb.specs.declared.AnyItems.{AnyItems}
@@ -24,13 +24,13 @@ use Rattle.loop_capture.specs.declared.device.Tick.{Tick}
 use Rattle.loop_capture.specs.declared.device.Tick.TheVariants.{Idle, Completed, Failed, Missed, Ended, WrongSize}
 use Rattle.loop_capture.specs.declared.source.Next.{Next}
 use Rattle.loop_capture.specs.declared.source.Next.TheVariants.{More, End, Bad}
-use Rattle.loop_capture.specs.Ticks.{SeenDevice, Ticks, Took, end_of, sequence_of, tick_events, tick_of}
+use Rattle.loop_capture.specs.Ticks.{SeenDevice, Ticks, Took, end_of, sequence_after, sequence_of, tick_events, tick_of}
 use Rattle.loop_desk.specs.declared.hand.Hand.{Hand}
 use Rattle.loop_desk.specs.Front.{Front, StandsFront, planes_held}
 use Rattle.loop_desk.specs.Lane.{completed_frame, hand_frame}
 use Rattle.loop_desk.specs.Waiting.{IsCounted, frames_dequeued}
-use Rattle.loop_pipeline.specs.Fronts.{GaveBy, TickRecord, IsToldBy, shown, shown_given}
-use Rattle.loop_pipeline.proofs.FrontRuns.{Adds}
+use Rattle.loop_pipeline.specs.Fronts.{GaveBy, TickRecord, IsToldBy, fails, misses, shown, shown_given}
+use Rattle.loop_pipeline.proofs.FrontRuns.{Adds, plus-none}
 
 -- for such a tick the source was asked
 abbrev Asks : Tick → Type 0
@@ -59,6 +59,11 @@ told-by Ended Bad (Some j) is asks = absurd (cc)
 told-by Ended Bad None is asks = absurd (cc)
 told-by Idle answer active is asks = absurd asks
 told-by WrongSize answer active is asks = absurd asks
+
+-- after a start 0, otherwise the next one
+fresh-or-next : (fresh : Bool) (next : ℕ) → (cond fresh 0 next ≡ next) ⊎ (cond fresh 0 next ≡ 0)
+fresh-or-next true next = inr refl
+fresh-or-next false next = inl refl
 
 -- a tick is one end of a buffer, or none
 tick-linked : (tick : Tick) (stamp : Stamp) (bytes : List ℕ) (s : QueueState) (out : List (ℕ × Plane))
@@ -102,7 +107,7 @@ end-frames WrongSize stamp bytes s = refl
 
 end-shown : (tick : Tick) (sequence now : ℕ) (bytes : List ℕ)
     → map shown (flat_map completed_frame (end_of tick (record { sequence = sequence; timestamp = now }) bytes))
-    ≡ flat_map shown_given (record { now = now; tick = tick; bytes = bytes } ∷ [])
+    ≡ flat_map shown_given (record { now = now; tick = tick; sequence = sequence; bytes = bytes } ∷ [])
 end-shown (Completed i) sequence now bytes = refl
 end-shown (Failed i) sequence now bytes = refl
 end-shown Idle sequence now bytes = refl
@@ -121,13 +126,13 @@ end-kind WrongSize stamp bytes s = refl
 
 module _ {S P A : Type 0} (gives : S → Next → List ℕ → S → Type 0) (m : P → Plane) (table : Fds P) (now : ℕ)
     (d e : SeenDevice S) (before after : Lined P) (h : Hand P A) (to : Producer (Frame A) A AnyItems) where
-  abbrev given-at : Tick → List ℕ → TickRecord
-  given-at tick bytes = record { now = now; tick = tick; bytes = bytes }
+  abbrev given-at : Tick → ℕ → List ℕ → TickRecord
+  given-at tick sequence bytes = record { now = now; tick = tick; sequence = sequence; bytes = bytes }
 
   -- a tick that changes nothing
-  nothing-adds : (tick : Tick) (f : Front) → GaveBy gives tick [] d e → flat_map shown_given (given-at tick [] ∷ []) ≡ []
+  nothing-adds : (tick : Tick) (f : Front) → GaveBy gives tick 0 [] d e → flat_map shown_given (given-at tick 0 [] ∷ []) ≡ []
       → after ≡ before → hand_frame f.hand ≡ [] → StandsFront m before table h f
-      → Adds gives m table f.queue.queue d e before after h to to
+      → Adds gives m table f.queue.queue d e before after h to to (misses tick) (fails tick)
   nothing-adds tick f gave none same free stands = record {
     events = [];
     legal = tt;
@@ -139,8 +144,10 @@ module _ {S P A : Type 0} (gives : S → Next → List ℕ → S → Type 0) (m 
     free = free;
     ring = ((refl, refl, refl, refl), refl);
     went = sym (append-nil (map picture (sent to)));
-    given = given-at tick [] ∷ [];
+    given = given-at tick 0 [] ∷ [];
     source = (e, gave, refl);
+    lost_is = plus-none (misses tick);
+    spoilt_is = plus-none (fails tick);
     shows = sym none;
   }
 
@@ -169,8 +176,8 @@ module _ {S P A : Type 0} (gives : S → Next → List ℕ → S → Type 0) (m 
   -- a tick for which the source was asked
   took-adds : (tick : Tick) (f : Front) → after.body.shape ≡ before.body.shape → Asks tick
       → hand_frame f.hand ≡ [] → StandsFront m before table h f
-      → (took : Took gives m now tick d e before after f.queue.queue) → GaveBy gives tick took.bytes d e
-      → Adds gives m table f.queue.queue d e before after h to to
+      → (took : Took gives m now tick d e before after f.queue.queue) → GaveBy gives tick (sequence_of d.next f.queue.queue) took.bytes d e
+      → Adds gives m table f.queue.queue d e before after h to to (misses tick) (fails tick)
   took-adds tick f formed asks free stands took gave =
       let s = f.queue.queue in
       let bytes = took.bytes in
@@ -190,18 +197,29 @@ module _ {S P A : Type 0} (gives : S → Next → List ℕ → S → Type 0) (m 
         free = free;
         ring = ((refl, refl, refl, refl), refl);
         went = sym (append-nil (map picture (sent to))) ∙ ap (λ l. map picture (sent to) ++ l) (sym (end-frames tick stamp bytes (on_body body_seen s)));
-        given = given-at tick bytes ∷ [];
+        given = given-at tick stamp.sequence bytes ∷ [];
         source = (e, gave, refl);
+        lost_is = plus-none (misses tick);
+        spoilt_is = plus-none (fails tick);
         shows = end-shown tick stamp.sequence now bytes;
       }
 
   gave-of : (tick : Tick) (s : QueueState) → Asks tick → (took : Took gives m now tick d e before after s)
       → (answer : Next) × IsToldBy tick answer × gives d.source answer took.bytes e.source × (e.size ≡ d.size)
-  gave-of tick s asks took = (took.answer, told-by tick took.answer (longest_active s) took.tick_is asks, took.given, took.size)
+      × ((sequence_of d.next s ≡ d.next) ⊎ (sequence_of d.next s ≡ 0))
+      × (e.next ≡ sequence_after answer (sequence_of d.next s))
+  gave-of tick s asks took = (
+    took.answer,
+    told-by tick took.answer (longest_active s) took.tick_is asks,
+    took.given,
+    took.size,
+    fresh-or-next s.body.fresh d.next,
+    took.next,
+  )
 
   pub tick-adds : (tick : Tick) (f : Front) → after.body.shape ≡ before.body.shape → hand_frame f.hand ≡ []
       → StandsFront m before table h f → Ticks gives m now tick d e before after
-      → Adds gives m table f.queue.queue d e before after h to to
+      → Adds gives m table f.queue.queue d e before after h to to (misses tick) (fails tick)
   tick-adds WrongSize f formed free stands ticks =
       let t = ticks f.queue.queue stands.queue.queue in nothing-adds WrongSize f t.1 refl t.2 free stands
   tick-adds Idle f formed free stands ticks =

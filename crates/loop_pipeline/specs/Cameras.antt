@@ -1,6 +1,6 @@
 -- What one camera keeps of its frames, from its device to its disk.
-use Rattle.std.specs.Prelude.{◌≡◌, ℕ, List, ◌++◌, length, map}
-use Rattle.std.specs.List.{filter, flat_map}
+use Rattle.std.specs.Prelude.{◌≡◌, ℕ, ◌+◌, false, List, ◌++◌, All, length, map}
+use Rattle.std.specs.List.{filter, flat_map, list_any}
 use Rattle.loop_disk.specs.Medium.{Medium}
 use Rattle.loop_plane.specs.Plane.{Plane}
 use Rattle.loop_record.specs.Recording.{Picture}
@@ -14,8 +14,8 @@ use Rattle.loop_desk.specs.Footage.{KeepsFootage}
 use Rattle.loop_desk.specs.Lane.{without_flags}
 use Rattle.loop_desk.specs.Waiting.{frames_waiting}
 use Rattle.loop_desk.specs.Seen.{DeskGoes, SeenDesk}
-use Rattle.loop_pipeline.specs.Backs.{Came, calls_by, is_submit, lost_by, picture_of}
-use Rattle.loop_pipeline.specs.Fronts.{TickRecord, GoesOn, shown, shown_given}
+use Rattle.loop_pipeline.specs.Backs.{Came, GoesBy, IsRightful, Part, calls_by, calls_of, is_refused_flush, is_submit, lost_by, picture_of, unasked_by}
+use Rattle.loop_pipeline.specs.Fronts.{TickRecord, GoesOn, count_failed, count_missed, shown, shown_given}
 
 -- a camera: its device, its queue and its desk
 pub record SeenCamera (S D P : Type 0) : Type 0 where
@@ -25,13 +25,16 @@ pub record SeenCamera (S D P : Type 0) : Type 0 where
 
 -- From one moment of a camera to another: the frames that waited in its queue, and those that its source gave at ticks
 -- that completed a buffer, are, in order and with all bytes, those that came to the desk and those that still wait.
--- Each that came was accepted, or is counted. The footage of those that were accepted is kept, whenever the power
--- fails.
+-- Each that came was accepted, or is counted: as given up, or as left where nobody brought it. Of the other ticks those
+-- that lost a frame are counted. The footage of the frames that were accepted is kept, whenever the power fails.
 pub record CameraKeeps {S D P : Type 0} (medium : D → Medium) (gives : S → Next → List ℕ → S → Type 0)
-    (meaning : P → Plane) (old new : SeenCamera S D P) (given_up : ℕ) : Type 0 where
+    (meaning : P → Plane) (asks : DeskCall → Type 0) (old new : SeenCamera S D P) (given_up left missed failed : ℕ)
+    : Type 0 where
   -- the device, by its ticks
   pub given : List TickRecord
   pub source : GoesOn gives old.device given new.device
+  pub missing : count_missed given ≡ missed
+  pub failing : count_failed given ≡ failed
   pub completed : List Picture
   pub shows : map shown completed ≡ flat_map shown_given given
   -- the way of the frames
@@ -42,10 +45,17 @@ pub record CameraKeeps {S D P : Type 0} (medium : D → Medium) (gives : S → N
   pub came : List Came
   pub whole : map without_flags (frames_waiting old.queue first) ++ completed
       ≡ map without_flags (map picture_of came) ++ map without_flags (frames_waiting new.queue last)
-  pub lost : length (flat_map lost_by came) ≡ given_up
+  pub lost : length (flat_map lost_by came) ≡ given_up + left
   -- the desk, by its calls
   pub calls : List DeskCall
   pub submits : flat_map calls_by came ≡ filter is_submit calls
   pub goes : DeskGoes medium old.desk new.desk calls
+  -- part by part, so what a part was answered is on the disk before the next one
+  pub parts : List Part
+  pub are : calls ≡ flat_map calls_of parts
+  pub went : GoesBy medium old.desk parts new.desk
+  pub rightful : All (IsRightful asks) parts
+  -- unless a flush was refused, the desk was asked for each frame but those that were left at the end
+  pub excused : list_any is_refused_flush calls ≡ false → length (flat_map unasked_by came) ≡ left
   pub footage : (s : StoreState) → Stands medium old.desk.store s → (medium old.desk.store.disk).honest
       → KeepsFootage medium old.desk new.desk calls s

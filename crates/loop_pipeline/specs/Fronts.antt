@@ -1,5 +1,5 @@
 -- What one thread keeps that has a camera's device, its queue and the end of a ring.
-use Rattle.std.specs.Prelude.{◌≡◌, ◌≢◌, ℕ, false, List, [], ◌∷◌, ◌++◌, map}
+use Rattle.std.specs.Prelude.{◌≡◌, ◌≢◌, ◌⊎◌, ℕ, ◌+◌, false, List, [], ◌∷◌, ◌++◌, map}
 use Rattle.std.specs.Global.{Global}
 use Rattle.std.specs.List.{flat_map, list_any}
 use Rattle.rtrb.specs.declared.AnyItems.{AnyItems}
@@ -19,7 +19,7 @@ use Rattle.loop_capture.specs.declared.device.Tick.{Tick}
 use Rattle.loop_capture.specs.declared.device.Tick.TheVariants.{Idle, Completed, Failed, Missed, Ended, WrongSize}
 use Rattle.loop_capture.specs.declared.source.Next.{Next}
 use Rattle.loop_capture.specs.declared.source.Next.TheVariants.{More, End, Bad}
-use Rattle.loop_capture.specs.Ticks.{SeenDevice}
+use Rattle.loop_capture.specs.Ticks.{SeenDevice, sequence_after}
 use Rattle.loop_desk.specs.declared.hand.Hand.{Hand}
 use Rattle.loop_desk.specs.declared.hand.Hand.TheVariants as hand
 use Rattle.loop_desk.specs.Front.{Front, HandState, StandsFront, empty, full, spent}
@@ -31,10 +31,11 @@ use Rattle.loop_desk.specs.Waiting.{IsCounted, IsSoundQueue, frames_dequeued, fr
 
 -- ---- ticks of a device
 
--- a tick: when it was, what it did, and the bytes that the source gave
+-- a tick: when it was, what it did, the sequence of its frame, and the bytes that the source gave
 pub record TickRecord : Type 0 where
   pub now : ℕ
   pub tick : Tick
+  pub sequence : ℕ
   pub bytes : List ℕ
 
 -- what the source answered if a tick did this
@@ -46,29 +47,48 @@ IsToldBy Ended answer = answer ≡ End
 IsToldBy _ answer = ⊥
 
 module _ {S : Type 0} (gives : S → Next → List ℕ → S → Type 0) where
-  -- one tick: Idle and WrongSize change nothing; at any other the source was asked, and gave these bytes
-  abbrev pub GaveBy : Tick → List ℕ → SeenDevice S → SeenDevice S → Type 0
-  GaveBy Idle bytes d e = e ≡ d
-  GaveBy WrongSize bytes d e = e ≡ d
-  GaveBy tick bytes d e =
+  -- one tick: Idle and WrongSize change nothing; at any other the source was asked, and gave these bytes; the frame's
+  -- sequence is the device's next one, or 0 after a start
+  abbrev pub GaveBy : Tick → ℕ → List ℕ → SeenDevice S → SeenDevice S → Type 0
+  GaveBy Idle sequence bytes d e = e ≡ d
+  GaveBy WrongSize sequence bytes d e = e ≡ d
+  GaveBy tick sequence bytes d e =
       (answer : Next) × IsToldBy tick answer × gives d.source answer bytes e.source × (e.size ≡ d.size)
+      × ((sequence ≡ d.next) ⊎ (sequence ≡ 0)) × (e.next ≡ sequence_after answer sequence)
 
   -- ticks, one after the other
   abbrev pub GoesOn : SeenDevice S → List TickRecord → SeenDevice S → Type 0
   GoesOn d [] e = e ≡ d
-  GoesOn d (g ∷ gs) e = (between : SeenDevice S) × GaveBy g.tick g.bytes d between × GoesOn between gs e
+  GoesOn d (g ∷ gs) e = (between : SeenDevice S) × GaveBy g.tick g.sequence g.bytes d between × GoesOn between gs e
 
--- what a frame shows of its source: its time and its bytes
-abbrev pub shown : Picture → ℕ × List ℕ
-shown p = (p.timestamp, p.bytes)
+-- what a frame shows of its source: its sequence, its time and its bytes
+abbrev pub shown : Picture → ℕ × ℕ × List ℕ
+shown p = (p.sequence, p.timestamp, p.bytes)
 
 -- what a tick that completed a buffer shows
-abbrev pub shown_at : Tick → ℕ × List ℕ → List (ℕ × List ℕ)
+abbrev pub shown_at : Tick → ℕ × ℕ × List ℕ → List (ℕ × ℕ × List ℕ)
 shown_at (Completed i) x = x ∷ []
 shown_at tick x = []
 
-abbrev pub shown_given : TickRecord → List (ℕ × List ℕ)
-shown_given g = shown_at g.tick (g.now, g.bytes)
+abbrev pub shown_given : TickRecord → List (ℕ × ℕ × List ℕ)
+shown_given g = shown_at g.tick (g.sequence, g.now, g.bytes)
+
+-- how many ticks lost a frame because no buffer was active, and how many because their frame couldn't be got
+abbrev pub misses : Tick → ℕ
+misses Missed = 1
+misses tick = 0
+
+abbrev pub fails : Tick → ℕ
+fails (Failed i) = 1
+fails tick = 0
+
+abbrev pub count_missed : List TickRecord → ℕ
+count_missed [] = 0
+count_missed (g ∷ gs) = misses g.tick + count_missed gs
+
+abbrev pub count_failed : List TickRecord → ℕ
+count_failed [] = 0
+count_failed (g ∷ gs) = fails g.tick + count_failed gs
 
 -- ---- what a front keeps
 
@@ -96,7 +116,7 @@ pub record IsOpen {P : Type 0} (meaning : P → Plane) (queue : Lined P) (table 
 -- then what waits now. What the device completed is what its source gave.
 pub record FrontKeeps {S P A : Type 0} (gives : S → Next → List ℕ → S → Type 0) (meaning : P → Plane)
     (seen : SeenFront S P A) (device : SeenDevice S) (queue : Lined P) (to : Producer (Frame A) A AnyItems)
-    : Type 0 where
+    (missed failed : ℕ) : Type 0 where
   pub ring : SameProducer seen.to to
   pub first : QueueState
   pub last : QueueState
@@ -104,6 +124,8 @@ pub record FrontKeeps {S P A : Type 0} (gives : S → Next → List ℕ → S �
   pub stands : StandsQueue meaning queue last
   pub given : List TickRecord
   pub source : GoesOn gives seen.device given device
+  pub missing : count_missed given ≡ missed
+  pub failing : count_failed given ≡ failed
   pub completed : List Picture
   pub shows : map shown completed ≡ flat_map shown_given given
   pub whole : map without_flags (frames_waiting seen.queue first) ++ completed
@@ -115,7 +137,7 @@ made_of begun = record { queue = begun.queue.value; device = begun.device.value;
 -- So it is of the parts that a front leaves; and if no buffer is in its hand, another front may begin with them.
 pub record Leaves {S P A : Type 0} (gives : S → Next → List ℕ → S → Type 0) (meaning : P → Plane)
     (seen : SeenFront S P A) (parts : FrontParts S P A) : Type 0 where
-  pub keeps : FrontKeeps gives meaning seen parts.device parts.queue parts.to
+  pub keeps : FrontKeeps gives meaning seen parts.device parts.queue parts.to parts.missed parts.failed
   pub again : parts.hand ≡ hand.Empty → IsOpen meaning parts.queue parts.table
 
 -- ---- to another thread and back (private contracts alone)
@@ -129,6 +151,8 @@ LeavesCarried inside gives meaning seen left = Leaves gives meaning seen (record
   table = left.table;
   hand = left.hand;
   to = inside left.to;
+  missed = left.missed;
+  failed = left.failed;
 })
 
 -- ---- its events (private contracts alone)
@@ -149,7 +173,7 @@ emptied empty = empty
 -- they dequeued are in the ring, and those that they completed are the ticks'.
 pub record HasMoved {S P A : Type 0} (gives : S → Next → List ℕ → S → Type 0) (meaning : P → Plane)
     (seen : SeenFront S P A) (device : SeenDevice S) (queue : Lined P) (table : Fds P) (hand : Hand P A)
-    (to : Producer (Frame A) A AnyItems) : Type 0 where
+    (to : Producer (Frame A) A AnyItems) (missed failed : ℕ) : Type 0 where
   pub first : QueueState
   pub stood : StandsQueue meaning seen.queue first
   pub sound : IsSoundQueue seen.queue first
@@ -166,4 +190,6 @@ pub record HasMoved {S P A : Type 0} (gives : S → Next → List ℕ → S → 
   pub went : map picture (sent to) ≡ frames_dequeued first events
   pub given : List TickRecord
   pub source : GoesOn gives seen.device given device
+  pub missing : count_missed given ≡ missed
+  pub failing : count_failed given ≡ failed
   pub shows : map shown (flat_map completed_frame events) ≡ flat_map shown_given given

@@ -1,3 +1,5 @@
 pub mod Backs
 pub mod Cameras
 pub mod Fronts
+pub mod Legal
+pub mod Returns

@@ -1,21 +1,24 @@
 //! A desk, and the end of the ring from which its frames come: owned by one thread.
 
-ghost use Rattle.std.specs.Prelude.{◌≡◌, ◌∷◌, ℕ, List, IfErr, IfOk, None, []};
+ghost use Rattle.std.specs.Prelude.{◌≡◌, ◌∷◌, ℕ, ⊤, List, IfErr, IfOk, IfSome, None, Result, []};
 ghost use Rattle.rtrb.specs.Ring.{received};
 ghost use Rattle.loop_desk.specs.Desk.{clip_unlocked, flushed, frame_read};
 ghost use Rattle.loop_desk.specs.Keeps.{HaveTime, KeepsTime};
 ghost use Rattle.loop_desk.specs.Seen.{DeskGoes, OutlineRefuses, TellsOutline, TellsStatus};
-ghost use Rattle.loop_pipeline.specs.Backs.{BackKeeps};
+ghost use Rattle.loop_pipeline.specs.Backs.{BackKeeps, IsBrought, IsLast, MayKeep, WasRefused};
+ghost use Rattle.loop_record.specs.declared.frame.FrameHead.{FrameHead};
+ghost use Rattle.loop_store.specs.declared.fault.StoreFault.{StoreFault};
 ghost use Rattle.loop_store.specs.Calls.{read_with};
 ghost use Rattle.loop_store.specs.Runs.{read_of};
 
+use crate::Visits;
 use loop_desk::{Desk, Flushed, Kept, Outline, Status};
 use loop_disk::Disk;
 use loop_record::{Frame, FrameHead, Times};
 use loop_store::{ReadFrame, StoreFault};
 use rtrb::Consumer;
 use std::alloc::{Allocator, Global};
-use std::marker::Model;
+use std::marker::{Model, PhantomData};
 use std::snapshot::Snapshot;
 
 /// What came of bringing the next frame of the ring to the desk.
@@ -28,18 +31,30 @@ pub enum Brought {
     /// The desk accepted it, under this number.
     Submitted(u64),
     /// The desk refused it; it is given up and counted.
-    GivenUp(StoreFault),
+    GivenUp(StoreFault, LostFrame),
+}
+
+/// Which frame was given up.
+#[derive(Clone, Copy)]
+pub struct LostFrame {
+    /// Its place in the device's count of frames.
+    pub sequence: u32,
+    /// Its time, in microseconds.
+    pub timestamp: u64,
 }
 
 /// A camera's desk, and the end of the ring from which its frames come. Contracts see desk and ring as they were when
-/// it was made, and the desk as it is now.
+/// it was made, and the desk as it is now. `K` says what visitors may call.
 #[derive(Drop)]
-pub struct Back<D: Disk + Drop, A: Allocator + Copy = Global> {
+pub struct Back<D: Disk + Drop, K: Visits, A: Allocator + Copy = Global> {
     desk: Desk<D, A>,
     from: Consumer<Frame<A>, A>,
     given_up: u64,
+    /// A flush was refused.
+    refused: bool,
     desk_before: Snapshot<Desk<D, A>>,
     from_before: Snapshot<Consumer<Frame<A>, A>>,
+    visits: PhantomData<K>,
 }
 
 /// What is left of a back.
@@ -51,20 +66,23 @@ pub struct BackParts<D: Disk + Drop, A: Allocator + Copy = Global> {
     pub from: Consumer<Frame<A>, A>,
     /// How many frames came out of the ring and weren't accepted by the desk.
     pub given_up: u64,
+    /// Whether a flush was refused.
+    pub refused: bool,
 }
 
-impl<D: Disk + Drop, A: Allocator + Copy> Model for Back<D, A> {
+impl<D: Disk + Drop, K: Visits, A: Allocator + Copy> Model for Back<D, K, A> {
     ghost use Rattle.loop_pipeline.specs.Backs.{BackKeeps, SeenBack};
 
     ghost Value = { SeenBack D A };
 
     ghost view = { λ b. record { began = b.desk_before.value; from = b.from_before.value; desk = b.desk } };
 
-    ghost invariant = { λ b. BackKeeps D.medium
-        (record { began = b.desk_before.value; from = b.from_before.value; desk = b.desk }) b.from b.given_up };
+    ghost invariant = { λ b. BackKeeps D.medium K.asks
+        (record { began = b.desk_before.value; from = b.from_before.value; desk = b.desk })
+        b.from b.given_up b.refused };
 }
 
-impl<D: Disk + Drop, A: Allocator + Copy> Back<D, A> {
+impl<D: Disk + Drop, K: Visits, A: Allocator + Copy> Back<D, K, A> {
     /// A back with this desk, and the end of a ring from which nothing was taken yet.
     pub fn new(desk: Desk<D, A>, from: Consumer<Frame<A>, A>) -> Self
         requires { received from ≡ [] }
@@ -77,14 +95,17 @@ impl<D: Disk + Drop, A: Allocator + Copy> Back<D, A> {
             desk,
             from,
             given_up: 0,
+            refused: false,
             desk_before,
             from_before,
+            visits: PhantomData,
         }
     }
 
     /// Brings the next frame of the ring to the desk.
     pub fn bring(&mut self) -> Brought
-        ensures { self.new ≡ record self.old { desk = self.new.desk } }
+        ensures told { IsBrought D.medium self.new result }
+        ensures same { self.new ≡ record self.old { desk = self.new.desk } }
     {
         if self.given_up == u64::MAX {
             return Brought::Nothing;
@@ -95,37 +116,57 @@ impl<D: Disk + Drop, A: Allocator + Copy> Back<D, A> {
         let Ok(frame) = self.from.pop() else {
             return Brought::Nothing;
         };
+        let lost = LostFrame {
+            sequence: frame.sequence,
+            timestamp: frame.timestamp,
+        };
         match self.desk.submit(frame) {
             Ok(number) => Brought::Submitted(number),
             Err((fault, frame)) => {
                 self.given_up += 1;
                 self.desk.return_memory(frame.bytes);
-                Brought::GivenUp(fault)
+                Brought::GivenUp(fault, lost)
             }
         }
     }
 
-    /// Gives up the next frame of the ring, and counts it; returns whether there was one.
-    pub fn give_up(&mut self) -> bool
-        ensures { self.new ≡ self.old }
+    /// Gives up the next frame of the ring, and counts it; returns which frame it was. None: no frame is in the ring,
+    /// or no flush was refused.
+    pub fn give_up(&mut self) -> Option<LostFrame>
+        ensures refused { IfSome result (λ lost. WasRefused D.medium self.new) }
+        ensures same { self.new ≡ self.old }
     {
+        if !self.refused {
+            return None;
+        }
         if self.given_up == u64::MAX {
-            return false;
+            return None;
         }
         let Ok(frame) = self.from.pop() else {
-            return false;
+            return None;
+        };
+        let lost = LostFrame {
+            sequence: frame.sequence,
+            timestamp: frame.timestamp,
         };
         self.given_up += 1;
         self.desk.return_memory(frame.bytes);
-        true
+        Some(lost)
     }
 
     /// Stores the first frames that wait, as `Desk::flush`.
     pub fn flush(&mut self) -> Result<Flushed, StoreFault>
         ensures goes { DeskGoes D.medium self.old.desk self.new.desk (flushed result ∷ []) }
+        ensures last { IsLast D.medium self.new (flushed result) }
         ensures same { self.new ≡ record self.old { desk = self.new.desk } }
     {
-        self.desk.flush()
+        match self.desk.flush() {
+            Ok(flushed) => Ok(flushed),
+            Err(fault) => {
+                self.refused = true;
+                Err(fault)
+            }
+        }
     }
 
     /// The counts of the desk, as `Desk::status`.
@@ -157,6 +198,7 @@ impl<D: Disk + Drop, A: Allocator + Copy> Back<D, A> {
 
     /// Reads a stored frame, as `Desk::read_frame`.
     pub fn read_frame(&mut self, alloc: A, number: u64) -> Result<ReadFrame<A>, StoreFault>
+        requires { (answer : Result (FrameHead × List ℕ) StoreFault) → K.asks (frame_read number answer) }
         ensures goes { DeskGoes D.medium self.old.desk self.new.desk
             (frame_read number (read_of result) ∷ []) }
         ensures same { self.new ≡ record self.old { desk = self.new.desk } }
@@ -166,6 +208,7 @@ impl<D: Disk + Drop, A: Allocator + Copy> Back<D, A> {
 
     /// Reads the head of a stored frame and none of its bytes, as `Desk::read_head`.
     pub fn read_head(&mut self, number: u64) -> Result<FrameHead, StoreFault>
+        requires { (answer : Result (FrameHead × List ℕ) StoreFault) → K.asks (frame_read number answer) }
         ensures goes { (bytes : List ℕ)
             × DeskGoes D.medium self.old.desk self.new.desk (frame_read number (read_with result bytes) ∷ []) }
         ensures same { self.new ≡ record self.old { desk = self.new.desk } }
@@ -175,6 +218,7 @@ impl<D: Disk + Drop, A: Allocator + Copy> Back<D, A> {
 
     /// Locks the held frames of a time with a tag, as `Desk::keep_time`.
     pub fn keep(&mut self, alloc: A, times: Times, tag: u64) -> Kept<A>
+        requires { MayKeep K.asks }
         ensures goes { KeepsTime D.medium times tag self.old.desk self.new.desk result }
         ensures whole { result.fault ≡ None → HaveTime times self.old.desk result.clips.items }
         ensures same { self.new ≡ record self.old { desk = self.new.desk } }
@@ -184,6 +228,7 @@ impl<D: Disk + Drop, A: Allocator + Copy> Back<D, A> {
 
     /// Unlocks the clip of an id, as `Desk::unlock_clip`.
     pub fn unlock_clip(&mut self, id: u32) -> Result<(), StoreFault>
+        requires { (answer : Result ⊤ StoreFault) → K.asks (clip_unlocked id answer) }
         ensures goes { DeskGoes D.medium self.old.desk self.new.desk (clip_unlocked id result ∷ []) }
         ensures same { self.new ≡ record self.old { desk = self.new.desk } }
     {
@@ -193,19 +238,22 @@ impl<D: Disk + Drop, A: Allocator + Copy> Back<D, A> {
     /// What is left of it.
     pub fn into_parts(self) -> BackParts<D, A>
         ensures desk { result.desk ≡ self.desk }
-        ensures keeps { BackKeeps D.medium self result.from result.given_up }
+        ensures keeps { BackKeeps D.medium K.asks self result.from result.given_up result.refused }
     {
         let Back {
             desk,
             from,
             given_up,
+            refused,
             desk_before: _,
             from_before: _,
+            visits: _,
         } = self;
         BackParts {
             desk,
             from,
             given_up,
+            refused,
         }
     }
 }

@@ -1,12 +1,12 @@
 //! The end of a camera: its front and its back, brought together.
 
-ghost use Rattle.std.specs.Prelude.{◌≡◌, ◌+◌};
+ghost use Rattle.std.specs.Prelude.{◌≡◌};
 ghost use Rattle.rtrb.specs.Ring.{IsPair};
 ghost use Rattle.loop_desk.specs.declared.hand.Hand.TheVariants.{Empty};
 ghost use Rattle.loop_pipeline.specs.Cameras.{CameraKeeps};
 ghost use Rattle.loop_pipeline.specs.Fronts.{IsOpen, Leaves, made_of};
 
-use crate::{Back, BackParts, Begun, FrontParts};
+use crate::{Back, BackParts, Begun, FrontParts, Visits};
 use loop_capture::{Device, FrameSource};
 use loop_desk::{Desk, Hand};
 use loop_disk::Disk;
@@ -36,21 +36,25 @@ pub struct Ended<
     pub given_up: u64,
     /// How many frames were still in the ring, and are lost.
     pub left: u64,
+    /// How many ticks lost a frame because no buffer was active.
+    pub missed: u64,
+    /// How many ticks lost a frame because it couldn't be got.
+    pub failed: u64,
 }
 
 /// Ends a camera, after both its threads have ended. `begun` is what its front was made of; front and back were made on
 /// the two ends of one ring. The contract says what the camera kept since then.
-pub fn end<S: FrameSource + Drop, D: Disk + Drop, P: PlaneMemory, A: Allocator + Copy>(
+pub fn end<S: FrameSource + Drop, D: Disk + Drop, P: PlaneMemory, K: Visits, A: Allocator + Copy>(
     begun: Begun<S, P, A>,
     front: FrontParts<S, P, A>,
-    back: Back<D, A>,
+    back: Back<D, K, A>,
 ) -> Ended<S, D, P, A>
     requires front { Leaves S.next_gives P.plane (made_of begun) front }
     requires pair { IsPair begun.to.value back.from }
-    ensures keeps { CameraKeeps D.medium S.next_gives P.plane
+    ensures keeps { CameraKeeps D.medium S.next_gives P.plane K.asks
         (record { device = begun.device.value; queue = begun.queue.value; desk = back.began })
         (record { device = result.device; queue = result.queue; desk = result.desk })
-        (result.given_up + result.left) }
+        result.given_up result.left result.missed result.failed }
     ensures again { result.hand ≡ Empty → IsOpen P.plane result.queue result.table }
     ensures desk { result.desk ≡ back.desk }
 {
@@ -65,11 +69,14 @@ pub fn end<S: FrameSource + Drop, D: Disk + Drop, P: PlaneMemory, A: Allocator +
         table,
         hand,
         mut to,
+        missed,
+        failed,
     } = front;
     let BackParts {
         desk,
         mut from,
         given_up,
+        refused: _,
     } = back.into_parts();
     let left = from.slots_beside(&mut to) as u64;
     Ended {
@@ -80,5 +87,7 @@ pub fn end<S: FrameSource + Drop, D: Disk + Drop, P: PlaneMemory, A: Allocator +
         desk,
         given_up,
         left,
+        missed,
+        failed,
     }
 }

@@ -1,13 +1,16 @@
 //! What the two threads of a camera do: one has its front, the other its back. docs/threads.md says why it is so.
 
-ghost use Rattle.std.specs.Prelude.{◌≡◌, ◌+◌, [], IfOk};
+ghost use Rattle.std.specs.Prelude.{◌≡◌, [], IfErr, IfOk};
 ghost use Rattle.loop_desk.specs.declared.hand.Hand.TheVariants.{Empty};
 ghost use Rattle.loop_pipeline.specs.Cameras.{CameraKeeps};
+ghost use Rattle.loop_pipeline.specs.Returns.{GivesBack};
 ghost use Rattle.rtrb.specs.Ring.{sent};
 ghost use Rattle.loop_pipeline.specs.Fronts.{IsOpen, Leaves, LeavesCarried, made_of};
 
 use crate::bell::Bell;
-use crate::{Back, Begun, Brought, Camera, Ended, Front, FrontParts, Guide, TakeOutcome, end};
+use crate::{
+    Back, Begun, Brought, Camera, Ended, Front, FrontParts, Guide, TakeOutcome, Visits, end,
+};
 use loop_capture::{Device, FrameSource, Tick};
 use loop_desk::Hand;
 use loop_disk::Disk;
@@ -113,7 +116,7 @@ fn take_all<R: Wait, S: FrameSource + Drop, P: PlaneMemory, G: Guide>(
         match front.take(alloc, &mut spare) {
             TakeOutcome::Frame => link.given.ring(rt),
             TakeOutcome::NoFrame => {
-                guide.gave_up();
+                guide.lacked();
                 link.given.ring(rt);
             }
             TakeOutcome::RingFull => link.room.wait(rt, seen),
@@ -160,7 +163,7 @@ fn bring_all<R: Wait, D: Disk + Drop, G: Guide>(
     rt: &R,
     link: &Link,
     guide: &G,
-    back: &mut Back<D>,
+    back: &mut Back<D, G>,
     refused: bool,
 ) -> bool
     ensures { back.new ≡ record back.old { desk = back.new.desk } }
@@ -168,13 +171,13 @@ fn bring_all<R: Wait, D: Disk + Drop, G: Guide>(
     let mut some = false;
     'frames: for _ in 0..RING {
         match back.bring() {
-            Brought::Submitted(_) => guide.brought(),
-            Brought::GivenUp(_) => guide.gave_up(),
+            Brought::Submitted(number) => guide.brought(back, number),
+            Brought::GivenUp(_, frame) => guide.gave_up(back, frame),
             Brought::DeskFull if refused => {
-                if !back.give_up() {
+                let Some(frame) = back.give_up() else {
                     break;
-                }
-                guide.gave_up();
+                };
+                guide.gave_up(back, frame);
             }
             Brought::DeskFull | Brought::Nothing => break,
         }
@@ -187,7 +190,7 @@ fn bring_all<R: Wait, D: Disk + Drop, G: Guide>(
 }
 
 // Gives the memory of stored frames back to the front.
-fn give_memory<R: Wait, D: Disk + Drop>(rt: &R, link: &Link, back: &mut Back<D>)
+fn give_memory<R: Wait, D: Disk + Drop, K: Visits>(rt: &R, link: &Link, back: &mut Back<D, K>)
     ensures { back.new ≡ back.old }
 {
     'rows: for _ in 0..RING {
@@ -205,8 +208,8 @@ pub fn film_back<R: Wait + Clock, D: Disk + Drop, G: Guide>(
     alloc: Global,
     link: &Link,
     guide: &G,
-    mut back: Back<D>,
-) -> Back<D>
+    mut back: Back<D, G>,
+) -> Back<D, G>
     ensures { result ≡ record back { desk = result.desk } }
 {
     let mut refused = false;
@@ -214,12 +217,14 @@ pub fn film_back<R: Wait + Clock, D: Disk + Drop, G: Guide>(
         let seen = link.given.count(rt);
         let over = link.over.load(Ordering::SeqCst);
         let some = bring_all(rt, link, guide, &mut back, refused);
-        guide.visit(rt, alloc, &mut back);
+        if G::VISITED {
+            guide.visit(rt, alloc, &mut back);
+        }
         give_memory(rt, link, &mut back);
         let rest = if !refused && back.status().pending > 0 {
             match back.flush() {
                 Ok(flushed) => {
-                    guide.stored(flushed.stored);
+                    guide.stored(&back, flushed);
                     0
                 }
                 Err(fault) => {
@@ -306,6 +311,8 @@ struct Left<S: FrameSource + Drop, P: PlaneMemory, W: Carrier> {
     table: FdTable<P>,
     hand: Hand<P>,
     to: W,
+    missed: u64,
+    failed: u64,
 }
 
 // The thread returns what a front leaves that was made of these.
@@ -337,6 +344,8 @@ fn film_carried<R: Wait + Clock, S: FrameSource + Drop, P: PlaneMemory, G: Guide
         table,
         hand,
         to,
+        missed,
+        failed,
     } = film_front(rt, alloc, link, guide, device, queue, table, to.open());
     Left {
         device,
@@ -344,14 +353,16 @@ fn film_carried<R: Wait + Clock, S: FrameSource + Drop, P: PlaneMemory, G: Guide
         table,
         hand,
         to: W::close(to),
+        missed,
+        failed,
     }
 }
 
 // What both threads leave, and whether the front's could be started.
 #[derive(Drop)]
-struct Both<S: FrameSource + Drop, D: Disk + Drop, P: PlaneMemory, W: Carrier> {
+struct Both<S: FrameSource + Drop, D: Disk + Drop, P: PlaneMemory, G: Visits, W: Carrier> {
     front: Left<S, P, W>,
-    back: Back<D>,
+    back: Back<D, G>,
     began: bool,
 }
 
@@ -376,8 +387,8 @@ fn run_in<
     queue: Queue<P>,
     table: FdTable<P>,
     to: W,
-    back: Back<D>,
-) -> Both<S, D, P, W>
+    back: Back<D, G>,
+) -> Both<S, D, P, G, W>
     requires begun { made_of begun ≡ record { queue = queue; device = device; to = W.inside to } }
     requires ready { IsOpen P.plane queue table }
     requires ring { sent (W.inside to) ≡ [] }
@@ -434,9 +445,10 @@ pub fn film_camera<
     guide: &'s G,
     camera: Camera<S, D, P>,
 ) -> Result<Ended<S, D, P>, Unfilmed<S, D, P>>
-    ensures keeps { IfOk result (λ e. CameraKeeps D.medium S.next_gives P.plane camera
-        (record { device = e.device; queue = e.queue; desk = e.desk }) (e.given_up + e.left)) }
+    ensures keeps { IfOk result (λ e. CameraKeeps D.medium S.next_gives P.plane G.asks camera
+        (record { device = e.device; queue = e.queue; desk = e.desk }) e.given_up e.left e.missed e.failed) }
     ensures again { IfOk result (λ e. e.hand ≡ Empty → IsOpen P.plane e.queue e.table) }
+    ensures refused { IfErr result (GivesBack D.medium S.next_gives P.plane G.asks camera) }
 {
     link.begin();
     let Ok((to, from)) = RingBuffer::new(alloc, RING) else {
@@ -461,6 +473,8 @@ pub fn film_camera<
         table,
         hand,
         to,
+        missed,
+        failed,
     } = front;
     let parts = FrontParts {
         device,
@@ -468,6 +482,8 @@ pub fn film_camera<
         table,
         hand,
         to: to.open(),
+        missed,
+        failed,
     };
     let ended = end(again, parts, back);
     if began {

@@ -1,9 +1,9 @@
 //! A device, its queue, and the end of the ring to which its frames go: owned by one thread.
 
-ghost use Rattle.std.specs.Prelude.{◌≡◌, ◌<◌, ◌++◌, []};
+ghost use Rattle.std.specs.Prelude.{◌≡◌, ◌<◌, ◌≤◌, ◌++◌, []};
 ghost use Rattle.rtrb.specs.Ring.{SameProducer, known_free, sent};
 ghost use Rattle.loop_desk.specs.Front.{hand_state};
-ghost use Rattle.loop_pipeline.specs.Fronts.{IsOpen, Leaves, emptied, frame_of, made_of};
+ghost use Rattle.loop_pipeline.specs.Fronts.{IsOpen, Leaves, emptied, fails, frame_of, made_of, misses};
 
 use loop_capture::{Device, FrameSource, Tick};
 use loop_desk::front::{dequeue, requeue};
@@ -40,6 +40,8 @@ pub struct Front<S: FrameSource + Drop, P: PlaneMemory, A: Allocator + Copy = Gl
     table: FdTable<P, A>,
     hand: Hand<P, A>,
     to: Producer<Frame<A>, A>,
+    missed: u64,
+    failed: u64,
     queue_before: Snapshot<Queue<P, A>>,
     device_before: Snapshot<Device<S, A>>,
     to_before: Snapshot<Producer<Frame<A>, A>>,
@@ -82,6 +84,10 @@ pub struct FrontParts<S: FrameSource + Drop, P: PlaneMemory, A: Allocator + Copy
     pub hand: Hand<P, A>,
     /// The end of its ring.
     pub to: Producer<Frame<A>, A>,
+    /// How many ticks lost a frame because no buffer was active.
+    pub missed: u64,
+    /// How many ticks lost a frame because it couldn't be got.
+    pub failed: u64,
 }
 
 impl<S: FrameSource + Drop, P: PlaneMemory, A: Allocator + Copy> Model for Front<S, P, A> {
@@ -94,7 +100,7 @@ impl<S: FrameSource + Drop, P: PlaneMemory, A: Allocator + Copy> Model for Front
 
     ghost invariant = { λ f. HasMoved S.next_gives P.plane
         (record { queue = f.queue_before.value; device = f.device_before.value; to = f.to_before.value })
-        f.device f.queue f.table f.hand f.to };
+        f.device f.queue f.table f.hand f.to f.missed f.failed };
 }
 
 // Pushes the hand's frame into a ring that has room; returns what came of it.
@@ -124,6 +130,28 @@ fn give<P: PlaneMemory, A: Allocator + Copy>(
     }
 }
 
+// How many frames a tick lost because no buffer was active: one or none.
+fn missed_by(tick: Tick) -> u64
+    ensures value { result ≡ misses tick }
+    ensures few { result ≤ 1 }
+{
+    match tick {
+        Tick::Missed => 1,
+        Tick::Completed(_) | Tick::Failed(_) | Tick::Idle | Tick::Ended | Tick::WrongSize => 0,
+    }
+}
+
+// How many frames a tick lost because they couldn't be got: one or none.
+fn failed_by(tick: Tick) -> u64
+    ensures value { result ≡ fails tick }
+    ensures few { result ≤ 1 }
+{
+    match tick {
+        Tick::Failed(_) => 1,
+        Tick::Completed(_) | Tick::Missed | Tick::Idle | Tick::Ended | Tick::WrongSize => 0,
+    }
+}
+
 impl<S: FrameSource + Drop, P: PlaneMemory, A: Allocator + Copy> Front<S, P, A> {
     /// A front with this device, this queue with its table, and the end of a ring into which nothing was pushed yet.
     pub fn new(
@@ -145,6 +173,8 @@ impl<S: FrameSource + Drop, P: PlaneMemory, A: Allocator + Copy> Front<S, P, A> 
             table,
             hand: Hand::Empty,
             to,
+            missed: 0,
+            failed: 0,
             queue_before,
             device_before,
             to_before,
@@ -156,11 +186,18 @@ impl<S: FrameSource + Drop, P: PlaneMemory, A: Allocator + Copy> Front<S, P, A> 
         self.queue.next_active().is_some()
     }
 
-    /// A tick of the device, as `Device::tick`.
+    /// A tick of the device, as `Device::tick`; frames that it lost are counted. Once a count is full, the device is
+    /// idle.
     pub fn tick(&mut self, now: u64) -> Tick
         ensures { self.new ≡ self.old }
     {
-        self.device.tick(&mut self.queue, now)
+        if self.missed == u64::MAX || self.failed == u64::MAX {
+            return Tick::Idle;
+        }
+        let tick = self.device.tick(&mut self.queue, now);
+        self.missed += missed_by(tick);
+        self.failed += failed_by(tick);
+        tick
     }
 
     /// Moves the frame that waits first into the ring. Its memory is `spare`, or new. The buffer stays in the hand
@@ -196,6 +233,8 @@ impl<S: FrameSource + Drop, P: PlaneMemory, A: Allocator + Copy> Front<S, P, A> 
             table,
             hand,
             to,
+            missed,
+            failed,
             queue_before: _,
             device_before: _,
             to_before: _,
@@ -206,6 +245,8 @@ impl<S: FrameSource + Drop, P: PlaneMemory, A: Allocator + Copy> Front<S, P, A> 
             table,
             hand,
             to,
+            missed,
+            failed,
         }
     }
 }

@@ -1,9 +1,12 @@
 //! What a camera's threads ask and report.
 
-ghost use Rattle.std.specs.Prelude.{◌≡◌};
+ghost use Rattle.std.specs.Prelude.{◌≡◌, Ok};
+ghost use Rattle.loop_desk.specs.Desk.{flushed};
+ghost use Rattle.loop_pipeline.specs.Backs.{IsAccepted, IsGivenUp, IsLast};
 
-use crate::Back;
+use crate::{Back, LostFrame, Visits};
 use loop_capture::Tick;
+use loop_desk::Flushed;
 use loop_disk::Disk;
 use loop_store::StoreFault;
 use std::alloc::Global;
@@ -11,29 +14,43 @@ use std::sync::Wait;
 use std::time::Clock;
 
 /// What the two threads of a camera ask and report. Each call may wait. The calls that only report do nothing by
-/// default.
-pub trait Guide {
+/// default. What is reported of the desk is so: the contract asks the caller for the desk's own answer.
+pub trait Guide: Visits {
     /// When tick `n` of the camera's device is, in microseconds; None if the device is to end.
     fn next_tick<R: Wait + Clock>(&self, rt: &R, n: u64) -> Option<u64>;
 
     /// What a tick did.
     fn ticked<R: Wait>(&self, rt: &R, tick: Tick) {}
 
-    /// The desk accepted a frame.
-    fn brought(&self) {}
+    /// A buffer came back without a frame, which its tick couldn't get.
+    fn lacked(&self) {}
 
-    /// A frame was given up.
-    fn gave_up(&self) {}
+    /// The desk accepted a frame under this number.
+    fn brought<D: Disk + Drop>(&self, back: &Back<D, Self>, number: u64)
+        requires { IsAccepted D.medium back.now number }
+    {}
 
-    /// A flush stored `count` frames.
-    fn stored(&self, count: u32) {}
+    /// This frame was given up: the desk refused it, or a flush was refused.
+    fn gave_up<D: Disk + Drop>(&self, back: &Back<D, Self>, frame: LostFrame)
+        requires { IsGivenUp D.medium back.now frame }
+    {}
+
+    /// A flush stored frames.
+    fn stored<D: Disk + Drop>(&self, back: &Back<D, Self>, done: Flushed)
+        requires { IsLast D.medium back.now (flushed (Ok done)) }
+    {}
 
     /// Whether a flush that was refused with this fault is tried again, after a while or once the desk's thread is
     /// woken. If not, frames for which the desk has no room are given up.
     fn flushes_again(&self, fault: StoreFault) -> bool;
 
     /// Serves what others ask of the desk. It is called between flushes, by the desk's own thread.
-    fn visit<R: Wait + Clock, D: Disk + Drop>(&self, rt: &R, alloc: Global, back: &mut Back<D>)
+    fn visit<R: Wait + Clock, D: Disk + Drop>(
+        &self,
+        rt: &R,
+        alloc: Global,
+        back: &mut Back<D, Self>,
+    )
         ensures { back.new ≡ record back.old { desk = back.new.desk } }
     {}
 }

@@ -2,14 +2,15 @@
 //!
 //! - `front`: a device, its queue with the buffers, and the end of the ring to which its frames go; `back`: the other
 //!   end of the ring, and a desk before a store; `ending`: both halves, brought together; `camera`: what is filmed;
-//! - `film`: `film_camera`, which runs both, and what each does; `guide`: what they ask and report; `bell`: where one
-//!   sleeps until the other has work for it;
+//! - `film`: `film_camera`, which runs both, and what each does; `guide`: what they ask and report; `visits`: what
+//!   visitors of the desk may call; `bell`: where one sleeps until the other has work for it; `laws`: what follows;
 //! - `start`: a queue that a front may begin with, and how it is started; `buffers`: the memory of its buffers.
 //!
 //! The contracts of `Front::into_parts` and `Back::into_parts` say what each half keeps, and that of `film_camera` what
 //! both do (`specs/Cameras`, `CameraKeeps`): the frames that waited and those that the source gave at ticks that
 //! completed a buffer are, in order and with all bytes, those that came to the desk and those that still wait; each
-//! that came was accepted or is counted; and of those that were accepted the footage is kept, whenever the power fails.
+//! that came was accepted or is counted; and of those that were accepted the footage is kept, whenever the power fails:
+//! there is a desk after each answered call, so at each moment all is there that was answered before.
 //!
 //! Both programs film by it: `loop_cli record` and `loop_station`.
 //!
@@ -24,9 +25,11 @@ mod ending;
 mod film;
 mod front;
 mod guide;
+pub mod laws;
 mod start;
+mod visits;
 
-pub use back::{Back, BackParts, Brought};
+pub use back::{Back, BackParts, Brought, LostFrame};
 pub use buffers::{Start, heap_start, mapped_start};
 pub use camera::Camera;
 pub use ending::{Ended, end};
@@ -34,3 +37,4 @@ pub use film::{Link, Unfilmed, film_back, film_camera, film_front};
 pub use front::{Begun, Front, FrontParts, TakeOutcome};
 pub use guide::Guide;
 pub use start::{new_queue, start_queue};
+pub use visits::Visits;

@@ -36,9 +36,9 @@ use Rattle.loop_store.specs.Grow.{HasNoneStray}
 use Rattle.loop_store.specs.declared.index.Index.{Index}
 use Rattle.loop_store.specs.declared.fault.StoreFault.{StoreFault}
 use Rattle.loop_store.specs.Make.{WasOr}
-use Rattle.loop_store.specs.Reopen.{IsBadKeep, IsOpened, IsRefusedOpen, ReadsAlike, is_bad_keep}
+use Rattle.loop_store.specs.Reopen.{IsBadKeep, IsOpened, IsReadOf, IsRefusedOpen, ReadsAlike, is_bad_keep}
 use Rattle.loop_store.specs.Found.{IsHeadIn}
-use Rattle.loop_store.specs.Index.{IsFitting, IsRecovered, keeping}
+use Rattle.loop_store.specs.Index.{IsFitting, IsRecovered, IsRecoveredIn, keeping}
 use Rattle.loop_store.specs.Store.{IsPresent}
 use Rattle.loop_store.specs.Times.{IsTimed}
 use Rattle.loop_store.specs.Seen.{seen_with}
@@ -278,6 +278,19 @@ present-opened medium disk index before some within present alike =
         held = λ fine now. known.held;
         version_is = λ fine now. present.version;
       };
+    }
+
+-- the index that was read of an image, in the words of what a store reports
+pub read-of : {D A : Type 0} (disk : D) (index : Index A) (must_reopen : Bool) (image : List ℕ)
+    → 1 ≤ index.ring.geometry.slots → All (IsHeadIn index.ring.geometry) index.table.heads
+    → IsRecoveredIn index image → IsReadOf image (seen_with disk index must_reopen)
+read-of disk index must_reopen image some within is =
+    let r = is.0.recording in
+    let known = is.0.known in record {
+      recording = r;
+      held = known.held;
+      version_is = is.1.0;
+      told = told-by disk index must_reopen r image some within known (is.1.1.each r known.held);
     }
 
 -- ---- the blocks that are kept

@@ -27,6 +27,20 @@ pub record IsOpened {D : Type 0} (medium : D → Medium) (image : List ℕ) (sto
   pub version_is : version_in image ≡ store.version
   pub stands : StandsFor medium store recording
 
+-- the image reads as a recording of the store's geometry, in its version, and the store reports that recording
+pub record IsReadOf {D : Type 0} (image : List ℕ) (store : Seen D) : Type 0 where
+  pub recording : Recording
+  pub held : Holds store.geometry recording image
+  pub version_is : version_in image ≡ store.version
+  pub told : Tells store recording
+
+-- What a store reports is what was read, whatever the disk: there was a disk once all had been read, each image that
+-- agrees with what it gave agrees with what the first disk gave, and reads as what the store reports.
+pub record IsFound {D : Type 0} (medium : D → Medium) (disk : D) (store : Seen D) : Type 0 where
+  pub looked : D
+  pub gives : (image : List ℕ) → MayBe (medium looked) image → MayBe (medium disk) image
+  pub tells : (image : List ℕ) → MayBe (medium looked) image → IsReadOf image store
+
 -- this many of the newest blocks can't be kept in a ring of this many segments: none, or so many that no block could
 -- go
 abbrev pub is_bad_keep : ℕ → ℕ → Bool
@@ -47,13 +61,14 @@ IsRefusedOpen keep image (StoreFault.Damaged damage) = reading image ≡ Err (La
 IsRefusedOpen keep image StoreFault.BadKeep = IsBadKeep keep image
 IsRefusedOpen keep image _ = ⊥
 
--- What a call does that opens a disk and keeps this many of the newest blocks. A refusal is right for each image that
--- agrees with what was read. An honest disk's image then reads as before. So does each image that a stop within the
--- call leaves, unless a stop before it could have left it. A refusal changes the disk only where a call of
--- the disk failed.
+-- What a call does that opens a disk and keeps this many of the newest blocks. What is found, and a refusal too, is
+-- right for each image that agrees with what was read. An honest disk's image then reads as before. So does each image
+-- that a stop within the call leaves, unless a stop before it could have left it. A refusal changes the disk only where
+-- a call of the disk failed.
 pub record OpensKeeping {D : Type 0} (medium : D → Medium) (keep : ℕ) (disk : D)
     (result : Result (Seen D) (OpenRefused D)) : Type 0 where
   pub opened : (medium disk).honest → IfOk result (IsOpened medium (medium disk).bytes)
+  pub found : IfOk result (IsFound medium disk)
   pub tells : IfOk result TellsOne
   pub kept : IfOk result (λ store. (store.keep ≡ keep) × (is_bad_keep store.geometry.segments keep ≡ false))
   pub fine : IfOk result (λ store. store.must_reopen ≡ false)

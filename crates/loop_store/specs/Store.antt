@@ -1,10 +1,10 @@
 -- What a store keeps of its disk and its index. Only the store's own code uses this.
-use Rattle.std.specs.Prelude.{◌≡◌, Bool, false}
-use Rattle.loop_disk.specs.Medium.{Medium, IsSettled}
+use Rattle.std.specs.Prelude.{◌≡◌, ℕ, Bool, false, List}
+use Rattle.loop_disk.specs.Medium.{MayBe, Medium, IsSettled}
 use Rattle.loop_record.specs.Layout.{version_in}
 use Rattle.loop_store.specs.declared.index.Index.{Index}
 use Rattle.loop_store.specs.Grow.{HasNoneStray}
-use Rattle.loop_store.specs.Index.{IsFitting, IsRecovered, SaysRecording}
+use Rattle.loop_store.specs.Index.{IsFitting, IsRecovered, IsRecoveredIn, SaysRecording}
 use Rattle.loop_store.specs.Times.{IsTimed}
 
 -- the disk holds a recording of which the index says everything, its version and the times too; no gate is stray, and
@@ -15,6 +15,12 @@ pub record IsPresent {A : Type 0} (index : Index A) (m : Medium) : Type 0 where
   pub settled : IsSettled m
   pub unstray : HasNoneStray index.ring.geometry m.bytes
   pub timed : IsTimed index.ring.geometry index.table.heads index.times.items m.bytes
+
+-- there was a disk once all had been read, and the index is of each image that agrees with what it gave
+pub record IsLookedUp {D A : Type 0} (medium : D → Medium) (disk : D) (index : Index A) : Type 0 where
+  pub looked : D
+  pub gives : (image : List ℕ) → MayBe (medium looked) image → MayBe (medium disk) image
+  pub tells : (image : List ℕ) → MayBe (medium looked) image → IsRecoveredIn index image
 
 -- the index fits the disk; with made-up frames it describes a whole recording; and where the store needn't be
 -- reopened, it says what an honest disk holds

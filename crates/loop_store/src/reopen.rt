@@ -10,7 +10,7 @@ ghost use Rattle.loop_store.specs.Reopen.{IsRefusedOpen, ReadsAlike, OpensKeepin
 ghost use Rattle.loop_store.specs.Grow.{Brings};
 ghost use Rattle.loop_store.specs.Found.{Finds};
 ghost use Rattle.loop_store.specs.Index.{IsFitting, IsRecoveredIn, SaysRecording, keeping};
-ghost use Rattle.loop_store.specs.Store.{IsPresent};
+ghost use Rattle.loop_store.specs.Store.{IsLookedUp, IsPresent};
 
 use crate::index::Index;
 use crate::recover::recover;
@@ -82,6 +82,7 @@ fn find<D: Disk, A: Allocator + Copy>(
     ensures settled { (D.medium disk.old).honest → IfOk result (λ index. IsSettled (D.medium disk.new)) }
     ensures found { (image : List ℕ) → MayBe (D.medium disk.new) image
         → IfOk result (λ index. IsRecoveredIn index image) }
+    ensures gives { (image : List ℕ) → MayBe (D.medium disk.new) image → MayBe (D.medium disk.old) image }
     ensures refused { (image : List ℕ) → MayBe (D.medium disk.new) image → IfErr result (IsRefusedOpen keep image) }
     ensures stays { (D.medium disk.old).honest → Stays (D.medium disk.old) (D.medium disk.new) }
     ensures called { Called (D.medium disk.old) (D.medium disk.new) (failed_in result) }
@@ -100,6 +101,7 @@ fn reopen<D: Disk, A: Allocator + Copy>(
     ensures known { IfOk result (λ found. IsFitting found (D.medium disk.new).size × SaysRecording found) }
     ensures kept { IfOk result (λ found. (found.table.keep ≡ keep)
         × (is_bad_keep found.ring.geometry.segments keep ≡ false)) }
+    ensures looked { IfOk result (IsLookedUp D.medium disk.old) }
     ensures present { (D.medium disk.old).honest → IfOk result (λ found. IsPresent found (D.medium disk.new)) }
     ensures refused { (image : List ℕ) → MayBe (D.medium disk.new) image → IfErr result (IsRefusedOpen keep image) }
     ensures moments { (D.medium disk.old).honest

@@ -1,7 +1,7 @@
 //! Cameras that are filmed, by turns and by threads, into a disk that takes all and into one that fails; and what is
 //! kept, read and unlocked meanwhile.
 
-ghost use Rattle.std.specs.Prelude.{◌≡◌};
+ghost use Rattle.std.specs.Prelude.{◌≡◌, ⊤};
 ghost use Rattle.loop_desk.specs.declared.hand.Hand.TheVariants.{Empty};
 ghost use Rattle.loop_pipeline.specs.Fronts.{IsOpen};
 ghost use Rattle.loop_plane.specs.Kinds.{heap_plane};
@@ -9,11 +9,11 @@ ghost use Rattle.loop_plane.specs.Kinds.{heap_plane};
 use crate::asserts::{holds, same};
 use crate::common::*;
 use loop_capture::{Device, Pattern, Tick};
-use loop_desk::{Desk, Hand, LaneFault};
+use loop_desk::{Desk, Flushed, Hand, LaneFault};
 use loop_disk::{Disk, FuseDisk, MemDisk};
 use loop_pipeline::{
-    Back, Begun, Brought, Camera, Ended, Front, Guide, Link, TakeOutcome, end, film_camera,
-    heap_start, new_queue, start_queue,
+    Back, Begun, Brought, Camera, Ended, Front, Guide, Link, LostFrame, TakeOutcome, Visits, end,
+    film_camera, heap_start, new_queue, start_queue,
 };
 use loop_plane::{FdTable, HeapPlane, PlaneMemory};
 use loop_record::Times;
@@ -53,6 +53,12 @@ fn guide(ticks: u64, first: u64) -> Guided {
     }
 }
 
+impl Visits for Guided {
+    ghost asks = { λ call. ⊤ };
+
+    const VISITED: bool = true;
+}
+
 impl Guide for Guided {
     fn next_tick<R: Wait + Clock>(&self, _rt: &R, n: u64) -> Option<u64> {
         if n >= self.ticks {
@@ -61,16 +67,17 @@ impl Guide for Guided {
         Some(n.saturating_add(self.first).saturating_mul(1_000))
     }
 
-    fn brought(&self) {
+    fn brought<D: Disk + Drop>(&self, _back: &Back<D, Guided>, _number: u64) {
         self.brought.fetch_add(1, Ordering::SeqCst);
     }
 
-    fn gave_up(&self) {
+    fn gave_up<D: Disk + Drop>(&self, _back: &Back<D, Guided>, _frame: LostFrame) {
         self.gave_up.fetch_add(1, Ordering::SeqCst);
     }
 
-    fn stored(&self, count: u32) {
-        self.stored.fetch_add(u64::from(count), Ordering::SeqCst);
+    fn stored<D: Disk + Drop>(&self, _back: &Back<D, Guided>, done: Flushed) {
+        self.stored
+            .fetch_add(u64::from(done.stored), Ordering::SeqCst);
     }
 
     fn flushes_again(&self, _fault: StoreFault) -> bool {
@@ -78,7 +85,12 @@ impl Guide for Guided {
     }
 
     /// Once two frames or more are held, a visitor locks them and unlocks them again, once.
-    fn visit<R: Wait + Clock, D: Disk + Drop>(&self, _rt: &R, alloc: Global, back: &mut Back<D>) {
+    fn visit<R: Wait + Clock, D: Disk + Drop>(
+        &self,
+        _rt: &R,
+        alloc: Global,
+        back: &mut Back<D, Guided>,
+    ) {
         if self.clips.load(Ordering::SeqCst) > 0 || back.status().held < 2 {
             return;
         }
@@ -237,7 +249,7 @@ fn frames_that_a_broken_disk_does_not_take_are_counted(rt: HostRuntime) {
 
 type TestFront = Front<Pattern, HeapPlane>;
 
-type TestBack = Back<MemDisk>;
+type TestBack = Back<MemDisk, Guided>;
 
 // The outcome of taking a frame, in a word.
 fn take(alloc: Global, front: &mut TestFront) -> &'static str
@@ -271,7 +283,7 @@ fn bring(back: &mut TestBack) -> &'static str
         Brought::Nothing => "nothing",
         Brought::DeskFull => "desk full",
         Brought::Submitted(_number) => "submitted",
-        Brought::GivenUp(fault) => fault.name(),
+        Brought::GivenUp(fault, _frame) => fault.name(),
     }
 }
 
@@ -300,17 +312,17 @@ fn fill_desk(rt: &impl Abort, back: &mut TestBack)
     same!(rt; bring(back), "desk full");
 }
 
-// One more is given up, and the two are stored.
-fn give_up(rt: &impl Abort, back: &mut TestBack)
+// No flush was refused, so no frame is given up: the two are stored, and the third comes to the desk.
+fn store_and_bring(rt: &impl Abort, back: &mut TestBack)
     ensures { back.new ≡ record back.old { desk = back.new.desk } }
 {
     same!(rt; bring(back), "desk full");
-    holds!(rt; back.give_up());
-    holds!(rt; !back.give_up());
+    holds!(rt; back.give_up().is_none());
     match back.flush() {
         Ok(flushed) => same!(rt; flushed.stored, 2),
         Err(fault) => panic!(rt; "no flush: {fault}"),
     }
+    same!(rt; bring(back), "submitted");
 }
 
 // The third frame is taken, and then a fourth, whose buffer stays in the hand.
@@ -338,11 +350,12 @@ fn a_front_and_a_back_work_by_turns(rt: HostRuntime) {
     fill_ring(&rt, alloc, &mut front);
     fill_desk(&rt, &mut back);
     same!(rt; take(alloc, &mut front), "frame");
-    give_up(&rt, &mut back);
+    store_and_bring(&rt, &mut back);
     take_last(&rt, alloc, &mut front);
     let ended = end(begun, front.into_parts(), back);
-    same!(rt; (ended.given_up, ended.left), (1, 1));
-    same!(rt; ended.desk.status().next, 2);
+    same!(rt; (ended.given_up, ended.left), (0, 1));
+    same!(rt; (ended.missed, ended.failed), (0, 0));
+    same!(rt; (ended.desk.status().next, ended.desk.status().pending), (2, 1));
     match ended.hand {
         Hand::Spent { index, .. } => same!(rt; index, 3),
         _ => panic!(rt; "no buffer is in the hand"),

@@ -1,4 +1,4 @@
-use Rattle.std.proofs.Common.{◌+◌, subst, sym}
+use Rattle.std.proofs.Common.{subst, sym}
 use Rattle.loop_pipeline.specs.Cameras.{CameraKeeps}
 use Rattle.loop_pipeline.specs.Fronts.{made_of}
 use Rattle.loop_pipeline.proofs.RingEnds.{ends}
@@ -6,12 +6,12 @@ use Rattle.loop_pipeline.proofs.ending.end.Goals as goal
 
 pub returns-clause-keeps : goal.returns-clause-keeps
 returns-clause-keeps g c =
-    subst (λ d. CameraKeeps g.D.Disk.medium g.S.FrameSource.next_gives g.P.PlaneMemory.plane
+    subst (λ d. CameraKeeps g.D.Disk.medium g.S.FrameSource.next_gives g.P.PlaneMemory.plane g.K.Visits.asks
     (record { device = c.args.begun.device.value; queue = c.args.begun.queue.value; desk = c.args.back.began })
     (record { device = c.args.front.device; queue = c.args.front.queue; desk = d })
-    (c.into_parts-desk.result.given_up + c.slots_beside-left.result)) (sym c.into_parts-desk.ensures.desk)
-    (ends g.D.Disk.medium g.S.FrameSource.next_gives g.P.PlaneMemory.plane (made_of c.args.begun) c.args.back _ _
+    c.into_parts-desk.result.given_up c.slots_beside-left.result c.args.front.missed c.args.front.failed) (sym c.into_parts-desk.ensures.desk)
+    (ends g.D.Disk.medium g.S.FrameSource.next_gives g.P.PlaneMemory.plane g.K.Visits.asks (made_of c.args.begun) c.args.back _ _
     c.args.front.to c.slots_beside-left.new.producer
-    c.into_parts-desk.result.from c.slots_beside-left.new.self _ _ c.requires.front.keeps
+    c.into_parts-desk.result.from c.slots_beside-left.new.self _ _ _ _ c.into_parts-desk.result.refused c.requires.front.keeps
     c.into_parts-desk.ensures.keeps c.slots_beside-left.ensures.producer c.slots_beside-left.ensures.looked
     c.slots_beside-left.ensures.fifo c.slots_beside-left.ensures.value)

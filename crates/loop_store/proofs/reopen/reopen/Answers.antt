@@ -32,3 +32,10 @@ returns-clause-alike g c = λ honest.
     let mid = c.find.ensures.called.honest.0 honest in
     alike-on _ _ _ (g.met.D.Disk.sound c.clear_newest.new.disk (c.clear_newest.ensures.called.honest.0 mid))
     (c.find.ensures.stays honest) (c.clear_newest.ensures.moments mid)
+
+pub returns-clause-looked : goal.returns-clause-looked
+returns-clause-looked g c = record {
+  looked = c.find.new.disk;
+  gives = c.find.ensures.gives;
+  tells = c.in_ok-index.ensures.found;
+}

@@ -2,14 +2,15 @@ use Rattle.std.proofs.Common.{ap, subst}
 use Rattle.loop_desk.specs.Keeps.{HaveTime}
 use Rattle.loop_desk.specs.Seen.{SeenDesk}
 use Rattle.loop_pipeline.specs.Backs.{SeenBack}
-use Rattle.loop_pipeline.proofs.BackRuns.{called}
-use Rattle.loop_pipeline.proofs.KeepCalls.{none-submitted}
+use Rattle.loop_pipeline.proofs.BackRuns.{visits}
+use Rattle.loop_pipeline.proofs.KeepCalls.{all-asked, none-submitted}
 use Rattle.loop_pipeline.proofs.back.Back.keep.Goals as goal
 
 pub invariant_of-self : goal.invariant_of-self
 invariant_of-self g c =
     let k = c.keep_time.ensures.goes in
-    called g.D.Disk.medium _ _ _ _ _ c.self.inside.from _ c.self.invariant k.calls (none-submitted _ _ _ _ _ k.keeps) k.goes
+    visits g.D.Disk.medium g.K.Visits.asks _ _ _ _ _ c.self.inside.from _ _ c.self.invariant k.calls
+    (all-asked g.K.Visits.asks c.requires _ _ _ _ _ k.keeps) (none-submitted _ _ _ _ _ k.keeps) k.goes
 
 pub returns-clause-whole : goal.returns-clause-whole
 returns-clause-whole g c none =

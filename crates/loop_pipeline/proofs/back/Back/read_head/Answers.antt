@@ -1,6 +1,8 @@
 use Rattle.std.proofs.Common.{refl}
-use Rattle.loop_pipeline.proofs.BackRuns.{called}
+use Rattle.loop_pipeline.proofs.BackRuns.{visits-once}
 use Rattle.loop_pipeline.proofs.back.Back.read_head.Goals as goal
 
 pub invariant_of-self : goal.invariant_of-self
-invariant_of-self g c = called g.D.Disk.medium _ _ _ _ _ c.self.inside.from _ c.self.invariant _ refl c.read_head.ensures.goes.1
+invariant_of-self g c =
+    visits-once g.D.Disk.medium g.K.Visits.asks _ _ _ _ _ c.self.inside.from _ _ c.self.invariant _ (c.requires _) refl
+    c.read_head.ensures.goes.1

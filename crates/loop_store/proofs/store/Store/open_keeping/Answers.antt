@@ -1,6 +1,6 @@
 use Rattle.std.proofs.Common.{false, refl}
 use Rattle.loop_record.proofs.Bounds.{limits}
-use Rattle.loop_store.proofs.Openings.{present-opened}
+use Rattle.loop_store.proofs.Openings.{present-opened, read-of}
 use Rattle.loop_store.proofs.Looks.{drawn-of, tells-drawn}
 use Rattle.loop_store.proofs.store.Store.open_keeping.Goals as goal
 
@@ -19,6 +19,13 @@ returns-in-Ok g c =
       opened = λ honest. present-opened g.D.Disk.medium c.reopen.new.disk index (g.D.Disk.medium c.args.disk).bytes
           (limits index.ring.geometry index.ring.good).slots.0 c.in-Ok.ensures.known.0.whole.within
           (c.in-Ok.ensures.present honest) (c.reopen.ensures.alike honest);
+      found = record {
+        looked = c.in-Ok.ensures.looked.looked;
+        gives = c.in-Ok.ensures.looked.gives;
+        tells = λ image may. read-of c.reopen.new.disk index false image
+            (limits index.ring.geometry index.ring.good).slots.0 c.in-Ok.ensures.known.0.whole.within
+            (c.in-Ok.ensures.looked.tells image may);
+      };
       tells = (drawn-of index known, tells-drawn c.reopen.new.disk index false known c.in-Ok.ensures.known.0.whole.within);
       kept = c.in-Ok.ensures.kept;
       fine = refl;
@@ -32,6 +39,7 @@ returns-in-Ok g c =
 pub returns-in-Err : goal.returns-in-Err
 returns-in-Err g c = record {
   opened = λ honest. tt;
+  found = tt;
   tells = tt;
   kept = tt;
   fine = tt;
