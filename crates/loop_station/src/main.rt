@@ -2,7 +2,7 @@
 //! has both languages, that of the configuration and that of orders.
 //!
 //! It reads the file that its one argument names, and hands the configuration, its input and its output to
-//! loop_station_work. Its stored run has a camera whose source is missing, and one whose source never came.
+//! loop_station_work. Its stored run has a camera whose source is away.
 #![tactic(auto)]
 
 use loop_station_words::read_config;
@@ -22,9 +22,28 @@ const FAILED: u8 = 1;
 // The status of a run whose arguments aren't exactly one path.
 const BAD_WORDS: u8 = 2;
 
+// What `--version` prints.
+const VERSION: &str = "loop_station 0.1.0";
+
+// What `--help` prints.
+const HELP: &str = "usage: loop_station CONFIG
+
+Records from the cameras that the file CONFIG names, without end, each into a loop of
+fixed size. Orders come from standard input or from the pipe that CONFIG names: `help`
+prints them, `keep 60` locks the last minute of each camera, `stop` ends the station.
+loop_station(1) and docs/station.md say what CONFIG may have.
+
+    --help, -h    this text
+    --version     the version
+";
+
 fn main(rt: HostRuntime) -> ExitCode {
     let watched = rt.stdout().is_terminal();
     ExitCode::from(match path_of(&rt) {
+        Ok(Some(word)) if word.as_str() == "--help" || word.as_str() == "-h" => {
+            print(&mut rt.stdout(), HELP)
+        }
+        Ok(Some(word)) if word.as_str() == "--version" => { print(&mut rt.stdout(), VERSION) }
         Ok(Some(path)) => run_file(
             &rt,
             path.as_str(),
@@ -74,6 +93,31 @@ fn run_file<
         Ok(false) => FAILED,
         Err(NotBegun::NoMemory) => say(err, "out of memory", FAILED),
         Err(NotBegun::NoClock) => say(err, "the clock can't be read", FAILED),
+        Err(NotBegun::AnswersInUse(answers)) => {
+            // As above: the status still reports the fault.
+            let _ = writeln!(
+                err,
+                "{path}: answers {answers} is a store, a source, the configuration or the pipe of orders"
+            );
+            FAILED
+        }
+        Err(NotBegun::TooManyMinutes(camera, tenths)) => {
+            let (whole, tenth) = (tenths / 10, tenths % 10);
+            // As above.
+            let _ = writeln!(
+                err,
+                "{path}: camera {camera}: no store holds so many frames: {whole}.{tenth} minutes fit"
+            );
+            FAILED
+        }
+    }
+}
+
+// Prints a text, and returns the program's status.
+fn print<W: Write>(out: &mut W, text: &str) -> u8 {
+    match writeln!(out, "{}", text.trim_end()) {
+        Ok(()) => 0,
+        Err(_) => FAILED,
     }
 }
 

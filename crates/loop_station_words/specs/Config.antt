@@ -6,7 +6,7 @@ use Rattle.loop_station_words.specs.declared.config.CameraConfig.{CameraConfig}
 use Rattle.loop_station_words.specs.declared.config.Config.{Config}
 use Rattle.loop_station_words.specs.declared.config.Source.{Source}
 use Rattle.loop_station_words.specs.declared.config.Source.TheVariants.{Path, Pattern}
-use Rattle.loop_station_words.specs.Fields.{memory_of, number_or, path_of, pattern_of, room_of, text_of, truth_of}
+use Rattle.loop_station_words.specs.Fields.{form_of, memory_of, number_or, path_of, pattern_of, room_of, text_of, truth_of}
 use Rattle.loop_station_words.specs.Names.{is_name}
 
 -- how many buffers a camera may have
@@ -44,6 +44,7 @@ pub record SaysCamera (keys : Members) (camera : CameraConfig) : Type 0 where
   pub store : text_of (get_member (codes "store") keys) ≡ Some (string_bytes camera.store)
   pub room : room_of (get_member (codes "minutes") keys) (get_member (codes "bytes") keys) ≡ Some camera.room
   pub seconds : number_or 60 (2 ^ 32 - 1) (get_member (codes "keep") keys) ≡ Some camera.seconds
+  pub after : number_or 0 3600 (get_member (codes "after") keys) ≡ Some camera.after
   pub tag : number_or 0 (2 ^ 64 - 1) (get_member (codes "tag") keys) ≡ Some camera.tag
   pub buffers : number_or 8 32 (get_member (codes "buffers") keys) ≡ Some camera.buffers
   pub memory : memory_of (get_member (codes "memory") keys) ≡ Some camera.memory
@@ -70,6 +71,8 @@ SaysCameras _ cameras = ⊥
 pub record SaysConfig (keys : Members) (config : Config) : Type 0 where
   pub orders : path_of (get_member (codes "orders") keys) ≡ Some (option_map string_bytes config.orders)
   pub answers : path_of (get_member (codes "answers") keys) ≡ Some (option_map string_bytes config.answers)
+  pub answers_form : form_of (get_member (codes "answers_form") keys) ≡ Some config.answers_form
+  pub saves : path_of (get_member (codes "saves") keys) ≡ Some (option_map string_bytes config.saves)
   pub times : truth_of true (get_member (codes "times") keys) ≡ Some config.times
   pub events : truth_of true (get_member (codes "events") keys) ≡ Some config.events
   pub cameras : SaysCameras (get_member (codes "camera") keys) config.cameras.items

@@ -6,6 +6,8 @@ use Rattle.std.specs.Int.{w64}
 use Rattle.std.specs.Str.{bytes_eq}
 use Rattle.toml.specs.Data.{Data, string, integer, float, boolean}
 use Rattle.loop_script.specs.Script.{number}
+use Rattle.loop_station_words.specs.declared.config.AnswersForm.{AnswersForm}
+use Rattle.loop_station_words.specs.declared.config.AnswersForm.TheVariants.{Json, Text}
 use Rattle.loop_station_words.specs.declared.config.MemoryLimit.{MemoryLimit}
 use Rattle.loop_station_words.specs.declared.config.MemoryLimit.TheVariants.{Bytes, Seconds}
 use Rattle.loop_station_words.specs.declared.config.StoreSize.{StoreSize}
@@ -24,6 +26,13 @@ abbrev pub path_of : Option Data → Option (Option (List ℕ))
 path_of None = Some None
 path_of (Some (string (byte ∷ bytes))) = Some (Some (byte ∷ bytes))
 path_of _ = None
+
+-- the form of answers: `text`, which is the usual one where the key is missing, or `json`
+abbrev pub form_of : Option Data → Option AnswersForm
+form_of None = Some Text
+form_of (Some (string form)) =
+    if bytes_eq form (codes "text") then Some Text else if bytes_eq form (codes "json") then Some Json else None
+form_of _ = None
 
 -- `true` or `false`, or the other value where the key is missing
 abbrev pub truth_of : Bool → Option Data → Option Bool

@@ -7,3 +7,4 @@ pub mod Rings
 pub mod Shapes
 pub mod Fields
 pub mod Config
+pub mod Parts

@@ -1,119 +1,167 @@
 -- What the lines of orders mean.
-use Rattle.std.specs.Prelude.{ℕ, zero, suc, ◌==◌, Bool, true, false, length, nat_le, List, [], ◌∷◌, Option, Some, None, if◌then◌else◌, codes}
-use Rattle.std.specs.List.{list_any, before_first, after_first}
+use Rattle.std.specs.Prelude.{ℕ, ◌==◌, Bool, true, false, length, nat_le, List, ◌∷◌, Option, Some, None, option_map, if◌then◌else◌, codes}
 use Rattle.std.specs.Str.{bytes_eq}
-use denote.Ref.{Bor}
 use Rattle.loop_script.specs.Script.{number, small_number}
+use Rattle.loop_station_words.specs.declared.order.KeepTimes.{KeepTimes}
 use Rattle.loop_station_words.specs.declared.order.Order.{Order}
-use Rattle.loop_station_words.specs.declared.order.Order.TheVariants.{Help, Keep, KeepBetween, Release, List as ListAll, Save, Status, Stop}
+use Rattle.loop_station_words.specs.declared.order.Order.TheVariants.{Cancel, Help, Keep, KeepBetween, Release, List as ListAll, Save, Status, Stop}
 use Rattle.loop_station_words.specs.Cuts.{cut}
 use Rattle.loop_station_words.specs.Names.{is_label, named}
 use Rattle.loop_station_words.specs.Times.{time_said}
 
--- a space
-abbrev pub is_space : ℕ → Bool
-is_space b = b == 32
+-- the first word, and what follows the space that ends it
+abbrev pub word_cut : List ℕ → Option (List ℕ × List ℕ) → List ℕ × Option (List ℕ)
+word_cut text None = (text, None)
+word_cut text (Some cut) = (cut.0, Some cut.1)
 
--- the parts of a line: so many words, each up to the next space, and then the rest of the line
-abbrev pub parts : ℕ → List ℕ → List (List ℕ)
-parts zero line = line ∷ []
-parts (suc n) line =
-    if list_any is_space line then before_first is_space line ∷ parts n (after_first is_space line) else line ∷ []
+unfoldable pub first_word : List ℕ → List ℕ × Option (List ℕ)
+first_word text = word_cut text (cut 32 text)
 
--- the parts of the text after a space, if there is one
-abbrev pub more : ℕ → Option (Bor (List ℕ)) → List (List ℕ)
-more n None = []
-more n (Some rest) = parts n rest.now
+-- ---- keep
 
--- seconds without a tag, if there are any
-abbrev pub seconds_alone : Option ℕ → Option (Option ℕ × Option ℕ)
-seconds_alone None = None
-seconds_alone (Some seconds) = Some (Some seconds, None)
+-- the seconds after the order, which a word such as `+10` says
+abbrev pub after_cut : Option (List ℕ × List ℕ) → Option ℕ
+after_cut None = None
+after_cut (Some plus) = if length plus.0 == 0 then small_number plus.1 else None
 
--- seconds and a tag, where there are both
-abbrev pub times_of : Option ℕ → Option ℕ → Option (Option ℕ × Option ℕ)
-times_of (Some seconds) (Some tag) = Some (Some seconds, Some tag)
-times_of _ _ = None
+unfoldable pub after_said : List ℕ → Option ℕ
+after_said word = after_cut (cut 43 word)
 
--- the seconds and the tag that words say: the tag, or both, may be left out
-abbrev pub times_said : List (List ℕ) → Option (Option ℕ × Option ℕ)
-times_said [] = Some (None, None)
-times_said (seconds ∷ []) = seconds_alone (small_number seconds)
-times_said (seconds ∷ tag ∷ []) = times_of (small_number seconds) (number tag)
-times_said _ = None
+-- the times, and the tag in the text after them, if there is one
+abbrev pub tagged : Option ℕ → Option ℕ → Option (List ℕ) → Option KeepTimes
+tagged seconds after None = Some (record { seconds = seconds; after = after; tag = None })
+tagged seconds after (Some text) =
+    option_map (λ tag. record { seconds = seconds; after = after; tag = Some tag }) (number text)
 
--- a keep of a camera, or of all, for such seconds and with such a tag
-abbrev pub keep_of : Option (List ℕ) → Option (Option ℕ × Option ℕ) → Option Order
+-- after the seconds: `+AFTER` and a tag, or a tag alone
+abbrev pub after_in : Option ℕ → List ℕ → Option (List ℕ) → Option ℕ → Option KeepTimes
+after_in seconds text rest (Some after) = tagged seconds (Some after) rest
+after_in seconds text rest None = tagged seconds None (Some text)
+
+-- the seconds, where there are any, and what follows them
+unfoldable pub after_seconds : Option ℕ → Option (List ℕ) → Option KeepTimes
+after_seconds None rest = None
+after_seconds (Some seconds) None = tagged (Some seconds) None None
+after_seconds (Some seconds) (Some text) =
+    let word = first_word text in after_in (Some seconds) text word.1 (after_said word.0)
+
+-- `+AFTER` and a tag, or seconds first
+abbrev pub seconds_in : List ℕ → Option (List ℕ) → Option ℕ → Option KeepTimes
+seconds_in first rest (Some after) = tagged None (Some after) rest
+seconds_in first rest None = after_seconds (small_number first) rest
+
+unfoldable pub times_in : List ℕ → Option KeepTimes
+times_in text = let word = first_word text in seconds_in word.0 word.1 (after_said word.0)
+
+-- `SECONDS`, `+AFTER` and a tag, in this order: each may be left out, but a tag never stands first
+abbrev pub times_said : Option (List ℕ) → Option KeepTimes
+times_said None = tagged None None None
+times_said (Some text) = times_in text
+
+-- a keep of a camera, or of all, with such times and tag
+abbrev pub keep_of : Option (List ℕ) → Option KeepTimes → Option Order
 keep_of camera None = None
-keep_of camera (Some times) = Some (Keep camera times.0 times.1)
+keep_of camera (Some times) = Some (Keep camera times.seconds times.after times.tag)
 
--- the words after `keep`, the first of which may be a camera's name
-abbrev pub keep_by : Option (List ℕ) → List ℕ → List (List ℕ) → Option Order
-keep_by None first words = keep_of None (times_said (first ∷ words))
-keep_by (Some camera) first words = keep_of (Some camera) (times_said words)
+-- what follows `keep `, whose first word may be a camera's name
+abbrev pub keep_in : List ℕ → Option (List ℕ) → Option (List ℕ) → Option Order
+keep_in text rest None = keep_of None (times_said (Some text))
+keep_in text rest (Some camera) = keep_of (Some camera) (times_said rest)
 
--- the words after `keep`: a camera, seconds and a tag, each of which may be left out, but no tag without seconds
-abbrev pub keep_said : List (List ℕ) → Option Order
-keep_said [] = keep_of None (times_said [])
-keep_said (first ∷ words) = keep_by (named first) first words
+unfoldable pub keep_said : List ℕ → Option Order
+keep_said text = let word = first_word text in keep_in text word.1 (named word.0)
 
--- the release of a camera's clip, where there are both
-abbrev pub release_of : Option (List ℕ) → Option ℕ → Option Order
-release_of (Some camera) (Some id) = Some (Release camera id)
-release_of _ _ = None
+-- ---- release, save and cancel
 
--- the words after `release`: a camera and the id of a clip
-abbrev pub release_said : List (List ℕ) → Option Order
-release_said (camera ∷ id ∷ []) = release_of (named camera) (small_number id)
-release_said _ = None
+-- a number that may be left out, where there is one
+abbrev pub tag_of : Option ℕ → Option (Option ℕ)
+tag_of (Some tag) = Some (Some tag)
+tag_of None = None
+
+-- the release of a camera's clip, where there are all parts
+abbrev pub release_of : Option (List ℕ) → Option ℕ → Option (Option ℕ) → Option Order
+release_of (Some camera) (Some id) (Some first) = Some (Release camera id first)
+release_of _ _ _ = None
+
+-- the id of a clip, and the number of its first frame, which may be left out
+abbrev pub clip_cut : Option (List ℕ) → List ℕ → Option (List ℕ × List ℕ) → Option Order
+clip_cut camera text None = release_of camera (small_number text) (Some None)
+clip_cut camera text (Some both) = release_of camera (small_number both.0) (tag_of (number both.1))
+
+abbrev pub release_cut : Option (List ℕ × List ℕ) → Option Order
+release_cut None = None
+release_cut (Some more) = clip_cut (named more.0) more.1 (cut 32 more.1)
+
+-- what follows `release `: a camera and a clip
+unfoldable pub release_said : List ℕ → Option Order
+release_said text = release_cut (cut 32 text)
 
 -- the save of a camera's clip, where there are both, and a path that isn't empty
 abbrev pub save_of : Bool → Option (List ℕ) → Option ℕ → List ℕ → Option Order
 save_of replace (Some camera) (Some id) (b ∷ out) = Some (Save camera id (b ∷ out) replace)
 save_of _ _ _ _ = None
 
--- the words after `save`, or `save!` which replaces a file: a camera, the id of a clip, and the rest of the line
-abbrev pub save_said : Bool → List (List ℕ) → Option Order
-save_said replace (camera ∷ id ∷ out ∷ []) = save_of replace (named camera) (small_number id) out
-save_said _ _ = None
+-- the id of a clip, and a path
+abbrev pub out_cut : Bool → Option (List ℕ) → Option (List ℕ × List ℕ) → Option Order
+out_cut replace camera None = None
+out_cut replace camera (Some both) = save_of replace camera (small_number both.0) both.1
+
+abbrev pub save_cut : Bool → Option (List ℕ × List ℕ) → Option Order
+save_cut replace None = None
+save_cut replace (Some more) = out_cut replace (named more.0) (cut 32 more.1)
+
+-- what follows `save `, or `save! ` which replaces a file: a camera, the id of a clip, and the rest of the line
+unfoldable pub save_said : Bool → List ℕ → Option Order
+save_said replace text = save_cut replace (cut 32 text)
+
+-- the end of the save of a camera's clip, where there are both
+abbrev pub cancel_of : Option (List ℕ) → Option ℕ → Option Order
+cancel_of (Some camera) (Some id) = Some (Cancel camera id)
+cancel_of _ _ = None
+
+abbrev pub cancel_cut : Option (List ℕ × List ℕ) → Option Order
+cancel_cut None = None
+cancel_cut (Some more) = cancel_of (named more.0) (small_number more.1)
+
+-- what follows `cancel `: a camera and the id of a clip
+unfoldable pub cancel_said : List ℕ → Option Order
+cancel_said text = cancel_cut (cut 32 text)
+
+-- ---- a line without times of day
 
 -- what a word alone asks for
 abbrev pub alone_said : List ℕ → Option Order
 alone_said word =
-    if bytes_eq word (codes "keep") then keep_said []
+    if bytes_eq word (codes "keep") then keep_of None (times_said None)
     else if bytes_eq word (codes "help") then Some Help
     else if bytes_eq word (codes "list") then Some ListAll
     else if bytes_eq word (codes "status") then Some Status
     else if bytes_eq word (codes "stop") then Some Stop else None
 
--- what a word and those after it ask for
-abbrev pub order_behind : List ℕ → List (List ℕ) → Option Order
-order_behind word words =
-    if bytes_eq word (codes "keep") then keep_said words
-    else if bytes_eq word (codes "release") then release_said words
-    else if bytes_eq word (codes "save") then save_said false words
-    else if bytes_eq word (codes "save!") then save_said true words else None
+-- what a word and the text after it ask for
+abbrev pub more_said : List ℕ → List ℕ → Option Order
+more_said word text =
+    if bytes_eq word (codes "keep") then keep_said text
+    else if bytes_eq word (codes "release") then release_said text
+    else if bytes_eq word (codes "save") then save_said false text
+    else if bytes_eq word (codes "save!") then save_said true text
+    else if bytes_eq word (codes "cancel") then cancel_said text else None
 
--- what the parts of a line ask for
-abbrev pub asked : List (List ℕ) → Option Order
-asked [] = None
-asked (word ∷ []) = alone_said word
-asked (word ∷ first ∷ words) = order_behind word (first ∷ words)
+abbrev pub line_cut : List ℕ → Option (List ℕ × List ℕ) → Option Order
+line_cut line None = alone_said line
+line_cut line (Some more) = more_said more.0 more.1
 
--- what a line without times of day asks for: its first three words, and the rest
-abbrev pub plain_said : List ℕ → Option Order
-plain_said line = asked (parts 3 line)
+-- what a line without times of day asks for
+unfoldable pub plain_said : List ℕ → Option Order
+plain_said line = line_cut line (cut 32 line)
+
+-- ---- a keep with times of day
 
 -- a keep of what a camera, or all, held from one time to another, with a tag
 abbrev pub between_of : Option (List ℕ) → Option ℕ → Option ℕ → Option (Option ℕ) → Option Order
 between_of camera (Some since) (Some until) (Some tag) =
     if nat_le since until then Some (KeepBetween camera since until tag) else None
 between_of _ _ _ _ = None
-
--- a tag, where there is a number
-abbrev pub tag_of : Option ℕ → Option (Option ℕ)
-tag_of (Some tag) = Some (Some tag)
-tag_of None = None
 
 -- the second time, and the tag after it, if there is one
 abbrev pub until_cut : Option (List ℕ) → Option ℕ → List ℕ → Option (List ℕ × List ℕ) → Option Order

@@ -9,8 +9,8 @@ ghost use Rattle.loop_station_words.specs.Names.{is_name};
 
 use crate::fault::{CameraFault, ConfigFault};
 use crate::fields::{
-    buffers_at, check_keys, memory_at, number_at, path_at, room_at, shape_at, small_at, text_at,
-    truth_at, value_at,
+    after_at, buffers_at, check_keys, form_at, memory_at, number_at, path_at, room_at, shape_at,
+    small_at, text_at, truth_at, value_at,
 };
 use crate::name::is_name;
 use crate::shape::FrameShape;
@@ -21,7 +21,15 @@ use toml::{Table, Value};
 pub const MAX_CAMERAS: usize = 16;
 
 // The keys of the file.
-const KEYS: [&str; 5] = ["orders", "answers", "times", "events", "camera"];
+const KEYS: [&str; 7] = [
+    "orders",
+    "answers",
+    "answers_form",
+    "saves",
+    "times",
+    "events",
+    "camera",
+];
 
 /// What the file says.
 #[derive(Drop)]
@@ -30,12 +38,25 @@ pub struct Config {
     pub orders: Option<String>,
     /// The file or pipe that also gets everything that is printed.
     pub answers: Option<String>,
+    /// The form of what that file or pipe gets.
+    pub answers_form: AnswersForm,
+    /// The only folder in which orders may write files; without one, they may write anywhere.
+    pub saves: Option<String>,
     /// Each line begins with the date and time of day.
     pub times: bool,
     /// Events are printed: what happens without an order.
     pub events: bool,
     /// The cameras, in their order.
     pub cameras: Vec<CameraConfig>,
+}
+
+/// The form of lines.
+#[derive(Clone, Copy, Debug, PartialEq, Eq)]
+pub enum AnswersForm {
+    /// As they are printed.
+    Text,
+    /// A JSON object each.
+    Json,
 }
 
 /// What the file says of a camera.
@@ -49,8 +70,10 @@ pub struct CameraConfig {
     pub store: String,
     /// How large the store is where it is created.
     pub room: StoreSize,
-    /// How many seconds `keep` locks.
+    /// How many seconds before the order `keep` locks.
     pub seconds: u32,
+    /// How many seconds after the order `keep` locks, 3600 at most.
+    pub after: u32,
     /// The tag that `keep` gives.
     pub tag: u64,
     /// How many buffers its frames come through, 4 to 32.
@@ -128,12 +151,15 @@ fn config_of(alloc: Global, table: &Table) -> Result<Config, ConfigFault>
     let cameras = cameras_of(alloc, camera_tables(table)?)?;
     let orders = path_at(table, "orders").ok_or(ConfigFault::BadOrders)?;
     let answers = path_at(table, "answers").ok_or(ConfigFault::BadAnswers)?;
+    let saves = path_at(table, "saves").ok_or(ConfigFault::BadSaves)?;
     if orders.is_some() && orders == answers {
         return Err(ConfigFault::SamePath);
     }
     Ok(Config {
         orders: copied(alloc, orders)?,
         answers: copied(alloc, answers)?,
+        answers_form: form_at(table).ok_or(ConfigFault::BadAnswersForm)?,
+        saves: copied(alloc, saves)?,
         times: truth_at(table, "times", true).ok_or(ConfigFault::BadTimes)?,
         events: truth_at(table, "events", true).ok_or(ConfigFault::BadEvents)?,
         cameras,
@@ -250,6 +276,7 @@ fn camera_of(alloc: Global, table: &Value) -> Result<CameraConfig, CameraFault>
         store: String::from_str(alloc, store)?,
         room: room_at(table)?,
         seconds: small_at(table, "keep", 60).ok_or(CameraFault::BadSeconds)?,
+        after: after_at(table).ok_or(CameraFault::BadAfter)?,
         tag: number_at(table, "tag", 0, u64::MAX).ok_or(CameraFault::BadTag)?,
         buffers: buffers_at(table).ok_or(CameraFault::BadBuffers)?,
         memory: memory_at(table).ok_or(CameraFault::BadMemory)?,

@@ -12,8 +12,8 @@ pub enum ConfigFault {
     /// The text isn't TOML, on the line of this number, from 1.
     #[error("line {0} can't be read as TOML")]
     BadToml(u64),
-    /// A key other than `orders`, `answers`, `times`, `events` and `camera`.
-    #[error("there is a key other than orders, answers, times, events and [[camera]]")]
+    /// A key other than `orders`, `answers`, `answers_form`, `saves`, `times`, `events` and `camera`.
+    #[error("there is a key other than orders, answers, answers_form, saves, times, events and [[camera]]")]
     UnknownKey,
     /// `orders` isn't a text, or is empty.
     #[error("orders is a path")]
@@ -21,6 +21,12 @@ pub enum ConfigFault {
     /// `answers` isn't a text, or is empty.
     #[error("answers is a path")]
     BadAnswers,
+    /// `answers_form` is neither `text` nor `json`.
+    #[error("answers_form is \"text\" or \"json\"")]
+    BadAnswersForm,
+    /// `saves` isn't a text, or is empty.
+    #[error("saves is the path of a folder")]
+    BadSaves,
     /// `orders` and `answers` are the same path.
     #[error("orders and answers are two paths")]
     SamePath,
@@ -86,6 +92,9 @@ pub enum CameraFault {
     /// `keep` isn't a whole number of 32 bits.
     #[error("keep is a whole number of seconds")]
     BadSeconds,
+    /// `after` isn't a whole number from 0 to 3600.
+    #[error("after is a whole number of seconds, 3600 at most")]
+    BadAfter,
     /// `tag` isn't a whole number, or is negative.
     #[error("tag is a whole number, not negative")]
     BadTag,

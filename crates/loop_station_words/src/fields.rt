@@ -4,9 +4,9 @@ ghost use Rattle.toml.specs.Data.{get_member, integer};
 ghost use Rattle.toml.specs.View.{table_view, view};
 ghost use Rattle.loop_station_words.specs.Config.{HasBuffers};
 ghost use Rattle.loop_station_words.specs.Cuts.{cut};
-ghost use Rattle.loop_station_words.specs.Fields.{SaysShape, bytes_of, duration_cut, memory_of, number_or, part_seconds, path_of, positive, room_of, seconds_of_minutes, shape_text, text_of, truth_of};
+ghost use Rattle.loop_station_words.specs.Fields.{SaysShape, bytes_of, duration_cut, form_of, memory_of, number_or, part_seconds, path_of, positive, room_of, seconds_of_minutes, shape_text, text_of, truth_of};
 
-use crate::config::{MemoryLimit, StoreSize};
+use crate::config::{AnswersForm, MemoryLimit, StoreSize};
 use crate::cut::cut;
 use crate::fault::CameraFault;
 use crate::shape::{FrameShape, read_shape};
@@ -15,10 +15,13 @@ use std::num::saturating_f64_to_u64;
 use toml::{Table, Value};
 
 // The keys of a camera.
-const KEYS: [&str; 12] = [
-    "name", "source", "store", "minutes", "bytes", "keep", "tag", "pattern", "buffers", "memory",
-    "save_to", "release",
+const KEYS: [&str; 13] = [
+    "name", "source", "store", "minutes", "bytes", "keep", "after", "tag", "pattern", "buffers",
+    "memory", "save_to", "release",
 ];
+
+// The most seconds after an order that a keep may lock.
+const MAX_AFTER: u64 = 3600;
 
 // The fewest buffers of a camera.
 const MIN_BUFFERS: u32 = 4;
@@ -87,6 +90,29 @@ pub(crate) fn small_at(table: &Table, key: &str, other: u32) -> Option<u32>
 {
     let number = number_at(table, key, u64::from(other), u64::from(u32::MAX))?;
     Some(number as u32)
+}
+
+/// How many seconds after the order a keep locks; `None` where that isn't a whole number from 0 to 3600.
+pub(crate) fn after_at(table: &Table) -> Option<u32>
+    ensures { result ≡ number_or 0 3600 (get_member (codes "after") (table_view table.now)) }
+{
+    let after = number_at(table, "after", 0, MAX_AFTER)?;
+    Some(after as u32)
+}
+
+/// The form of answers; `None` where it is neither `text` nor `json`.
+pub(crate) fn form_at(table: &Table) -> Option<AnswersForm>
+    ensures { result ≡ form_of (get_member (codes "answers_form") (table_view table.now)) }
+{
+    match value_at(table, "answers_form") {
+        None => Some(AnswersForm::Text),
+        Some(Value::String(form)) => match form.as_str() {
+            "text" => Some(AnswersForm::Text),
+            "json" => Some(AnswersForm::Json),
+            _ => None,
+        },
+        Some(_) => None,
+    }
 }
 
 /// How many buffers a camera has; `None` where that isn't a whole number from 4 to 32.

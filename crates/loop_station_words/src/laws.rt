@@ -15,11 +15,16 @@ use crate::shape::FrameShape;
 /// Each order has a line.
 #[tactic(auto, unfolding(crate::proofs::OnLiterals::orders_on_literals))]
 pub fn each_order_has_a_line()
-    ensures keep { order_said (codes "keep") ≡ Some (Order.Keep None None None) }
-    ensures seconds { order_said (codes "keep 60") ≡ Some (Order.Keep None (Some 60) None) }
+    ensures keep { order_said (codes "keep") ≡ Some (Order.Keep None None None None) }
+    ensures seconds { order_said (codes "keep 60") ≡ Some (Order.Keep None (Some 60) None None) }
     ensures camera { order_said (codes "keep left 60 7")
-        ≡ Some (Order.Keep (Some (codes "left")) (Some 60) (Some 7)) }
-    ensures release { order_said (codes "release left 3") ≡ Some (Order.Release (codes "left") 3) }
+        ≡ Some (Order.Keep (Some (codes "left")) (Some 60) None (Some 7)) }
+    ensures after { order_said (codes "keep left 30 +10 7")
+        ≡ Some (Order.Keep (Some (codes "left")) (Some 30) (Some 10) (Some 7)) }
+    ensures after_alone { order_said (codes "keep +10") ≡ Some (Order.Keep None None (Some 10) None) }
+    ensures release { order_said (codes "release left 3") ≡ Some (Order.Release (codes "left") 3 None) }
+    ensures first { order_said (codes "release left 3 90") ≡ Some (Order.Release (codes "left") 3 (Some 90)) }
+    ensures cancel { order_said (codes "cancel left 3") ≡ Some (Order.Cancel (codes "left") 3) }
     ensures list { order_said (codes "list") ≡ Some Order.List }
     ensures save { order_said (codes "save left 3 my clip.y4m")
         ≡ Some (Order.Save (codes "left") 3 (codes "my clip.y4m") false) }
@@ -37,7 +42,12 @@ pub fn other_lines_have_no_order()
     ensures many { order_said (codes "keep left 60 7 8") ≡ None }
     ensures tag { order_said (codes "keep 60 left") ≡ None }
     ensures large { order_said (codes "keep 4294967296") ≡ None }
+    ensures no_after { order_said (codes "keep 60 +") ≡ None }
+    ensures two_after { order_said (codes "keep +1 +2") ≡ None }
+    ensures other_order { order_said (codes "keep 60 7 +10") ≡ None }
     ensures no_name { order_said (codes "release 7 3") ≡ None }
+    ensures no_clip { order_said (codes "release left 3 90 7") ≡ None }
+    ensures no_save { order_said (codes "cancel left") ≡ None }
     ensures out { order_said (codes "save left 3 ") ≡ None }
     ensures space { order_said (codes "list ") ≡ None }
 {}

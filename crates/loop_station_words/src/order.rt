@@ -1,7 +1,7 @@
 // Orders: the lines that ask for something. docs/station.md says why it is so.
-ghost use Rattle.std.specs.Prelude.{◌≡◌, ◌∷◌, ℕ, suc};
+ghost use Rattle.std.specs.Prelude.{◌≡◌, option_map};
 ghost use Rattle.loop_station_words.specs.Cuts.{cut};
-ghost use Rattle.loop_station_words.specs.Orders.{alone_said, between_of, from_said, keep_of, keep_said, label_said, more, order_said, parts, plain_said, release_of, release_said, save_of, save_said, seconds_alone, tag_of, timed_said, times_kept, times_of, times_said, to_cut};
+ghost use Rattle.loop_station_words.specs.Orders.{after_said, after_seconds, alone_said, between_of, cancel_of, cancel_said, first_word, from_said, keep_of, keep_said, label_said, order_said, plain_said, release_of, release_said, save_of, save_said, tag_of, tagged, timed_said, times_in, times_kept, times_said, to_cut};
 
 use crate::cut::cut;
 use crate::name::{Name, is_label, named};
@@ -12,24 +12,29 @@ use loop_script::small_number;
 /// What a line asks for.
 #[derive(Drop)]
 pub enum Order<'a> {
-    /// `keep [CAMERA] [SECONDS [TAG]]`: the frames of the last seconds are locked, of one camera or of all. Where
-    /// SECONDS or TAG is left out, it is the camera's own.
+    /// `keep [CAMERA] [SECONDS] [+AFTER] [TAG]`: the frames of the last seconds are locked, and those of the AFTER
+    /// seconds to come, of one camera or of all. What is left out is the camera's own. A TAG has seconds or an AFTER
+    /// before it.
     Keep {
         camera: Option<Name<'a>>,
         seconds: Option<u32>,
+        after: Option<u32>,
         tag: Option<u64>,
     },
-    /// `keep [CAMERA] from T to T [TAG]`: the held frames of that time, in microseconds since 1970, are locked.
+    /// `keep [CAMERA] from T to T [TAG]`: the frames of that time, in microseconds since 1970, are locked. It may end
+    /// after the order.
     KeepBetween {
         camera: Option<Name<'a>>,
         since: u64,
         until: u64,
         tag: Option<u64>,
     },
-    /// `release CAMERA ID`: the clip of that id is unlocked.
+    /// `release CAMERA ID [FIRST]`: the clip of that id is unlocked, where a FIRST is given only if the clip begins with
+    /// the frame of that number.
     Release {
         camera: Name<'a>,
         id: u32,
+        first: Option<u64>,
     },
     /// `list`: what each camera's store holds.
     List,
@@ -41,12 +46,24 @@ pub enum Order<'a> {
         out: Name<'a>,
         replace: bool,
     },
+    /// `cancel CAMERA ID`: the save of the clip of that id ends.
+    Cancel {
+        camera: Name<'a>,
+        id: u32,
+    },
     /// `status`: the status of each camera.
     Status,
     /// `help`: what may be asked for.
     Help,
     /// `stop`: the program ends.
     Stop,
+}
+
+// How long a keep is, before and after its order, in seconds, and its tag: each where it is given.
+struct KeepTimes {
+    seconds: Option<u32>,
+    after: Option<u32>,
+    tag: Option<u64>,
 }
 
 /// The label of a line that begins with `@LABEL `, and the rest of the line.
@@ -157,16 +174,17 @@ fn between_of<'a>(
 }
 
 // What a line without times of day asks for.
+#[tactic(auto, unfolding(crate::specs::Orders::plain_said))]
 fn read_plain<'a>(line: &'a str) -> Option<Order<'a>>
     ensures { result ≡ plain_said line.now }
 {
-    let (word, rest) = first_part(line);
-    match rest {
-        None => read_alone(word),
-        Some(rest) if word == "keep" => read_keep(rest),
-        Some(rest) if word == "release" => read_release(rest),
-        Some(rest) if word == "save" => read_save(rest, false),
-        Some(rest) if word == "save!" => read_save(rest, true),
+    match cut(line, ' ') {
+        None => read_alone(line),
+        Some((word, rest)) if word == "keep" => read_keep(rest),
+        Some((word, rest)) if word == "release" => read_release(rest),
+        Some((word, rest)) if word == "save" => read_save(rest, false),
+        Some((word, rest)) if word == "save!" => read_save(rest, true),
+        Some((word, rest)) if word == "cancel" => read_cancel(rest),
         Some(_) => None,
     }
 }
@@ -176,7 +194,7 @@ fn read_alone<'a>(word: &str) -> Option<Order<'a>>
     ensures { result ≡ alone_said word.now }
 {
     match word {
-        "keep" => keep_of(None, None),
+        "keep" => keep_of(None, read_times(None)),
         "help" => Some(Order::Help),
         "list" => Some(Order::List),
         "status" => Some(Order::Status),
@@ -186,91 +204,154 @@ fn read_alone<'a>(word: &str) -> Option<Order<'a>>
 }
 
 // What follows `keep `.
+#[tactic(auto, unfolding(crate::specs::Orders::keep_said))]
 fn read_keep<'a>(text: &'a str) -> Option<Order<'a>>
-    ensures { result ≡ keep_said (parts 2 text.now) }
+    ensures { result ≡ keep_said text.now }
 {
-    let (first, rest) = first_part(text);
+    let (first, rest) = first_word(text);
     match named(first) {
-        None => keep_of(None, Some(text)),
-        Some(camera) => keep_of(Some(camera), rest),
+        None => keep_of(None, read_times(Some(text))),
+        Some(camera) => keep_of(Some(camera), read_times(rest)),
     }
 }
 
-// A camera, or all, and the seconds and the tag in a text, if there is one.
-fn keep_of<'a>(camera: Option<Name<'a>>, text: Option<&str>) -> Option<Order<'a>>
-    ensures { result ≡ keep_of camera.entry (times_said (more 1 text.entry)) }
+// A keep of a camera, or of all, with such times.
+fn keep_of<'a>(camera: Option<Name<'a>>, times: Option<KeepTimes>) -> Option<Order<'a>>
+    ensures { result ≡ keep_of camera.entry times }
 {
-    let (seconds, tag) = match text {
-        None => (None, None),
-        Some(text) => times(text)?,
-    };
+    let KeepTimes {
+        seconds,
+        after,
+        tag,
+    } = times?;
     Some(Order::Keep {
         camera,
         seconds,
+        after,
         tag,
     })
 }
 
-// The seconds that a text says, and the tag, if there is one.
-fn times(text: &str) -> Option<(Option<u32>, Option<u64>)>
-    ensures { result ≡ times_said (parts 1 text.now) }
+// The times and the tag in a text, if there is one.
+#[tactic(auto, unfolding(crate::specs::Orders::times_in))]
+fn read_times(text: Option<&str>) -> Option<KeepTimes>
+    ensures { result ≡ times_said (option_map (λ t. t.now) text.entry) }
 {
-    let (seconds, rest) = first_part(text);
-    match rest {
-        None => seconds_alone(small_number(seconds)),
-        Some(tag) => times_of(small_number(seconds), number(tag)),
+    let text = match text {
+        None => return tagged(None, None, None),
+        Some(text) => text,
+    };
+    let (first, rest) = first_word(text);
+    match read_after(first) {
+        Some(after) => tagged(None, Some(after), rest),
+        None => read_seconds(small_number(first), rest),
     }
 }
 
-// Seconds alone.
-fn seconds_alone(seconds: Option<u32>) -> Option<(Option<u32>, Option<u64>)>
-    ensures { result ≡ seconds_alone seconds }
+// What follows the seconds, where there are any.
+#[tactic(auto, unfolding(crate::specs::Orders::after_seconds))]
+fn read_seconds(seconds: Option<u32>, text: Option<&str>) -> Option<KeepTimes>
+    ensures { result ≡ after_seconds seconds (option_map (λ t. t.now) text.entry) }
 {
-    Some((Some(seconds?), None))
+    let seconds = Some(seconds?);
+    let text = match text {
+        None => return tagged(seconds, None, None),
+        Some(text) => text,
+    };
+    let (first, rest) = first_word(text);
+    match read_after(first) {
+        Some(after) => tagged(seconds, Some(after), rest),
+        None => tagged(seconds, None, Some(text)),
+    }
 }
 
-// Seconds and a tag, where there are both.
-fn times_of(seconds: Option<u32>, tag: Option<u64>) -> Option<(Option<u32>, Option<u64>)>
-    ensures { result ≡ times_of seconds tag }
+// The times, and the tag in a text, if there is one.
+fn tagged(seconds: Option<u32>, after: Option<u32>, text: Option<&str>) -> Option<KeepTimes>
+    ensures { result ≡ tagged seconds after (option_map (λ t. t.now) text.entry) }
 {
-    Some((Some(seconds?), Some(tag?)))
+    let tag = match text {
+        None => None,
+        Some(text) => Some(number(text)?),
+    };
+    Some(KeepTimes {
+        seconds,
+        after,
+        tag,
+    })
+}
+
+// The seconds after the order, which a word such as `+10` says.
+#[tactic(auto, unfolding(crate::specs::Orders::after_said))]
+fn read_after(word: &str) -> Option<u32>
+    ensures { result ≡ after_said word.now }
+{
+    match cut(word, '+') {
+        Some((before, digits)) if before.is_empty() => small_number(digits),
+        _ => None,
+    }
 }
 
 // What follows `release `.
+#[tactic(auto, unfolding(crate::specs::Orders::release_said))]
 fn read_release<'a>(text: &'a str) -> Option<Order<'a>>
-    ensures { result ≡ release_said (parts 2 text.now) }
+    ensures { result ≡ release_said text.now }
 {
-    let (camera, rest) = first_part(text);
-    match rest {
+    match cut(text, ' ') {
         None => None,
-        Some(id) => release_of(named(camera), small_number(id)),
+        Some((camera, rest)) => match cut(rest, ' ') {
+            None => release_of(named(camera), small_number(rest), Some(None)),
+            Some((id, first)) => release_of(named(camera), small_number(id), tag_of(number(first))),
+        },
     }
 }
 
 // The release of a camera's clip, where there are both.
-fn release_of<'a>(camera: Option<Name<'a>>, id: Option<u32>) -> Option<Order<'a>>
-    ensures { result ≡ release_of camera.entry id }
+fn release_of<'a>(
+    camera: Option<Name<'a>>,
+    id: Option<u32>,
+    first: Option<Option<u64>>,
+) -> Option<Order<'a>>
+    ensures { result ≡ release_of camera.entry id first }
 {
     Some(Order::Release {
+        camera: camera?,
+        id: id?,
+        first: first?,
+    })
+}
+
+// What follows `cancel `.
+#[tactic(auto, unfolding(crate::specs::Orders::cancel_said))]
+fn read_cancel<'a>(text: &'a str) -> Option<Order<'a>>
+    ensures { result ≡ cancel_said text.now }
+{
+    match cut(text, ' ') {
+        None => None,
+        Some((camera, id)) => cancel_of(named(camera), small_number(id)),
+    }
+}
+
+// The end of the save of a camera's clip, where there are both.
+fn cancel_of<'a>(camera: Option<Name<'a>>, id: Option<u32>) -> Option<Order<'a>>
+    ensures { result ≡ cancel_of camera.entry id }
+{
+    Some(Order::Cancel {
         camera: camera?,
         id: id?,
     })
 }
 
 // What follows `save ` or `save! `.
+#[tactic(auto, unfolding(crate::specs::Orders::save_said))]
 fn read_save<'a>(text: &'a str, replace: bool) -> Option<Order<'a>>
-    ensures { result ≡ save_said replace (parts 2 text.now) }
+    ensures { result ≡ save_said replace text.now }
 {
-    let (camera, rest) = first_part(text);
-    match rest {
+    match cut(text, ' ') {
         None => None,
-        Some(rest) => {
-            let (id, out) = first_part(rest);
-            match out {
-                None => None,
-                Some(out) => save_of(replace, named(camera), small_number(id), out),
-            }
-        }
+        Some((camera, rest)) => match cut(rest, ' ') {
+            None => None,
+            Some((id, out)) => save_of(replace, named(camera), small_number(id), out),
+        },
     }
 }
 
@@ -295,11 +376,12 @@ fn save_of<'a>(
 }
 
 // The first word, and what follows the space that ends it.
-fn first_part(line: &str) -> (&str, Option<&str>)
-    ensures { (n : ℕ) → parts (suc n) line.now ≡ result.0.now ∷ more n result.1 }
+#[tactic(auto, unfolding(crate::specs::Orders::first_word))]
+fn first_word<'a>(text: &'a str) -> (&'a str, Option<&'a str>)
+    ensures { first_word text.now ≡ (result.0.now, option_map (λ t. t.now) result.1) }
 {
-    match line.split_once(' ') {
+    match cut(text, ' ') {
         Some((word, rest)) => (word, Some(rest)),
-        None => (line, None),
+        None => (text, None),
     }
 }

@@ -5,9 +5,17 @@ use Rattle.loop_record.specs.declared.times.Times.{Times}
 use Rattle.loop_store.specs.declared.fault.StoreFault.{StoreFault}
 use Rattle.loop_desk.specs.declared.keep.Kept.{Kept}
 use Rattle.loop_desk.specs.declared.limits.Flushed.{Flushed}
-use Rattle.loop_desk.specs.Desk.{flushed}
+use Rattle.loop_desk.specs.Desk.{DeskCall, clip_locked, clip_unlocked, flushed, frame_read, run_told}
 use Rattle.loop_desk.specs.Keeps.{KeepsTime}
 use Rattle.loop_desk.specs.Seen.{DeskGoes, SeenDesk}
+
+-- what an order may call of a desk: it lists the runs of a time, locks, unlocks and reads
+abbrev pub IsOrdered : DeskCall → Type 0
+IsOrdered (run_told times place run) = Unit {0}
+IsOrdered (clip_locked span answer) = Unit {0}
+IsOrdered (clip_unlocked id answer) = Unit {0}
+IsOrdered (frame_read number answer) = Unit {0}
+IsOrdered call = ⊥
 
 -- a desk went on by flushes alone, with these answers
 abbrev pub Flushes : {D : Type 0} → (D → Medium) → SeenDesk D → List (Result Flushed StoreFault) → SeenDesk D → Type 0

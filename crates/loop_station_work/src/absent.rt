@@ -17,6 +17,8 @@ const UNFINISHED: usize = 4;
 /// Why a camera's store isn't there, so that it can't answer.
 #[derive(Clone, Copy)]
 pub enum Absent {
+    /// It is being opened.
+    Opening,
     /// There is none yet, and the source that it is made for hasn't come.
     NoStore,
     /// Its file can't be opened or made.
@@ -35,6 +37,8 @@ pub enum Absent {
     NoGeometry,
     /// There is no memory for the buffers of its frames.
     NoBuffers,
+    /// Its path names another file by now, or none.
+    Moved,
     /// The program ends.
     Stopped,
 }
@@ -63,6 +67,7 @@ impl Absent {
     // Its name.
     fn name(&self) -> &'static str {
         match self {
+            Absent::Opening => "Opening",
             Absent::NoStore => "NoStore",
             Absent::File(fault) => file_name(*fault),
             Absent::Store(fault) => fault.name(),
@@ -72,6 +77,7 @@ impl Absent {
             Absent::TooFewBytes => "TooFewBytes",
             Absent::NoGeometry => "NoGeometry",
             Absent::NoBuffers => "NoBuffers",
+            Absent::Moved => "Moved",
             Absent::Stopped => "Stopped",
         }
     }

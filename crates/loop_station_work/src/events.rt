@@ -1,227 +1,228 @@
-//! Events: what happens to a camera without an order. Each is printed once.
+//! Events: what happens to a camera without an order. Each is told once.
 //!
-//! A thread looks at the state of each camera ten times a second, and prints what has changed: its source, its store,
-//! frames that were given up, blocks that are all locked, and a disk that is slow. What lasted for less than a tenth of
-//! a second isn't printed, but frames that were given up always are.
+//! A thread looks at the state of each camera ten times a second, and tells what has changed, as loop_station_core
+//! decides: its source, its store, frames that were given up, blocks that are all locked, and a disk that is slow. What
+//! lasted for less than a tenth of a second isn't told, but frames that were given up always are.
 
 use crate::absent::Absent;
 use crate::asked::held_of_asked;
 use crate::link::SourceState;
-use crate::outlet::Outlet;
 use crate::state::CameraState;
-use loop_station_words::{
-    print_all_locked, print_behind, print_caught_up, print_given_up, print_room_again,
-    print_source_missing, print_source_on, print_store_absent, print_store_open,
-};
-use std::alloc::AllocGlobal;
+use loop_station_core::{Change, KINDS, NOT_THERE_YET, Reported, Seen, SourceSeen, StoreSeen};
+use loop_station_words::Lines;
 use std::io;
-use std::io::Write;
 use std::sync::Wait;
-use std::sync::atomic::Ordering;
 use std::time::{Clock, Duration};
 
-// The disk is reported as behind from this many microseconds on.
-const BEHIND: u64 = 1_000_000;
+// How many frames a flush stores at most.
+const FLUSHED: u64 = 8;
 
-// Below this many microseconds it has caught up.
-const CAUGHT_UP: u64 = 500_000;
-
-// The microseconds at least between two lines about frames that were given up.
-const GIVEN_UP_AGAIN: u64 = 1_000_000;
-
-// A source or a store that isn't there is reported only this many microseconds after the program began.
-const COMES_SOON: u64 = 1_000_000;
-
-// The status of a camera's store when it was looked at last.
-#[derive(Clone, Copy)]
-enum StoreStatus {
-    Unknown,
-    Open,
-    Absent(Absent),
-}
-
-/// What was last reported of a camera.
+/// What was last told of a camera.
 #[derive(Clone, Copy)]
 pub struct LastReported {
-    /// From this time on a source or a store that isn't there is reported.
-    soon: u64,
-    source: Option<SourceState>,
-    store: StoreStatus,
-    given_up: u64,
-    /// Since when frames have been given up that aren't reported yet.
-    since: u64,
-    /// When frames that were given up may be reported again.
-    again: u64,
-    locked: bool,
-    behind: bool,
+    reported: Reported,
+    // Why the store wasn't there when that was looked at last, and the number of that cause.
+    absent: Option<Absent>,
+    cause: u32,
+    // Why its source is unusable, as was told last.
+    unusable: Option<&'static str>,
+    // How many quarters of its store were made, while it is made.
+    making: Option<u32>,
+    // How fast its disk is was told.
+    disk: bool,
 }
 
 impl LastReported {
-    /// Nothing is reported yet at this time.
+    /// Nothing is told yet at this time.
     pub fn new(now: u64) -> LastReported {
         LastReported {
-            soon: now.saturating_add(COMES_SOON),
-            source: None,
-            store: StoreStatus::Unknown,
-            given_up: 0,
-            since: now,
-            again: 0,
-            locked: false,
-            behind: false,
+            reported: Reported::new(now),
+            absent: None,
+            cause: NOT_THERE_YET,
+            unusable: None,
+            making: None,
+            disk: false,
         }
     }
 
-    /// Prints what has changed of a camera.
-    pub fn tell_changes<R: Wait + Clock, L: Write>(
-        &mut self,
-        rt: &R,
-        state: &CameraState,
-        lines: &mut L,
-    ) -> io::Result<()> {
-        self.tell_store(rt, state, lines)?;
-        self.tell_source(rt, state, lines)?;
-        self.tell_given_up(rt, state, lines)?;
-        self.tell_locked(state, lines)?;
-        self.tell_behind(rt, state, lines)
-    }
-
-    // Its source came or went. That its frames don't fit the store is printed by the source's thread.
-    fn tell_source<R: Wait + Clock, L: Write>(
-        &mut self,
-        rt: &R,
-        state: &CameraState,
-        lines: &mut L,
-    ) -> io::Result<()> {
-        let (name, source) = (state.config.name.as_str(), state.link.source(rt));
-        let before = match self.source {
-            None if matches!(source, SourceState::Missing) && self.is_early(rt, state) => {
-                return Ok(());
+    // What is seen of a camera's store.
+    fn store_seen<R: Wait>(&mut self, rt: &R, state: &CameraState) -> StoreSeen {
+        match state.jobs.attended(rt) {
+            None => StoreSeen::Unknown,
+            Some(Ok(())) => StoreSeen::Open,
+            Some(Err(Absent::Stopped)) => StoreSeen::Stopped,
+            // That it is being made is told in its place.
+            Some(Err(Absent::NoStore)) if state.link.making(rt).is_some() => StoreSeen::Unknown,
+            Some(Err(Absent::NoStore)) => {
+                self.absent = Some(Absent::NoStore);
+                StoreSeen::Absent(NOT_THERE_YET)
             }
-            before => before,
-        };
-        self.source = Some(source);
-        match (before, source) {
-            (Some(SourceState::On), SourceState::On) => Ok(()),
-            (_, SourceState::On) => match state.link.header(rt, Duration::from_millis(0)) {
-                Some(geometry) => print_source_on(lines, name, &geometry),
-                None => Ok(()),
-            },
-            (Some(SourceState::Missing), SourceState::Missing) => Ok(()),
-            (_, SourceState::Missing) => print_source_missing(lines, name),
-            (_, SourceState::OtherGeometry) => Ok(()),
+            Some(Err(why)) => {
+                let is_like = match &self.absent {
+                    Some(before) => before.is_like(&why),
+                    None => false,
+                };
+                if !is_like {
+                    // Another cause has another number.
+                    self.cause = self.cause.wrapping_add(1).max(1);
+                }
+                self.absent = Some(why);
+                StoreSeen::Absent(self.cause)
+            }
         }
     }
 
-    // Whether it is too early to report what isn't there: it may still come.
-    fn is_early<R: Clock>(&self, rt: &R, state: &CameraState) -> bool {
-        state.timeline.now(rt) < self.soon
-    }
-
-    // Its store came or went.
-    fn tell_store<R: Wait + Clock, L: Write>(
+    /// Tells what has changed of a camera since it was last looked at.
+    pub fn tell_changes<R: Wait + Clock>(
         &mut self,
         rt: &R,
         state: &CameraState,
-        lines: &mut L,
+        lines: &mut Lines,
+    ) -> io::Result<()> {
+        let store = self.store_seen(rt, state);
+        let seen = seen_of(rt, state, store);
+        let (reported, changes) = self.reported.next(&seen);
+        self.reported = reported;
+        for kind in 0..KINDS {
+            if let Some(change) = changes.at(kind) {
+                self.tell(rt, state, change, lines)?;
+            }
+        }
+        self.tell_unusable(rt, state, lines)?;
+        self.tell_making(rt, state, lines)?;
+        self.tell_disk(rt, state, lines)
+    }
+
+    // Its source gives what no store takes: told once for each cause.
+    fn tell_unusable<R: Wait>(
+        &mut self,
+        rt: &R,
+        state: &CameraState,
+        lines: &mut Lines,
+    ) -> io::Result<()> {
+        match state.link.source(rt) {
+            SourceState::Unusable(why) if self.unusable == Some(why) => Ok(()),
+            SourceState::Unusable(why) => {
+                self.unusable = Some(why);
+                lines.source_unusable(state.config.name.as_str(), why)
+            }
+            SourceState::Missing => Ok(()),
+            SourceState::On | SourceState::Silent | SourceState::OtherGeometry => {
+                self.unusable = None;
+                Ok(())
+            }
+        }
+    }
+
+    // Its store is made: each further quarter is told.
+    fn tell_making<R: Wait>(
+        &mut self,
+        rt: &R,
+        state: &CameraState,
+        lines: &mut Lines,
+    ) -> io::Result<()> {
+        let percent = state.link.making(rt);
+        let quarter = percent.map(|percent| percent / 25);
+        if quarter == self.making {
+            return Ok(());
+        }
+        self.making = quarter;
+        let (name, path) = (state.config.name.as_str(), state.config.store.as_str());
+        match percent {
+            Some(percent) => lines.making(name, path, u64::from(percent)),
+            None => Ok(()),
+        }
+    }
+
+    // How fast its disk is, once that is known, and that it is too slow for the store's frames: a flush stores so many
+    // of them at most, by two syncs.
+    fn tell_disk<R: Wait>(
+        &mut self,
+        rt: &R,
+        state: &CameraState,
+        lines: &mut Lines,
+    ) -> io::Result<()> {
+        let (Some(micros), Some(geometry)) = (state.link.sync(rt), state.link.store(rt)) else {
+            return Ok(());
+        };
+        if self.disk {
+            return Ok(());
+        }
+        self.disk = true;
+        let name = state.config.name.as_str();
+        lines.syncs(name, micros)?;
+        let flush = micros.max(1).saturating_mul(2);
+        let frames = FLUSHED.saturating_mul(1_000_000) / flush;
+        if frames.saturating_mul(u64::from(geometry.rate_den)) < u64::from(geometry.rate_num) {
+            lines.too_slow(name, micros, frames)?;
+        }
+        Ok(())
+    }
+
+    // Tells one change.
+    fn tell<R: Wait + Clock>(
+        &self,
+        rt: &R,
+        state: &CameraState,
+        change: Change,
+        lines: &mut Lines,
     ) -> io::Result<()> {
         let name = state.config.name.as_str();
-        match state.clerk.attended(rt) {
-            // It hasn't been opened yet.
-            None => Ok(()),
-            Some(Ok(())) => {
-                if matches!(self.store, StoreStatus::Open) {
-                    return Ok(());
-                }
-                self.store = StoreStatus::Open;
+        match change {
+            Change::SourceOn => match state.link.header(rt, Duration::from_millis(0)) {
+                Some(geometry) => lines.source_on(name, &geometry),
+                None => Ok(()),
+            },
+            Change::SourceMissing => lines.source_missing(name),
+            Change::SourceSilent => lines.source_silent(name),
+            Change::StoreOpen => {
                 let less = match state.link.store(rt) {
                     Some(geometry) => held_of_asked(&geometry, &state.config.room),
                     None => None,
                 };
-                print_store_open(lines, name, less)
+                lines.store_open(name, less)
             }
-            Some(Err(Absent::Stopped)) => Ok(()),
-            Some(Err(Absent::NoStore)) if self.is_early(rt, state) => Ok(()),
-            Some(Err(why)) => {
-                if let StoreStatus::Absent(before) = self.store {
-                    if before.is_like(&why) {
-                        return Ok(());
-                    }
-                }
-                self.store = StoreStatus::Absent(why);
-                print_store_absent(lines, name, &why)
-            }
+            Change::StoreAbsent(_) => match &self.absent {
+                Some(why) => lines.store_absent(name, why),
+                None => Ok(()),
+            },
+            Change::GivenUp { frames, since } => lines.given_up(name, frames, since),
+            Change::AllLocked => lines.all_locked(name),
+            Change::RoomAgain => lines.room_again(name),
+            Change::NearlyAllLocked => lines.nearly_all_locked(name),
+            Change::Behind(micros) => lines.behind(name, micros),
+            Change::CaughtUp => lines.caught_up(name),
+            Change::Waited { micros, since } => lines.waited(name, micros, since),
         }
-    }
-
-    // Frames were given up since the last report.
-    fn tell_given_up<R: Clock, L: Write>(
-        &mut self,
-        rt: &R,
-        state: &CameraState,
-        lines: &mut L,
-    ) -> io::Result<()> {
-        let now = state.timeline.now(rt);
-        let all = state.counts.given_up.load(Ordering::SeqCst);
-        let frames = all.saturating_sub(self.given_up);
-        if frames == 0 {
-            self.since = now;
-            return Ok(());
-        }
-        if now < self.again && !state.is_stopped() {
-            return Ok(());
-        }
-        let since = self.since;
-        self.given_up = all;
-        self.since = now;
-        self.again = now.saturating_add(GIVEN_UP_AGAIN);
-        print_given_up(lines, state.config.name.as_str(), frames, since)
-    }
-
-    // Every block is locked, or not any more.
-    fn tell_locked<L: Write>(&mut self, state: &CameraState, lines: &mut L) -> io::Result<()> {
-        let locked = state.is_locked();
-        if locked == self.locked {
-            return Ok(());
-        }
-        self.locked = locked;
-        let name = state.config.name.as_str();
-        if locked {
-            print_all_locked(lines, name)
-        } else {
-            print_room_again(lines, name)
-        }
-    }
-
-    // The disk has fallen behind, or has caught up.
-    fn tell_behind<R: Wait, L: Write>(
-        &mut self,
-        rt: &R,
-        state: &CameraState,
-        lines: &mut L,
-    ) -> io::Result<()> {
-        let (name, micros) = (state.config.name.as_str(), state.behind_micros(rt));
-        if !self.behind && micros > BEHIND {
-            self.behind = true;
-            return print_behind(lines, name, micros);
-        }
-        if self.behind && micros < CAUGHT_UP {
-            self.behind = false;
-            return print_caught_up(lines, name);
-        }
-        Ok(())
     }
 }
 
-/// Prints what has changed of a camera since it was last looked at.
-pub fn tell_events<R: AllocGlobal + Wait + Clock, W: Write + Drop>(
-    rt: &R,
-    state: &CameraState,
-    reported: &mut LastReported,
-    outlet: &Outlet<W>,
-) {
-    let mut lines = Vec::new(rt.alloc());
-    // Where memory for the lines is refused, they aren't printed.
-    if reported.tell_changes(rt, state, &mut lines).is_ok() {
-        outlet.put(rt, &lines);
+// What is seen of a camera now.
+fn seen_of<R: Wait + Clock>(rt: &R, state: &CameraState, store: StoreSeen) -> Seen {
+    let source = match state.link.source(rt) {
+        SourceState::On => SourceSeen::On,
+        SourceState::Missing => SourceSeen::Missing,
+        SourceState::Silent => SourceSeen::Silent,
+        SourceState::OtherGeometry => SourceSeen::Other,
+        SourceState::Unusable(_) => SourceSeen::Unusable,
+    };
+    let (_, room, _) = state.stored_room(rt);
+    let blocks = match state.link.store(rt) {
+        Some(geometry) if matches!(store, StoreSeen::Open) => u64::from(
+            geometry.segments,
+        ).saturating_sub(1),
+        _ => 0,
+    };
+    Seen {
+        now: state.timeline.now(rt),
+        source,
+        store,
+        lost: state.tally(rt).lost(),
+        locked: state.is_locked(),
+        behind: state.behind_micros(rt),
+        waited: state.feed.waited(rt),
+        room,
+        blocks,
+        stopping: state.is_stopped(),
     }
 }

@@ -1,6 +1,6 @@
 //! The queue in which a source's frames wait for a camera's device.
 
-ghost use Rattle.std.specs.Prelude.{◌≡◌, ⊤, IfSome, None, Some, length};
+ghost use Rattle.std.specs.Prelude.{◌≡◌, IfSome, None, Some, length};
 ghost use Rattle.loop_capture.specs.declared.source.Next.TheVariants.{More};
 
 use crate::clock::Timeline;
@@ -31,6 +31,10 @@ struct WaitingFrames {
     coming: Option<u64>,
     // How many frames were taken for the device.
     taken: u64,
+    // How often the frames that waited were dropped, because no store takes them.
+    epoch: u64,
+    // Since when the source has had to wait for a place, unless that was looked at after it was over.
+    waited: Option<u64>,
 }
 
 #[derive(Drop)]
@@ -60,6 +64,8 @@ impl Feed {
                 spare: HeapCircularBuffer::with_capacity(alloc, FEWEST)?,
                 coming: None,
                 taken: 0,
+                epoch: 0,
+                waited: None,
             }),
             changed: Condvar::new(),
             ready: Mutex::new(Ready {
@@ -92,17 +98,57 @@ impl Feed {
         self.waiting.lock(rt).spare.pop_back()
     }
 
-    /// Adds a frame that has come now after the others, once there is room.
-    pub fn give<R: Wait + Clock>(&self, rt: &R, timeline: &Timeline, bytes: Vec<u8>) {
+    /// Adds a frame that has come now after the others, once there is room. It is dropped where the frames that waited
+    /// were dropped since that epoch began.
+    pub fn give<R: Wait + Clock>(&self, rt: &R, timeline: &Timeline, bytes: Vec<u8>, epoch: u64) {
         let mut waiting = self.waiting.lock(rt);
+        if waiting.epoch != epoch {
+            return;
+        }
         let time = timeline.now(rt);
+        if waiting.frames.is_full() && waiting.waited.is_none() {
+            waiting.waited = Some(time);
+        }
         waiting.coming = Some(time);
-        let mut waiting = self
+        let mut guard = self
             .changed
             .wait_while(rt, waiting, |waiting| waiting.frames.is_full());
+        let waiting = &mut *guard;
         waiting.coming = None;
-        waiting.frames.push_back(Fed { time, bytes });
+        if waiting.epoch == epoch {
+            waiting.frames.push_back(Fed { time, bytes });
+        }
         self.changed.notify_all();
+    }
+
+    /// How often the frames that waited were dropped.
+    pub fn epoch<R: Wait>(&self, rt: &R) -> u64 {
+        self.waiting.lock(rt).epoch
+    }
+
+    /// Drops the frames that wait, because no store takes them.
+    pub fn clear<R: Wait>(&self, rt: &R) {
+        let mut guard = self.waiting.lock(rt);
+        let waiting = &mut *guard;
+        waiting.epoch = waiting.epoch.wrapping_add(1);
+        for _ in 0..waiting.frames.len() {
+            if let Some(frame) = waiting.frames.pop_front() {
+                waiting.taken = waiting.taken.wrapping_add(1);
+                waiting.spare.push_back(frame.bytes);
+            }
+        }
+        self.changed.notify_all();
+    }
+
+    /// Since when the source has had to wait because memory was full, where it did since the last look or does now. A
+    /// camera that doesn't wait has dropped frames meanwhile.
+    pub fn waited<R: Wait>(&self, rt: &R) -> Option<u64> {
+        let mut waiting = self.waiting.lock(rt);
+        let since = waiting.waited;
+        if waiting.coming.is_none() || !waiting.frames.is_full() {
+            waiting.waited = None;
+        }
+        since
     }
 
     /// Takes the first frame that waits as the frame of the next tick, unless there is one already. Returns when that
@@ -175,7 +221,8 @@ impl FeedSource {
 }
 
 impl FrameSource for FeedSource {
-    ghost next_gives = { λ source answer bytes after. ⊤ };
+    /// A frame's bytes are those of the one that lay in the feed, which is lent from then on.
+    ghost next_gives = { λ source answer bytes after. answer ≡ More → bytes ≡ after.frame.items };
 
     ghost lends = { λ source. source.frame.items };
 

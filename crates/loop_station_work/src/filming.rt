@@ -1,8 +1,11 @@
 //! A camera's thread: it opens or makes the store, and films the camera into it, again and again.
 
 use crate::absent::Absent;
+use crate::answering::{Message, OpenEvent};
 use crate::asked::asked_ring;
+use crate::clerk::FoundClip;
 use crate::feed::FeedSource;
+use crate::notes::read_events;
 use crate::outlet::Outlet;
 use crate::places::Places;
 use crate::size::size_of;
@@ -14,8 +17,9 @@ use loop_pipeline::{Camera, Ended, Unfilmed, film_camera, heap_start, new_queue,
 use loop_plane::HeapPlane;
 use loop_record::Geometry;
 use loop_script::LIMITS;
-use loop_station_words::{RingSize, StoreSize, print_not_a_store};
-use loop_store::{OpenRefused, Store, StoreFault};
+use loop_station_core::Keep;
+use loop_station_words::{RingSize, StoreSize};
+use loop_store::{Clip, OpenRefused, Store, StoreFault};
 use std::alloc::{AllocGlobal, Global};
 use std::io::Write;
 use std::sync::atomic::Ordering;
@@ -26,6 +30,9 @@ use std::time::{Clock, Duration};
 
 // How many milliseconds pass before a store that can't be opened or made is tried again.
 const OPEN_AGAIN: u64 = 1_000;
+
+// How many milliseconds pass before a store is made in the place of one that was moved away.
+const MOVED_AGAIN: u64 = 250;
 
 // How many milliseconds it waits for a header before it looks whether the program ends.
 const LOOK_AGAIN: u64 = 100;
@@ -51,7 +58,10 @@ pub(crate) fn run_camera<
             break;
         }
         let why = match open_store(rt, state) {
-            Ok(store) => film_into(rt, state, store),
+            Ok(store) => {
+                measure(rt, state);
+                film_into(rt, state, store)
+            }
             Err(why) => why,
         };
         printed = tell_absence(rt, state, outlet, why, printed);
@@ -60,11 +70,25 @@ pub(crate) fn run_camera<
     state.leave(rt, Absent::Stopped);
 }
 
+// Measures once how long a sync of the store's disk takes.
+fn measure<R: Places + Wait + Clock>(rt: &R, state: &CameraState) {
+    if state.link.sync(rt).is_none() {
+        if let Some(micros) = rt.sync_time(state.config.store.as_str(), &state.timeline) {
+            state.link.set_sync(rt, micros);
+        }
+    }
+}
+
 // The store isn't there, and isn't tried again for a while.
 fn rest<R: Wait + Clock>(rt: &R, state: &CameraState, why: Absent) {
+    state.link.set_place(rt, None);
     state.leave(rt, why);
-    if !state.is_stopped() {
-        state.counts.faults.fetch_add(1, Ordering::SeqCst);
+    if matches!(why, Absent::Moved) {
+        // A store is made anew for the frames that come, once that is told.
+        state.link.lose_store(rt);
+        thread::sleep(rt, Duration::from_millis(MOVED_AGAIN));
+    } else if !state.is_stopped() {
+        state.faults.fetch_add(1, Ordering::SeqCst);
         thread::sleep(rt, Duration::from_millis(OPEN_AGAIN));
     }
 }
@@ -82,11 +106,11 @@ fn tell_absence<R: AllocGlobal + Wait + Clock, W: Write + Drop>(
         Absent::Unfinished => ".new",
         _ => return false,
     };
-    let mut line = Vec::new(rt.alloc());
+    let mut lines = state.lines(rt.alloc());
     let (name, path) = (state.config.name.as_str(), state.config.store.as_str());
     // Where memory for the line is refused, it isn't printed.
-    if !printed && print_not_a_store(&mut line, name, path, end).is_ok() {
-        outlet.put(rt, &line);
+    if !printed && lines.not_a_store(name, path, end).is_ok() {
+        outlet.put(rt, &lines);
     }
     true
 }
@@ -102,6 +126,8 @@ fn open_store<R: AllocGlobal + Places + Wait + Clock>(
         Err(FileFault::Missing) => return make_store(rt, state),
         Err(fault) => return Err(Absent::of(path, fault)),
     };
+    let place = rt.place_of(path).unwrap_or_default();
+    state.link.set_place(rt, place);
     match Store::open(rt.alloc(), disk) {
         Ok(store) => Ok(store),
         Err(OpenRefused { fault, disk: _ }) => Err(Absent::Store(fault)),
@@ -118,7 +144,16 @@ fn make_store<R: AllocGlobal + Places + Wait + Clock>(
         return Err(Absent::Stopped);
     };
     let geometry = geometry_for(&header, &state.config.room)?;
-    rt.make_store(state.config.store.as_str(), geometry)
+    let path = state.config.store.as_str();
+    let made = rt.make_store(path, geometry, |percent| {
+        state.link.set_making(rt, Some(percent));
+        !state.is_stopped()
+    });
+    state.link.set_making(rt, None);
+    state
+        .link
+        .set_place(rt, rt.place_of(path).unwrap_or_default());
+    made
 }
 
 // What the source's header says, once it is there; None where the camera is stopped before that.
@@ -149,26 +184,116 @@ fn geometry_for(header: &Geometry, room: &StoreSize) -> Result<Geometry, Absent>
 }
 
 // Films into a store, until the camera is stopped or the store must be reopened. Returns why it ended.
-fn film_into<R: AllocGlobal + Threads + Wait + Clock + Sync>(
+fn film_into<R: AllocGlobal + Places + Threads + Wait + Clock + Sync>(
     rt: &R,
     state: &CameraState,
     store: Store<FileDisk>,
 ) -> Absent {
-    state.link.set_store(rt, store.geometry());
+    let mut store = store;
+    let (geometry, next) = (store.geometry(), store.next());
+    if !state.link.set_store(rt, geometry) {
+        // They came before the store was there, and no store takes them.
+        state.feed.clear(rt);
+        state.lose_rest(rt);
+    }
+    let Ok(clips) = store.clips(rt.alloc()) else {
+        return Absent::NoBuffers;
+    };
+    let events = read_events(rt, rt.alloc(), state.config.store.as_str());
+    tell_clips(rt, state, &mut store, clips.as_slice(), events.as_slice());
     let Some(camera) = camera_before(rt.alloc(), state, store) else {
         return Absent::NoBuffers;
     };
-    state.begin(rt);
+    state.begin(rt, geometry, next, clips);
+    go_on_with(rt, state, events.as_slice());
+    let before = state.tally(rt).lost();
     let filmed = film(rt, state, camera);
+    count_lost(rt, state, before, &filmed);
     state.lose_rest(rt);
     why_ended(state, filmed)
+}
+
+// Tells the printer which clips a store has: those that aren't saved yet are saved by themselves, where the camera has a
+// folder for them. The clips of an event that goes on are left out, and so is a clip whose frames can't be read.
+fn tell_clips<R: AllocGlobal + Wait>(
+    rt: &R,
+    state: &CameraState,
+    store: &mut Store<FileDisk>,
+    clips: &[Clip],
+    events: &[OpenEvent],
+) {
+    if state.config.save_to.is_none() {
+        return;
+    }
+    let mut found = Vec::new(rt.alloc());
+    for clip in clips {
+        if events.iter().any(|event| event.tag == clip.tag) {
+            continue;
+        }
+        let (Ok(first), Ok(last)) = (store.read_head(clip.from), store.read_head(clip.to)) else {
+            continue;
+        };
+        let clip = FoundClip {
+            clip: *clip,
+            first: first.timestamp,
+            last: last.timestamp,
+        };
+        // Where memory is refused, the clip is saved at the next start.
+        let _ = found.push(clip);
+    }
+    if let Some(kept) = state.kept_clips(rt.alloc(), found.as_slice()) {
+        state.posts.printer.put(rt, Message::Opened(kept));
+    }
+}
+
+// Goes on with the events that were open when the program ended last.
+fn go_on_with<R: AllocGlobal + Wait + Clock>(rt: &R, state: &CameraState, events: &[OpenEvent]) {
+    let alloc = rt.alloc();
+    for event in events {
+        if state.desk.has_event(rt, event.event) {
+            continue;
+        }
+        let mut lines = state.lines(alloc);
+        // Where memory for the line is refused, it isn't printed.
+        let _ = lines.event_begun(event.event, event.since, event.until);
+        state.tell(rt, lines, None);
+        let now = state.timeline.now(rt);
+        let come = state.feed.come(rt, now.min(event.until));
+        let keep = Keep::new(
+            event.event,
+            event.since,
+            event.until,
+            event.tag,
+            now,
+            come,
+            &state.tally(rt),
+        );
+        let clips = state.clips_tagged(rt, alloc, event.event);
+        state.begin_growing(rt, alloc, keep, clips);
+    }
+}
+
+// Counts what a filming says that it lost on the way to the desk; `before` frames were lost before it. What waits at the
+// desk and in the queue is counted by `lose_rest`.
+fn count_lost<R: Wait>(rt: &R, state: &CameraState, before: u64, filmed: &Filmed) {
+    let Ok(ended) = filmed else {
+        return;
+    };
+    let lost = ended.given_up.saturating_add(ended.left);
+    let lost = lost
+        .saturating_add(ended.missed)
+        .saturating_add(ended.failed);
+    let (come, _) = state.feed.counts(rt);
+    state.counts.settle(rt, come, before, lost);
 }
 
 // Why a filming ended.
 fn why_ended(state: &CameraState, filmed: Filmed) -> Absent {
     match filmed {
         Ok(ended) => {
-            if state.is_stopped() && !ended.desk.status().must_reopen {
+            if state.is_moved() && !state.is_stopped() {
+                Absent::Moved
+            } else if state.is_stopped() && !ended.desk.status().must_reopen {
                 Absent::Stopped
             } else {
                 Absent::Store(StoreFault::MustReopen)

@@ -3,13 +3,15 @@
 //! Each camera has a thread for its source (`source`), which puts frames into a `feed`, and two threads that film it
 //! (`filming`): the store is opened or made, and loop_pipeline's `film_camera` brings the frames to it. `state` is what
 //! the threads of a camera share, and guides them. `link` is what source and store know of each other, `counts` what
-//! is counted, `asked` how large a store has to be, and `absent` why it isn't there. `clock` has the time of frames,
-//! and `size` their bytes and how many wait.
+//! is counted, `asked` how large a store has to be, and `absent` why it isn't there. `input` has what a source's
+//! pipe brings, and finds the next header in it. `clock` has the time of frames, and `size` their bytes and how many wait.
 //!
 //! `run` starts all that. `orders` reads orders and does them: it asks a camera through its `inbox`, and the thread of
 //! its desk answers (`clerk`). `save` writes clips meanwhile, `places` opens files and makes stores, and `replies`
-//! prints answers as lines. `events` prints what happens without an order. All lines go through `outlet`, and `tap`
-//! copies them to a further file or pipe.
+//! prints answers as lines. `events` prints what happens without an order,
+//! `watch` sees that a source is silent, that a store was moved away, and that the
+//! program stood still. All lines go through `outlet`, and `tap`
+//! copies them to a further file or pipe; `spool` has those that wait for the threads that write them.
 //!
 //! What an order means, and the choice of a store's size, is proved in loop_station_words. Each frame of the source
 //! comes to the desk, in order and whole, or is counted, and its footage is kept: `film_camera` of loop_pipeline
@@ -20,6 +22,7 @@
 #![tactic(auto)]
 
 mod absent;
+mod answering;
 mod asked;
 mod clerk;
 mod clock;
@@ -27,18 +30,28 @@ mod counts;
 mod events;
 mod feed;
 mod filming;
+mod growing;
 mod inbox;
+mod input;
+mod jobs;
 mod link;
+mod notes;
 mod orders;
 mod outlet;
+mod part;
 mod places;
+mod post;
+mod printer;
 mod replies;
 mod run;
 mod save;
 mod size;
 mod source;
+mod spool;
 mod state;
+mod stored;
 mod tap;
+mod watch;
 
 pub use places::Places;
 pub use run::{NotBegun, run_station};

@@ -1,23 +1,20 @@
-//! Orders: they are read line by line, and done.
+//! Orders: they are read line by line, and handed to the cameras that they mean. The thread that reads them waits for
+//! no camera, no disk and no reader: what a line says of time is said of the moment at which it was read.
 
-use self::KeepPeriod::{Between, Last};
-use crate::clerk::{Answer, Request};
-use crate::clock::micros;
+use crate::answering::{Answering, Message, NotTaken, Posts};
+use crate::clock::Timeline;
+use crate::jobs::{AskedKeep, Job, Request};
 use crate::outlet::Outlet;
 use crate::places::Places;
-use crate::replies::{Answered, tell_kept, tell_listed, tell_released, tell_status};
-use crate::save::{NotSaved, SaveTarget, Saves, begin_save};
+use crate::replies::tell_status;
+use crate::save::Saves;
 use crate::state::CameraState;
-use loop_record::Times;
 use loop_script::{MAX_LINE, next_line};
-use loop_station_words::{
-    Name, Order, label_of, print_bad_order, print_done, print_help, print_no_camera,
-    print_not_saved, print_saving, print_stopped, print_too_many_saves, read_order,
-};
-use std::alloc::{AllocGlobal, Global};
+use loop_station_core::{Numbers, bounds, is_too_far};
+use loop_station_words::{Lines, Name, Order, label_of, read_order};
+use std::alloc::{AllocError, AllocGlobal, Global};
 use std::io::{BufRead, Write};
 use std::sync::{Arc, Mutex, Wait};
-use std::thread::Threads;
 use std::time::Clock;
 use std::{io, str};
 
@@ -25,16 +22,27 @@ use std::{io, str};
 #[derive(Drop)]
 pub(crate) struct Station<W: Write + Drop> {
     pub alloc: Global,
+    pub timeline: Timeline,
     pub cameras: Vec<Arc<CameraState>>,
     pub outlet: Arc<Outlet<W>>,
     pub saves: Arc<Saves>,
+    pub posts: Arc<Posts>,
+    /// Answers are wanted as JSON too.
+    pub json: bool,
     /// Events are printed: what happens without an order.
     pub events: bool,
+    /// The numbers of keeps.
+    pub numbers: Mutex<Numbers>,
     /// The label of the order that ends the program.
     pub last: Mutex<Option<String>>,
 }
 
 impl<W: Write + Drop> Station<W> {
+    /// No lines yet, in the forms that are wanted.
+    pub fn lines(&self) -> Lines {
+        Lines::new(self.alloc, self.json)
+    }
+
     // Stores the label of the order that ends the program. Where memory is refused, the end is printed without it.
     fn keep_label<R: Wait>(&self, rt: &R, label: Option<&str>) {
         if let Some(label) = label {
@@ -46,20 +54,58 @@ impl<W: Write + Drop> Station<W> {
     pub fn tell_end<R: Wait + Clock>(&self, rt: &R) {
         self.outlet.show(rt, Vec::new(self.alloc));
         let last = self.last.lock(rt).take();
-        let mut lines = Vec::new(self.alloc);
-        // Where memory for the line is refused, nothing is printed.
-        if print_stopped(&mut lines).is_ok() {
-            answer(rt, self, last.as_deref(), lines);
+        let mut lines = self.lines();
+        // Where memory for the lines is refused, they aren't printed.
+        let _ = lines.stopped();
+        if last.is_some() {
+            let _ = lines.done();
         }
+        self.outlet.answer(rt, last.as_deref(), &lines);
+    }
+
+    // An order that so many cameras have to answer.
+    fn answering(
+        &self,
+        label: Option<&str>,
+        event: u64,
+        cameras: usize,
+    ) -> Result<Arc<Answering>, AllocError> {
+        let label = match label {
+            Some(label) => Some(String::from_str(self.alloc, label)?),
+            None => None,
+        };
+        let answering = Answering::new(self.alloc, label, event, cameras, self.json)?;
+        match Arc::new(self.alloc, answering) {
+            Ok(answering) => Ok(answering),
+            Err(_) => Err(AllocError),
+        }
+    }
+
+    // Answers an order that no camera has to answer. Where memory is refused, it isn't answered.
+    fn answer<R: Wait>(&self, rt: &R, label: Option<&str>, lines: Lines) {
+        if let Ok(answering) = self.answering(label, 0, 1) {
+            self.posts.answer(rt, answering, 0, lines, None);
+        }
+    }
+
+    // The camera of a name.
+    fn camera_named(&self, name: &str) -> Option<&Arc<CameraState>> {
+        for state in self.cameras.as_slice() {
+            if state.config.name.as_str() == name {
+                return Some(state);
+            }
+        }
+        None
     }
 }
 
 /// Does the orders of an input until it ends, or until one ends the program. Returns whether one did.
-pub(crate) fn take_orders<
-    R: AllocGlobal + Places + Threads + Wait + Clock + Clone + Drop + Send + Sync + 'static,
-    I: BufRead,
-    W: Write + Drop + Send + 'static,
->(rt: &R, station: &Station<W>, input: &mut I, line: &mut Vec<u8>) -> bool {
+pub(crate) fn take_orders<R: AllocGlobal + Places + Wait + Clock, I: BufRead, W: Write + Drop>(
+    rt: &R,
+    station: &Station<W>,
+    input: &mut I,
+    line: &mut Vec<u8>,
+) -> bool {
     for _ in 0..u64::MAX {
         match next_line(input, line) {
             Ok(true) => {}
@@ -79,10 +125,12 @@ pub(crate) fn take_orders<
 }
 
 // Does the order of a line. Returns whether it ends the program.
-fn do_line<
-    R: AllocGlobal + Places + Threads + Wait + Clock + Clone + Drop + Send + Sync + 'static,
-    W: Write + Drop + Send + 'static,
->(rt: &R, station: &Station<W>, line: &[u8]) -> bool {
+fn do_line<R: AllocGlobal + Places + Wait + Clock, W: Write + Drop>(
+    rt: &R,
+    station: &Station<W>,
+    line: &[u8],
+) -> bool {
+    let read = station.timeline.now(rt);
     let Ok(text) = str::from_utf8(line) else {
         bad_order(rt, station, line);
         return false;
@@ -93,7 +141,10 @@ fn do_line<
             station.keep_label(rt, label);
             return true;
         }
-        Some(order) => perform(rt, station, label, order),
+        // Where memory is refused, the order isn't answered.
+        Some(order) => {
+            let _unanswered = perform(rt, station, read, label, order);
+        }
         None => bad_order(rt, station, line),
     }
     false
@@ -117,11 +168,7 @@ fn skip_line<I: BufRead>(input: &mut I, line: &mut Vec<u8>) {
 }
 
 // Answers a line that can't be read, with its label where it has one.
-fn bad_order<R: AllocGlobal + Wait + Clock, W: Write + Drop>(
-    rt: &R,
-    station: &Station<W>,
-    line: &[u8],
-) {
+fn bad_order<R: Wait, W: Write + Drop>(rt: &R, station: &Station<W>, line: &[u8]) {
     let readable = match str::from_utf8(line) {
         Ok(_) => line.len(),
         Err(fault) => fault.valid_up_to(),
@@ -132,73 +179,88 @@ fn bad_order<R: AllocGlobal + Wait + Clock, W: Write + Drop>(
     };
     let (label, said) = labelled(text);
     let head = text.len().saturating_sub(said.len());
-    let mut lines = Vec::new(rt.alloc());
+    let mut lines = station.lines();
     // Where memory for the line is refused, nothing is printed.
-    if print_bad_order(&mut lines, line.get(head..).unwrap_or(&[])).is_ok() {
-        answer(rt, station, label, lines);
+    if lines.bad_order(line.get(head..).unwrap_or(&[])).is_ok() {
+        station.answer(rt, label, lines);
     }
 }
 
-// Prints the answer to an order, and that the order is done where it has a label.
-fn answer<R: Wait + Clock, W: Write + Drop>(
+// Hands an order to the cameras that it means, or answers it.
+fn perform<R: AllocGlobal + Places + Wait + Clock, W: Write + Drop>(
     rt: &R,
     station: &Station<W>,
+    read: u64,
     label: Option<&str>,
-    lines: Vec<u8>,
-) {
-    let mut lines = lines;
-    if label.is_some() && print_done(&mut lines).is_err() {
-        // Where memory is refused, nothing is printed.
-        return;
-    }
-    station.outlet.answer(rt, label, &lines);
-}
-
-// Does an order, and prints what came of it.
-fn perform<
-    R: AllocGlobal + Places + Threads + Wait + Clock + Clone + Drop + Send + Sync + 'static,
-    W: Write + Drop + Send + 'static,
->(rt: &R, station: &Station<W>, label: Option<&str>, order: Order<'_>) {
-    let mut lines = Vec::new(rt.alloc());
-    let printed = match order {
+    order: Order<'_>,
+) -> Result<(), AllocError> {
+    match order {
         Order::Keep {
             camera,
             seconds,
+            after,
             tag,
-        } => keep(rt, station, &camera, Last(seconds), tag, &mut lines),
+        } => {
+            let period = KeepPeriod::Around(seconds, after);
+            keep(rt, station, read, label, &camera, period, tag)
+        }
         Order::KeepBetween {
             camera,
             since,
             until,
             tag,
         } => {
-            let times = Times { since, until };
-            keep(rt, station, &camera, Between(times), tag, &mut lines)
+            let period = KeepPeriod::Between(since, until);
+            keep(rt, station, read, label, &camera, period, tag)
         }
-        Order::Release { camera, id } => release(rt, station, camera.text(), id, &mut lines),
-        Order::List => list(rt, station, &mut lines),
-        Order::Status => status(rt, station, &mut lines),
+        Order::Release { camera, id, first } => {
+            let request = Request::Release(id, first);
+            ask_one(rt, station, label, camera.text(), request)
+        }
         Order::Save {
             camera,
             id,
             out,
             replace,
         } => {
-            let to = SaveTarget::Path(out.text(), replace);
-            match save(rt, station, label, camera.text(), id, to, &mut lines) {
-                // The save itself prints its result.
-                Ok(true) => return,
-                Ok(false) => Ok(()),
-                Err(fault) => Err(fault),
-            }
+            let out = String::from_str(station.alloc, out.text())?;
+            ask_one(
+                rt,
+                station,
+                label,
+                camera.text(),
+                Request::Save(id, out, replace),
+            )
         }
-        Order::Help => print_help(&mut lines),
+        Order::Cancel { camera, id } => cancel(rt, station, label, camera.text(), id),
+        Order::List => list(rt, station, label),
+        Order::Status => {
+            let mut lines = station.lines();
+            // Where memory for the lines is refused, nothing is printed.
+            if status(rt, station, &mut lines).is_ok() {
+                station.answer(rt, label, lines);
+            }
+            Ok(())
+        }
+        Order::Help => {
+            let mut lines = station.lines();
+            // As above.
+            if lines.help().is_ok() {
+                station.answer(rt, label, lines);
+            }
+            Ok(())
+        }
         Order::Stop => Ok(()),
-    };
-    // Where memory for the lines is refused, nothing is printed.
-    if printed.is_ok() {
-        answer(rt, station, label, lines);
     }
+}
+
+// The time that a keep asks for.
+#[derive(Clone, Copy)]
+enum KeepPeriod {
+    // So many seconds before its line was read, and so many after; or the camera's own.
+    Around(Option<u32>, Option<u32>),
+    // From one time to another, both included.
+    Between(u64, u64),
 }
 
 // Whether an order that names a camera, or none, means this one.
@@ -209,181 +271,225 @@ fn is_meant(state: &CameraState, camera: Option<&str>) -> bool {
     }
 }
 
-// The time that a keep asks for.
-#[derive(Clone, Copy)]
-enum KeepPeriod {
-    // The last seconds: so many, or the camera's own.
-    Last(Option<u32>),
-    // From one time to another, both included.
-    Between(Times),
+// How many cameras an order means that names one, or none.
+fn count_meant<W: Write + Drop>(station: &Station<W>, camera: Option<&str>) -> usize {
+    let mut count = 0usize;
+    for state in station.cameras.as_slice() {
+        if is_meant(state, camera) {
+            count = count.saturating_add(1);
+        }
+    }
+    count
 }
 
 // What a keep asks a camera for: with the camera's own seconds and tag where none are given.
-fn keep_of<R: Clock>(rt: &R, state: &CameraState, period: KeepPeriod, tag: Option<u64>) -> Request {
-    let times = match period {
-        Between(times) => times,
-        Last(seconds) => {
-            let until = state.timeline.now(rt);
-            let seconds = seconds.unwrap_or(state.config.seconds);
-            Times {
-                since: until.saturating_sub(micros(seconds)),
-                until,
-            }
-        }
+fn asked_keep<R: Wait + Clock>(
+    rt: &R,
+    state: &CameraState,
+    event: u64,
+    read: u64,
+    period: KeepPeriod,
+    tag: Option<u64>,
+) -> AskedKeep {
+    let (since, until) = match period {
+        KeepPeriod::Between(since, until) => (since, until),
+        KeepPeriod::Around(seconds, after) => bounds(
+            read,
+            seconds.unwrap_or(state.config.seconds),
+            after.unwrap_or(state.config.after),
+        ),
     };
-    Request::Keep(times, tag.unwrap_or(state.config.tag))
+    let own = match state.config.tag {
+        0 => event,
+        tag => tag,
+    };
+    AskedKeep {
+        event,
+        since,
+        until,
+        tag: tag.unwrap_or(own),
+        read,
+        come: state.feed.come(rt, read.min(until)),
+    }
 }
 
-// Locks what one camera, or all, held in a time. Every camera is asked before the first answer is waited for. Then it
-// begins to save the clips of each camera that has a folder for them.
-fn keep<
-    R: AllocGlobal + Places + Threads + Wait + Clock + Clone + Drop + Send + Sync + 'static,
-    W: Write + Drop + Send + 'static,
-    L: Write,
->(
+// Locks what one camera, or all, held in a time. Each camera is asked before any has to answer.
+fn keep<R: Wait + Clock, W: Write + Drop>(
     rt: &R,
     station: &Station<W>,
+    read: u64,
+    label: Option<&str>,
     camera: &Option<Name<'_>>,
     period: KeepPeriod,
     tag: Option<u64>,
-    lines: &mut L,
-) -> io::Result<()> {
+) -> Result<(), AllocError> {
     let name = match camera {
         Some(name) => Some(name.text()),
         None => None,
     };
-    let mut some = false;
-    for state in station.cameras.as_slice() {
-        if is_meant(state, name) {
-            state.ask(rt, keep_of(rt, state, period, tag));
-            some = true;
+    let meant = count_meant(station, name);
+    if meant == 0 {
+        return no_camera(rt, station, label, name.unwrap_or(""));
+    }
+    if is_far(station, name, read, period) {
+        let mut lines = station.lines();
+        // Where memory for the line is refused, nothing is printed.
+        if lines.too_far().is_ok() {
+            station.answer(rt, label, lines);
         }
-    }
-    for state in station.cameras.as_slice() {
-        if is_meant(state, name) {
-            let answered = state.clerk.answer(rt);
-            tell_kept(state, &answered, lines)?;
-            save_kept(rt, station, state, &answered, lines)?;
-        }
-    }
-    match name {
-        Some(name) if !some => print_no_camera(lines, name),
-        _ => Ok(()),
-    }
-}
-
-// Begins to save the clips that a keep made, where their camera has a folder for them.
-fn save_kept<
-    R: AllocGlobal + Places + Threads + Wait + Clock + Clone + Drop + Send + Sync + 'static,
-    W: Write + Drop + Send + 'static,
-    L: Write,
->(
-    rt: &R,
-    station: &Station<W>,
-    state: &CameraState,
-    answered: &Answered,
-    lines: &mut L,
-) -> io::Result<()> {
-    let Some(folder) = &state.config.save_to else {
         return Ok(());
-    };
-    if let Some(Ok(Answer::Kept(kept, _))) = answered {
-        for clip in kept.clips.as_slice() {
-            let to = SaveTarget::Folder(folder.as_str());
-            save(
+    }
+    let event = station.numbers.lock(rt).next(read);
+    let answering = station.answering(label, event, meant)?;
+    let mut place = 0usize;
+    for state in station.cameras.as_slice() {
+        if is_meant(state, name) {
+            let asked = asked_keep(rt, state, event, read, period, tag);
+            hand(
                 rt,
-                station,
-                None,
-                state.config.name.as_str(),
-                clip.id,
-                to,
-                lines,
-            )?;
+                state,
+                Arc::try_clone(&answering)?,
+                place,
+                Request::Keep(asked),
+            );
+            place = place.saturating_add(1);
         }
     }
     Ok(())
 }
 
-// The camera of a name.
-fn camera_named<'a, W: Write + Drop>(
-    station: &'a Station<W>,
-    name: &str,
-) -> Option<&'a Arc<CameraState>> {
+// Whether a keep ends too far ahead for one of the cameras that it means.
+fn is_far<W: Write + Drop>(
+    station: &Station<W>,
+    name: Option<&str>,
+    read: u64,
+    period: KeepPeriod,
+) -> bool {
     for state in station.cameras.as_slice() {
-        if state.config.name.as_str() == name {
-            return Some(state);
+        if is_meant(state, name) {
+            let until = match period {
+                KeepPeriod::Between(_, until) => until,
+                KeepPeriod::Around(seconds, after) => {
+                    bounds(
+                        read,
+                        seconds.unwrap_or(0),
+                        after.unwrap_or(state.config.after),
+                    )
+                    .1
+                }
+            };
+            if is_too_far(read, until) {
+                return true;
+            }
         }
     }
-    None
+    false
 }
 
-// Unlocks a clip, unless it is being saved.
-fn release<R: Wait, W: Write + Drop, L: Write>(
+// Gives a camera an order, or answers for it that it can't do any.
+fn hand<R: Wait>(
     rt: &R,
-    station: &Station<W>,
-    name: &str,
-    id: u32,
-    lines: &mut L,
-) -> io::Result<()> {
-    let Some(state) = camera_named(station, name) else {
-        return print_no_camera(lines, name);
+    state: &CameraState,
+    answering: Arc<Answering>,
+    place: usize,
+    request: Request,
+) {
+    let Ok(ours) = Arc::try_clone(&answering) else {
+        return;
     };
-    if station.saves.holds(rt, name, id) {
-        return print_saving(lines, name);
+    let job = Job {
+        request,
+        answering,
+        place,
+    };
+    match state.jobs.add(rt, job) {
+        Ok(()) => state.threads.wake(rt),
+        Err(NotTaken::Absent(why)) => state.answer_absent(rt, ours, place, why),
+        Err(NotTaken::TooMany) => {
+            let mut lines = state.lines(state.alloc);
+            // Where memory for the line is refused, nothing is printed.
+            let _ = lines.too_many_orders(state.config.name.as_str());
+            state.posts.answer(rt, ours, place, lines, None);
+        }
     }
-    state.ask(rt, Request::Release(id));
-    tell_released(state, id, state.clerk.answer(rt), lines)
 }
 
-// Lists what each camera holds.
-fn list<R: Wait, W: Write + Drop, L: Write>(
+// Gives the camera of a name an order.
+fn ask_one<R: Wait, W: Write + Drop>(
     rt: &R,
     station: &Station<W>,
-    lines: &mut L,
-) -> io::Result<()> {
-    for state in station.cameras.as_slice() {
-        state.ask(rt, Request::Look);
-        tell_listed(state, state.clerk.answer(rt), lines)?;
+    label: Option<&str>,
+    name: &str,
+    request: Request,
+) -> Result<(), AllocError> {
+    let Some(state) = station.camera_named(name) else {
+        return no_camera(rt, station, label, name);
+    };
+    let answering = station.answering(label, 0, 1)?;
+    hand(rt, state, answering, 0, request);
+    Ok(())
+}
+
+// Answers that no camera has a name.
+fn no_camera<R: Wait, W: Write + Drop>(
+    rt: &R,
+    station: &Station<W>,
+    label: Option<&str>,
+    name: &str,
+) -> Result<(), AllocError> {
+    let mut lines = station.lines();
+    // Where memory for the line is refused, nothing is printed.
+    if lines.no_camera(name).is_ok() {
+        station.answer(rt, label, lines);
     }
     Ok(())
 }
 
-/// Prints the status of each camera.
-pub(crate) fn status<R: Wait, W: Write + Drop, L: Write>(
-    rt: &R,
-    station: &Station<W>,
-    lines: &mut L,
-) -> io::Result<()> {
-    for state in station.cameras.as_slice() {
-        state.ask(rt, Request::Look);
-        let answer = state.clerk.answer(rt);
-        tell_status(rt, state, answer, lines)?;
-    }
-    Ok(())
-}
-
-// Begins to save a clip. Returns whether that has begun; then the result is printed once the save has ended.
-fn save<
-    R: AllocGlobal + Places + Threads + Wait + Clock + Clone + Drop + Send + Sync + 'static,
-    W: Write + Drop + Send + 'static,
-    L: Write,
->(
+// Ends a save of a camera's clip: one that is there already at once, or else one that an order before this one begins.
+fn cancel<R: Wait, W: Write + Drop>(
     rt: &R,
     station: &Station<W>,
     label: Option<&str>,
     name: &str,
     id: u32,
-    to: SaveTarget<'_>,
-    lines: &mut L,
-) -> io::Result<bool> {
-    let Some(state) = camera_named(station, name) else {
-        print_no_camera(lines, name)?;
-        return Ok(false);
+) -> Result<(), AllocError> {
+    let Some(state) = station.camera_named(name) else {
+        return no_camera(rt, station, label, name);
     };
-    match begin_save(rt, &station.saves, &station.outlet, state, label, id, to) {
-        Ok(()) => return Ok(true),
-        Err(NotSaved::TooMany) => print_too_many_saves(lines, name)?,
-        Err(why) => print_not_saved(lines, name, id, to.path(), &why)?,
+    if !state.cancel_save(rt, id) {
+        return ask_one(rt, station, label, name, Request::Cancel(id));
     }
-    Ok(false)
+    let mut lines = station.lines();
+    // Where memory for the line is refused, nothing is printed.
+    if lines.cancelled(name, id).is_ok() {
+        station.answer(rt, label, lines);
+    }
+    Ok(())
+}
+
+// Lists what each camera holds.
+fn list<R: Wait, W: Write + Drop>(
+    rt: &R,
+    station: &Station<W>,
+    label: Option<&str>,
+) -> Result<(), AllocError> {
+    let answering = station.answering(label, 0, station.cameras.len())?;
+    let mut place = 0usize;
+    for state in station.cameras.as_slice() {
+        hand(rt, state, Arc::try_clone(&answering)?, place, Request::List);
+        place = place.saturating_add(1);
+    }
+    Ok(())
+}
+
+/// Tells the status of each camera.
+pub(crate) fn status<R: Wait, W: Write + Drop>(
+    rt: &R,
+    station: &Station<W>,
+    lines: &mut Lines,
+) -> io::Result<()> {
+    for state in station.cameras.as_slice() {
+        tell_status(rt, state, lines)?;
+    }
+    Ok(())
 }

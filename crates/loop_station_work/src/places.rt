@@ -1,15 +1,34 @@
 //! The files and pipes of a station.
 
 use crate::absent::Absent;
-use loop_file::{FileDisk, FileFault, FilePlace, TextFile, open_file, open_to_read};
+use crate::clock::Timeline;
+use crate::part::{PartFile, lies_in};
+use crate::save::NotSaved;
+use loop_file::{FileDisk, FileFault, FilePlace, open_file, open_to_read};
 use loop_record::Geometry;
 use loop_store::{OpenRefused, Store, StoreFault, format};
 use std::alloc::AllocGlobal;
-use std::fs::{File, OpenOptions};
-use std::io::ErrorKind;
-use std::os::unix::fs::{FileTypeExt, MetadataExt};
+use std::fs::{File, OpenFile, OpenOptions};
+use std::io::{ErrorKind, Read};
+use std::os::unix::fs::{FileExt, FileTypeExt, MetadataExt};
 use std::rt::Files;
+use std::time::Clock;
 use std::{fs, io};
+
+// Where the system says how long it has run.
+const UPTIME: &str = "/proc/uptime";
+
+// How many syncs are made to see how long one takes, and after how many microseconds no further one is made.
+const SYNCS: usize = 5;
+
+const SYNC_MOST: u64 = 1_000_000;
+
+// How many bytes of a store that is made are written at once, and how many such pieces are synced at once.
+const PIECE: usize = 1_048_576;
+
+const SYNCED: u64 = 16;
+
+static ZEROS: [u8; PIECE] = [0; PIECE];
 
 /// What a path leads to.
 #[derive(Clone, Copy, Debug, PartialEq, Eq)]
@@ -32,9 +51,20 @@ pub trait Places {
     /// Opens a file or pipe to be read.
     fn open_input(&self, path: &str) -> io::Result<File>;
 
-    /// Opens a file or pipe that a clip is written to. A file that is in use, such as a store that is recorded into, is
-    /// left alone (`Busy`).
-    fn open_output(&self, path: &str) -> Result<TextFile, FileFault>;
+    /// Opens a pipe or device that a text is written to, or begins the unfinished file of a path (`PartFile`).
+    fn open_text(&self, path: &str, replace: bool) -> Result<PartFile, NotSaved>;
+
+    /// Gives a file whose text is whole its name, on the disk.
+    fn finish_text(&self, file: &PartFile) -> Result<(), NotSaved>;
+
+    /// Removes the unfinished file of a text.
+    fn give_up_text(&self, file: &PartFile);
+
+    /// Whether the file of a path lies in a folder, or in one below it.
+    fn lies_in(&self, path: &str, folder: &str) -> bool;
+
+    /// The text of a file.
+    fn read_text(&self, path: &str) -> io::Result<String>;
 
     /// What a path leads to.
     fn path_kind(&self, path: &str) -> PathKind;
@@ -48,13 +78,36 @@ pub trait Places {
     /// Opens the file or pipe that also gets everything that is printed. For a pipe it waits until someone reads.
     fn open_answers(&self, path: &str) -> io::Result<File>;
 
+    /// Opens a pipe to be written, also while nobody reads it.
+    fn hold_answers(&self, path: &str) -> io::Result<File>;
+
     /// Opens the file of a store.
     fn open_store(&self, path: &str) -> Result<FileDisk, FileFault>;
 
     /// Makes a store where there is no file, and opens it. It is made as NAME.new in the same folder, and is renamed
     /// once it is complete. A NAME.new that an earlier run left is made anew, or just renamed where it is a store
-    /// already.
-    fn make_store(&self, path: &str, geometry: Geometry) -> Result<Store<FileDisk>, Absent>;
+    /// already. It is made in steps: `step` gets how much of the file is on the disk, in percent, and says whether to go
+    /// on. If not, the file is removed, and the answer is `Stopped`.
+    fn make_store<F: FnMut(u32) -> bool>(
+        &self,
+        path: &str,
+        geometry: Geometry,
+        step: F,
+    ) -> Result<Store<FileDisk>, Absent>;
+
+    /// Opens the named pipe of orders, so that it never comes to an end: this end of it can write too. A file is opened
+    /// to be read.
+    fn open_orders(&self, path: &str) -> io::Result<File>;
+
+    /// The device and the inode of what a path leads to; None where nothing is there.
+    fn place_of(&self, path: &str) -> io::Result<Option<(u64, u64)>>;
+
+    /// How many microseconds the machine has run, also while it slept; None where the system doesn't say.
+    fn uptime(&self) -> Option<u64>;
+
+    /// How many microseconds a sync takes on the disk of a store, by a few of a file of its own beside the store, which
+    /// has no name by then; None where that can't be made.
+    fn sync_time(&self, path: &str, timeline: &Timeline) -> Option<u64>;
 }
 
 impl Places for HostRuntime {
@@ -62,8 +115,24 @@ impl Places for HostRuntime {
         open_to_read(self, path)
     }
 
-    fn open_output(&self, path: &str) -> Result<TextFile, FileFault> {
-        TextFile::open(self, path)
+    fn open_text(&self, path: &str, replace: bool) -> Result<PartFile, NotSaved> {
+        PartFile::open(self, path, path_kind_at(self, path), replace)
+    }
+
+    fn finish_text(&self, file: &PartFile) -> Result<(), NotSaved> {
+        file.finish(self)
+    }
+
+    fn give_up_text(&self, file: &PartFile) {
+        file.give_up(self);
+    }
+
+    fn lies_in(&self, path: &str, folder: &str) -> bool {
+        lies_in(self, path, folder)
+    }
+
+    fn read_text(&self, path: &str) -> io::Result<String> {
+        fs::read_to_string(self, path)
     }
 
     fn path_kind(&self, path: &str) -> PathKind {
@@ -82,12 +151,49 @@ impl Places for HostRuntime {
         open_file(self, OpenOptions::new().append(true).create(true), path)
     }
 
+    fn hold_answers(&self, path: &str) -> io::Result<File> {
+        // While this end is read, the other one can be opened at once. It alone is held.
+        let _read = open_file(self, OpenOptions::new().read(true).write(true), path)?;
+        open_file(self, OpenOptions::new().append(true), path)
+    }
+
     fn open_store(&self, path: &str) -> Result<FileDisk, FileFault> {
         FileDisk::open(self, path)
     }
 
-    fn make_store(&self, path: &str, geometry: Geometry) -> Result<Store<FileDisk>, Absent> {
-        make_at(self, path, geometry)
+    fn make_store<F: FnMut(u32) -> bool>(
+        &self,
+        path: &str,
+        geometry: Geometry,
+        step: F,
+    ) -> Result<Store<FileDisk>, Absent> {
+        let mut step = step;
+        make_at(self, path, geometry, &mut step)
+    }
+
+    fn open_orders(&self, path: &str) -> io::Result<File> {
+        if path_kind_at(self, path) == PathKind::Pipe {
+            if let Ok(both) = open_file(self, OpenOptions::new().read(true).write(true), path) {
+                return Ok(both);
+            }
+        }
+        open_to_read(self, path)
+    }
+
+    fn place_of(&self, path: &str) -> io::Result<Option<(u64, u64)>> {
+        match fs::metadata(self, path) {
+            Ok(metadata) => Ok(Some((metadata.dev(), metadata.ino()))),
+            Err(fault) if fault.kind() == ErrorKind::NotFound => Ok(None),
+            Err(fault) => Err(fault),
+        }
+    }
+
+    fn uptime(&self) -> Option<u64> {
+        uptime_at(self)
+    }
+
+    fn sync_time(&self, path: &str, timeline: &Timeline) -> Option<u64> {
+        sync_time_beside(self, path, timeline)
     }
 }
 
@@ -137,11 +243,68 @@ fn parted(path: &str) -> (&str, &str) {
     }
 }
 
+// How long the machine has run, as the system says it: seconds with two decimals.
+fn uptime_at<R: Files<File = File>>(rt: &R) -> Option<u64> {
+    let mut file = open_to_read(rt, UPTIME).ok()?;
+    let mut text = [0u8; 32];
+    let count = file.read(&mut text).ok()?;
+    let (mut number, mut decimals) = (0u64, None);
+    for byte in text.get(..count)? {
+        match byte {
+            b'0'..=b'9' => {
+                number = number
+                    .saturating_mul(10)
+                    .saturating_add(u64::from(byte.saturating_sub(b'0')));
+                decimals = decimals.map(|count: u32| count.saturating_add(1));
+            }
+            b'.' => decimals = Some(0u32),
+            _ => break,
+        }
+    }
+    match decimals {
+        Some(2) => Some(number.saturating_mul(10_000)),
+        _ => None,
+    }
+}
+
+// How long a sync takes beside a store: the middle one of a few.
+fn sync_time_beside<R: AllocGlobal + Files<File = File> + Clock>(
+    rt: &R,
+    path: &str,
+    timeline: &Timeline,
+) -> Option<u64> {
+    let name = format!(in rt.alloc(); "{path}.sync").ok()?;
+    let file = open_file(
+        rt,
+        OpenOptions::new().write(true).create_new(true),
+        name.as_str(),
+    )
+    .ok()?;
+    fs::remove_file(rt, name.as_str()).ok()?;
+    let page = [0u8; 4_096];
+    let mut times = [u64::MAX; SYNCS];
+    let mut spent = 0u64;
+    for place in times.iter_mut() {
+        let began = timeline.now(rt);
+        file.write_all_at(&page, 0).ok()?;
+        file.sync_data().ok()?;
+        let passed = timeline.now(rt).saturating_sub(began);
+        *place = passed;
+        spent = spent.saturating_add(passed);
+        if spent > SYNC_MOST {
+            return Some(passed);
+        }
+    }
+    times.sort_unstable();
+    times.get(SYNCS / 2).copied()
+}
+
 // Makes a store where there is no file, under another name first, and opens it.
-fn make_at<R: AllocGlobal + Files<File = File>>(
+fn make_at<R: AllocGlobal + Files<File = File>, F: FnMut(u32) -> bool>(
     rt: &R,
     path: &str,
     geometry: Geometry,
+    step: &mut F,
 ) -> Result<Store<FileDisk>, Absent> {
     let place = match FilePlace::of(rt, path) {
         Ok(place) => place,
@@ -150,12 +313,107 @@ fn make_at<R: AllocGlobal + Files<File = File>>(
     let mut made = place.unfinished(rt)?;
     let store = match left_at(rt, &made, &geometry) {
         Ok(Some(store)) => store,
-        Ok(None) => format_at(rt, &mut made, geometry)?,
+        Ok(None) if is_link(rt, path) => format_at(rt, &mut made, geometry)?,
+        Ok(None) => format_in_steps(rt, path, geometry, step)?,
         Err(Absent::File(fault)) => return Err(Absent::of(path, fault)),
         Err(why) => return Err(why),
     };
     place.finish(rt, &made)?;
     Ok(store)
+}
+
+// Whether a path ends in a link.
+fn is_link<R: Files>(rt: &R, path: &str) -> bool {
+    match fs::symlink_metadata(rt, path) {
+        Ok(metadata) => metadata.is_symlink(),
+        Err(_) => false,
+    }
+}
+
+// Makes the file of a store, whose path ends in no link, under another name, with a store in it. A file that isn't made
+// to its end is removed.
+fn format_in_steps<R: AllocGlobal + Files<File = File>, F: FnMut(u32) -> bool>(
+    rt: &R,
+    path: &str,
+    geometry: Geometry,
+    step: &mut F,
+) -> Result<Store<FileDisk>, Absent> {
+    match geometry.check() {
+        Ok(()) => {}
+        Err(_) => return Err(Absent::NoGeometry),
+    }
+    let Ok(name) = format!(in rt.alloc(); "{path}.new") else {
+        return Err(Absent::File(FileFault::NoMemory));
+    };
+    let file = match open_file(
+        rt,
+        OpenOptions::new().read(true).write(true).create(true),
+        name.as_str(),
+    ) {
+        Ok(file) => file,
+        Err(fault) => return Err(Absent::of(path, FileFault::from(fault))),
+    };
+    if file.try_lock().is_err() {
+        return Err(Absent::File(FileFault::Busy));
+    }
+    if let Err(why) = fill_in_steps(&file, geometry.disk_size(), step) {
+        // The fault that led here is reported, and not what fails now.
+        let _left = fs::remove_file(rt, name.as_str());
+        return Err(why);
+    }
+    let disk = match FileDisk::over(file) {
+        Ok(disk) => disk,
+        Err(fault) => return Err(Absent::of(path, FileFault::from(fault))),
+    };
+    match format(rt.alloc(), disk, geometry) {
+        Ok(store) => Ok(store),
+        Err(OpenRefused { fault, disk: _ }) => Err(Absent::Store(fault)),
+    }
+}
+
+// Gives a file so many bytes of zero, each written and on the disk, in steps.
+fn fill_in_steps<F: FnMut(u32) -> bool>(
+    file: &File,
+    size: u64,
+    step: &mut F,
+) -> Result<(), Absent> {
+    let zeros = zeros();
+    if let Err(fault) = grow_anew(file, size) {
+        return Err(Absent::File(FileFault::from(fault)));
+    }
+    let mut at = 0u64;
+    let pieces = size / PIECE as u64 + 1;
+    for piece in 0..pieces {
+        let percent = at.saturating_mul(100) / size.max(1);
+        if !step(u32::try_from(percent).unwrap_or(100)) {
+            return Err(Absent::Stopped);
+        }
+        let count = size.saturating_sub(at).min(PIECE as u64);
+        let bytes = zeros.get(..count as usize).unwrap_or(&[]);
+        let written = match file.write_all_at(bytes, at) {
+            Ok(()) if piece % SYNCED == SYNCED - 1 || piece + 1 == pieces => file.sync_data(),
+            outcome => outcome,
+        };
+        if let Err(fault) = written {
+            return Err(Absent::File(FileFault::from(fault)));
+        }
+        at = at.saturating_add(count);
+    }
+    match file.sync_all() {
+        Ok(()) => Ok(()),
+        Err(fault) => Err(Absent::File(FileFault::from(fault))),
+    }
+}
+
+// Empties a file, and gives it a length.
+fn grow_anew(file: &File, size: u64) -> io::Result<()> {
+    file.set_len(0)?;
+    file.set_len(size)
+}
+
+// A piece of zeros.
+fn zeros() -> &'static [u8; PIECE] {
+    &ZEROS
 }
 
 // The store at a place, as an earlier run left it. None where there is no file, where it isn't a store yet, or where it

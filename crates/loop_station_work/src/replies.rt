@@ -1,147 +1,156 @@
 //! The answers of cameras, as lines.
 
 use crate::absent::Absent;
-use crate::clerk::Answer;
-use crate::link::SourceState;
+use crate::clerk::{FoundClip, LEAST_GAP};
 use crate::state::CameraState;
-use loop_desk::Outline;
-use loop_record::Geometry;
+use loop_desk::{Kept, Outline};
 use loop_script::Listing;
-use loop_station_words::{
-    CameraStatus, print_absent, print_camera, print_kept, print_refused, print_released,
-    print_status,
-};
-use loop_store::Clip;
+use loop_station_core::{Keep, Run, shortfall_of};
+use loop_station_words::{CameraStatus, Lines};
+use loop_store::StoreFault;
 use std::io;
-use std::io::Write;
 use std::sync::Wait;
 use std::sync::atomic::Ordering;
 
-/// The answer that an inbox returns.
-pub(crate) type Answered = Option<Result<Answer, Absent>>;
-
-/// Prints what a keep locked, a line for each clip, and why not everything was locked.
-pub(crate) fn tell_kept<L: Write>(
+/// Tells what a keep has locked up to a time, a line for each clip, and why not everything was locked. Where nothing
+/// of its time lies ahead, it also tells how much of it is held, and where frames are missing.
+pub(crate) fn tell_kept(
     state: &CameraState,
-    answered: &Answered,
-    lines: &mut L,
+    keep: &Keep,
+    until: u64,
+    is_whole: bool,
+    kept: &Kept,
+    found: &[FoundClip],
+    runs: &[Run],
+    refused: Option<StoreFault>,
+    lines: &mut Lines,
 ) -> io::Result<()> {
     let name = state.config.name.as_str();
-    let (kept, refused) = match answered {
-        Some(Ok(Answer::Kept(kept, refused))) => (kept, *refused),
-        Some(Err(why)) => return print_absent(lines, name, why),
-        _ => return Ok(()),
-    };
-    for clip in kept.clips.as_slice() {
-        print_kept(lines, name, Some(*clip))?;
-    }
     if kept.clips.is_empty() && kept.fault.is_none() {
-        print_kept(lines, name, None)?;
+        lines.kept_none(name, keep.event)?;
     }
+    tell_clips(state, keep, found, lines)?;
     if let Some(fault) = refused {
-        print_refused(lines, name, fault)?;
+        lines.refused(name, fault)?;
     }
-    match kept.fault {
-        Some(fault) => print_refused(lines, name, fault),
-        None => Ok(()),
+    if let Some(fault) = kept.fault {
+        lines.refused(name, fault)?;
     }
+    if is_whole && !kept.clips.is_empty() {
+        tell_shortfall(state, keep, until, runs, lines)?;
+    }
+    if !is_whole {
+        lines.event_begun(keep.event, keep.since, keep.until)?;
+    }
+    Ok(())
 }
 
-/// Prints the result of a release.
-pub(crate) fn tell_released<L: Write>(
+/// Tells which clips a keep has.
+pub(crate) fn tell_clips(
+    state: &CameraState,
+    keep: &Keep,
+    found: &[FoundClip],
+    lines: &mut Lines,
+) -> io::Result<()> {
+    for clip in found {
+        lines.kept(
+            state.config.name.as_str(),
+            &clip.clip,
+            clip.first,
+            clip.last,
+            keep.event,
+        )?;
+    }
+    Ok(())
+}
+
+/// Tells how much of a keep's time is held, and where frames are missing, if some are. Returns whether all of it is held.
+pub(crate) fn tell_shortfall(
+    state: &CameraState,
+    keep: &Keep,
+    until: u64,
+    runs: &[Run],
+    lines: &mut Lines,
+) -> io::Result<bool> {
+    let name = state.config.name.as_str();
+    let Ok(missing) = shortfall_of(state.alloc, runs, keep.since, until, least_gap(state)) else {
+        return Ok(false);
+    };
+    if missing.gaps.is_empty() {
+        return Ok(true);
+    }
+    lines.held(name, missing.held, missing.asked, keep.event)?;
+    for gap in missing.gaps.as_slice() {
+        lines.gap(name, gap.micros, gap.at, keep.event)?;
+    }
+    Ok(false)
+}
+
+// The distance of frames of which a gap has more than one and a half.
+fn least_gap(state: &CameraState) -> u64 {
+    state.period().max(LEAST_GAP / 3 * 2)
+}
+
+/// Tells the result of a release.
+pub(crate) fn tell_released(
     state: &CameraState,
     id: u32,
-    answered: Answered,
-    lines: &mut L,
+    released: Result<(), StoreFault>,
+    lines: &mut Lines,
 ) -> io::Result<()> {
     let name = state.config.name.as_str();
-    match answered {
-        Some(Ok(Answer::Released(Ok(())))) => print_released(lines, name, id),
-        Some(Ok(Answer::Released(Err(fault)))) => print_refused(lines, name, fault),
-        Some(Err(why)) => print_absent(lines, name, &why),
-        _ => Ok(()),
+    match released {
+        Ok(()) => lines.released(name, id),
+        Err(fault) => lines.refused(name, fault),
     }
 }
 
-/// Prints what a camera holds.
-pub(crate) fn tell_listed<L: Write>(
+/// Tells what a camera holds.
+pub(crate) fn tell_listed(
     state: &CameraState,
-    answered: Answered,
-    lines: &mut L,
+    outline: Result<Outline, StoreFault>,
+    lines: &mut Lines,
 ) -> io::Result<()> {
     let name = state.config.name.as_str();
-    match answered {
-        Some(Ok(Answer::Looked(Ok(outline)))) => {
-            print_camera(lines, name, &Listing::of_outline(outline))
-        }
-        Some(Ok(Answer::Looked(Err(fault)))) => print_refused(lines, name, fault),
-        Some(Err(why)) => print_absent(lines, name, &why),
-        _ => Ok(()),
+    match outline {
+        Ok(outline) => lines.camera(name, &Listing::of_outline(outline)),
+        Err(fault) => lines.refused(name, fault),
     }
 }
 
-/// Prints the status of a camera.
-pub(crate) fn tell_status<R: Wait, L: Write>(
+/// Tells the status of a camera, from what is counted of it: its disk isn't asked.
+pub(crate) fn tell_status<R: Wait>(
     rt: &R,
     state: &CameraState,
-    answered: Answered,
-    lines: &mut L,
+    lines: &mut Lines,
 ) -> io::Result<()> {
     let name = state.config.name.as_str();
-    let outline = match answered {
-        Some(Ok(Answer::Looked(Ok(outline)))) => outline,
-        Some(Ok(Answer::Looked(Err(fault)))) => return print_refused(lines, name, fault),
-        Some(Err(why)) => return print_absent(lines, name, &why),
-        _ => return Ok(()),
-    };
-    let room = match state.link.store(rt) {
-        Some(geometry) => free_blocks(&geometry, &outline),
-        None => 0,
-    };
-    let source = match state.link.source(rt) {
-        SourceState::On => "on",
-        SourceState::Missing => "missing",
-        SourceState::OtherGeometry => "other geometry",
-    };
-    print_status(
-        lines,
+    match state.jobs.attended(rt) {
+        Some(Ok(())) => {}
+        Some(Err(why)) => {
+            return match state.link.making(rt) {
+                Some(percent) => {
+                    lines.status_making(name, state.config.store.as_str(), u64::from(percent))
+                }
+                None => lines.absent(name, &why),
+            };
+        }
+        None => return lines.absent(name, &Absent::Opening),
+    }
+    let tally = state.tally(rt);
+    let source = state.link.source(rt).name();
+    let (stored, room, keeps) = state.stored_room(rt);
+    lines.status(
         name,
         &CameraStatus {
-            stored: outline.next,
-            given_up: state.counts.given_up.load(Ordering::SeqCst),
-            waiting: u64::from(outline.pending),
+            stored,
+            given_up: tally.lost(),
+            waiting: tally.submitted.saturating_sub(tally.left),
             behind: state.behind_micros(rt),
             room,
-            faults: state.counts.faults.load(Ordering::SeqCst),
+            keeps: Some(keeps),
+            faults: state.faults.load(Ordering::SeqCst),
             source,
         },
     )
-}
-
-// How many blocks may still be locked before no block can be reused: all blocks of the ring but the newest held one and
-// those that clips meet.
-fn free_blocks(geometry: &Geometry, outline: &Outline) -> u64 {
-    let slots = u64::from(geometry.slots.max(1));
-    let numbers = outline.frames.as_slice();
-    let newest = numbers.last().map(|number| number / slots);
-    let mut locked = 0u64;
-    let mut last = newest;
-    for number in numbers {
-        let block = Some(number / slots);
-        if block == last || block == newest {
-            continue;
-        }
-        last = block;
-        if meets_any(outline.clips.as_slice(), number / slots, slots) {
-            locked = locked.saturating_add(1);
-        }
-    }
-    u64::from(geometry.segments)
-        .saturating_sub(1)
-        .saturating_sub(locked)
-}
-
-// Whether some clip has a frame of a block.
-fn meets_any(clips: &[Clip], block: u64, slots: u64) -> bool {
-    clips.iter().any(|clip| clip.from / slots.max(1) <= block && block <= clip.to / slots.max(1))
 }

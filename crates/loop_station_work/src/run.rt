@@ -1,17 +1,24 @@
 //! The program: threads for each camera, and orders meanwhile.
 
+use crate::absent::Absent;
+use crate::answering::{Message, Note, Posts};
+use crate::asked::asked_ring;
 use crate::clock::Timeline;
-use crate::events::{LastReported, tell_events};
+use crate::events::LastReported;
 use crate::filming::run_camera;
+use crate::notes::run_notes;
 use crate::orders::{Station, status, take_orders};
-use crate::outlet::Outlet;
+use crate::outlet::{Outlet, run_outlet};
 use crate::places::{PathKind, Places};
-use crate::save::Saves;
-use crate::source::run_source;
+use crate::printer::{run_printer, stop_saves};
+use crate::save::{MOST_SAVES, Saves, begin, run_saves};
+use crate::source::{ANY_RING, run_source};
 use crate::state::CameraState;
 use crate::tap::{Tap, run_tap};
+use crate::watch::run_watch;
 use loop_script::MAX_LINE;
-use loop_station_words::{CameraConfig, Config, Source};
+use loop_station_core::Numbers;
+use loop_station_words::{AnswersForm, CameraConfig, Config, Lines, Source};
 use std::alloc::{AllocError, AllocGlobal, Global};
 use std::io::{BufReader, Read, Write};
 use std::sync::{Arc, Mutex, Wait};
@@ -22,6 +29,11 @@ use std::time::{Clock, Duration};
 // How many times the state of the cameras is looked at for each status that is shown.
 const STATUS_STEPS: u32 = 10;
 
+// How often, and every how many milliseconds, a stop looks whether the orders before it are done: for a minute.
+const FINISH_STEPS: u32 = 12_000;
+
+const FINISH_AGAIN: u64 = 5;
+
 /// Why the program couldn't begin.
 #[derive(Drop)]
 pub enum NotBegun {
@@ -29,6 +41,10 @@ pub enum NotBegun {
     NoMemory,
     /// The clock can't be read.
     NoClock,
+    /// This path of `answers` is one of a store, a source, the configuration or the pipe of orders.
+    AnswersInUse(String),
+    /// No store holds as many frames as come in the minutes of this camera. So many tenths of a minute fit.
+    TooManyMinutes(String, u64),
 }
 
 impl From<AllocError> for NotBegun {
@@ -47,32 +63,46 @@ pub fn run_station<
     W: Write + Drop + Send + 'static,
 >(rt: &R, path: &str, config: Config, input: I, out: W, watched: bool) -> Result<bool, NotBegun> {
     let alloc = rt.alloc();
+    check_answers(rt, path, &config)?;
+    check_minutes(rt, &config)?;
     let taken = taken_paths(alloc, path, &config)?;
     let Config {
         orders,
         answers,
+        answers_form,
+        saves,
         times,
         events,
         cameras,
     } = config;
+    let json = answers.is_some() && answers_form == AnswersForm::Json;
     let timeline = timeline_of(rt)?;
-    let states = states_of(alloc, cameras, timeline)?;
-    let tap = tap_of(rt, answers)?;
+    let saves = shared(alloc, Saves::new(alloc, taken, saves)?)?;
+    let posts = shared(alloc, Posts::new(alloc)?)?;
+    let states = states_of(alloc, cameras, timeline, json, &posts, &saves)?;
+    let times = times.then_some(timeline);
+    let tap = tap_of(rt, answers, times)?;
     let ours = match &tap {
         Some(tap) => Some(Arc::try_clone(tap)?),
         None => None,
     };
-    let outlet = Outlet::new(alloc, out, times.then_some(timeline), ours);
+    let outlet = Outlet::new(alloc, out, times, ours, json)?;
     let station = Station {
         alloc,
+        timeline,
         cameras: states,
         outlet: shared(alloc, outlet)?,
-        saves: shared(alloc, Saves::new(alloc, taken)?)?,
+        saves,
+        posts,
+        json,
         events,
+        numbers: Mutex::new(Numbers::after(0)),
         last: Mutex::new(None),
     };
-    start_sources(rt, &station)?;
+    start_saves(rt, &station)?;
+    start_outlet(rt, &station)?;
     start_tap(rt, &station, &tap)?;
+    start_sources(rt, &station)?;
     let line = Vec::with_capacity(alloc, MAX_LINE + 1)?;
     let Ok(input) = BufReader::new(alloc, input) else {
         return Err(NotBegun::NoMemory);
@@ -81,9 +111,7 @@ pub fn run_station<
         return Err(NotBegun::NoMemory);
     }
     station.tell_end(rt);
-    if let Some(tap) = &tap {
-        tap.end(rt);
-    }
+    station.outlet.end(rt);
     Ok(!station.outlet.has_failed())
 }
 
@@ -100,15 +128,46 @@ fn states_of(
     alloc: Global,
     cameras: Vec<CameraConfig>,
     timeline: Timeline,
+    json: bool,
+    posts: &Arc<Posts>,
+    saves: &Arc<Saves>,
 ) -> Result<Vec<Arc<CameraState>>, NotBegun> {
     let mut states = Vec::new(alloc);
+    let mut place = 0usize;
     for camera in cameras {
-        let state = shared(alloc, CameraState::new(alloc, camera, timeline)?)?;
-        if states.push(state).is_err() {
+        let (posts, saves) = (Arc::try_clone(posts)?, Arc::try_clone(saves)?);
+        let state = CameraState::new(alloc, place, json, camera, timeline, posts, saves)?;
+        if states.push(shared(alloc, state)?).is_err() {
+            return Err(NotBegun::NoMemory);
+        }
+        place = place.saturating_add(1);
+    }
+    Ok(states)
+}
+
+// Starts the threads that write clips. A pipe that nobody reads may keep one waiting for ever, so they end with the
+// program.
+fn start_saves<
+    R: AllocGlobal + Places + Threads + Wait + Clock + Clone + Drop + Send + Sync + 'static,
+    W: Write + Drop + Send + 'static,
+>(rt: &R, station: &Station<W>) -> Result<(), NotBegun> {
+    for at in 0..MOST_SAVES {
+        let mut cameras = Vec::new(station.alloc);
+        for state in station.cameras.as_slice() {
+            if cameras.push(Arc::try_clone(state)?).is_err() {
+                return Err(NotBegun::NoMemory);
+            }
+        }
+        let saves = Arc::try_clone(&station.saves)?;
+        let Ok(theirs) = rt.clone() else {
+            return Err(NotBegun::NoMemory);
+        };
+        let work = move || run_saves(&theirs, &saves, cameras.as_slice(), at);
+        if thread::spawn(rt, work).is_err() {
             return Err(NotBegun::NoMemory);
         }
     }
-    Ok(states)
+    Ok(())
 }
 
 // The files and pipes that no clip may be written to: the configuration and all that it names.
@@ -132,6 +191,57 @@ fn taken_paths(alloc: Global, path: &str, config: &Config) -> Result<Vec<String>
     Ok(taken)
 }
 
+// Refuses `answers` that lead to what the station reads or records into.
+fn check_answers<R: AllocGlobal + Places>(
+    rt: &R,
+    path: &str,
+    config: &Config,
+) -> Result<(), NotBegun> {
+    let Some(answers) = &config.answers else {
+        return Ok(());
+    };
+    let mut taken = Vec::new(rt.alloc());
+    add_path(rt.alloc(), &mut taken, path)?;
+    if let Some(orders) = &config.orders {
+        add_path(rt.alloc(), &mut taken, orders.as_str())?;
+    }
+    for camera in config.cameras.as_slice() {
+        add_path(rt.alloc(), &mut taken, camera.store.as_str())?;
+        let made = format!(in rt.alloc(); "{}.new", camera.store.as_str())?;
+        add_path(rt.alloc(), &mut taken, made.as_str())?;
+        if let Source::Path(source) = &camera.source {
+            add_path(rt.alloc(), &mut taken, source.as_str())?;
+        }
+    }
+    if taken
+        .iter()
+        .any(|other| rt.is_same(answers.as_str(), other.as_str()))
+    {
+        let path = String::from_str(rt.alloc(), answers.as_str())?;
+        return Err(NotBegun::AnswersInUse(path));
+    }
+    Ok(())
+}
+
+// Refuses a camera whose store would have to be made for more frames than any holds, where its frames are known already.
+fn check_minutes<R: AllocGlobal + Places>(rt: &R, config: &Config) -> Result<(), NotBegun> {
+    for camera in config.cameras.as_slice() {
+        let Source::Pattern(shape) = &camera.source else {
+            continue;
+        };
+        let frames = shape.geometry(ANY_RING);
+        let is_there = rt.path_kind(camera.store.as_str()) != PathKind::Nothing;
+        if let (false, Err(Absent::TooManyFrames(tenths))) = (
+            is_there,
+            asked_ring(&frames, &camera.room),
+        ) {
+            let name = String::from_str(rt.alloc(), camera.name.as_str())?;
+            return Err(NotBegun::TooManyMinutes(name, tenths));
+        }
+    }
+    Ok(())
+}
+
 // Adds a path to others.
 fn add_path(alloc: Global, paths: &mut Vec<String>, path: &str) -> Result<(), NotBegun> {
     let path = String::from_str(alloc, path)?;
@@ -145,13 +255,29 @@ fn add_path(alloc: Global, paths: &mut Vec<String>, path: &str) -> Result<(), No
 fn tap_of<R: AllocGlobal + Places>(
     rt: &R,
     answers: Option<String>,
+    times: Option<Timeline>,
 ) -> Result<Option<Arc<Tap>>, NotBegun> {
     let Some(path) = answers else {
         return Ok(None);
     };
     let is_pipe = rt.path_kind(path.as_str()) == PathKind::Pipe;
-    let tap = shared(rt.alloc(), Tap::new(rt.alloc(), path, is_pipe)?)?;
+    let tap = shared(rt.alloc(), Tap::new(rt.alloc(), path, is_pipe, times)?)?;
     Ok(Some(tap))
+}
+
+// Starts the thread that writes to the output. A reader may keep it waiting for ever, so it ends with the program.
+fn start_outlet<
+    R: AllocGlobal + Threads + Wait + Clock + Clone + Drop + Send + Sync + 'static,
+    W: Write + Drop + Send + 'static,
+>(rt: &R, station: &Station<W>) -> Result<(), NotBegun> {
+    let outlet = Arc::try_clone(&station.outlet)?;
+    let Ok(theirs) = rt.clone() else {
+        return Err(NotBegun::NoMemory);
+    };
+    match thread::spawn(rt, move || run_outlet(&theirs, &outlet)) {
+        Ok(_) => Ok(()),
+        Err(_) => Err(NotBegun::NoMemory),
+    }
 }
 
 // Starts the thread of a tap. A pipe may keep it waiting for ever, so it ends with the program.
@@ -238,17 +364,40 @@ fn run_in<
     watched: bool,
 ) -> bool {
     let mut handles = handles;
-    let all = start_cameras(rt, scope, station, &mut handles, watched);
+    let Ok(printer) = scope.spawn(move || run_printer(rt, station)) else {
+        return false;
+    };
+    let notes = scope.spawn(move || run_notes(rt, station));
+    let all = notes.is_ok() && start_cameras(rt, scope, station, &mut handles, watched);
     if !all || serve(rt, station, orders, input, line) {
-        station.saves.stop(rt, &station.outlet);
+        finish_orders(rt, station);
+        stop_saves(rt, station);
         for state in station.cameras.as_slice() {
             state.stop();
+            state.threads.wake(rt);
         }
     }
     for handle in handles {
         handle.join(rt);
     }
+    station.posts.notes.put(rt, Note::End);
+    if let Ok(notes) = notes {
+        notes.join(rt);
+    }
+    station.posts.printer.put(rt, Message::End);
+    printer.join(rt);
     all
+}
+
+// Waits until the orders that came before a `stop` are done, but no longer than a keep waits for frames.
+fn finish_orders<R: Wait + Clock, W: Write + Drop>(rt: &R, station: &Station<W>) {
+    for _ in 0..FINISH_STEPS {
+        let is_idle = station.cameras.iter().all(|state| state.is_idle(rt));
+        if is_idle && station.posts.printer.is_empty(rt) {
+            break;
+        }
+        thread::sleep(rt, Duration::from_millis(FINISH_AGAIN));
+    }
 }
 
 // Starts a thread for each camera, and one that prints what happens to them. Returns whether all could be started.
@@ -272,17 +421,20 @@ fn start_cameras<
             return false;
         }
     }
-    if watched || station.events {
-        let Ok(handle) = scope.spawn(move || watch(rt, station, watched)) else {
-            return false;
-        };
-        return handles.push(handle).is_ok();
+    let Ok(handle) = scope.spawn(move || run_watch(rt, station)) else {
+        return false;
+    };
+    if handles.push(handle).is_err() {
+        return false;
     }
-    true
+    let Ok(handle) = scope.spawn(move || watch(rt, station, watched)) else {
+        return false;
+    };
+    handles.push(handle).is_ok()
 }
 
-// Prints events of the cameras, and shows the status of each every second where someone watches, until the program
-// ends.
+// Tells events of the cameras, wakes the threads that an open event waits for, tries saves again, and shows the status
+// of each camera every second where someone watches, until the program ends.
 fn watch<R: AllocGlobal + Wait + Clock, W: Write + Drop>(
     rt: &R,
     station: &Station<W>,
@@ -300,9 +452,7 @@ fn watch<R: AllocGlobal + Wait + Clock, W: Write + Drop>(
     for _ in rt.forever() {
         for _ in 0..STATUS_STEPS {
             let over = station.cameras.iter().all(|state| state.is_stopped());
-            if station.events {
-                tell_all(rt, station, reported.as_mut_slice());
-            }
+            look(rt, station, reported.as_mut_slice());
             if over {
                 return;
             }
@@ -315,27 +465,40 @@ fn watch<R: AllocGlobal + Wait + Clock, W: Write + Drop>(
     }
 }
 
-// Prints what has changed of each camera since it was last looked at.
-fn tell_all<R: AllocGlobal + Wait + Clock, W: Write + Drop>(
+// Looks at each camera once.
+fn look<R: AllocGlobal + Wait + Clock, W: Write + Drop>(
     rt: &R,
     station: &Station<W>,
     reported: &mut [LastReported],
 ) {
     let mut place = 0usize;
     for state in station.cameras.as_slice() {
+        if state.desk.has_growing(rt) {
+            state.threads.wake(rt);
+        }
         if let Some(reported) = reported.get_mut(place) {
-            tell_events(rt, state, reported, &station.outlet);
+            let mut lines = station.lines();
+            // Where memory for the lines is refused, they aren't printed.
+            if station.events && reported.tell_changes(rt, state, &mut lines).is_ok() {
+                station.outlet.put(rt, &lines);
+            }
         }
         place = place.saturating_add(1);
+    }
+    if let Some(save) = station.saves.due(rt, station.timeline.now(rt)) {
+        if let Some(state) = station.cameras.get(save.camera()) {
+            begin(rt, state, save);
+        }
     }
 }
 
 // Shows the status of each camera.
 fn show<R: AllocGlobal + Wait + Clock, W: Write + Drop>(rt: &R, station: &Station<W>) {
-    let mut lines = Vec::new(rt.alloc());
+    let mut lines = Lines::new(rt.alloc(), false);
+    let mut text = Vec::new(rt.alloc());
     // Where memory for the lines is refused, the next look has them.
-    if status(rt, station, &mut lines).is_ok() {
-        station.outlet.show(rt, lines);
+    if status(rt, station, &mut lines).is_ok() && text.extend_from_slice(lines.text()).is_ok() {
+        station.outlet.show(rt, text);
     }
 }
 
@@ -381,7 +544,7 @@ fn serve_file<
     R: AllocGlobal + Places + Threads + Wait + Clock + Clone + Drop + Send + Sync + 'static,
     W: Write + Drop + Send + 'static,
 >(rt: &R, station: &Station<W>, path: &str, line: &mut Vec<u8>) -> Served {
-    let Ok(file) = rt.open_input(path) else {
+    let Ok(file) = rt.open_orders(path) else {
         return Served::Again;
     };
     let once = match file.metadata() {

@@ -1,8 +1,9 @@
 //! Saves: clips are written as YUV4MPEG2 while their cameras record, by the proved writer of loop_y4m.
 //!
-//! There are places for so many saves at once. A place that was ever taken has a thread, which stays. A save has its
-//! place from when its order is read until its result is printed. Whoever prints the result gives the place back under
-//! the same lock: the save's own thread, or a stop of the program where that thread waits for a pipe that nobody reads.
+//! There are places for so many saves at once, each with a thread of its own. Which save begins when, and which clip may
+//! be released meanwhile, is decided by loop_station_core. A save that an order asks for is refused where each place is
+//! taken; one that begins by itself waits. Whoever ends a save first tells its result: its own thread, or a stop of the
+//! program or a `cancel` where that thread waits for a pipe that nobody reads.
 
 ghost use Rattle.std.specs.Prelude.{IfOk, List, OnOk, ℕ};
 ghost use Rattle.std.specs.Io.KnownBytes.{Appends};
@@ -10,14 +11,15 @@ ghost use Rattle.loop_y4m.specs.Text.{frame};
 ghost use Rattle.loop_station_work.specs.Saves.{WroteClip};
 
 use crate::absent::{Absent, file_name};
-use crate::clerk::{Answer, FoundClip, Request};
-use crate::outlet::Outlet;
+use crate::answering::{Answering, KeptClip, SaveOrder};
+use crate::clerk::FoundClip;
+use crate::part::PartFile;
 use crate::places::{PathKind, Places};
-use crate::replies::tell_released;
 use crate::state::CameraState;
-use loop_file::{FileFault, TextFile};
+use loop_file::FileFault;
 use loop_record::Geometry;
-use loop_station_words::{print_clip_path, print_done, print_not_saved, print_saved};
+use loop_station_core::{Asked, Cancelled, SaveKey};
+use loop_station_words::{Lines, print_clip_path};
 use loop_store::{Clip, StoreFault};
 use loop_y4m::{write_frame, write_header};
 use std::alloc::{AllocError, AllocGlobal, Global};
@@ -25,12 +27,11 @@ use std::fmt::{Display, Formatter};
 use std::io::{BufWriter, Write};
 use std::sync::atomic::{AtomicBool, Ordering};
 use std::sync::{Arc, Condvar, Mutex, Wait};
-use std::thread::Threads;
 use std::time::{Clock, Duration};
-use std::{fmt, io, thread};
+use std::{fmt, thread};
 
 // How many clips may be saved at once.
-const MOST_SAVES: usize = 16;
+pub(crate) const MOST_SAVES: usize = 16;
 
 // How many bytes of a text are gathered before they are written.
 const AT_ONCE: usize = 262_144;
@@ -41,21 +42,26 @@ const STOP_STEPS: u32 = 70;
 // How many clips that are saved by themselves may have names that differ only in the number at the end.
 const MOST_NAMES: u32 = 100;
 
+// After how many microseconds a save that began by itself and failed is tried again.
+const AGAIN: u64 = 60_000_000;
+
 /// Why a clip wasn't written, or not to its end.
 #[derive(Clone, Copy)]
-pub(crate) enum NotSaved {
+pub enum NotSaved {
     /// There is no clip of that id.
     NoSuchClip,
-    /// As many clips are being saved as may be at once.
-    TooMany,
     /// The camera's store isn't there.
     Absent(Absent),
     /// The store refused a read.
     Refused(StoreFault),
     /// A file exists, and may not be replaced.
     Exists,
+    /// The file begins as a store does: it is never replaced.
+    IsStore,
     /// The file or pipe is one that the station has open, or another program has locked.
     InUse,
+    /// It isn't in the folder in which orders may write.
+    OtherFolder,
     /// The file can't be opened.
     File(FileFault),
     /// The path leads to nothing through a link, or it can't be determined what is there.
@@ -64,6 +70,8 @@ pub(crate) enum NotSaved {
     CannotWrite,
     /// Memory or a thread was refused.
     NoMemory,
+    /// An order ended it.
+    Cancelled,
     /// The program ends.
     Stopped,
 }
@@ -73,17 +81,40 @@ impl Display for NotSaved {
     fn fmt<W: fmt::Write>(&self, f: &mut Formatter<W>) -> fmt::Result {
         f.write_str(match self {
             NotSaved::NoSuchClip => "NoSuchClip",
-            NotSaved::TooMany => "too many saves",
             NotSaved::Absent(why) => return why.fmt(f),
             NotSaved::Refused(fault) => fault.name(),
             NotSaved::Exists => "Exists",
+            NotSaved::IsStore => "IsStore",
             NotSaved::InUse => "InUse",
+            NotSaved::OtherFolder => "OtherFolder",
             NotSaved::File(fault) => file_name(*fault),
             NotSaved::CannotOpen => "CannotOpen",
             NotSaved::CannotWrite => "CannotWrite",
             NotSaved::NoMemory => "NoMemory",
+            NotSaved::Cancelled => "Cancelled",
             NotSaved::Stopped => "Stopped",
         })
+    }
+}
+
+impl NotSaved {
+    // Whether the same save may succeed later: the folder works again, the disk has room, the camera has its store.
+    fn may_pass(&self) -> bool {
+        match self {
+            NotSaved::Absent(_)
+            | NotSaved::File(_)
+            | NotSaved::CannotOpen
+            | NotSaved::CannotWrite
+            | NotSaved::NoMemory
+            | NotSaved::InUse
+            | NotSaved::Refused(_) => true,
+            NotSaved::NoSuchClip
+            | NotSaved::Exists
+            | NotSaved::IsStore
+            | NotSaved::OtherFolder
+            | NotSaved::Cancelled
+            | NotSaved::Stopped => false,
+        }
     }
 }
 
@@ -94,72 +125,53 @@ impl From<AllocError> for NotSaved {
 }
 
 /// Where a clip is saved to.
-#[derive(Clone, Copy)]
-pub(crate) enum SaveTarget<'a> {
-    /// A path, and whether a file that exists is replaced.
-    Path(&'a str, bool),
-    /// A folder, in which the clip gets a name of its own.
-    Folder(&'a str),
-}
-
-impl<'a> SaveTarget<'a> {
-    /// The path, as far as it is known before the clip is found.
-    pub fn path(&self) -> &'a str {
-        match self {
-            SaveTarget::Path(path, _) => path,
-            SaveTarget::Folder(folder) => folder,
-        }
-    }
-}
-
-// A clip that is saved: what it was when its order was read, and where it is written to.
 #[derive(Drop)]
-struct Save {
-    state: Arc<CameraState>,
-    geometry: Geometry,
+pub(crate) enum SaveTarget {
+    /// To the path of an order, which may replace a file that exists.
+    Path(String, bool),
+    /// To the camera's folder, by itself. An earlier run may have saved it there.
+    Folder(bool),
+}
+
+/// A clip that is saved: what it was when it was found, and where it is written to.
+#[derive(Drop)]
+pub(crate) struct Save {
+    camera: usize,
     found: FoundClip,
-    path: String,
-    // A file that exists is replaced.
-    replace: bool,
-    // The clip is released once it is saved.
-    release: bool,
-    // The label of its order.
-    label: Option<String>,
+    target: SaveTarget,
+    // The order that asked for it, and the camera's place among those that it means.
+    order: Option<Arc<Answering>>,
+    // It has been told that it waits and is tried again.
+    is_told: AtomicBool,
+    // It is to end before its text is whole.
+    ended: AtomicBool,
 }
 
 impl Save {
-    // Prints its result, and that of its release, if that was asked for too.
-    fn print<R: AllocGlobal + Wait + Clock, W: Write + Drop>(
-        &self,
-        rt: &R,
-        outlet: &Outlet<W>,
-        came: Result<u64, NotSaved>,
-        released: &[u8],
-    ) {
-        let mut lines = Vec::new(rt.alloc());
-        // Where memory for the lines is refused, nothing is printed.
-        if self.write_lines(&mut lines, came, released).is_ok() {
-            outlet.answer(rt, self.label.as_deref(), &lines);
+    /// The place of its camera in the configuration.
+    pub fn camera(&self) -> usize {
+        self.camera
+    }
+
+    // The clip that it reads.
+    fn key(&self) -> SaveKey {
+        SaveKey {
+            camera: self.camera,
+            id: self.found.clip.id,
+            first: self.found.clip.from,
         }
     }
 
-    // The lines of its result.
-    fn write_lines<L: Write>(
-        &self,
-        lines: &mut L,
-        came: Result<u64, NotSaved>,
-        released: &[u8],
-    ) -> io::Result<()> {
-        let (name, id) = (self.state.config.name.as_str(), self.found.clip.id);
-        match came {
-            Ok(count) => print_saved(lines, name, id, self.path.as_str(), count)?,
-            Err(why) => print_not_saved(lines, name, id, self.path.as_str(), &why)?,
-        }
-        lines.write_all(released)?;
-        match self.label {
-            Some(_) => print_done(lines),
-            None => Ok(()),
-        }
+    // Whether it reads this clip.
+    fn is_of(&self, key: &SaveKey) -> bool {
+        self.camera == key.camera
+            && self.found.clip.id == key.id
+            && self.found.clip.from == key.first
+    }
+
+    // Whether it begins by itself.
+    fn is_automatic(&self) -> bool {
+        self.order.is_none()
     }
 }
 
@@ -170,36 +182,61 @@ struct SavePlace {
     save: Option<Arc<Save>>,
     // Its thread hasn't seen that save yet.
     is_new: bool,
-    // It has a thread.
-    has_thread: bool,
+}
+
+// A save that began by itself and failed, and when it is tried again.
+#[derive(Drop)]
+struct Retry {
+    save: Arc<Save>,
+    at: u64,
+}
+
+#[derive(Drop)]
+struct Inside {
+    decided: loop_station_core::Saves,
+    places: Vec<SavePlace>,
+    // The saves that wait for a place.
+    waiting: Vec<Arc<Save>>,
+    retries: Vec<Retry>,
 }
 
 /// The saves that are in progress.
 #[derive(Drop)]
 pub(crate) struct Saves {
-    places: Mutex<Vec<SavePlace>>,
+    inside: Mutex<Inside>,
     changed: Condvar,
     stopped: AtomicBool,
     /// The files and pipes of the station, which no clip is written to.
     taken: Vec<String>,
+    /// The only folder in which orders may write, if there is one.
+    folder: Option<String>,
 }
 
 impl Saves {
-    /// No saves yet. No clip is written to these files and pipes.
-    pub fn new(alloc: Global, taken: Vec<String>) -> Result<Saves, AllocError> {
+    /// No saves yet. No clip is written to these files and pipes, and by orders only into this folder, if there is one.
+    pub fn new(
+        alloc: Global,
+        taken: Vec<String>,
+        folder: Option<String>,
+    ) -> Result<Saves, AllocError> {
         let mut places = Vec::with_capacity(alloc, MOST_SAVES)?;
         for _ in 0..MOST_SAVES {
             places.push(SavePlace {
                 save: None,
                 is_new: false,
-                has_thread: false,
             })?;
         }
         Ok(Saves {
-            places: Mutex::new(places),
+            inside: Mutex::new(Inside {
+                decided: loop_station_core::Saves::new(alloc, MOST_SAVES)?,
+                places,
+                waiting: Vec::new(alloc),
+                retries: Vec::new(alloc),
+            }),
             changed: Condvar::new(),
             stopped: AtomicBool::new(false),
             taken,
+            folder,
         })
     }
 
@@ -213,89 +250,116 @@ impl Saves {
         false
     }
 
-    /// Whether the clip of an id of a camera is being saved.
-    pub fn holds<R: Wait>(&self, rt: &R, camera: &str, id: u32) -> bool {
-        let places = self.places.lock(rt);
-        for place in places.as_slice() {
-            if let Some(save) = &place.save {
-                if save.found.clip.id == id && save.state.config.name.as_str() == camera {
-                    return true;
-                }
-            }
-        }
-        false
+    /// Whether a save that runs or waits reads the clip of an id of a camera.
+    pub fn reads<R: Wait>(&self, rt: &R, camera: usize, id: u32) -> bool {
+        self.inside.lock(rt).decided.is_read(camera, id)
     }
 
-    // Gives a save a place. Returns which one, and whether it needs a thread; None where all places are taken.
-    fn take_place<R: Wait>(&self, rt: &R, save: Arc<Save>) -> Option<(usize, bool)> {
-        let mut places = self.places.lock(rt);
-        let mut at = 0usize;
-        for place in places.as_mut_slice() {
-            if place.save.is_none() {
-                place.save = Some(save);
-                place.is_new = true;
-                let wants = !place.has_thread;
-                place.has_thread = true;
+    // Begins a save, or lets it wait.
+    fn begin<R: Wait>(&self, rt: &R, save: Arc<Save>) -> Result<(), NotBegun> {
+        let mut inside = self.inside.lock(rt);
+        if save.is_automatic() && inside.has_automatic(&save.key()) {
+            return Ok(());
+        }
+        match inside.decided.ask(save.key(), save.is_automatic()) {
+            Asked::Begins(place) => {
+                inside.put(place, save);
                 self.changed.notify_all();
-                return Some((at, wants));
+                Ok(())
             }
-            at = at.saturating_add(1);
-        }
-        None
-    }
-
-    // Takes back a place whose thread can't be started.
-    fn lose_thread<R: Wait>(&self, rt: &R, at: usize) {
-        let mut places = self.places.lock(rt);
-        if let Some(place) = places.get_mut(at) {
-            place.save = None;
-            place.is_new = false;
-            place.has_thread = false;
+            Asked::Waits => match inside.waiting.push(save) {
+                Ok(()) => Ok(()),
+                Err(_) => Err(NotBegun::NoMemory),
+            },
+            Asked::TooMany => Err(NotBegun::TooMany),
+            Asked::NoMemory => Err(NotBegun::NoMemory),
+            Asked::Stopped => Err(NotBegun::Stopped),
         }
     }
 
     // Waits for the next save of a place.
     fn next<R: Wait>(&self, rt: &R, at: usize) -> Option<Arc<Save>> {
-        let mut places = self
-            .changed
-            .wait_while(rt, self.places.lock(rt), |places| match places.get(at) {
+        let mut inside = self.changed.wait_while(
+            rt,
+            self.inside.lock(rt),
+            |inside| match inside.places.get(at) {
                 Some(place) => !place.is_new,
                 None => false,
-            });
-        let place = places.get_mut(at)?;
+            },
+        );
+        let place = inside.places.get_mut(at)?;
         place.is_new = false;
         Arc::try_clone(place.save.as_ref()?).ok()
     }
 
-    // Prints the result of the save of a place, and gives the place back, unless a stop did.
-    fn end<R: AllocGlobal + Wait + Clock, W: Write + Drop>(
-        &self,
-        rt: &R,
-        outlet: &Outlet<W>,
-        at: usize,
-        came: Result<u64, NotSaved>,
-        released: &[u8],
-    ) {
-        let mut places = self.places.lock(rt);
-        let Some(place) = places.get_mut(at) else {
-            return;
+    // The save of a place has ended; its clip is to be released, or isn't. Returns the save, unless someone else told
+    // its result already, and whether its clip is released now.
+    fn end<R: Wait>(&self, rt: &R, at: usize, release: bool) -> (Option<Arc<Save>>, bool) {
+        let mut inside = self.inside.lock(rt);
+        let save = match inside.places.get_mut(at) {
+            Some(place) => place.save.take(),
+            None => None,
         };
-        if let Some(save) = place.save.take() {
-            save.print(rt, outlet, came, released);
+        if release {
+            if let Some(key) = inside.decided.at(at) {
+                // The end of the last save that reads the clip says when.
+                let _later = inside.decided.wants_release(key.camera, key.id);
+            }
+        }
+        let ended = inside.decided.ended(at);
+        if let Some(key) = ended.begun {
+            inside.begin_waiting(at, key);
+            self.changed.notify_all();
+        }
+        (save, ended.release)
+    }
+
+    // A save that began by itself failed, and is tried again at a time.
+    fn retry<R: Wait>(&self, rt: &R, save: Arc<Save>, at: u64) {
+        // Where memory is refused, it is tried again at the next start.
+        let _ = self.inside.lock(rt).retries.push(Retry { save, at });
+    }
+
+    /// The saves that are due to be tried again.
+    pub fn due<R: Wait>(&self, rt: &R, now: u64) -> Option<Arc<Save>> {
+        let mut inside = self.inside.lock(rt);
+        let at = inside.retries.iter().position(|retry| retry.at <= now)?;
+        let Retry { save, at: _ } = inside.retries.remove(at);
+        Some(save)
+    }
+
+    /// Ends a save of the clip of an id of a camera. Returns the order that asked for it, which has to be answered, and
+    /// the path; None where no save reads that clip.
+    pub fn cancel<R: Wait>(&self, rt: &R, camera: usize, id: u32) -> Option<Arc<Save>> {
+        let mut inside = self.inside.lock(rt);
+        let retried = inside.retries.iter().position(|retry| retry.save.camera == camera
+            && retry.save.found.clip.id == id);
+        if let Some(at) = retried {
+            let Retry { save, at: _ } = inside.retries.remove(at);
+            return Some(save);
+        }
+        match inside.decided.cancel(camera, id) {
+            Cancelled::Running(place) => {
+                let save = inside.places.get_mut(place)?.save.take()?;
+                save.ended.store(true, Ordering::SeqCst);
+                Some(save)
+            }
+            Cancelled::Waiting { release: _ } => inside.take_waiting(camera, id),
+            Cancelled::No => None,
         }
     }
 
     // Whether a save is in progress.
     fn is_busy<R: Wait>(&self, rt: &R) -> bool {
-        self.places
+        self.inside
             .lock(rt)
+            .places
             .iter()
             .any(|place| place.save.is_some())
     }
 
-    /// Ends all saves, within a second. Those that haven't ended by themselves shortly are printed as stopped, and
-    /// their threads print nothing more.
-    pub fn stop<R: AllocGlobal + Wait + Clock, W: Write + Drop>(&self, rt: &R, outlet: &Outlet<W>) {
+    /// Ends all saves, within a second. Returns one that hasn't ended by itself shortly: its thread tells nothing more.
+    pub fn stop<R: Wait + Clock>(&self, rt: &R) {
         for _ in 0..STOP_STEPS {
             if !self.is_busy(rt) {
                 break;
@@ -303,81 +367,145 @@ impl Saves {
             thread::sleep(rt, Duration::from_millis(10));
         }
         self.stopped.store(true, Ordering::SeqCst);
-        let mut places = self.places.lock(rt);
-        for place in places.as_mut_slice() {
-            if let Some(save) = place.save.take() {
-                save.print(rt, outlet, Err(NotSaved::Stopped), &[]);
+    }
+
+    /// A save that a stop has ended, if one is left.
+    pub fn next_stopped<R: Wait>(&self, rt: &R) -> Option<Arc<Save>> {
+        let mut inside = self.inside.lock(rt);
+        for _ in 0..u64::MAX {
+            let stopped = inside.decided.stop()?;
+            let save = match stopped.place {
+                Some(place) => inside.places.get_mut(place)?.save.take(),
+                None => inside.take_waiting(stopped.key.camera, stopped.key.id),
+            };
+            if save.is_some() {
+                return save;
             }
         }
+        None
     }
 }
 
-/// Begins to save a clip as its camera has it now. The thread of the save's place prints the result. `TooMany`,
-/// `NoSuchClip` and whatever else ends the save before that are returned.
-pub(crate) fn begin_save<
-    R: AllocGlobal + Places + Threads + Wait + Clock + Clone + Drop + Send + Sync + 'static,
-    W: Write + Drop + Send + 'static,
->(
-    rt: &R,
-    saves: &Arc<Saves>,
-    outlet: &Arc<Outlet<W>>,
-    state: &Arc<CameraState>,
-    label: Option<&str>,
-    id: u32,
-    to: SaveTarget<'_>,
-) -> Result<(), NotSaved> {
-    let save = save_of(rt, state, label, id, to)?;
-    let Ok(save) = Arc::new(rt.alloc(), save) else {
-        return Err(NotSaved::NoMemory);
-    };
-    let (ours, outlet) = (Arc::try_clone(saves)?, Arc::try_clone(outlet)?);
-    let Ok(theirs) = rt.clone() else {
-        return Err(NotSaved::NoMemory);
-    };
-    let Some((at, wants)) = saves.take_place(rt, save) else {
-        return Err(NotSaved::TooMany);
-    };
-    if wants && thread::spawn(rt, move || run_saves(&theirs, &ours, &outlet, at)).is_err() {
-        saves.lose_thread(rt, at);
-        return Err(NotSaved::NoMemory);
-    }
-    Ok(())
+// Why a save doesn't begin.
+#[derive(Clone, Copy)]
+enum NotBegun {
+    /// Each place is taken.
+    TooMany,
+    /// Memory was refused.
+    NoMemory,
+    /// The program ends.
+    Stopped,
 }
 
-// The clip to be saved, and where.
-fn save_of<R: AllocGlobal + Places + Wait>(
+impl Inside {
+    // A save gets a place.
+    fn put(&mut self, place: usize, save: Arc<Save>) {
+        if let Some(place) = self.places.get_mut(place) {
+            place.save = Some(save);
+            place.is_new = true;
+        }
+    }
+
+    // The save that waits for a clip begins in a place.
+    fn begin_waiting(&mut self, place: usize, key: SaveKey) {
+        if let Some(save) = self.take_waiting(key.camera, key.id) {
+            self.put(place, save);
+        }
+    }
+
+    // Takes the first save that waits and reads the clip of an id.
+    fn take_waiting(&mut self, camera: usize, id: u32) -> Option<Arc<Save>> {
+        let at = self
+            .waiting
+            .iter()
+            .position(|save| save.camera == camera && save.found.clip.id == id)?;
+        Some(self.waiting.remove(at))
+    }
+
+    // Whether a clip is being saved by itself, or is going to be.
+    fn has_automatic(&self, key: &SaveKey) -> bool {
+        self.places.iter().any(|place| match &place.save {
+            Some(save) => save.is_automatic() && save.is_of(key),
+            None => false,
+        }) || self.waiting.iter().any(|save| save.is_of(key))
+            || self.retries.iter().any(|retry| retry.save.is_of(key))
+    }
+}
+
+/// Begins the save that an order asks for. Where memory is refused, the order isn't answered.
+pub(crate) fn begin_ordered<R: Wait>(
     rt: &R,
-    state: &Arc<CameraState>,
-    label: Option<&str>,
-    id: u32,
-    to: SaveTarget<'_>,
-) -> Result<Save, NotSaved> {
-    let alloc = rt.alloc();
-    let found = find(rt, state, id)?;
-    let Some(geometry) = state.link.store(rt) else {
-        return Err(NotSaved::Absent(Absent::NoStore));
-    };
-    let (path, replace, release) = match to {
-        SaveTarget::Path(path, replace) => (String::from_str(alloc, path)?, replace, false),
-        SaveTarget::Folder(folder) => (
-            path_in(rt, folder, state.config.name.as_str(), &found)?,
-            false,
-            state.config.release,
-        ),
-    };
-    let label = match label {
-        Some(label) => Some(String::from_str(alloc, label)?),
-        None => None,
-    };
-    Ok(Save {
-        state: Arc::try_clone(state)?,
-        geometry,
-        found,
+    alloc: Global,
+    state: &CameraState,
+    order: SaveOrder,
+    found: FoundClip,
+) {
+    let SaveOrder {
+        answering,
+        place: _,
         path,
         replace,
-        release,
-        label,
-    })
+    } = order;
+    let target = SaveTarget::Path(path, replace);
+    if let Ok(save) = save_of(alloc, state.place, found, target, Some(answering)) {
+        begin(rt, state, save);
+    }
+}
+
+/// Begins a save, or tells why it doesn't begin.
+pub(crate) fn begin<R: Wait>(rt: &R, state: &CameraState, save: Arc<Save>) {
+    let Ok(ours) = Arc::try_clone(&save) else {
+        return;
+    };
+    match state.saves.begin(rt, save) {
+        Ok(()) => {}
+        Err(NotBegun::TooMany) => {
+            let mut lines = state.lines(state.alloc);
+            // Where memory for the line is refused, it isn't printed.
+            let _ = lines.too_many_saves(state.config.name.as_str());
+            tell_for(rt, state, &ours, lines);
+        }
+        Err(NotBegun::NoMemory) => tell_ended(rt, state, &ours, NotSaved::NoMemory),
+        Err(NotBegun::Stopped) => tell_ended(rt, state, &ours, NotSaved::Stopped),
+    }
+}
+
+/// The save of a clip into its camera's folder. Where the clip may have been saved by an earlier run, a file that has its
+/// name is that.
+pub(crate) fn automatic(
+    alloc: Global,
+    kept: KeptClip,
+    may_be_saved: bool,
+) -> Result<Arc<Save>, AllocError> {
+    save_of(
+        alloc,
+        kept.camera,
+        kept.found,
+        SaveTarget::Folder(may_be_saved),
+        None,
+    )
+}
+
+// A save.
+fn save_of(
+    alloc: Global,
+    camera: usize,
+    found: FoundClip,
+    target: SaveTarget,
+    order: Option<Arc<Answering>>,
+) -> Result<Arc<Save>, AllocError> {
+    let save = Save {
+        camera,
+        found,
+        target,
+        order,
+        is_told: AtomicBool::new(false),
+        ended: AtomicBool::new(false),
+    };
+    match Arc::new(alloc, save) {
+        Ok(save) => Ok(save),
+        Err(_) => Err(AllocError),
+    }
 }
 
 // The path of a clip's file in a folder: by its camera, the time of its first frame, and its id. Where a file has that
@@ -406,7 +534,7 @@ fn path_of(
     place: u32,
 ) -> Result<String, NotSaved> {
     let mut path = Vec::new(alloc);
-    let (began, id) = (found.began(), found.clip.id);
+    let (began, id) = (found.first, found.clip.id);
     if print_clip_path(&mut path, folder, camera, began, id, place).is_err() {
         return Err(NotSaved::NoMemory);
     }
@@ -416,94 +544,174 @@ fn path_of(
     }
 }
 
-// The clip of an id, as its camera has it now.
-fn find<R: Wait>(rt: &R, state: &CameraState, id: u32) -> Result<FoundClip, NotSaved> {
-    state.ask(rt, Request::Find(id));
-    match state.clerk.answer(rt) {
-        Some(Ok(Answer::Found(Ok(Some(found))))) => Ok(found),
-        Some(Ok(Answer::Found(Err(fault)))) => Err(NotSaved::Refused(fault)),
-        Some(Err(why)) => Err(NotSaved::Absent(why)),
-        _ => Err(NotSaved::NoSuchClip),
-    }
-}
-
-// The thread of a place: it writes the clips that are saved there, one after the other.
-fn run_saves<R: AllocGlobal + Places + Wait + Clock, W: Write + Drop>(
+/// The thread of a place: it writes the clips that are saved there, one after the other, as long as the program runs.
+pub(crate) fn run_saves<R: AllocGlobal + Places + Wait + Clock>(
     rt: &R,
     saves: &Saves,
-    outlet: &Outlet<W>,
+    cameras: &[Arc<CameraState>],
     at: usize,
 ) {
     for _ in rt.forever() {
-        let mut released = Vec::new(rt.alloc());
-        let came = match saves.next(rt, at) {
-            Some(save) => {
-                let came = write(rt, saves, &save);
-                if came.is_ok() && save.release {
-                    // Where memory is refused, no line says that the clip is released; `list` doesn't show it any more.
-                    let _ = release(rt, &save, &mut released);
-                }
-                came
+        if let Some(save) = saves.next(rt, at) {
+            if let Some(state) = cameras.get(save.camera) {
+                run_save(rt, saves, state, at, &save);
             }
-            None => Err(NotSaved::NoMemory),
-        };
-        saves.end(rt, outlet, at, came, &released);
-        if saves.stopped.load(Ordering::SeqCst) {
-            break;
         }
     }
 }
 
-// Releases a clip that is saved.
-fn release<R: Wait, L: Write>(rt: &R, save: &Save, lines: &mut L) -> io::Result<()> {
-    let (state, id) = (&save.state, save.found.clip.id);
-    state.ask(rt, Request::Release(id));
-    tell_released(state, id, state.clerk.answer(rt), lines)
+// Writes the clip of a save, and tells the result.
+fn run_save<R: AllocGlobal + Places + Wait + Clock>(
+    rt: &R,
+    saves: &Saves,
+    state: &CameraState,
+    at: usize,
+    save: &Save,
+) {
+    let (path, came) = match path_for(rt, state, save) {
+        Ok((path, true)) => (path, Ok(None)),
+        Ok((path, false)) => {
+            let came = write(rt, saves, state, save, path.as_str());
+            (path, came.map(|count| Some(count)))
+        }
+        Err(why) => (String::new(rt.alloc()), Err(why)),
+    };
+    let release = came.is_ok() && save.is_automatic() && state.config.release;
+    let (ours, is_released) = saves.end(rt, at, release);
+    if let Some(ours) = ours {
+        tell_save(rt, saves, state, ours, path.as_str(), came);
+    }
+    if is_released {
+        state.release_saved(rt, save.found.clip);
+    }
 }
 
-// Writes a clip. Returns how many frames it has, once the file would survive a loss of power. A file that was made for
-// the clip is removed where it can't be written completely.
+// Where the clip of a save is written to, and whether it was saved already.
+fn path_for<R: AllocGlobal + Places>(
+    rt: &R,
+    state: &CameraState,
+    save: &Save,
+) -> Result<(String, bool), NotSaved> {
+    let may_be_saved = match &save.target {
+        SaveTarget::Path(path, _) => {
+            return match String::from_str(rt.alloc(), path.as_str()) {
+                Ok(path) => Ok((path, false)),
+                Err(_) => Err(NotSaved::NoMemory),
+            };
+        }
+        SaveTarget::Folder(may_be_saved) => *may_be_saved,
+    };
+    let Some(folder) = &state.config.save_to else {
+        return Err(NotSaved::CannotOpen);
+    };
+    let (folder, name) = (folder.as_str(), state.config.name.as_str());
+    let first = path_of(rt.alloc(), folder, name, &save.found, 1)?;
+    if may_be_saved && rt.path_kind(first.as_str()) == PathKind::File {
+        return Ok((first, true));
+    }
+    Ok((path_in(rt, folder, name, &save.found)?, false))
+}
+
+// Tells the result of a save; one that began by itself and may succeed later is tried again. `came` has how many frames
+// were written, or nothing where the clip was saved already.
+fn tell_save<R: AllocGlobal + Wait + Clock>(
+    rt: &R,
+    saves: &Saves,
+    state: &CameraState,
+    save: Arc<Save>,
+    path: &str,
+    came: Result<Option<u64>, NotSaved>,
+) {
+    let (name, id) = (state.config.name.as_str(), save.found.clip.id);
+    let mut lines = state.lines(rt.alloc());
+    // Where memory for the line is refused, it isn't printed.
+    let _ = match came {
+        Ok(None) => Ok(()),
+        Ok(Some(count)) => lines.saved(name, id, path, count),
+        Err(why) if save.is_automatic() && why.may_pass() => {
+            let told = save.is_told.swap(true, Ordering::SeqCst);
+            let again = state.timeline.now(rt).saturating_add(AGAIN);
+            let kept = Arc::try_clone(&save);
+            if let Ok(kept) = kept {
+                saves.retry(rt, kept, again);
+            }
+            if told {
+                Ok(())
+            } else {
+                lines.save_waits(name, id, path, &why)
+            }
+        }
+        Err(why) => lines.not_saved(name, id, path, &why),
+    };
+    tell_for(rt, state, &save, lines);
+}
+
+/// Tells that a save was ended before its text was whole.
+pub(crate) fn tell_ended<R: Wait>(rt: &R, state: &CameraState, save: &Save, why: NotSaved) {
+    let path = match &save.target {
+        SaveTarget::Path(path, _) => path.as_str(),
+        SaveTarget::Folder(_) => match &state.config.save_to {
+            Some(folder) => folder.as_str(),
+            None => "",
+        },
+    };
+    let mut lines = state.lines(state.alloc);
+    // Where memory for the line is refused, it isn't printed.
+    let _ = lines.not_saved(state.config.name.as_str(), save.found.clip.id, path, &why);
+    tell_for(rt, state, save, lines);
+}
+
+// Answers the order that asked for a save, or tells lines that answer none.
+fn tell_for<R: Wait>(rt: &R, state: &CameraState, save: &Save, lines: Lines) {
+    let order = match &save.order {
+        Some(answering) => Arc::try_clone(answering).ok(),
+        None => None,
+    };
+    match order {
+        Some(answering) => state.posts.answer(rt, answering, 0, lines, None),
+        None => state.tell(rt, lines, None),
+    }
+}
+
+// Writes a clip. Returns how many frames it has, once the file would survive a loss of power.
 fn write<R: AllocGlobal + Places + Wait>(
     rt: &R,
     saves: &Saves,
+    state: &CameraState,
     save: &Save,
+    path: &str,
 ) -> Result<u64, NotSaved> {
-    let path = save.path.as_str();
-    let kind = rt.path_kind(path);
     if saves.is_taken(rt, path) {
         return Err(NotSaved::InUse);
     }
-    match kind {
-        PathKind::File if !save.replace => return Err(NotSaved::Exists),
-        PathKind::Unknown => return Err(NotSaved::CannotOpen),
-        PathKind::Nothing | PathKind::File | PathKind::Pipe | PathKind::Other => {}
-    }
-    let came = write_file(rt, saves, save);
-    if came.is_err() && kind == PathKind::Nothing {
-        // A file that can't be removed either stays, as after a stop: the save's own fault is printed.
-        let _ = rt.remove(path);
-    }
-    came
-}
-
-// Writes a clip into the file or pipe of its path.
-fn write_file<R: AllocGlobal + Places + Wait>(
-    rt: &R,
-    saves: &Saves,
-    save: &Save,
-) -> Result<u64, NotSaved> {
-    let mut file = match rt.open_output(save.path.as_str()) {
-        Ok(file) => file,
-        Err(FileFault::Busy) => return Err(NotSaved::InUse),
-        Err(fault) => return Err(NotSaved::File(fault)),
+    let replace = match &save.target {
+        SaveTarget::Path(_, replace) => {
+            if let Some(folder) = &saves.folder {
+                if !rt.lies_in(path, folder.as_str()) {
+                    return Err(NotSaved::OtherFolder);
+                }
+            }
+            *replace
+        }
+        SaveTarget::Folder(_) => false,
     };
-    if file.empty().is_err() {
-        return Err(NotSaved::CannotWrite);
-    }
-    let count = write_clip(rt, saves, save, &mut file)?;
-    match file.settle() {
-        Ok(()) => Ok(count),
-        Err(_) => Err(NotSaved::CannotWrite),
+    let Some(geometry) = state.link.store(rt) else {
+        return Err(NotSaved::Absent(Absent::NoStore));
+    };
+    let mut file = rt.open_text(path, replace)?;
+    let came = write_clip(rt, saves, state, save, &geometry, &mut file);
+    match came {
+        Ok(count) => match rt.finish_text(&file) {
+            Ok(()) => Ok(count),
+            Err(why) => {
+                rt.give_up_text(&file);
+                Err(why)
+            }
+        },
+        Err(why) => {
+            rt.give_up_text(&file);
+            Err(why)
+        }
     }
 }
 
@@ -511,13 +719,15 @@ fn write_file<R: AllocGlobal + Places + Wait>(
 fn write_clip<R: AllocGlobal + Wait>(
     rt: &R,
     saves: &Saves,
+    state: &CameraState,
     save: &Save,
-    file: &mut TextFile,
+    geometry: &Geometry,
+    file: &mut PartFile,
 ) -> Result<u64, NotSaved> {
     let Ok(mut out) = BufWriter::with_capacity(rt.alloc(), AT_ONCE, file) else {
         return Err(NotSaved::NoMemory);
     };
-    let count = write_text(rt, saves, save, &mut out)?;
+    let count = write_text(rt, saves, state, save, geometry, &mut out)?;
     match out.flush() {
         Ok(()) => Ok(count),
         Err(_) => Err(NotSaved::CannotWrite),
@@ -528,11 +738,13 @@ fn write_clip<R: AllocGlobal + Wait>(
 fn write_text<R: Wait, W: Write>(
     rt: &R,
     saves: &Saves,
+    state: &CameraState,
     save: &Save,
+    geometry: &Geometry,
     out: &mut W,
 ) -> Result<u64, NotSaved>
     ensures { IfOk result
-        (WroteClip (W.contents out.old) (W.contents out.new) save.now.geometry
+        (WroteClip (W.contents out.old) (W.contents out.new) geometry.now
         save.now.found.clip.from save.now.found.clip.to) }
 {
     let Clip { from, to, .. } = save.found.clip;
@@ -540,7 +752,7 @@ fn write_text<R: Wait, W: Write>(
         return Err(NotSaved::NoSuchClip);
     }
     let count = to - from + 1;
-    match write_header(&save.geometry, out) {
+    match write_header(geometry, out) {
         Ok(()) => {}
         Err(_) => return Err(NotSaved::CannotWrite),
     }
@@ -548,7 +760,10 @@ fn write_text<R: Wait, W: Write>(
         if saves.stopped.load(Ordering::SeqCst) {
             return Err(NotSaved::Stopped);
         }
-        write_one(rt, save, from + at, out)?;
+        if save.ended.load(Ordering::SeqCst) {
+            return Err(NotSaved::Cancelled);
+        }
+        write_one(rt, state, save, from + at, out)?;
     }
     Ok(count)
 }
@@ -556,13 +771,13 @@ fn write_text<R: Wait, W: Write>(
 // Reads a frame, and writes it.
 fn write_one<R: Wait, W: Write>(
     rt: &R,
+    state: &CameraState,
     save: &Save,
     number: u64,
     out: &mut W,
 ) -> Result<(), NotSaved>
     ensures { OnOk result ((bytes : List ℕ) × Appends (W.contents out.old) (W.contents out.new) (frame bytes)) }
 {
-    let state = &save.state;
     state.ask_frame(rt, number);
     match state.reader.answer(rt) {
         Some(Ok(Ok(frame))) => {

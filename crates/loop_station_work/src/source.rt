@@ -1,8 +1,14 @@
 //! A source's thread: it opens the source again and again, and gives its frames to the camera's feed. A source is
-//! refused where its frames aren't as the store has them, and that is printed once.
+//! refused where its frames aren't as the store has them, and that is printed once; its frames are dropped until they
+//! are.
+//!
+//! A pipe stays open when its writer has left, so that no frame of the next writer is lost. Each stream in it begins
+//! with a header. A frame that isn't whole is dropped, also where the next writer's header stands in the place of its
+//! rest.
 
 ghost use Rattle.std.specs.Prelude.{◌≡◌, IfSome, length};
 
+use crate::input::{Input, find_header};
 use crate::link::{Offered, SourceState};
 use crate::outlet::Outlet;
 use crate::places::Places;
@@ -11,12 +17,12 @@ use crate::state::CameraState;
 use loop_capture::{FrameSource, Pattern};
 use loop_desk::frame_memory;
 use loop_record::Geometry;
-use loop_script::print_other_geometry;
 use loop_station_words::{RingSize, Source};
-use loop_y4m::Y4mReader;
+use loop_y4m::{GeometryFault, Y4mFault, Y4mReader};
 use std::alloc::AllocGlobal;
 use std::fs::OpenFile;
-use std::io::{BufReader, Read, Write};
+use std::io::{Read, Write};
+use std::os::unix::fs::{FileTypeExt, MetadataExt};
 use std::sync::Wait;
 use std::thread;
 use std::time::{Clock, Duration};
@@ -24,11 +30,17 @@ use std::time::{Clock, Duration};
 // How many milliseconds pass before a source that ended, broke or isn't there is opened again.
 const OPEN_AGAIN: u64 = 200;
 
-// How many bytes of a source are read at once: as many as a pipe holds.
-const AT_ONCE: usize = 65_536;
+// How many milliseconds pass before a pipe without a writer is read again.
+const READ_AGAIN: u64 = 20;
 
-// A ring of any size: the store's own is chosen elsewhere.
-const ANY_RING: RingSize = RingSize {
+// After so many such reads it is looked whether the pipe still has its name.
+const READS: u32 = 10;
+
+// Where a frame ends with so many bytes of a header's beginning, or more, it isn't whole. Fewer may be pixels.
+const BEGUN: usize = 6;
+
+/// A ring of any size: the store's own is chosen elsewhere.
+pub(crate) const ANY_RING: RingSize = RingSize {
     segments: 2,
     slots: 1,
 };
@@ -105,22 +117,23 @@ fn play_pattern<R: AllocGlobal + Wait + Clock, W: Write + Drop>(
     let Some(size) = size_of(geometry) else {
         return;
     };
-    if !offer(rt, state, outlet, geometry) {
-        return;
-    }
     let mut pattern = Pattern::new();
     let mut beat = beat_of(rt, state, geometry);
     for _ in rt.forever() {
         if state.is_stopped() {
             break;
         }
+        let epoch = state.feed.epoch(rt);
+        let fits = offer(rt, state, outlet, geometry);
         beat.wait(rt, state);
         let Some(mut bytes) = row_for(rt, state, size) else {
             break;
         };
         // The pattern never ends, so its answer says nothing.
         let _more = pattern.next(&mut bytes);
-        state.feed.give(rt, &state.timeline, bytes);
+        if fits {
+            state.feed.give(rt, &state.timeline, bytes, epoch);
+        }
     }
 }
 
@@ -154,10 +167,13 @@ fn tell_other<R: AllocGlobal + Wait + Clock, W: Write + Drop>(
     outlet: &Outlet<W>,
     geometry: &Geometry,
 ) {
-    let mut line = Vec::new(rt.alloc());
+    let mut lines = state.lines(rt.alloc());
     // Where memory for the line is refused, it isn't printed.
-    if print_other_geometry(&mut line, state.config.name.as_str(), geometry).is_ok() {
-        outlet.put(rt, &line);
+    if lines
+        .other_geometry(state.config.name.as_str(), geometry)
+        .is_ok()
+    {
+        outlet.put(rt, &lines);
     }
 }
 
@@ -172,49 +188,154 @@ fn play_file<R: AllocGlobal + Places + Wait + Clock, W: Write + Drop>(
         state.link.set_source(rt, SourceState::Missing);
         return;
     };
-    let paced = match file.metadata() {
-        Ok(metadata) => metadata.is_file(),
-        Err(_) => false,
+    let Ok(metadata) = file.metadata() else {
+        return;
     };
-    if let Ok(input) = BufReader::with_capacity(rt.alloc(), AT_ONCE, file) {
-        play_input(rt, state, outlet, input, paced);
+    let place = if metadata.file_type().is_fifo() {
+        Some((metadata.dev(), metadata.ino()))
+    } else {
+        None
+    };
+    let Some(mut input) = Input::new(rt.alloc(), file) else {
+        return;
+    };
+    for _ in rt.forever() {
+        if !waits_for_more(rt, state, &mut input, path, place) {
+            break;
+        }
+        let end = play_stream(rt, state, outlet, &mut input, metadata.is_file());
+        if !goes_on(rt, state, &mut input, end) || place.is_none() {
+            break;
+        }
     }
-    if matches!(state.link.source(rt), SourceState::On) {
-        state.link.set_source(rt, SourceState::Missing);
+    state.link.end_read(rt);
+    state.link.end_source(rt);
+}
+
+// Waits until an input has more, in a pipe for its next writer. Returns whether it has: not where the camera is stopped,
+// where a read fails, at the end of what isn't a pipe, and where the path leads to another pipe by now.
+fn waits_for_more<R: Places + Wait + Clock, I: Read + Drop>(
+    rt: &R,
+    state: &CameraState,
+    input: &mut Input<I>,
+    path: &str,
+    place: Option<(u64, u64)>,
+) -> bool {
+    let mut reads = 0u32;
+    for _ in rt.forever() {
+        if state.is_stopped() {
+            return false;
+        }
+        state.link.begin_read(rt, state.timeline.now(rt));
+        let more = input.has_more();
+        state.link.end_read(rt);
+        match more {
+            Ok(true) => return true,
+            Ok(false) => state.link.end_source(rt),
+            Err(_) => return false,
+        }
+        reads = reads.wrapping_add(1);
+        if place.is_none() || reads % READS == 0 && rt.place_of(path).ok() != Some(place) {
+            return false;
+        }
+        thread::sleep(rt, Duration::from_millis(READ_AGAIN));
+    }
+    unreachable!()
+}
+
+// How a stream of frames ended.
+#[derive(Drop)]
+enum StreamEnd {
+    // With its writer, or with the camera.
+    Ended,
+    // A read failed.
+    Failed,
+    // Its header can't be read, or is of what no store takes: the fault's name.
+    Unusable(&'static str),
+    // A line isn't a frame's, and may be the next header.
+    OtherLine,
+    // In the place of a frame's rest the next header begins: what came there.
+    OtherHeader(Vec<u8>),
+}
+
+// What follows a stream. Returns whether the input goes on.
+fn goes_on<R: Wait + Clock, I: Read + Drop>(
+    rt: &R,
+    state: &CameraState,
+    input: &mut Input<I>,
+    end: StreamEnd,
+) -> bool {
+    match end {
+        StreamEnd::Ended => return true,
+        StreamEnd::Failed => return false,
+        StreamEnd::Unusable(why) => {
+            state.link.set_source(rt, SourceState::Unusable(why));
+            input.return_rest_of_line();
+        }
+        StreamEnd::OtherLine => input.return_line(),
+        StreamEnd::OtherHeader(bytes) => {
+            if !input.give_back(&bytes) {
+                return false;
+            }
+        }
+    }
+    state.link.begin_read(rt, state.timeline.now(rt));
+    let found = input.seek_header();
+    state.link.end_read(rt);
+    found.is_ok()
+}
+
+// The name of the fault of a header.
+fn fault_name(fault: Y4mFault) -> &'static str {
+    match fault {
+        Y4mFault::NotY4m => "NotY4m",
+        Y4mFault::BadHeader => "BadHeader",
+        Y4mFault::UnsupportedColour => "UnsupportedColour",
+        Y4mFault::UnsupportedInterlace => "UnsupportedInterlace",
+        Y4mFault::Truncated => "Truncated",
+        Y4mFault::Read => "Read",
     }
 }
 
-// Gives the frames of an input that begins with a header.
-fn play_input<R: AllocGlobal + Wait + Clock, I: Read + Drop, W: Write + Drop>(
+// Gives the frames of a stream that begins with a header.
+fn play_stream<R: AllocGlobal + Wait + Clock, I: Read + Drop, W: Write + Drop>(
     rt: &R,
     state: &CameraState,
     outlet: &Outlet<W>,
-    input: I,
+    input: &mut Input<I>,
     paced: bool,
-) {
-    let Ok(mut reader) = Y4mReader::open(input) else {
-        state.link.set_source(rt, SourceState::Missing);
-        return;
+) -> StreamEnd {
+    state.link.begin_read(rt, state.timeline.now(rt));
+    input.begin_line();
+    let opened = Y4mReader::open(&mut *input);
+    state.link.end_read(rt);
+    let mut reader = match opened {
+        Ok(reader) => reader,
+        Err(Y4mFault::Truncated) => return StreamEnd::Ended,
+        Err(fault) => return StreamEnd::Unusable(fault_name(fault)),
     };
-    let Ok(geometry) = reader.geometry(ANY_RING.segments, ANY_RING.slots) else {
-        state.link.set_source(rt, SourceState::Missing);
-        return;
+    let geometry = match reader.geometry(ANY_RING.segments, ANY_RING.slots) {
+        Ok(geometry) => geometry,
+        Err(GeometryFault::RateUnknown) => return StreamEnd::Unusable("RateUnknown"),
+        Err(GeometryFault::BadGeometry) => return StreamEnd::Unusable("BadGeometry"),
     };
-    if !offer(rt, state, outlet, &geometry) {
-        return;
-    }
     let mut beat = beat_of(rt, state, &geometry);
     for _ in rt.forever() {
         if state.is_stopped() {
-            break;
+            return StreamEnd::Ended;
         }
         if paced {
             beat.wait(rt, state);
         }
-        if !give_next(rt, state, &mut reader) {
-            break;
+        let epoch = state.feed.epoch(rt);
+        let fits = offer(rt, state, outlet, &geometry);
+        match next_of(rt, state, &mut reader, paced) {
+            Ok(bytes) if fits => state.feed.give(rt, &state.timeline, bytes, epoch),
+            Ok(_dropped) => {}
+            Err(end) => return end,
         }
     }
+    unreachable!()
 }
 
 // Memory for a frame of so many bytes: that of an earlier one, or new. Where new memory is refused, it waits for that
@@ -235,22 +356,37 @@ fn row_for<R: AllocGlobal + Wait + Clock>(rt: &R, state: &CameraState, size: u32
     unreachable!()
 }
 
-// Reads a frame and gives it to the feed. Returns whether there was one.
-fn give_next<R: AllocGlobal + Wait + Clock, I: Read + Drop>(
+// Reads a frame, or how the stream ends instead.
+fn next_of<R: AllocGlobal + Wait + Clock, I: Read + Drop>(
     rt: &R,
     state: &CameraState,
     reader: &mut Y4mReader<I>,
-) -> bool {
+    paced: bool,
+) -> Result<Vec<u8>, StreamEnd> {
     let Some(mut bytes) = row_for(rt, state, reader.frame_bytes()) else {
-        return false;
+        return Err(StreamEnd::Ended);
     };
-    match reader.next_frame(&mut bytes) {
-        Ok(true) => {
-            state.feed.give(rt, &state.timeline, bytes);
-            true
+    state.link.begin_read(rt, state.timeline.now(rt));
+    let came = reader.next_frame(&mut bytes);
+    state.link.end_read(rt);
+    match came {
+        Ok(true) => {}
+        // A frame that breaks off is dropped.
+        Ok(false) | Err(Y4mFault::Truncated) => return Err(StreamEnd::Ended),
+        Err(Y4mFault::BadHeader) => return Err(StreamEnd::OtherLine),
+        Err(_) => return Err(StreamEnd::Failed),
+    }
+    // Several writers are of a pipe alone.
+    if paced {
+        return Ok(bytes);
+    }
+    match find_header(&bytes, BEGUN) {
+        None => Ok(bytes),
+        Some(at) => {
+            let mut rest = Vec::new(rt.alloc());
+            // Where memory is refused, the next writer's frames are lost up to its next header.
+            let _kept = rest.extend_from_slice(bytes.get(at..).unwrap_or(&[]));
+            Err(StreamEnd::OtherHeader(rest))
         }
-        Ok(false) => false,
-        // A text that breaks off or breaks its rules ends here too: the source is opened again, and `status` says so.
-        Err(_) => false,
     }
 }

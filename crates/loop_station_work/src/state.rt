@@ -3,29 +3,64 @@
 ghost use Rattle.std.specs.Prelude.{◌≡◌};
 
 use crate::absent::Absent;
-use crate::clerk::{Answer, Keeping, Request, attend};
+use crate::answering::{Answering, KeptClip, Message, Note, OpenEvent, Posts, SaveOrder};
+use crate::clerk::{FoundClip, attend};
 use crate::clock::Timeline;
 use crate::counts::Counts;
 use crate::feed::Feed;
+use crate::growing::{Growing, Ongoing};
 use crate::inbox::Inbox;
+use crate::jobs::{Job, Jobs, Request};
 use crate::link::SourceLink;
+use crate::replies::{tell_clips, tell_shortfall};
+use crate::save::{NotSaved, Saves, begin_ordered, tell_ended};
 use crate::size::micros_of;
+use crate::stored::Stored;
 use loop_capture::Tick;
+use loop_desk::Flushed;
 use loop_disk::Disk;
-use loop_pipeline::{Back, Guide, Link};
-use loop_station_words::CameraConfig;
-use loop_store::{ReadFrame, StoreFault};
+use loop_pipeline::{Back, Guide, Link, LostFrame, Visits};
+use loop_record::Geometry;
+use loop_station_core::{Keep, Run, Tally};
+use loop_station_words::{CameraConfig, Lines};
+use loop_store::{Clip, ReadFrame, StoreFault};
 use std::alloc::{AllocError, Global};
-use std::sync::atomic::{AtomicBool, Ordering};
-use std::sync::{Arc, Mutex, Wait};
+use std::io;
+use std::sync::atomic::{AtomicBool, AtomicU64, Ordering};
+use std::sync::{Arc, Wait};
 use std::time::{Clock, Duration};
 
 // How many milliseconds a device waits for a frame before it looks whether its filming is over.
 const LOOK_AGAIN: u64 = 50;
 
+/// Why a clip isn't released.
+#[derive(Clone, Copy)]
+pub(crate) enum NotReleased {
+    /// It is being saved.
+    Saving,
+    /// The clip of its id begins with another frame than the order says.
+    Other(u64),
+}
+
+impl NotReleased {
+    /// Tells it.
+    pub fn tell(self, state: &CameraState, id: u32, lines: &mut Lines) -> io::Result<()> {
+        let name = state.config.name.as_str();
+        match self {
+            NotReleased::Saving => lines.saving(name),
+            NotReleased::Other(first) => lines.not_released(name, id, first),
+        }
+    }
+}
+
 /// What the threads of one camera share.
 #[derive(Drop)]
 pub struct CameraState {
+    pub(crate) alloc: Global,
+    /// Its place in the configuration, from 0.
+    pub place: usize,
+    /// Answers are wanted as JSON too.
+    json: bool,
     /// What the configuration says of it.
     pub config: CameraConfig,
     /// The time that its frames get.
@@ -36,42 +71,283 @@ pub struct CameraState {
     pub link: SourceLink,
     /// What the threads that film it share.
     pub threads: Link,
-    /// The inbox for orders.
-    pub clerk: Inbox<Request, Answer, Absent>,
+    /// The orders that wait for it.
+    pub(crate) jobs: Jobs,
+    /// What the thread of its desk goes on with.
+    pub(crate) desk: Ongoing,
+    /// Where its answers go.
+    pub(crate) posts: Arc<Posts>,
+    /// The saves of all cameras.
+    pub(crate) saves: Arc<Saves>,
     /// The inbox for reads of frames for a save.
     pub reader: Inbox<u64, Result<ReadFrame, StoreFault>, Absent>,
     /// What is counted.
     pub counts: Counts,
-    /// The keep that waits for frames, if one does.
-    keeping: Mutex<Option<Keeping>>,
+    /// What its store held when it was last changed.
+    stored: Stored,
+    /// How often the disk or the store failed, and the store was opened again.
+    pub faults: AtomicU64,
     /// The filming is over: desk or queue is broken, and the store is opened again.
     over: AtomicBool,
     /// Every block is locked, as the last flush reported.
     locked: AtomicBool,
     stopped: AtomicBool,
+    /// The store's path names another file by now, or none.
+    moved: AtomicBool,
 }
 
 impl CameraState {
     /// A camera that isn't filmed yet.
-    pub fn new(
+    pub(crate) fn new(
         alloc: Global,
+        place: usize,
+        json: bool,
         config: CameraConfig,
         timeline: Timeline,
+        posts: Arc<Posts>,
+        saves: Arc<Saves>,
     ) -> Result<CameraState, AllocError> {
         Ok(CameraState {
+            alloc,
+            place,
+            json,
             config,
             timeline,
             feed: Arc::new(alloc, Feed::new(alloc)?)?,
             link: SourceLink::new(),
             threads: Link::new(alloc)?,
-            clerk: Inbox::new(),
+            jobs: Jobs::new(alloc)?,
+            desk: Ongoing::new(alloc)?,
+            posts,
+            saves,
             reader: Inbox::new(),
             counts: Counts::new(),
-            keeping: Mutex::new(None),
+            stored: Stored::new(alloc),
+            faults: AtomicU64::new(0),
             over: AtomicBool::new(false),
             locked: AtomicBool::new(false),
             stopped: AtomicBool::new(false),
+            moved: AtomicBool::new(false),
         })
+    }
+
+    /// No lines yet, in the forms that are wanted.
+    pub(crate) fn lines(&self, alloc: Global) -> Lines {
+        Lines::new(alloc, self.json)
+    }
+
+    /// What is counted of its frames.
+    pub(crate) fn tally<R: Wait>(&self, rt: &R) -> Tally {
+        let (come, _) = self.feed.counts(rt);
+        self.counts.tally(rt, come)
+    }
+
+    /// How many microseconds a frame lasts, as its store has it; 0 where there is no store.
+    pub fn period(&self) -> u64 {
+        self.stored.period()
+    }
+
+    /// The number of the newest block.
+    pub fn newest_block<R: Wait>(&self, rt: &R) -> u64 {
+        self.stored.newest_block(rt)
+    }
+
+    /// How many frames were stored since its store was made, how many blocks may still be locked, and how many keeps of
+    /// its own seconds have room.
+    pub fn stored_room<R: Wait>(&self, rt: &R) -> (u64, u64, u64) {
+        self.stored
+            .room(rt, self.config.seconds.saturating_add(self.config.after))
+    }
+
+    /// Clips were locked.
+    pub fn add_clips<R: Wait>(&self, rt: &R, clips: &[Clip]) {
+        self.stored.add(rt, clips);
+    }
+
+    /// A clip was released.
+    pub fn remove_clip<R: Wait>(&self, rt: &R, id: u32) {
+        self.stored.remove(rt, id);
+    }
+
+    /// Whether a clip may be released now: it isn't being saved, and begins with the frame that is given, if one is.
+    pub(crate) fn may_release<R: Wait>(
+        &self,
+        rt: &R,
+        id: u32,
+        first: Option<u64>,
+    ) -> Result<(), NotReleased> {
+        if self.saves.reads(rt, self.place, id) {
+            return Err(NotReleased::Saving);
+        }
+        match first {
+            Some(first) if !self.stored.begins(rt, id, first) => Err(NotReleased::Other(first)),
+            _ => Ok(()),
+        }
+    }
+
+    /// The clips of a keep, for the saves that begin by themselves. None where the camera has no folder for them, or
+    /// memory is refused.
+    pub(crate) fn kept_clips(&self, alloc: Global, found: &[FoundClip]) -> Option<Vec<KeptClip>> {
+        if self.config.save_to.is_none() {
+            return None;
+        }
+        let mut kept = Vec::new(alloc);
+        for clip in found {
+            let clip = KeptClip {
+                camera: self.place,
+                found: *clip,
+            };
+            if kept.push(clip).is_err() {
+                return None;
+            }
+        }
+        Some(kept)
+    }
+
+    /// The clip that an order saves was looked for: the save begins, and its clip is read from now on. Otherwise the order
+    /// is answered.
+    pub(crate) fn begin_save<R: Wait>(
+        &self,
+        rt: &R,
+        alloc: Global,
+        order: SaveOrder,
+        id: u32,
+        found: Result<Option<FoundClip>, StoreFault>,
+    ) {
+        let name = self.config.name.as_str();
+        let mut lines = self.lines(alloc);
+        let (place, path) = (order.place, order.path.as_str());
+        let told = match found {
+            Ok(Some(found)) => {
+                begin_ordered(rt, alloc, self, order, found);
+                return;
+            }
+            Ok(None) => lines.not_saved(name, id, path, &"NoSuchClip"),
+            Err(fault) => lines.not_saved(name, id, path, &fault.name()),
+        };
+        // Where memory for the line is refused, it isn't printed.
+        let _ = told;
+        self.posts.answer(rt, order.answering, place, lines, None);
+    }
+
+    /// Ends a save of the clip of an id, and tells that of the save. Returns whether there was one.
+    pub(crate) fn cancel_save<R: Wait>(&self, rt: &R, id: u32) -> bool {
+        match self.saves.cancel(rt, self.place, id) {
+            Some(save) => {
+                tell_ended(rt, self, &save, NotSaved::Cancelled);
+                true
+            }
+            None => false,
+        }
+    }
+
+    /// An event goes on: its end lies ahead, and these clips of it are locked.
+    pub(crate) fn begin_growing<R: Wait>(
+        &self,
+        rt: &R,
+        alloc: Global,
+        keep: Keep,
+        clips: Vec<Clip>,
+    ) {
+        let event = keep.event;
+        if self
+            .desk
+            .put_growing(rt, Growing::new(alloc, keep, clips))
+            .is_some()
+        {
+            let mut lines = self.lines(alloc);
+            let name = self.config.name.as_str();
+            // Where memory for the line is refused, it isn't printed.
+            let _ = lines.event_not_whole(event, name, &"TooManyEvents");
+            self.tell(rt, lines, None);
+        }
+        self.note_open(rt, alloc);
+    }
+
+    /// An event is over, and these are its clips. It is told whether all of it is held.
+    pub(crate) fn end_growing<R: Wait>(
+        &self,
+        rt: &R,
+        alloc: Global,
+        growing: Growing,
+        found: &[FoundClip],
+        runs: &[Run],
+    ) {
+        let mut lines = self.lines(alloc);
+        // Where memory for the lines is refused, they aren't printed.
+        let _ = self.tell_event(&growing, found, runs, &mut lines);
+        self.tell(rt, lines, self.kept_clips(alloc, found));
+        self.note_open(rt, alloc);
+    }
+
+    // Tells how an event ended.
+    fn tell_event(
+        &self,
+        growing: &Growing,
+        found: &[FoundClip],
+        runs: &[Run],
+        lines: &mut Lines,
+    ) -> io::Result<()> {
+        let (name, keep) = (self.config.name.as_str(), growing.keep);
+        tell_clips(self, &keep, found, lines)?;
+        let is_whole = tell_shortfall(self, &keep, keep.until, runs, lines)?;
+        match growing.fault() {
+            Some(fault) => lines.event_not_whole(keep.event, name, &fault.name()),
+            None if is_whole => lines.event_whole(keep.event, name),
+            None => lines.event_not_whole(keep.event, name, &"Gaps"),
+        }
+    }
+
+    /// A clip is released, since it is saved. An answer that can't be given is none that anybody waits for.
+    pub(crate) fn release_saved<R: Wait>(&self, rt: &R, clip: Clip) {
+        let Ok(answering) = Answering::new(self.alloc, None, 0, 1, self.json) else {
+            return;
+        };
+        let Ok(answering) = Arc::new(self.alloc, answering) else {
+            return;
+        };
+        let job = Job {
+            request: Request::Release(clip.id, Some(clip.from)),
+            answering,
+            place: 0,
+        };
+        // Where the store isn't there, the next opening of it finds the file of the clip, and releases it.
+        let _ = self.jobs.add(rt, job);
+        self.threads.wake(rt);
+    }
+
+    /// Tells lines that answer no order, and which clips may be saved by themselves.
+    pub(crate) fn tell<R: Wait>(&self, rt: &R, lines: Lines, kept: Option<Vec<KeptClip>>) {
+        let kept = match kept {
+            Some(kept) => kept,
+            None => Vec::new(self.alloc),
+        };
+        self.posts.printer.put(rt, Message::Told(lines, kept));
+    }
+
+    // The events that are open now go into the camera's file of events.
+    fn note_open<R: Wait>(&self, rt: &R, alloc: Global) {
+        let Some(keeps) = self.desk.keeps(rt, alloc) else {
+            return;
+        };
+        let mut open = Vec::new(alloc);
+        for keep in keeps.as_slice() {
+            let event = OpenEvent {
+                event: keep.event,
+                since: keep.since,
+                until: keep.until,
+                tag: keep.tag,
+            };
+            if open.push(event).is_err() {
+                return;
+            }
+        }
+        self.posts.notes.put(rt, Note::Open(self.place, open));
+    }
+
+    /// The clips with a tag.
+    pub(crate) fn clips_tagged<R: Wait>(&self, rt: &R, alloc: Global, tag: u64) -> Vec<Clip> {
+        self.stored.tagged(rt, alloc, tag)
     }
 
     /// Ends everything that runs for the camera.
@@ -79,15 +355,21 @@ impl CameraState {
         self.stopped.store(true, Ordering::SeqCst);
     }
 
+    /// The store was moved away: the filming ends, and a store is made anew.
+    pub fn move_away<R: Wait>(&self, rt: &R) {
+        self.moved.store(true, Ordering::SeqCst);
+        self.over.store(true, Ordering::SeqCst);
+        self.threads.wake(rt);
+    }
+
+    /// Whether it was moved away.
+    pub fn is_moved(&self) -> bool {
+        self.moved.load(Ordering::SeqCst)
+    }
+
     /// Whether it is to end.
     pub fn is_stopped(&self) -> bool {
         self.stopped.load(Ordering::SeqCst)
-    }
-
-    /// Asks for something. The answer has to be taken from the clerk.
-    pub fn ask<R: Wait>(&self, rt: &R, request: Request) {
-        self.clerk.ask(rt, request);
-        self.threads.wake(rt);
     }
 
     /// Asks for the frame of a number. The answer has to be taken from the reader.
@@ -97,31 +379,55 @@ impl CameraState {
     }
 
     /// Its store is there, and the camera is filmed from now on. Orders are taken.
-    pub fn begin<R: Wait>(&self, rt: &R) {
+    pub fn begin<R: Wait>(&self, rt: &R, geometry: Geometry, next: u64, clips: Vec<Clip>) {
+        self.stored.begin(rt, geometry, next, clips);
         self.over.store(false, Ordering::SeqCst);
+        self.moved.store(false, Ordering::SeqCst);
         self.locked.store(false, Ordering::SeqCst);
-        self.clerk.open(rt);
+        self.jobs.open(rt);
         self.reader.open(rt);
     }
 
-    /// The store isn't there. An order or a keep that waits gets that as its answer.
+    /// The store isn't there. Orders that wait, and the keep that waits for frames, get that as their answer.
     pub fn leave<R: Wait>(&self, rt: &R, why: Absent) {
-        if let Some(keeping) = self.take_keeping(rt) {
-            self.clerk
-                .again(rt, Request::Keep(keeping.times, keeping.tag));
-        }
-        self.clerk.leave(rt, why);
+        self.jobs.leave(rt, why);
         self.reader.leave(rt, why);
+        if let Some(waiting) = self.desk.take_waiting(rt) {
+            self.answer_absent(rt, waiting.answering, waiting.place, why);
+        }
+        for _ in 0..u64::MAX {
+            let Some(job) = self.jobs.take(rt) else {
+                break;
+            };
+            self.answer_absent(rt, job.answering, job.place, why);
+        }
+        self.jobs.done(rt);
     }
 
-    /// The keep that waits, if one does.
-    pub fn take_keeping<R: Wait>(&self, rt: &R) -> Option<Keeping> {
-        self.keeping.lock(rt).take()
+    /// Answers an order by that the store isn't there.
+    pub(crate) fn answer_absent<R: Wait>(
+        &self,
+        rt: &R,
+        answering: Arc<Answering>,
+        place: usize,
+        why: Absent,
+    ) {
+        let mut lines = self.lines(self.alloc);
+        // Where memory for the line is refused, it isn't printed.
+        let _ = lines.absent(self.config.name.as_str(), &why);
+        self.posts.answer(rt, answering, place, lines, None);
     }
 
-    /// A keep waits.
-    pub fn put_keeping<R: Wait>(&self, rt: &R, keeping: Keeping) {
-        *self.keeping.lock(rt) = Some(keeping);
+    /// An order is done, unless it waits for frames. Where further ones wait, the thread of the desk looks again at once.
+    pub(crate) fn wake_for_more<R: Wait>(&self, rt: &R) {
+        if !self.desk.has_waiting(rt) && self.jobs.done(rt) {
+            self.threads.wake(rt);
+        }
+    }
+
+    /// Whether all orders that came are done.
+    pub(crate) fn is_idle<R: Wait>(&self, rt: &R) -> bool {
+        self.jobs.is_idle(rt) && !self.desk.has_waiting(rt)
     }
 
     /// Whether frames wait because every block is locked.
@@ -139,27 +445,27 @@ impl CameraState {
     /// Desk and queue are given up: what was in them and isn't stored is lost, and counted. The camera's thread calls
     /// this when no thread films the camera.
     pub fn lose_rest<R: Wait>(&self, rt: &R) {
-        let (_, taken) = self.feed.counts(rt);
+        let (come, taken) = self.feed.counts(rt);
         let ready = u64::from(self.feed.is_ready(rt));
-        self.counts.lose(taken.saturating_sub(ready));
+        self.counts.lose(rt, come, taken.saturating_sub(ready));
     }
 
     /// The duration in microseconds of the frames that have come from the source and are neither stored nor given up.
     pub fn behind_micros<R: Wait>(&self, rt: &R) -> u64 {
-        let (come, _) = self.feed.counts(rt);
         match self.link.store(rt) {
-            Some(geometry) => micros_of(self.counts.behind(come), &geometry),
+            Some(geometry) => micros_of(self.tally(rt).behind(), &geometry),
             None => 0,
         }
     }
+}
 
-    /// This many frames were stored.
-    pub fn store(&self, count: u32) {
-        self.counts.store(count);
-        if count > 0 {
-            self.locked.store(false, Ordering::SeqCst);
-        }
-    }
+/// Orders lock, unlock and read; they store nothing.
+impl Visits for CameraState {
+    ghost use Rattle.loop_station_work.specs.Clerk.{IsOrdered};
+
+    ghost asks = { IsOrdered };
+
+    const VISITED: bool = true;
 }
 
 impl Guide for CameraState {
@@ -184,16 +490,24 @@ impl Guide for CameraState {
         }
     }
 
-    fn brought(&self) {
-        self.counts.bring();
-    }
-
-    fn gave_up(&self) {
+    fn lacked(&self) {
         self.counts.give_up();
     }
 
-    fn stored(&self, count: u32) {
-        self.store(count);
+    fn brought<D: Disk + Drop>(&self, _back: &Back<D, CameraState>, _number: u64) {
+        self.counts.bring();
+    }
+
+    fn gave_up<D: Disk + Drop>(&self, _back: &Back<D, CameraState>, _frame: LostFrame) {
+        self.counts.give_up();
+    }
+
+    fn stored<D: Disk + Drop>(&self, _back: &Back<D, CameraState>, done: Flushed) {
+        self.counts.store(done.stored);
+        self.stored.grow(done.stored);
+        if done.stored > 0 {
+            self.locked.store(false, Ordering::SeqCst);
+        }
     }
 
     /// Where each block is locked, the frames wait until the program ends. Where the disk failed, the filming ends, and
@@ -208,7 +522,12 @@ impl Guide for CameraState {
     }
 
     /// Orders are done only while the desk works. Once it is broken the filming ends, and the store is opened again.
-    fn visit<R: Wait + Clock, D: Disk + Drop>(&self, rt: &R, alloc: Global, back: &mut Back<D>) {
+    fn visit<R: Wait + Clock, D: Disk + Drop>(
+        &self,
+        rt: &R,
+        alloc: Global,
+        back: &mut Back<D, CameraState>,
+    ) {
         if !self.over.load(Ordering::SeqCst) {
             attend(rt, alloc, self, back);
         }

@@ -1,107 +1,69 @@
 //! The copy of what is printed, for a file or a named pipe.
 //!
 //! A thread of its own writes there, because a pipe may keep it waiting: until a reader opens it, or for a reader that
-//! doesn't read. No other thread ever waits. Lines for a pipe that nobody has opened to read are dropped. Where a
-//! reader is slow, whole lines are dropped that don't fit into the memory for them.
+//! doesn't read. No other thread ever waits. The newest lines for a pipe that nobody reads are kept for its next reader.
+//! A file that takes no more is cut back to its last whole line, and tried again.
 
+use crate::clock::Timeline;
 use crate::outlet::Outlet;
 use crate::places::Places;
-use loop_station_words::print_no_answers;
+use crate::spool::{Spool, first_line, whole_lines, write_most};
+use loop_station_words::Lines;
 use std::alloc::{AllocError, AllocGlobal, Global};
-use std::fs::File;
+use std::fs::{File, OpenFile};
 use std::io::Write;
-use std::sync::{Condvar, Mutex, Wait};
+use std::sync::Wait;
+use std::sync::atomic::{AtomicBool, Ordering};
 use std::thread;
 use std::time::{Clock, Duration};
 
-// How many bytes of lines wait at most.
-const MOST: usize = 1_048_576;
-
-// How many milliseconds pass before a file that can't be opened is tried again.
-const OPEN_AGAIN: u64 = 1_000;
-
-// How many times the end of the program waits ten milliseconds for what isn't written yet.
-const END_STEPS: u32 = 50;
-
-#[derive(Drop)]
-struct WaitingLines {
-    // The lines that aren't written yet.
-    lines: Vec<u8>,
-    // Someone reads, or will read, so lines are kept.
-    wanted: bool,
-    // The thread is writing lines that it has taken.
-    writing: bool,
-}
+// How many milliseconds pass before a file that can't be opened or written is tried again.
+const TRY_AGAIN: u64 = 1_000;
 
 /// What is printed, on its way to a file or pipe.
 #[derive(Drop)]
 pub struct Tap {
     path: String,
-    waiting: Mutex<WaitingLines>,
-    changed: Condvar,
+    is_pipe: bool,
+    spool: Spool,
+    /// The last try to open or to write it failed.
+    failing: AtomicBool,
 }
 
 impl Tap {
-    /// A tap for the file or pipe of a path. For a file lines are kept from now on, for a pipe once it has a reader.
-    pub fn new(alloc: Global, path: String, is_pipe: bool) -> Result<Tap, AllocError> {
+    /// A tap for the file or pipe of a path. Its lines begin with times where those of the output do.
+    pub fn new(
+        alloc: Global,
+        path: String,
+        is_pipe: bool,
+        times: Option<Timeline>,
+    ) -> Result<Tap, AllocError> {
         Ok(Tap {
             path,
-            waiting: Mutex::new(WaitingLines {
-                lines: Vec::with_capacity(alloc, 4_096)?,
-                wanted: !is_pipe,
-                writing: false,
-            }),
-            changed: Condvar::new(),
+            is_pipe,
+            spool: Spool::new(alloc, times, is_pipe)?,
+            failing: AtomicBool::new(false),
         })
     }
 
-    /// Adds a line, which is dropped where nobody reads or too much waits.
-    pub fn give<R: Wait>(&self, rt: &R, line: &[u8]) {
-        let mut waiting = self.waiting.lock(rt);
-        if waiting.wanted && waiting.lines.len().saturating_add(line.len()) <= MOST {
-            // Where memory is refused, the line is dropped, as where too much waits.
-            let _ = waiting.lines.extend_from_slice(line);
-            self.changed.notify_all();
-        }
+    /// Adds a line, with its end. Returns whether it had room.
+    pub fn give<R: Wait + Clock>(&self, rt: &R, line: &[u8]) -> bool {
+        self.spool.put(rt, line)
     }
 
-    // Someone reads now, or nobody reads any more. In that case what waits is dropped.
-    fn want<R: Wait>(&self, rt: &R, wanted: bool) {
-        let mut waiting = self.waiting.lock(rt);
-        waiting.wanted = wanted;
-        if !wanted {
-            waiting.lines.clear();
-            waiting.writing = false;
-        }
+    /// Whether all lines are written or nobody reads them, and how many bytes were written in all.
+    pub fn state<R: Wait>(&self, rt: &R) -> (bool, u64) {
+        self.spool.state(rt)
     }
 
-    // Waits for lines, and takes them.
-    fn take<R: Wait>(&self, rt: &R, alloc: Global) -> Vec<u8> {
-        let mut waiting = self
-            .changed
-            .wait_while(rt, self.waiting.lock(rt), |waiting| {
-                waiting.lines.is_empty()
-            });
-        waiting.writing = true;
-        std::mem::replace(&mut waiting.lines, Vec::new(alloc))
+    /// Whether its file can't be opened or written now.
+    pub fn is_failing(&self) -> bool {
+        self.failing.load(Ordering::SeqCst)
     }
 
-    // What was taken has been written.
-    fn wrote<R: Wait>(&self, rt: &R) {
-        self.waiting.lock(rt).writing = false;
-    }
-
-    /// Waits a moment for what isn't written yet, since the program ends.
-    pub fn end<R: Wait + Clock>(&self, rt: &R) {
-        for _ in 0..END_STEPS {
-            let waiting = self.waiting.lock(rt);
-            let is_done = waiting.lines.is_empty() && !waiting.writing;
-            drop(waiting);
-            if is_done {
-                break;
-            }
-            thread::sleep(rt, Duration::from_millis(10));
-        }
+    // The last try failed, or didn't. Returns whether it failed for the first time.
+    fn set_failing(&self, failing: bool) -> bool {
+        !self.failing.swap(failing, Ordering::SeqCst) && failing
     }
 }
 
@@ -111,47 +73,97 @@ pub(crate) fn run_tap<R: AllocGlobal + Places + Wait + Clock, W: Write + Drop>(
     tap: &Tap,
     outlet: &Outlet<W>,
 ) {
-    let mut printed = false;
+    // Held as long as the program runs, so that no reader comes to an end of the pipe. Where it can't be held, a reader
+    // may come to one before the next line.
+    let _held = if tap.is_pipe {
+        rt.hold_answers(tap.path.as_str()).ok()
+    } else {
+        None
+    };
     for _ in rt.forever() {
-        match rt.open_answers(tap.path.as_str()) {
-            Ok(file) => {
-                printed = false;
-                tap.want(rt, true);
-                write_lines(rt, tap, file);
-                tap.want(rt, false);
+        if let Ok(file) = rt.open_answers(tap.path.as_str()) {
+            tap.spool.set_unread(rt, false);
+            if tap.is_pipe {
+                write_to_pipe(rt, tap, file);
+                tap.spool.set_unread(rt, true);
+                continue;
             }
-            Err(_) => {
-                if !printed {
-                    tell_lost(rt, tap, outlet);
-                }
-                printed = true;
-                thread::sleep(rt, Duration::from_millis(OPEN_AGAIN));
-            }
+            write_to_file(rt, tap, file);
         }
+        if tap.set_failing(true) {
+            tell_lost(rt, tap, outlet);
+        }
+        thread::sleep(rt, Duration::from_millis(TRY_AGAIN));
     }
 }
 
-// Prints that the file or pipe can't be opened.
+// Prints that the file or pipe can't be opened, or can't be written.
 fn tell_lost<R: AllocGlobal + Wait + Clock, W: Write + Drop>(
     rt: &R,
     tap: &Tap,
     outlet: &Outlet<W>,
 ) {
-    let mut line = Vec::new(rt.alloc());
+    let mut lines = Lines::new(rt.alloc(), false);
     // Where memory for the line is refused, nothing is printed.
-    if print_no_answers(&mut line, tap.path.as_str()).is_ok() {
-        outlet.put(rt, &line);
+    if lines.no_answers(tap.path.as_str()).is_ok() {
+        outlet.put(rt, &lines);
     }
 }
 
-// Writes lines until nobody reads them any more, or the file takes no more.
-fn write_lines<R: AllocGlobal + Wait>(rt: &R, tap: &Tap, file: File) {
-    let mut file = file;
+// Writes lines into a pipe until nobody reads it any more. A line that nobody read is for the next reader.
+fn write_to_pipe<R: AllocGlobal + Wait + Clock>(rt: &R, tap: &Tap, file: File) {
+    let (mut file, mut lines) = (file, Vec::new(rt.alloc()));
     for _ in rt.forever() {
-        let lines = tap.take(rt, rt.alloc());
-        if file.write_all(&lines).is_err() {
+        let _no_status = tap.spool.next(rt, &mut lines);
+        if !pass_lines(rt, tap, &mut file, &lines) {
             break;
         }
-        tap.wrote(rt);
+        let _first = tap.set_failing(false);
     }
+}
+
+// Writes lines into a pipe, each by one write, which the pipe takes whole or not at all. Returns whether all are
+// written.
+fn pass_lines<R: Wait>(rt: &R, tap: &Tap, file: &mut File, lines: &[u8]) -> bool {
+    let mut rest = lines;
+    for _ in 0..lines.len() {
+        if rest.is_empty() {
+            break;
+        }
+        let (line, more) = first_line(rest);
+        if file.write_all(line).is_err() {
+            return false;
+        }
+        tap.spool.wrote(rt, line.len());
+        rest = more;
+    }
+    true
+}
+
+// Writes lines into a file until it takes no more.
+fn write_to_file<R: AllocGlobal + Wait + Clock>(rt: &R, tap: &Tap, file: File) {
+    let (mut file, mut lines) = (file, Vec::new(rt.alloc()));
+    for _ in rt.forever() {
+        let _no_status = tap.spool.next(rt, &mut lines);
+        if !append_lines(rt, tap, &mut file, &lines) {
+            break;
+        }
+        let _first = tap.set_failing(false);
+    }
+}
+
+// Appends lines to a file. Where it takes no more, it is cut back to its last whole line, and the other lines wait.
+// Returns whether all are written.
+fn append_lines<R: Wait>(rt: &R, tap: &Tap, file: &mut File, lines: &[u8]) -> bool {
+    let Ok(before) = file.metadata() else {
+        return false;
+    };
+    let count = write_most(file, lines);
+    let whole = whole_lines(lines.get(..count).unwrap_or(&[]));
+    tap.spool.wrote(rt, whole);
+    if count > whole && before.is_file() {
+        // Where it can't be cut back either, the rest of the line is missing there, and the whole line follows.
+        let _half = file.set_len(before.len().saturating_add(whole as u64));
+    }
+    count == lines.len()
 }

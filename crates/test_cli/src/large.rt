@@ -5,7 +5,7 @@ use loop_capture::{Device, Pattern};
 use loop_desk::Desk;
 use loop_disk::MemDisk;
 use loop_pipeline::{
-    Camera, Ended, Guide, Link, Unfilmed, film_camera, heap_start, new_queue, start_queue,
+    Camera, Ended, Guide, Link, Unfilmed, Visits, film_camera, heap_start, new_queue, start_queue,
 };
 use loop_plane::HeapPlane;
 use loop_record::{Geometry, PixelFormat};
@@ -33,6 +33,12 @@ type Filmed = Result<HeapEnded, Unfilmed<Pattern, MemDisk, HeapPlane>>;
 // Four ticks at 25 frames a second.
 #[derive(Drop)]
 struct Four;
+
+impl Visits for Four {
+    ghost asks = { λ call. ⊥ };
+
+    const VISITED: bool = false;
+}
 
 impl Guide for Four {
     fn next_tick<R: Wait + Clock>(&self, _rt: &R, n: u64) -> Option<u64> {

@@ -41,12 +41,17 @@ static FOOTAGES: [Step; 12] = [
     // A source that ends at once.
     ("record 4 none.y4m taken.img", "camera 0 next 2\n", "", 0),
     // A source whose second frame can't be read to its end.
-    ("record 4 cut.y4m taken.img", "camera 0 next 3\n", "", 0),
+    (
+        "record 4 cut.y4m taken.img",
+        "camera 0 next 3\n",
+        "camera 0 lost waiting 0 given up 0 left 0 missed 0 failed 1\n",
+        0,
+    ),
     // A source of frames of another size, which is reported once, and of another rate.
     (
         "record 4 other.y4m taken.img",
         "camera 0 next 3\n",
-        "other geometry other.y4m 4x4 GREY 25:1\n",
+        "other geometry other.y4m 4x4 GREY 25:1\ncamera 0 lost waiting 0 given up 0 left 0 missed 0 failed 1\n",
         0,
     ),
     (
@@ -130,8 +135,18 @@ fn what_is_recorded_is_listed(rt: HostRuntime) {
 // Recordings where each block that could go is locked: there is room for the frame 7, and those after it aren't stored.
 static LOCKED: [Step; 4] = [
     ("lock locked.img 2 6", "locked 0\n", "", 0),
-    ("record 4 - locked.img", "camera 0 next 8\n", "", 0),
-    ("record 4 - locked.img", "camera 0 next 8\n", "", 0),
+    (
+        "record 4 - locked.img",
+        "camera 0 next 8\n",
+        "camera 0 lost waiting 3 given up 0 left 0 missed 0 failed 0\n",
+        0,
+    ),
+    (
+        "record 4 - locked.img",
+        "camera 0 next 8\n",
+        "camera 0 lost waiting 4 given up 0 left 0 missed 0 failed 0\n",
+        0,
+    ),
     (
         "list locked.img",
         "next 8\nframes 2..7\nclip 0 2..6\n",
@@ -155,7 +170,12 @@ static KEPT: [Step; 8] = [
     ("record 1 - keep=0 kept.img", "", "refused 22 BadKeep\n", 1),
     ("list kept.img", "next 7\nframes 2..6\nclip 0 2..2\n", "", 0),
     // There is room for the frame 7; for those after it no block may go.
-    ("record 4 - keep=2 kept.img", "camera 0 next 8\n", "", 0),
+    (
+        "record 4 - keep=2 kept.img",
+        "camera 0 next 8\n",
+        "camera 0 lost waiting 3 given up 0 left 0 missed 0 failed 0\n",
+        0,
+    ),
     ("list kept.img", "next 8\nframes 2..7\nclip 0 2..2\n", "", 0),
     ("record 1 - keep=1 kept.img", "camera 0 next 9\n", "", 0),
     (

@@ -3,14 +3,14 @@
 use crate::asserts::{holds, same};
 use loop_record::PixelFormat;
 use loop_station_words::{
-    CameraConfig, CameraFault, Config, ConfigFault, FrameShape, MemoryLimit, Source, StoreSize,
-    read_config,
+    AnswersForm, CameraConfig, CameraFault, Config, ConfigFault, FrameShape, MemoryLimit, Source,
+    StoreSize, read_config,
 };
 use std::alloc::Global;
 use std::process::Abort;
 
 // A configuration, and why it is refused.
-const ROWS: [(&str, Option<ConfigFault>); 48] = [
+const ROWS: [(&str, Option<ConfigFault>); 65] = [
     (
         "[[camera]]\nname='a'\nsource='p'\nstore='s'\nminutes=5\n",
         None,
@@ -191,6 +191,74 @@ const ROWS: [(&str, Option<ConfigFault>); 48] = [
         "events='no'\n[[camera]]\nname='a'\nsource='p'\nstore='s'\nminutes=1\n",
         Some(ConfigFault::BadEvents),
     ),
+    (
+        "answers_form='text'\n[[camera]]\nname='a'\nsource='p'\nstore='s'\nminutes=1\n",
+        None,
+    ),
+    (
+        "answers_form='json'\n[[camera]]\nname='a'\nsource='p'\nstore='s'\nminutes=1\n",
+        None,
+    ),
+    (
+        "answers_form='JSON'\n[[camera]]\nname='a'\nsource='p'\nstore='s'\nminutes=1\n",
+        Some(ConfigFault::BadAnswersForm),
+    ),
+    (
+        "answers_form=''\n[[camera]]\nname='a'\nsource='p'\nstore='s'\nminutes=1\n",
+        Some(ConfigFault::BadAnswersForm),
+    ),
+    (
+        "answers_form=true\n[[camera]]\nname='a'\nsource='p'\nstore='s'\nminutes=1\n",
+        Some(ConfigFault::BadAnswersForm),
+    ),
+    (
+        "answers_form=['json']\n[[camera]]\nname='a'\nsource='p'\nstore='s'\nminutes=1\n",
+        Some(ConfigFault::BadAnswersForm),
+    ),
+    (
+        "saves='/clips'\n[[camera]]\nname='a'\nsource='p'\nstore='s'\nminutes=1\n",
+        None,
+    ),
+    (
+        "saves=''\n[[camera]]\nname='a'\nsource='p'\nstore='s'\nminutes=1\n",
+        Some(ConfigFault::BadSaves),
+    ),
+    (
+        "saves=1\n[[camera]]\nname='a'\nsource='p'\nstore='s'\nminutes=1\n",
+        Some(ConfigFault::BadSaves),
+    ),
+    (
+        "[[camera]]\nname='a'\nsource='p'\nstore='s'\nminutes=1\nafter=0\n",
+        None,
+    ),
+    (
+        "[[camera]]\nname='a'\nsource='p'\nstore='s'\nminutes=1\nafter=3600\n",
+        None,
+    ),
+    (
+        "[[camera]]\nname='a'\nsource='p'\nstore='s'\nminutes=1\nafter=3601\n",
+        Some(ConfigFault::Camera(1, CameraFault::BadAfter)),
+    ),
+    (
+        "[[camera]]\nname='a'\nsource='p'\nstore='s'\nminutes=1\nafter=-1\n",
+        Some(ConfigFault::Camera(1, CameraFault::BadAfter)),
+    ),
+    (
+        "[[camera]]\nname='a'\nsource='p'\nstore='s'\nminutes=1\nafter='10'\n",
+        Some(ConfigFault::Camera(1, CameraFault::BadAfter)),
+    ),
+    (
+        "[[camera]]\nname='a'\nsource='p'\nstore='s'\nminutes=1\nafter=10.0\n",
+        Some(ConfigFault::Camera(1, CameraFault::BadAfter)),
+    ),
+    (
+        "after=10\n[[camera]]\nname='a'\nsource='p'\nstore='s'\nminutes=1\n",
+        Some(ConfigFault::UnknownKey),
+    ),
+    (
+        "[[camera]]\nname='a'\nsource='p'\nstore='s'\nminutes=1\nsaves='f'\n",
+        Some(ConfigFault::Camera(1, CameraFault::UnknownKey)),
+    ),
 ];
 
 // Minutes as they are written, and their seconds.
@@ -249,10 +317,11 @@ fn minutes_are_seconds_rounded_up(rt: HostRuntime) {
 }
 
 // Every word of the file, each with a value of its own.
-const WHOLE: &str = "orders='from'\nanswers='to'\ntimes=false\nevents=false\n\
-[[camera]]\nname='left'\nsource='pattern'\npattern='4x2 GREY 30:7'\nstore='l.loop'\nminutes=3\nkeep=11\ntag=12\n\
+const WHOLE: &str =
+    "orders='from'\nanswers='to'\nanswers_form='json'\nsaves='here'\ntimes=false\nevents=false\n\
+[[camera]]\nname='left'\nsource='pattern'\npattern='4x2 GREY 30:7'\nstore='l.loop'\nminutes=3\nkeep=11\nafter=20\ntag=12\n\
 buffers=13\nmemory=14\nsave_to='clips'\nrelease=true\n\
-[[camera]]\nname='right'\nsource='r.y4m'\nstore='r.loop'\nbytes=15\nkeep=16\ntag=17\nbuffers=18\nmemory='19 s'\nsave_to='more'\n";
+[[camera]]\nname='right'\nsource='r.y4m'\nstore='r.loop'\nbytes=15\nkeep=16\nafter=21\ntag=17\nbuffers=18\nmemory='19 s'\nsave_to='more'\n";
 
 // The shape of the first camera's pattern.
 const SHAPE: FrameShape = FrameShape {
@@ -269,6 +338,8 @@ fn says_all(config: &Config) -> bool {
         [left, right] => {
             config.orders.as_deref() == Some("from")
                 && config.answers.as_deref() == Some("to")
+                && config.answers_form == AnswersForm::Json
+                && config.saves.as_deref() == Some("here")
                 && !config.times
                 && !config.events
                 && is_left(left)
@@ -283,7 +354,8 @@ fn is_left(camera: &CameraConfig) -> bool {
         && matches!(&camera.source, Source::Pattern(shape) if *shape == SHAPE)
         && camera.store.as_str() == "l.loop"
         && camera.room == StoreSize::Seconds(180)
-        && (camera.seconds, camera.tag, camera.buffers) == (11, 12, 13)
+        && (camera.seconds, camera.after) == (11, 20)
+        && (camera.tag, camera.buffers) == (12, 13)
         && camera.memory == Some(MemoryLimit::Bytes(14))
         && camera.save_to.as_deref() == Some("clips")
         && camera.release
@@ -294,7 +366,8 @@ fn is_right(camera: &CameraConfig) -> bool {
         && matches!(&camera.source, Source::Path(path) if path.as_str() == "r.y4m")
         && camera.store.as_str() == "r.loop"
         && camera.room == StoreSize::Bytes(15)
-        && (camera.seconds, camera.tag, camera.buffers) == (16, 17, 18)
+        && (camera.seconds, camera.after) == (16, 21)
+        && (camera.tag, camera.buffers) == (17, 18)
         && camera.memory == Some(MemoryLimit::Seconds(19))
         && camera.save_to.as_deref() == Some("more")
         && !camera.release
@@ -306,9 +379,12 @@ fn says_least(config: &Config) -> bool {
         [camera] => {
             config.orders.is_none()
                 && config.answers.is_none()
+                && config.answers_form == AnswersForm::Text
+                && config.saves.is_none()
                 && config.times
                 && config.events
-                && (camera.seconds, camera.tag, camera.buffers) == (60, 0, 8)
+                && (camera.seconds, camera.after) == (60, 0)
+                && (camera.tag, camera.buffers) == (0, 8)
                 && camera.memory.is_none()
                 && camera.save_to.is_none()
                 && !camera.release

@@ -1,53 +1,166 @@
 //! What is printed, and how large a store is.
 
 use crate::asserts::{holds, same};
-use loop_record::{Geometry, PixelFormat};
-use loop_script::{Likeness, compare_frames, print_other_geometry, print_other_rate};
-use loop_station_words::{
-    CameraStatus, RingSize, print_absent, print_all_locked, print_bad_order, print_behind,
-    print_caught_up, print_clip_path, print_done, print_given_up, print_head, print_help,
-    print_kept, print_no_answers, print_no_camera, print_not_a_store, print_not_saved,
-    print_refused, print_released, print_room_again, print_saved, print_saving,
-    print_source_missing, print_source_on, print_status, print_stopped, print_store_absent,
-    print_store_open, print_too_many_saves, ring_for, ring_within,
-};
+use loop_record::{Damage, Geometry, PixelFormat};
+use loop_script::{Likeness, Listing, compare_frames, print_other_rate};
+use loop_station_words::{CameraStatus, Lines, RingSize, print_clip_path, ring_for, ring_within};
 use loop_store::{Clip, StoreFault};
 use std::alloc::Global;
 use std::process::Abort;
 
-// The printed lines, one below the other.
-const PRINTED: &[u8] = b"kept left 63 3..9 tag 7\n\
-kept left 0 3..3\n\
-kept left none\n\
+// The printed answers, one below the other.
+const ANSWERS: &str =
+    "kept left 63 3..9 from 2026-11-22T15:38:00.123Z to 2026-11-22T15:38:04.123Z event 1795361880123456\n\
+kept left 63 3..9 from 2026-11-22T15:38:00.123Z to 2026-11-22T15:38:04.123Z event 5 tag 1795361880123456\n\
+kept left 0 3..3 from 1970-01-01T00:00:00.000Z to 1970-01-01T00:00:00.000Z event 7\n\
+kept left none event 7\n\
+held left 10.6 s of 60.0 s event 7\n\
+gap left 720.0 s at 2026-11-22T15:38:00.123Z event 7\n\
+event 7 from 2026-11-22T15:38:00.123Z to 2026-11-22T15:38:04.123Z\n\
+event 7 left whole\n\
+event 7 left not whole Disk\n\
+refused too far: a keep ends within an hour\n\
 refused left 10 ClipNotHeld 5\n\
+refused left 5 Damaged 7\n\
 refused left 6 AllLocked\n\
 released left 3\n\
-saved left 3 a clip.y4m 7\n\
-not saved left 3 a clip.y4m CannotOpen\n\
+refused left other clip 3 90\n\
 refused left saving\n\
 refused left too many saves\n\
-status left stored 1 given up 2 waiting 3 behind 12.3 room 4 faults 5 source on\n\
-other geometry left 320x240 GREY 30000:1001\n\
-other rate left 30000:1001\n\
-not a store left a store.loop: move it away, and a store is made\n\
-not a store left a store.loop.new: move it away, and a store is made\n\
-no camera left\n\
+saved left 3 a \"clip\".y4m 7\n\
+not saved left 3 C:\\clip\t\u{1}\u{1f}\u{7f}\u{e9}\u{1f4f7} CannotOpen\n\
+waits left 3 a clip.y4m NoRoom\n\
+cancelled left 3\n\
+refused left not saving 3\n\
 absent left NoStore\n\
-bad order: ke?p \"\n\
+camera left\n\
+next 12\n\
+frames 3..5\n\
+frames 9..9\n\
+frames 11..11\n\
+clip 0 3..5\n\
+clip 63 9..9 tag 18446744073709551615\n\
+status left stored 1 given up 2 waiting 3 behind 12.3 room 4 faults 5 source on\n\
+status left stored 1 given up 2 waiting 3 behind 12.3 room 4 keeps 6 faults 5 source other geometry\n\
+status left making a store.loop 40 %\n\
+no camera left\n\
+bad order: ke?p \"??\n\
 done\n\
-stopped\n\
-source left on 320x240 GREY 30000:1001\n\
+stopped\n";
+
+// The same as JSON.
+const ANSWERS_JSON: &str =
+    "\"kind\":\"kept\",\"camera\":\"left\",\"id\":63,\"first\":3,\"last\":9,\"from\":\"2026-11-22T15:38:00.123Z\",\"to\":\"2026-11-22T15:38:04.123Z\",\"event\":1795361880123456}\n\
+\"kind\":\"kept\",\"camera\":\"left\",\"id\":63,\"first\":3,\"last\":9,\"from\":\"2026-11-22T15:38:00.123Z\",\"to\":\"2026-11-22T15:38:04.123Z\",\"event\":5,\"tag\":1795361880123456}\n\
+\"kind\":\"kept\",\"camera\":\"left\",\"id\":0,\"first\":3,\"last\":3,\"from\":\"1970-01-01T00:00:00.000Z\",\"to\":\"1970-01-01T00:00:00.000Z\",\"event\":7}\n\
+\"kind\":\"kept_none\",\"camera\":\"left\",\"event\":7}\n\
+\"kind\":\"held\",\"camera\":\"left\",\"held_micros\":10600000,\"asked_micros\":60000000,\"event\":7}\n\
+\"kind\":\"gap\",\"camera\":\"left\",\"micros\":720000000,\"at\":\"2026-11-22T15:38:00.123Z\",\"event\":7}\n\
+\"kind\":\"event_begun\",\"event\":7,\"from\":\"2026-11-22T15:38:00.123Z\",\"to\":\"2026-11-22T15:38:04.123Z\"}\n\
+\"kind\":\"event_whole\",\"event\":7,\"camera\":\"left\"}\n\
+\"kind\":\"event_not_whole\",\"event\":7,\"camera\":\"left\",\"why\":\"Disk\"}\n\
+\"kind\":\"too_far\"}\n\
+\"kind\":\"refused\",\"camera\":\"left\",\"number\":10,\"name\":\"ClipNotHeld\",\"frame\":5}\n\
+\"kind\":\"refused\",\"camera\":\"left\",\"number\":5,\"name\":\"Damaged\",\"damage\":7}\n\
+\"kind\":\"refused\",\"camera\":\"left\",\"number\":6,\"name\":\"AllLocked\"}\n\
+\"kind\":\"released\",\"camera\":\"left\",\"id\":3}\n\
+\"kind\":\"not_released\",\"camera\":\"left\",\"id\":3,\"first\":90}\n\
+\"kind\":\"saving\",\"camera\":\"left\"}\n\
+\"kind\":\"too_many_saves\",\"camera\":\"left\"}\n\
+\"kind\":\"saved\",\"camera\":\"left\",\"id\":3,\"path\":\"a \\\"clip\\\".y4m\",\"frames\":7}\n\
+\"kind\":\"not_saved\",\"camera\":\"left\",\"id\":3,\"path\":\"C:\\\\clip\\t\\u0001\\u001f\u{7f}\u{e9}\u{1f4f7}\",\"why\":\"CannotOpen\"}\n\
+\"kind\":\"save_waits\",\"camera\":\"left\",\"id\":3,\"path\":\"a clip.y4m\",\"why\":\"NoRoom\"}\n\
+\"kind\":\"cancelled\",\"camera\":\"left\",\"id\":3}\n\
+\"kind\":\"not_saving\",\"camera\":\"left\",\"id\":3}\n\
+\"kind\":\"absent\",\"camera\":\"left\",\"why\":\"NoStore\"}\n\
+\"kind\":\"camera\",\"camera\":\"left\",\"next\":12,\"frames\":[{\"first\":3,\"last\":5},{\"first\":9,\"last\":9},{\"first\":11,\"last\":11}],\"clips\":[{\"id\":0,\"first\":3,\"last\":5,\"tag\":0},{\"id\":63,\"first\":9,\"last\":9,\"tag\":18446744073709551615}]}\n\
+\"kind\":\"status\",\"camera\":\"left\",\"stored\":1,\"given_up\":2,\"waiting\":3,\"behind_micros\":12399999,\"room\":4,\"faults\":5,\"source\":\"on\"}\n\
+\"kind\":\"status\",\"camera\":\"left\",\"stored\":1,\"given_up\":2,\"waiting\":3,\"behind_micros\":12399999,\"room\":4,\"keeps\":6,\"faults\":5,\"source\":\"other geometry\"}\n\
+\"kind\":\"status_making\",\"camera\":\"left\",\"path\":\"a store.loop\",\"percent\":40}\n\
+\"kind\":\"no_camera\",\"camera\":\"left\"}\n\
+\"kind\":\"bad_order\",\"line\":\"ke?p \\\"??\"}\n\
+\"kind\":\"done\"}\n\
+\"kind\":\"stopped\"}\n";
+
+// The printed events.
+const EVENTS: &str = "source left on 320x240 GREY 30000:1001\n\
+other geometry left 320x240 GREY 30000:1001\n\
 source left missing\n\
+source left silent\n\
+source left unusable no rate\n\
 store left open\n\
 store left open holds 30.8 s of 300.0 s\n\
 store left absent NoRoom\n\
+not a store left a store.loop.new: move it away, and a store is made\n\
+making left a store.loop 40 %\n\
 given up left 7 since 2000-02-29T23:59:59.999Z\n\
 all locked left\n\
+nearly all locked left\n\
 room again left\n\
 behind left 1.2\n\
 caught up left\n\
+waited left 3.2 s since 2026-11-22T15:38:00.123Z\n\
+stood still 3.2 s since 2026-11-22T15:38:00.123Z\n\
+disk left syncs in 12 ms\n\
+disk left too slow: syncs in 250 ms, room for 16 frames a second\n\
 no answers a pipe: what is printed doesn't go there\n\
-1970-01-01T00:00:00.000Z @a-1 @b 2026-11-22T15:38:00.123Z out/left_2026-11-22T15-38-00Z_7.y4m out/left_2026-11-22T15-38-00Z_7-2.y4m";
+dropped 12 lines\n";
+
+// The same as JSON.
+const EVENTS_JSON: &str =
+    "\"kind\":\"source_on\",\"camera\":\"left\",\"width\":320,\"height\":240,\"format\":\"GREY\",\"rate_num\":30000,\"rate_den\":1001}\n\
+\"kind\":\"other_geometry\",\"camera\":\"left\",\"width\":320,\"height\":240,\"format\":\"GREY\",\"rate_num\":30000,\"rate_den\":1001}\n\
+\"kind\":\"source_missing\",\"camera\":\"left\"}\n\
+\"kind\":\"source_silent\",\"camera\":\"left\"}\n\
+\"kind\":\"source_unusable\",\"camera\":\"left\",\"why\":\"no rate\"}\n\
+\"kind\":\"store_open\",\"camera\":\"left\"}\n\
+\"kind\":\"store_open\",\"camera\":\"left\",\"held_micros\":30800000,\"asked_micros\":300000000}\n\
+\"kind\":\"store_absent\",\"camera\":\"left\",\"why\":\"NoRoom\"}\n\
+\"kind\":\"not_a_store\",\"camera\":\"left\",\"path\":\"a store.loop.new\"}\n\
+\"kind\":\"making\",\"camera\":\"left\",\"path\":\"a store.loop\",\"percent\":40}\n\
+\"kind\":\"given_up\",\"camera\":\"left\",\"frames\":7,\"since\":\"2000-02-29T23:59:59.999Z\"}\n\
+\"kind\":\"all_locked\",\"camera\":\"left\"}\n\
+\"kind\":\"nearly_all_locked\",\"camera\":\"left\"}\n\
+\"kind\":\"room_again\",\"camera\":\"left\"}\n\
+\"kind\":\"behind\",\"camera\":\"left\",\"micros\":1299999}\n\
+\"kind\":\"caught_up\",\"camera\":\"left\"}\n\
+\"kind\":\"waited\",\"camera\":\"left\",\"micros\":3200000,\"since\":\"2026-11-22T15:38:00.123Z\"}\n\
+\"kind\":\"stood_still\",\"micros\":3200000,\"since\":\"2026-11-22T15:38:00.123Z\"}\n\
+\"kind\":\"syncs\",\"camera\":\"left\",\"micros\":12345}\n\
+\"kind\":\"too_slow\",\"camera\":\"left\",\"micros\":250000,\"frames_a_second\":16}\n\
+\"kind\":\"no_answers\",\"path\":\"a pipe\"}\n\
+\"kind\":\"dropped_lines\",\"lines\":12}\n";
+
+// What lines begin with, and the names of a clip's file.
+const HEADS: &str = "1970-01-01T00:00:00.000Z @a-1 @b 2026-11-22T15:38:00.123Z \
+{\"time\":\"1970-01-01T00:00:00.000Z\",\"label\":\"a-1\",{\"label\":\"b\",{\"time\":\"2026-11-22T15:38:00.123Z\",{\
+out/left_2026-11-22T15-38-00Z_7.y4m out/left_2026-11-22T15-38-00Z_7-2.y4m";
+
+// The orders, as `help` lists them.
+const HELP: &str = "keep [CAMERA] [SECONDS] [+AFTER] [TAG]\n\
+keep [CAMERA] from T to T [TAG]\n\
+release CAMERA ID [FIRST]\n\
+list\n\
+save CAMERA ID OUT\n\
+save! CAMERA ID OUT\n\
+cancel CAMERA ID\n\
+status\n\
+help\n\
+stop\n\
+@LABEL ORDER\n";
+
+// The same as JSON.
+const HELP_JSON: &str = "\"kind\":\"help\",\"order\":\"keep [CAMERA] [SECONDS] [+AFTER] [TAG]\"}\n\
+\"kind\":\"help\",\"order\":\"keep [CAMERA] from T to T [TAG]\"}\n\
+\"kind\":\"help\",\"order\":\"release CAMERA ID [FIRST]\"}\n\
+\"kind\":\"help\",\"order\":\"list\"}\n\
+\"kind\":\"help\",\"order\":\"save CAMERA ID OUT\"}\n\
+\"kind\":\"help\",\"order\":\"save! CAMERA ID OUT\"}\n\
+\"kind\":\"help\",\"order\":\"cancel CAMERA ID\"}\n\
+\"kind\":\"help\",\"order\":\"status\"}\n\
+\"kind\":\"help\",\"order\":\"help\"}\n\
+\"kind\":\"help\",\"order\":\"stop\"}\n\
+\"kind\":\"help\",\"order\":\"@LABEL ORDER\"}\n";
 
 const fn clip(id: u32, to: u64, tag: u64) -> Clip {
     Clip {
@@ -61,6 +174,9 @@ const fn clip(id: u32, to: u64, tag: u64) -> Clip {
 // 22 November 2026, 15:38:00.123456, in microseconds since 1970.
 const NOVEMBER: u64 = 1_795_361_880_123_456;
 
+// Four seconds later.
+const LATER: u64 = NOVEMBER + 4_000_000;
+
 // A geometry that a source may have.
 const OTHER: Geometry = Geometry {
     width: 320,
@@ -72,75 +188,198 @@ const OTHER: Geometry = Geometry {
     slots: 1,
 };
 
-// Prints each kind of line.
-fn prints(out: &mut Vec<u8>) -> bool {
-    let status = CameraStatus {
-        stored: 1,
-        given_up: 2,
-        waiting: 3,
-        behind: 12_399_999,
-        room: 4,
-        faults: 5,
-        source: "on",
-    };
-    print_kept(out, "left", Some(clip(63, 9, 7))).is_ok()
-        && print_kept(out, "left", Some(clip(0, 3, 0))).is_ok()
-        && print_kept(out, "left", None).is_ok()
-        && print_refused(out, "left", StoreFault::ClipNotHeld(5)).is_ok()
-        && print_refused(out, "left", StoreFault::AllLocked).is_ok()
-        && print_released(out, "left", 3).is_ok()
-        && prints_saves(out)
-        && print_status(out, "left", &status).is_ok()
-        && print_other_geometry(out, "left", &OTHER).is_ok()
-        && print_other_rate(out, "left", &OTHER).is_ok()
-        && print_not_a_store(out, "left", "a store.loop", "").is_ok()
-        && print_not_a_store(out, "left", "a store.loop", ".new").is_ok()
-        && print_no_camera(out, "left").is_ok()
-        && print_absent(out, "left", &"NoStore").is_ok()
-        && print_bad_order(out, b"ke\x7fp \"").is_ok()
-        && prints_events(out)
-        && prints_heads(out)
+// How a camera stands.
+const STATUS: CameraStatus<'static> = CameraStatus {
+    stored: 1,
+    given_up: 2,
+    waiting: 3,
+    behind: 12_399_999,
+    room: 4,
+    keeps: None,
+    faults: 5,
+    source: "on",
+};
+
+const FULL_STATUS: CameraStatus<'static> = CameraStatus {
+    keeps: Some(6),
+    source: "other geometry",
+    ..STATUS
+};
+
+// Adds what is told of an event.
+fn tells_event(lines: &mut Lines) -> bool {
+    lines
+        .kept("left", &clip(63, 9, NOVEMBER), NOVEMBER, LATER, NOVEMBER)
+        .is_ok()
+        && lines
+            .kept("left", &clip(63, 9, NOVEMBER), NOVEMBER, LATER, 5)
+            .is_ok()
+        && lines.kept("left", &clip(0, 3, 0), 0, 0, 7).is_ok()
+        && lines.kept_none("left", 7).is_ok()
+        && lines.held("left", 10_600_000, 60_000_000, 7).is_ok()
+        && lines.gap("left", 720_000_000, NOVEMBER, 7).is_ok()
+        && lines.event_begun(7, NOVEMBER, LATER).is_ok()
+        && lines.event_whole(7, "left").is_ok()
+        && lines.event_not_whole(7, "left", &"Disk").is_ok()
+        && lines.too_far().is_ok()
 }
 
-// Prints what happens without an order.
-fn prints_events(out: &mut Vec<u8>) -> bool {
-    print_done(out).is_ok()
-        && print_stopped(out).is_ok()
-        && print_source_on(out, "left", &OTHER).is_ok()
-        && print_source_missing(out, "left").is_ok()
-        && print_store_open(out, "left", None).is_ok()
-        && print_store_open(out, "left", Some((30_800_000, 300_000_000))).is_ok()
-        && print_store_absent(out, "left", &"NoRoom").is_ok()
-        && print_given_up(out, "left", 7, 951_868_799_999_999).is_ok()
-        && print_all_locked(out, "left").is_ok()
-        && print_room_again(out, "left").is_ok()
-        && print_behind(out, "left", 1_299_999).is_ok()
-        && print_caught_up(out, "left").is_ok()
-        && print_no_answers(out, "a pipe").is_ok()
+// Adds the answers about clips and saves.
+fn tells_clips(lines: &mut Lines) -> bool {
+    let damaged = StoreFault::Damaged(Damage::ClipRange);
+    lines.refused("left", StoreFault::ClipNotHeld(5)).is_ok()
+        && lines.refused("left", damaged).is_ok()
+        && lines.refused("left", StoreFault::AllLocked).is_ok()
+        && lines.released("left", 3).is_ok()
+        && lines.not_released("left", 3, 90).is_ok()
+        && lines.saving("left").is_ok()
+        && lines.too_many_saves("left").is_ok()
+        && lines.saved("left", 3, "a \"clip\".y4m", 7).is_ok()
+        && lines
+            .not_saved(
+                "left",
+                3,
+                "C:\\clip\t\u{1}\u{1f}\u{7f}\u{e9}\u{1f4f7}",
+                &"CannotOpen",
+            )
+            .is_ok()
+        && lines.save_waits("left", 3, "a clip.y4m", &"NoRoom").is_ok()
+        && lines.cancelled("left", 3).is_ok()
+        && lines.not_saving("left", 3).is_ok()
+        && lines.absent("left", &"NoStore").is_ok()
 }
 
-// Prints the words that begin lines, and the name of a clip's file.
-fn prints_heads(out: &mut Vec<u8>) -> bool {
-    print_head(out, Some(0), Some("a-1")).is_ok()
-        && print_head(out, None, Some("b")).is_ok()
-        && print_head(out, Some(NOVEMBER), None).is_ok()
+// Adds the other answers.
+fn tells_answers(lines: &mut Lines, listing: &Listing<Global>) -> bool {
+    lines.camera("left", listing).is_ok()
+        && lines.status("left", &STATUS).is_ok()
+        && lines.status("left", &FULL_STATUS).is_ok()
+        && lines.status_making("left", "a store.loop", 40).is_ok()
+        && lines.no_camera("left").is_ok()
+        && lines.bad_order(b"ke\x7fp \"\n\xff").is_ok()
+        && lines.done().is_ok()
+        && lines.stopped().is_ok()
+}
+
+// Adds what happens to sources and stores without an order.
+fn tells_sources(lines: &mut Lines) -> bool {
+    lines.source_on("left", &OTHER).is_ok()
+        && lines.other_geometry("left", &OTHER).is_ok()
+        && lines.source_missing("left").is_ok()
+        && lines.source_silent("left").is_ok()
+        && lines.source_unusable("left", "no rate").is_ok()
+        && lines.store_open("left", None).is_ok()
+        && lines
+            .store_open("left", Some((30_800_000, 300_000_000)))
+            .is_ok()
+        && lines.store_absent("left", &"NoRoom").is_ok()
+        && lines.not_a_store("left", "a store.loop", ".new").is_ok()
+        && lines.making("left", "a store.loop", 40).is_ok()
+}
+
+// Adds what else happens without an order.
+fn tells_frames(lines: &mut Lines) -> bool {
+    lines.given_up("left", 7, 951_868_799_999_999).is_ok()
+        && lines.all_locked("left").is_ok()
+        && lines.nearly_all_locked("left").is_ok()
+        && lines.room_again("left").is_ok()
+        && lines.behind("left", 1_299_999).is_ok()
+        && lines.caught_up("left").is_ok()
+        && lines.waited("left", 3_200_000, NOVEMBER).is_ok()
+        && lines.stood_still(3_200_000, NOVEMBER).is_ok()
+        && lines.syncs("left", 12_345).is_ok()
+        && lines.too_slow("left", 250_000, 16).is_ok()
+        && lines.no_answers("a pipe").is_ok()
+        && lines.dropped_lines(12).is_ok()
+}
+
+// What a store holds.
+fn listing(rt: &impl Abort, alloc: Global) -> Listing<Global> {
+    let numbers = Vec::from_slice(alloc, &[3, 4, 5, 9, 11]);
+    let clips = Vec::from_slice(
+        alloc,
+        &[
+            clip(0, 5, 0),
+            Clip {
+                from: 9,
+                ..clip(63, 9, u64::MAX)
+            },
+        ],
+    );
+    Listing {
+        next: 12,
+        numbers: numbers.expect(rt, "memory for numbers"),
+        clips: clips.expect(rt, "memory for clips"),
+    }
+}
+
+#[test]
+fn each_answer_is_printed(rt: HostRuntime) {
+    let mut lines = Lines::new(rt.alloc(), true);
+    let mut more = Lines::new(rt.alloc(), true);
+    let listing = listing(&rt, rt.alloc());
+    holds!(rt; lines.is_empty());
+    holds!(rt; tells_event(&mut lines) && tells_clips(&mut lines));
+    holds!(rt; tells_answers(&mut more, &listing));
+    holds!(rt; lines.add(&more).is_ok() && !lines.is_empty());
+    same!(rt; lines.text(), ANSWERS.as_bytes());
+    same!(rt; lines.json(), ANSWERS_JSON.as_bytes());
+}
+
+#[test]
+fn each_event_is_printed(rt: HostRuntime) {
+    let mut lines = Lines::new(rt.alloc(), true);
+    holds!(rt; tells_sources(&mut lines) && tells_frames(&mut lines));
+    same!(rt; lines.text(), EVENTS.as_bytes());
+    same!(rt; lines.json(), EVENTS_JSON.as_bytes());
+}
+
+// Where JSON isn't wanted, there is none.
+#[test]
+fn text_alone_is_printed(rt: HostRuntime) {
+    let mut lines = Lines::new(rt.alloc(), false);
+    holds!(rt; tells_sources(&mut lines) && tells_frames(&mut lines));
+    same!(rt; lines.text(), EVENTS.as_bytes());
+    holds!(rt; lines.json().is_empty());
+    let listing = listing(&rt, rt.alloc());
+    holds!(rt; lines.camera("left", &listing).is_ok() && lines.json().is_empty());
+}
+
+// Each line that `help` lists has the shape of an order, or of an order with a label.
+#[test]
+fn help_lists_each_order(rt: HostRuntime) {
+    let mut lines = Lines::new(rt.alloc(), true);
+    holds!(rt; lines.help().is_ok());
+    same!(rt; lines.text(), HELP.as_bytes());
+    same!(rt; lines.json(), HELP_JSON.as_bytes());
+}
+
+// Prints what lines begin with, and the names of a clip's file.
+fn prints_heads(alloc: Global, out: &mut Vec<u8>) -> bool {
+    Lines::head(out, Some(0), Some("a-1")).is_ok()
+        && Lines::head(out, None, Some("b")).is_ok()
+        && Lines::head(out, Some(NOVEMBER), None).is_ok()
+        && Lines::json_head(alloc, out, Some(0), Some("a-1")).is_ok()
+        && Lines::json_head(alloc, out, None, Some("b")).is_ok()
+        && Lines::json_head(alloc, out, Some(NOVEMBER), None).is_ok()
+        && Lines::json_head(alloc, out, None, None).is_ok()
         && print_clip_path(out, "out", "left", NOVEMBER, 7, 1).is_ok()
         && print_clip_path(out, " out", "left", NOVEMBER, 7, 2).is_ok()
 }
 
-// Prints the outcomes of saves.
-fn prints_saves(out: &mut Vec<u8>) -> bool {
-    print_saved(out, "left", 3, "a clip.y4m", 7).is_ok()
-        && print_not_saved(out, "left", 3, "a clip.y4m", &"CannotOpen").is_ok()
-        && print_saving(out, "left").is_ok()
-        && print_too_many_saves(out, "left").is_ok()
+#[test]
+fn lines_begin_with_time_and_label(rt: HostRuntime) {
+    let mut out = Vec::new(rt.alloc());
+    holds!(rt; prints_heads(rt.alloc(), &mut out));
+    same!(rt; out.as_slice(), HEADS.as_bytes());
 }
 
 #[test]
-fn each_kind_of_line_is_printed(rt: HostRuntime) {
+fn another_rate_is_printed(rt: HostRuntime) {
     let mut out = Vec::new(rt.alloc());
-    holds!(rt; prints(&mut out));
-    same!(rt; out.as_slice(), PRINTED);
+    holds!(rt; print_other_rate(&mut out, "left", &OTHER).is_ok());
+    let words: &[u8] = b"other rate left 30000:1001\n";
+    same!(rt; out.as_slice(), words);
 }
 
 // The same frames at the same rate, which is written in another way.
@@ -207,22 +446,4 @@ fn stores_are_as_large_as_they_have_to_be(rt: HostRuntime) {
     for (bytes, segments, slots) in &WITHIN {
         same!(rt; sizes(ring_within(12, *bytes)), (*segments, *slots), *bytes);
     }
-}
-
-// Each line that `help` lists has the shape of an order, or of an order with a label.
-#[test]
-fn help_lists_each_order(rt: HostRuntime) {
-    let mut out = Vec::new(rt.alloc());
-    holds!(rt; print_help(&mut out).is_ok());
-    let words: &[u8] = b"keep [CAMERA] [SECONDS [TAG]]\n\
-keep [CAMERA] from T to T [TAG]\n\
-release CAMERA ID\n\
-list\n\
-save CAMERA ID OUT\n\
-save! CAMERA ID OUT\n\
-status\n\
-help\n\
-stop\n\
-@LABEL ORDER\n";
-    same!(rt; out.as_slice(), words);
 }

@@ -6,22 +6,46 @@ use std::alloc::{AllocError, Global};
 use std::process::Abort;
 
 // A line, and the order that it is, written out; nothing where it can't be read.
-const ROWS: [(&str, &str); 58] = [
-    ("keep", "keep all - -"),
-    ("keep 60", "keep all 60 -"),
-    ("keep 60 7", "keep all 60 7"),
-    ("keep left", "keep left - -"),
-    ("keep left 60", "keep left 60 -"),
+const ROWS: [(&str, &str); 92] = [
+    ("keep", "keep all - - -"),
+    ("keep 60", "keep all 60 - -"),
+    ("keep 60 7", "keep all 60 - 7"),
+    ("keep left", "keep left - - -"),
+    ("keep left 60", "keep left 60 - -"),
     (
         "keep left 0 18446744073709551615",
-        "keep left 0 18446744073709551615",
+        "keep left 0 - 18446744073709551615",
     ),
-    ("keep a-b_9 1", "keep a-b_9 1 -"),
-    ("keep 007", "keep all 7 -"),
+    ("keep a-b_9 1", "keep a-b_9 1 - -"),
+    ("keep 007", "keep all 7 - -"),
     (
         "keep abcdefghijklmnopqrstuvwxyzabcdef 1",
-        "keep abcdefghijklmnopqrstuvwxyzabcdef 1 -",
+        "keep abcdefghijklmnopqrstuvwxyzabcdef 1 - -",
     ),
+    ("keep 30 +10", "keep all 30 10 -"),
+    ("keep left 30 +10 7", "keep left 30 10 7"),
+    ("keep +10", "keep all - 10 -"),
+    ("keep left +10", "keep left - 10 -"),
+    ("keep +10 7", "keep all - 10 7"),
+    ("keep left +0 7", "keep left - 0 7"),
+    ("keep 0 +4294967295", "keep all 0 4294967295 -"),
+    ("keep 30 +010 007", "keep all 30 10 7"),
+    ("keep 30 +4294967296", ""),
+    ("keep 30 +", ""),
+    ("keep +", ""),
+    ("keep 30 + 10", ""),
+    ("keep 30 ++10", ""),
+    ("keep 30 +10s", ""),
+    ("keep 30 +-10", ""),
+    ("keep 30 10+", ""),
+    ("keep 30+10", ""),
+    ("keep +10 +10", ""),
+    ("keep +10 30 7", ""),
+    ("keep 30 7 +10", ""),
+    ("keep 30 +10 7 8", ""),
+    ("keep 30 +10 ", ""),
+    ("keep +10 left", ""),
+    ("keep +10 18446744073709551616", ""),
     ("keep abcdefghijklmnopqrstuvwxyzabcdefg 1", ""),
     ("keep left 4294967296", ""),
     ("keep 60 18446744073709551616", ""),
@@ -29,10 +53,22 @@ const ROWS: [(&str, &str); 58] = [
     ("keep 60 ", ""),
     ("keep le.ft", ""),
     ("keep left 60 7 8", ""),
-    ("release left 3", "release left 3"),
+    ("release left 3", "release left 3 -"),
+    ("release left 3 4", "release left 3 4"),
+    (
+        "release left 63 18446744073709551615",
+        "release left 63 18446744073709551615",
+    ),
+    ("release left 3 4 5", ""),
+    ("release left 3 ", ""),
+    ("release left 3 x", ""),
+    ("cancel left 3", "cancel left 3"),
+    ("cancel left", ""),
+    ("cancel", ""),
+    ("cancel 3", ""),
+    ("cancel left 3 4", ""),
     ("release 3", ""),
     ("release left", ""),
-    ("release left 3 4", ""),
     ("list", "list"),
     ("list left", ""),
     ("status", "status"),
@@ -64,9 +100,10 @@ const ROWS: [(&str, &str); 58] = [
         "keep from from 1970-01-02T01:00:00+01:00 to 1970-01-01T23:00:00-01:00",
         "between from 86400000000 86400000000 -",
     ),
-    ("keep from 5", "keep from 5 -"),
-    ("keep from", "keep from - -"),
-    ("keep from 5 7", "keep from 5 7"),
+    ("keep from 5", "keep from 5 - -"),
+    ("keep from", "keep from - - -"),
+    ("keep from 5 7", "keep from 5 - 7"),
+    ("keep from 5 +7", "keep from 5 7 -"),
     (
         "keep from 1970-01-01T00:00:00+01:00 to 1970-01-01T00:00:01Z",
         "",
@@ -111,9 +148,10 @@ fn written(alloc: Global, line: &str) -> Result<String, AllocError> {
             Order::Keep {
                 camera,
                 seconds,
+                after,
                 tag,
             },
-        ) => keep_written(alloc, camera, seconds, tag),
+        ) => keep_written(alloc, camera, (seconds, after, tag)),
         Some(
             Order::KeepBetween {
                 camera,
@@ -122,7 +160,11 @@ fn written(alloc: Global, line: &str) -> Result<String, AllocError> {
                 tag,
             },
         ) => between_written(alloc, camera, (since, until), tag),
-        Some(Order::Release { camera, id }) => format!(in alloc; "release {} {id}", camera.text()),
+        Some(Order::Release { camera, id, first }) => {
+            let first = number_written(alloc, first)?;
+            format!(in alloc; "release {} {id} {first}", camera.text())
+        }
+        Some(Order::Cancel { camera, id }) => format!(in alloc; "cancel {} {id}", camera.text()),
         Some(Order::List) => String::from_str(alloc, "list"),
         Some(
             Order::Save {
@@ -145,18 +187,24 @@ fn written(alloc: Global, line: &str) -> Result<String, AllocError> {
 fn keep_written(
     alloc: Global,
     camera: Option<Name<'_>>,
-    seconds: Option<u32>,
-    tag: Option<u64>,
+    times: (Option<u32>, Option<u32>, Option<u64>),
 ) -> Result<String, AllocError> {
     let name = match &camera {
         Some(name) => name.text(),
         None => "all",
     };
-    match (seconds, tag) {
-        (None, None) => format!(in alloc; "keep {name} - -"),
-        (None, Some(tag)) => format!(in alloc; "keep {name} - {tag}"),
-        (Some(seconds), None) => format!(in alloc; "keep {name} {seconds} -"),
-        (Some(seconds), Some(tag)) => format!(in alloc; "keep {name} {seconds} {tag}"),
+    let (seconds, after, tag) = times;
+    let seconds = number_written(alloc, seconds.map(u64::from))?;
+    let after = number_written(alloc, after.map(u64::from))?;
+    let tag = number_written(alloc, tag)?;
+    format!(in alloc; "keep {name} {seconds} {after} {tag}")
+}
+
+// A number, or `-` where there is none.
+fn number_written(alloc: Global, number: Option<u64>) -> Result<String, AllocError> {
+    match number {
+        None => String::from_str(alloc, "-"),
+        Some(number) => format!(in alloc; "{number}"),
     }
 }
 
@@ -172,10 +220,8 @@ fn between_written(
         None => "all",
     };
     let (since, until) = times;
-    match tag {
-        None => format!(in alloc; "between {name} {since} {until} -"),
-        Some(tag) => format!(in alloc; "between {name} {since} {until} {tag}"),
-    }
+    let tag = number_written(alloc, tag)?;
+    format!(in alloc; "between {name} {since} {until} {tag}")
 }
 
 // A line, its label, and the rest of it; nothing where it has no label.

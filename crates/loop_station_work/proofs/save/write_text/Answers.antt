@@ -6,7 +6,7 @@ pub frames-init : goal.frames-init
 frames-init g c = record {
   frames = [];
   written =
-      begun c.args.save.now.geometry (g.W.Write.contents c.args.out.now) (g.W.Write.contents c.write_header.new.out)
+      begun c.args.geometry.now (g.W.Write.contents c.args.out.now) (g.W.Write.contents c.write_header.new.out)
       c.in-Ok.ensures;
   counted = refl;
 }
@@ -16,7 +16,7 @@ frames-preserved g c =
     let one = c.in_ok-write_one.ensures in record {
       frames = c.frames.invariant.frames ++ one.0 ∷ [];
       written =
-          more c.args.save.now.geometry (g.W.Write.contents c.args.out.now) (g.W.Write.contents c.frames.out)
+          more c.args.geometry.now (g.W.Write.contents c.args.out.now) (g.W.Write.contents c.frames.out)
           (g.W.Write.contents c.write_one.new.out) c.frames.invariant.frames one.0 c.frames.invariant.written one.1;
       counted = counted c.frames.invariant.frames one.0 c.frames.at c.frames.invariant.counted;
     }

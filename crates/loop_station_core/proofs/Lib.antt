@@ -1,0 +1,5 @@
+pub mod FrameLaws
+pub mod GapLaws
+pub mod KeepLaws
+pub mod LineLaws
+pub mod SaveLaws

@@ -1,0 +1,131 @@
+-- Lines say what is so, once.
+use Rattle.std.proofs.Common.{◌≡◌, ℕ, ◌+◌, ◌-◌, ◌≤◌, ◌==◌, ◌||◌, ◌&&◌, Bool, true, false, List, [], ◌∷◌, Option, Some, None, IfSome, arith, refl, nat_lt, if◌then◌else◌}
+use Rattle.std.proofs.lemmas.Grind.{common_steps}
+use Rattle.loop_station_core.specs.Laws.{Alternate, EndsWith, IsSo, frames_in, locked_lines, told_in}
+use Rattle.loop_station_core.specs.Telling.{is_missing, known_after, lines_of, same_source, source_line, told_behind, told_locked, told_lost, told_nearly, told_source, told_store, told_waited}
+use Rattle.loop_station_core.specs.declared.changes.SourceSeen.{SourceSeen}
+use Rattle.loop_station_core.specs.declared.changes.SourceSeen.TheVariants.{Missing, Silent, Other, Unusable, On}
+use Rattle.loop_station_core.specs.declared.changes.StoreSeen.{StoreSeen}
+use Rattle.loop_station_core.specs.declared.changes.StoreSeen.TheVariants.{Unknown, Open, Absent, Stopped}
+use Rattle.loop_station_core.specs.declared.changes.Change.{Change}
+use Rattle.loop_station_core.specs.declared.changes.Change.TheVariants.{StoreAbsent}
+use Rattle.loop_station_core.specs.declared.changes.LostTold.{LostTold}
+use Rattle.loop_station_core.specs.declared.changes.WaitTold.{WaitTold}
+use Rattle.loop_station_core.specs.declared.changes.Seen.{Seen}
+use Rattle.loop_station_core.specs.declared.changes.Reported.{Reported}
+
+-- a line that may be left out
+or-none : {A : Type 0} (b : Bool) (x y : A) (s : Seen) (line : Option Change) → (b ≡ false → IfSome line (IsSo s))
+    → IfSome (if b then (let p : A × Option Change = (x, None) in p) else (y, line)).1 (IsSo s)
+or-none true x y s line h = tt
+or-none false x y s line h = h refl
+
+-- a line that comes where something holds
+if-so : {A : Type 0} (b : Bool) (x y : A) (s : Seen) (line : Change) → (b ≡ true → IsSo s line)
+    → IfSome (if b then (let p : A × Option Change = (x, Some line) in p) else (y, None)).1 (IsSo s)
+if-so true x y s line h = h refl
+if-so false x y s line h = tt
+
+source-line-so : (s : Seen) (x : SourceSeen) → s.source ≡ x → IfSome (source_line x) (IsSo s)
+source-line-so s Missing e = e
+source-line-so s Silent e = e
+source-line-so s Other e = tt
+source-line-so s Unusable e = tt
+source-line-so s On e = e
+
+source-so : (s : Seen) (known : Option SourceSeen) (early : Bool) → IfSome (told_source known s.source early).1 (IsSo s)
+source-so s None early = or-none (is_missing s.source && early) None (Some s.source) s (source_line s.source) (λ h. source-line-so s s.source refl)
+source-so s (Some known) early = or-none (same_source known s.source) (Some known) (Some s.source) s (source_line s.source) (λ h. source-line-so s s.source refl)
+
+store-at : (s : Seen) (x known : StoreSeen) (early : Bool) → s.store ≡ x → IfSome (told_store known x early).1 (IsSo s)
+store-at s Unknown Unknown early e = tt
+store-at s Unknown Open early e = tt
+store-at s Unknown (Absent why) early e = tt
+store-at s Unknown Stopped early e = tt
+store-at s Stopped Unknown early e = tt
+store-at s Stopped Open early e = tt
+store-at s Stopped (Absent why) early e = tt
+store-at s Stopped Stopped early e = tt
+store-at s Open Unknown early e = e
+store-at s Open Open early e = tt
+store-at s Open (Absent why) early e = e
+store-at s Open Stopped early e = e
+store-at s (Absent cause) Unknown early e = or-none ((cause == 0) && early) Unknown (Absent cause) s (Some (StoreAbsent cause)) (λ h. e)
+store-at s (Absent cause) Open early e = or-none ((cause == 0) && early) Open (Absent cause) s (Some (StoreAbsent cause)) (λ h. e)
+store-at s (Absent cause) (Absent why) early e =
+    or-none ((why == cause) || ((cause == 0) && early)) (Absent why) (Absent cause) s (Some (StoreAbsent cause)) (λ h. e)
+store-at s (Absent cause) Stopped early e = or-none ((cause == 0) && early) Stopped (Absent cause) s (Some (StoreAbsent cause)) (λ h. e)
+
+lost-so : (s : Seen) (known : LostTold) → IfSome (told_lost known s.lost s.now s.stopping).1 (IsSo s)
+lost-so s known = grind (arith, common_steps)
+
+locked-so : (s : Seen) (known b : Bool) → s.locked ≡ b → IfSome (told_locked known b) (IsSo s)
+locked-so s false false e = tt
+locked-so s false true e = e
+locked-so s true false e = e
+locked-so s true true e = tt
+
+nearly-so : (s : Seen) (known : Bool) → IfSome (told_nearly known s.room s.blocks).1 (IsSo s)
+nearly-so s known = grind (arith, common_steps)
+
+behind-so : (s : Seen) (known : ℕ) → IfSome (told_behind known s.behind).1 (IsSo s)
+behind-so s known = grind (arith, common_steps)
+
+waited-so : (s : Seen) (known : WaitTold) (waited : Option ℕ) → IfSome (told_waited known waited s.now s.stopping).1 (IsSo s)
+waited-so s known (Some since) = grind (arith, common_steps)
+waited-so s known None = grind (arith, common_steps)
+
+pub lines-so : (r : Reported) (s : Seen) → let lines = lines_of r s in
+    IfSome lines.source (IsSo s) × IfSome lines.store (IsSo s) × IfSome lines.given_up (IsSo s)
+    × IfSome lines.locked (IsSo s) × IfSome lines.nearly (IsSo s) × IfSome lines.behind (IsSo s)
+    × IfSome lines.waited (IsSo s)
+lines-so r s = (
+  source-so s r.source (nat_lt s.now r.soon),
+  store-at s s.store r.store (nat_lt s.now r.soon) refl,
+  lost-so s r.lost,
+  locked-so s r.locked s.locked refl,
+  nearly-so s r.nearly,
+  behind-so s r.behind,
+  waited-so s r.waited s.waited,
+)
+
+-- a look tells what it then knows
+told-here : (r : Reported) (s : Seen) → r.lost.frames ≤ s.lost
+    → r.lost.frames + frames_in (lines_of r s).given_up ≡ (known_after r s).lost.frames
+told-here r s h = grind (arith, common_steps)
+
+-- and all that are lost at the end
+all-told : (r : Reported) (s : Seen) → r.lost.frames ≤ s.lost → s.stopping ≡ true → (known_after r s).lost.frames ≡ s.lost
+all-told r s h e = grind (arith, common_steps)
+
+-- no more than are lost
+not-more : (r : Reported) (s : Seen) → r.lost.frames ≤ s.lost → (known_after r s).lost.frames ≤ s.lost
+not-more r s h = grind (arith, common_steps)
+
+-- what ends so after more frames are lost does after fewer
+ends-lower : (a b : ℕ) (s : Seen) (ss : List Seen) (last : ℕ) → b ≤ a → EndsWith a (s ∷ ss) last → EndsWith b (s ∷ ss) last
+ends-lower a b s [] last h e = let lost : a ≤ s.lost = e.0 in (omega arith, e.1)
+ends-lower a b s (t ∷ ss) last h e = let lost : a ≤ s.lost = e.0 in (omega arith, e.1)
+
+pub lost-told-once : (r : Reported) (seen : List Seen) (last : ℕ) → EndsWith r.lost.frames seen last
+    → r.lost.frames + told_in r seen ≡ last
+lost-told-once r [] last h = let e : last ≡ r.lost.frames = h in omega arith
+lost-told-once r (s ∷ []) last h =
+    let lost : r.lost.frames ≤ s.lost = h.0 in
+    let here = told-here r s lost in
+    let all = all-told r s lost h.1.0 in
+    let e : last ≡ s.lost = h.1.1 in
+    omega arith
+lost-told-once r (s ∷ t ∷ ss) last h =
+    let lost : r.lost.frames ≤ s.lost = h.0 in
+    let here = told-here r s lost in
+    let rest = lost-told-once (known_after r s) (t ∷ ss) last
+    (ends-lower s.lost (known_after r s).lost.frames t ss last (not-more r s lost) h.1) in
+    omega arith
+
+pub lines-alternate : (known : Bool) (locked : List Bool) → Alternate known (locked_lines known locked)
+lines-alternate known [] = tt
+lines-alternate false (false ∷ bs) = lines-alternate false bs
+lines-alternate false (true ∷ bs) = lines-alternate true bs
+lines-alternate true (true ∷ bs) = lines-alternate true bs
+lines-alternate true (false ∷ bs) = lines-alternate false bs

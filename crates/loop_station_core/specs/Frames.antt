@@ -1,0 +1,59 @@
+-- Where a camera's frames are.
+use Rattle.std.specs.Prelude.{ℕ, ◌+◌, ◌-◌, ◌^◌, List, [], ◌∷◌, min, nat_lt, if◌then◌else◌}
+use Rattle.loop_station_core.specs.declared.tally.Tally.{Tally}
+
+-- how many of the frames that have come are on their way to the desk, wait at the desk, are stored, and are lost
+pub record Frames : Type 0 where
+  pub coming : ℕ
+  pub waiting : ℕ
+  pub stored : ℕ
+  pub lost : ℕ
+
+-- as a tally says
+abbrev pub frames : Tally → Frames
+frames t = record { coming = t.come - t.brought; waiting = t.submitted - t.left; stored = t.left; lost = t.lost }
+
+-- how many have come in all
+abbrev pub all_of : Frames → ℕ
+all_of f = f.coming + f.waiting + f.stored + f.lost
+
+-- how many are no longer on their way
+abbrev pub brought_of : Frames → ℕ
+brought_of f = f.waiting + f.stored + f.lost
+
+-- What happens to frames: one comes, the first that is on its way comes to the desk or is given up, so many at the desk
+-- are stored, or the desk is given up when so many had been taken for it.
+pub data Step : Type 0 where
+  comes : Step
+  brings : Step
+  gives_up : Step
+  stores : ℕ → Step
+  loses : ℕ → Step
+
+-- where frames are after that; no more come than a u64 counts
+abbrev pub moved : Frames → Step → Frames
+moved f comes = if nat_lt (all_of f) (2 ^ 64 - 1) then record f { coming = f.coming + 1 } else f
+moved f brings = record f { coming = f.coming - 1; waiting = f.waiting + min 1 f.coming }
+moved f gives_up = record f { coming = f.coming - 1; lost = f.lost + min 1 f.coming }
+moved f (stores n) = record f { waiting = f.waiting - n; stored = f.stored + min n f.waiting }
+moved f (loses taken) =
+    let gone = min f.coming (taken - brought_of f) in
+    record f { coming = f.coming - gone; waiting = 0; lost = f.lost + f.waiting + gone }
+
+-- no frame has come
+abbrev pub no_frames : Frames
+no_frames = record { coming = 0; waiting = 0; stored = 0; lost = 0 }
+
+-- where frames are after a list of steps
+abbrev pub after : Frames → List Step → Frames
+after f [] = f
+after f (s ∷ ss) = after (moved f s) ss
+
+-- how many come in a step, and in a list of them
+abbrev pub come_by : Step → ℕ
+come_by comes = 1
+come_by _ = 0
+
+abbrev pub come_in : List Step → ℕ
+come_in [] = 0
+come_in (s ∷ ss) = come_by s + come_in ss

@@ -1,0 +1,31 @@
+-- What of a time is held, and where one clip lies within others.
+use Rattle.std.specs.Prelude.{ℕ, ◌+◌, ◌-◌, ◌/◌, ◌≤◌, ◌&&◌, Bool, List, [], ◌∷◌, filter, sum_by, nat_lt, nat_le}
+use Rattle.loop_station_core.specs.declared.runs.Run.{Run}
+use Rattle.loop_station_core.specs.declared.runs.Gap.{Gap}
+use Rattle.loop_station_core.specs.declared.runs.ClipSpan.{ClipSpan}
+
+-- what lies between the runs of a time that begins at `since` and ends at `until`, long or not
+abbrev pub between : ℕ → List Run → ℕ → List Gap
+between since [] until = record { micros = until - since; at = since } ∷ []
+between since (r ∷ rs) until = record { micros = r.first - since; at = since } ∷ between r.last rs until
+
+-- it is longer than one and a half of these periods
+abbrev pub is_long : ℕ → Gap → Bool
+is_long period g = nat_lt (period + period / 2) g.micros
+
+-- the gaps of a time: what is long of what lies between its runs
+abbrev pub gaps : ℕ → ℕ → List Run → ℕ → List Gap
+gaps period since runs until = filter (is_long period) (between since runs until)
+
+-- how long gaps are together
+abbrev pub missing : List Gap → ℕ
+missing gs = sum_by (λ g. g.micros) gs
+
+-- the runs lie one after the other within the time
+abbrev pub AreWithin : ℕ → List Run → ℕ → Type 0
+AreWithin since [] until = since ≤ until
+AreWithin since (r ∷ rs) until = (since ≤ r.first) × (r.first ≤ r.last) × AreWithin r.last rs until
+
+-- a clip lies wholly within another
+abbrev pub is_within : ClipSpan → ClipSpan → Bool
+is_within old new = nat_le new.from old.from && nat_le old.to new.to

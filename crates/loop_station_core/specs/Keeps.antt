@@ -1,0 +1,89 @@
+-- When a keep of a camera locks, and what.
+use Rattle.std.specs.Prelude.{ℕ, ◌+◌, ◌-◌, ◌%◌, ◌^◌, ◌≡◌, ◌≤◌, ◌<◌, ◌⊎◌, ◌==◌, ◌&&◌, ◌||◌, Bool, true, not, List, [], ◌∷◌, Some, is_some, unwrap_or, min, max, nat_lt, nat_le, if◌then◌else◌}
+use Rattle.loop_station_core.specs.declared.tally.Tally.{Tally}
+use Rattle.loop_station_core.specs.declared.keep.Keep.{Keep}
+use Rattle.loop_station_core.specs.declared.keep.Look.{Look}
+use Rattle.loop_station_core.specs.declared.keep.KeepTurn.{KeepTurn}
+use Rattle.loop_station_core.specs.declared.keep.KeepTurn.TheVariants.{Wait, Part, Whole}
+
+-- how many steps frames have taken, as a u64 counts them
+abbrev pub steps_of : Tally → ℕ
+steps_of t = (t.brought + t.left) % 2 ^ 64
+
+-- a keep that has seen whether a frame made progress
+abbrev pub moved : Keep → ℕ → ℕ → Keep
+moved k steps now = if steps == k.steps then k else record k { steps = steps; moved = now }
+
+-- a keep that has seen whether its end has passed, and how many frames had come by then
+abbrev pub ended : Keep → ℕ → ℕ → Keep
+ended k now come = if nat_le k.until now && not (is_some k.all) then record k { all = Some (max come k.come) } else k
+
+-- a keep that has looked
+abbrev pub looked : Keep → Look → Keep
+looked k l = ended (moved k (steps_of l.tally) l.time) l.time l.come
+
+-- So many frames are at the desk or lost; or nothing helps: every block is locked, or no frame has made progress for a
+-- minute.
+abbrev pub is_free : ℕ → Keep → Look → Bool
+is_free needs k l = nat_le needs l.tally.brought || (l.locked || nat_lt 60000000 (l.time - k.moved))
+
+-- its end has passed, or nothing further comes
+abbrev pub is_over : Keep → Look → Bool
+is_over k l = is_some k.all || l.stopping
+
+-- how many frames have to be at the desk before it is done
+abbrev pub needed : Keep → Look → ℕ
+needed k l = unwrap_or k.all (max l.come k.come)
+
+-- it has locked all of the newest block that there is
+abbrev pub has_newest : Keep → Look → Bool
+has_newest k l = is_some k.part && (k.block == l.block)
+
+-- it is done
+abbrev pub is_done : Keep → Look → Bool
+is_done k l = is_over k l && is_free (needed k l) k l
+
+-- it locks what is there
+abbrev pub is_due : Keep → Look → Bool
+is_due k l = is_free k.come k l && not (has_newest k l)
+
+-- the keep once it has locked what is there, and up to when
+abbrev pub part_locked : Keep → Look → Keep × KeepTurn
+part_locked k l = (record k { block = l.block; part = Some (min l.time k.until) }, Part (min l.time k.until))
+
+-- what a keep that has looked does
+abbrev pub acts : Keep → Look → Keep × KeepTurn
+acts k l = if is_done k l then (k, Whole) else (if is_due k l then part_locked k l else (k, Wait))
+
+-- what a keep does
+abbrev pub step : Keep → Look → Keep × KeepTurn
+step k l = acts (looked k l) l
+
+-- this holds of each of some looks, of the keep after it and of what it does then
+abbrev pub EachTurn : (Look → Keep → KeepTurn → Type 0) → Keep → List Look → Type 0
+EachTurn P k [] = Unit {0}
+EachTurn P k (l ∷ ls) = P l (step k l).0 (step k l).1 × EachTurn P (step k l).0 ls
+
+-- the looks come one after the other, none before a time
+abbrev pub AreInOrder : ℕ → List Look → Type 0
+AreInOrder now [] = Unit {0}
+AreInOrder now (l ∷ ls) = (now ≤ l.time) × AreInOrder l.time ls
+
+-- So many frames are at the desk or lost, or every block is locked, or no frame was seen to make progress for a minute.
+abbrev pub IsFree : ℕ → Keep → Look → Type 0
+IsFree needs k l = (needs ≤ l.tally.brought) ⊎ ((l.locked ≡ true) ⊎ (60000000 < l.time - k.moved))
+
+-- Of this keep's time, it locks only what there is, and only once each frame that had come before its line is at the desk
+-- or lost (or nothing moves); it is done only once its end has passed, or nothing further comes.
+abbrev pub IsRight : Keep → Look → Keep → KeepTurn → Type 0
+IsRight k l k' Wait = Unit {0}
+IsRight k l k' (Part until) = (until ≡ min l.time k.until) × IsFree k.come k' l
+IsRight k l k' Whole = ((k.until ≤ l.time) ⊎ (l.stopping ≡ true)) × IsFree k.come k' l
+
+-- its event, its times and its tag are those of its line
+abbrev pub HasTimesOf : Keep → Keep → Type 0
+HasTimesOf k k' = (k'.event ≡ k.event) × (k'.since ≡ k.since) × (k'.until ≡ k.until) × (k'.tag ≡ k.tag) × (k'.come ≡ k.come)
+
+-- once it is known how many frames had come by its end, that end has passed, and those before its line are among them
+abbrev pub IsSound : ℕ → Keep → Type 0
+IsSound now k = (n : ℕ) → k.all ≡ Some n → (k.until ≤ now) × (k.come ≤ n)

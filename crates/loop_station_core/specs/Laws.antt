@@ -1,0 +1,101 @@
+-- What holds over any list of events.
+use Rattle.std.specs.Prelude.{ℕ, ◌+◌, ◌-◌, ◌*◌, ◌^◌, ◌≡◌, ◌≤◌, ◌<◌, Bool, true, false, List, [], ◌∷◌, Option, Some, None, IfSome}
+use Rattle.loop_station_core.specs.Frames.{Step, after, all_of, come_in, no_frames}
+use Rattle.loop_station_core.specs.Gaps.{AreWithin, gaps, missing}
+use Rattle.loop_station_core.specs.Keeps.{AreInOrder, EachTurn, HasTimesOf, IsRight, IsSound}
+use Rattle.loop_station_core.specs.Saving.{Places, is_read, left_by, wanted}
+use Rattle.loop_station_core.specs.Telling.{known_after, lines_of, told_locked}
+use Rattle.loop_station_core.specs.declared.keep.Keep.{Keep}
+use Rattle.loop_station_core.specs.declared.keep.Look.{Look}
+use Rattle.loop_station_core.specs.declared.runs.Run.{Run}
+use Rattle.loop_station_core.specs.declared.saves.Save.{Save}
+use Rattle.loop_station_core.specs.declared.changes.SourceSeen.TheVariants.{Missing, Silent, On}
+use Rattle.loop_station_core.specs.declared.changes.StoreSeen.TheVariants.{Open, Absent}
+use Rattle.loop_station_core.specs.declared.changes.Seen.{Seen}
+use Rattle.loop_station_core.specs.declared.changes.Change.{Change}
+use Rattle.loop_station_core.specs.declared.changes.Change.TheVariants.{SourceOn, SourceMissing, SourceSilent, StoreOpen, StoreAbsent, GivenUp, AllLocked, RoomAgain, NearlyAllLocked, Behind, CaughtUp, Waited}
+use Rattle.loop_station_core.specs.declared.changes.Reported.{Reported}
+
+-- Each frame that came is stored, lost, at the desk, or on its way to it.
+abbrev pub FramesAddUp : Type 0
+FramesAddUp = (steps : List Step) → come_in steps < 2 ^ 64 → all_of (after no_frames steps) ≡ come_in steps
+
+-- At each look a keep does what is right by its line, and keeps its times.
+abbrev pub KeepsAreRight : Type 0
+KeepsAreRight = (k : Keep) (now : ℕ) (looks : List Look) → IsSound now k → AreInOrder now looks
+    → EachTurn (λ look after turn. IsRight k look after turn × HasTimesOf k after) k looks
+
+-- What is held of a time and its gaps are all of it.
+abbrev pub GapsAddUp : Type 0
+GapsAddUp = (period since until : ℕ) (runs : List Run) → AreWithin since runs until
+    → until - since - missing (gaps period since runs until) + missing (gaps period since runs until) ≡ until - since
+
+-- A clip is released by the end of a save only where no other save reads it.
+abbrev pub ReleasesAreFree : Type 0
+ReleasesAreFree = (p : Places) (s : Save) → (left_by p s).1 ≡ true → is_read p s.key.camera s.key.id ≡ false
+
+-- A clip that is read isn't released when that is wanted.
+abbrev pub ReadClipsWait : Type 0
+ReadClipsWait = (p : Places) (camera id : ℕ) → (wanted p camera id).1 ≡ is_read p camera id
+
+-- what a line says was so when it was seen
+abbrev pub IsSo : Seen → Change → Type 0
+IsSo s SourceOn = s.source ≡ On
+IsSo s SourceMissing = s.source ≡ Missing
+IsSo s SourceSilent = s.source ≡ Silent
+IsSo s StoreOpen = s.store ≡ Open
+IsSo s (StoreAbsent cause) = s.store ≡ Absent cause
+IsSo s (GivenUp frames since) = frames ≤ s.lost
+IsSo s AllLocked = s.locked ≡ true
+IsSo s RoomAgain = s.locked ≡ false
+IsSo s NearlyAllLocked = s.room * 5 ≤ s.blocks
+IsSo s (Behind micros) = micros ≡ s.behind
+IsSo s CaughtUp = s.behind < 500000
+IsSo s (Waited micros since) = 100000 ≤ micros
+
+-- Each line says what was so when it was seen.
+abbrev pub LinesAreSo : Type 0
+LinesAreSo = (r : Reported) (s : Seen) → let lines = lines_of r s in
+    IfSome lines.source (IsSo s) × IfSome lines.store (IsSo s) × IfSome lines.given_up (IsSo s)
+    × IfSome lines.locked (IsSo s) × IfSome lines.nearly (IsSo s) × IfSome lines.behind (IsSo s)
+    × IfSome lines.waited (IsSo s)
+
+-- how many frames a line says are lost
+abbrev pub frames_in : Option Change → ℕ
+frames_in (Some (GivenUp frames since)) = frames
+frames_in _ = 0
+
+-- how many the lines of some looks say are lost
+abbrev pub told_in : Reported → List Seen → ℕ
+told_in r [] = 0
+told_in r (s ∷ ss) = frames_in (lines_of r s).given_up + told_in (known_after r s) ss
+
+-- frames stay lost, and at the last look the program ends
+abbrev pub EndsWith : ℕ → List Seen → ℕ → Type 0
+EndsWith lost [] last = last ≡ lost
+EndsWith lost (s ∷ []) last = (lost ≤ s.lost) × ((s.stopping ≡ true) × (last ≡ s.lost))
+EndsWith lost (s ∷ ss) last = (lost ≤ s.lost) × EndsWith s.lost ss last
+
+-- Each lost frame is told once: by the end all are, and none twice.
+abbrev pub LostAreToldOnce : Type 0
+LostAreToldOnce = (r : Reported) (seen : List Seen) (last : ℕ) → EndsWith r.lost.frames seen last
+    → r.lost.frames + told_in r seen ≡ last
+
+-- the lines about locked blocks, of some looks
+abbrev pub locked_lines : Bool → List Bool → List Change
+locked_lines known [] = []
+locked_lines known (b ∷ bs) = elim (told_locked known b) [
+  | None ↦ locked_lines b bs
+  | Some line ↦ line ∷ locked_lines b bs
+]
+
+-- they alternate, and begin with blocks that are all locked, or where they were with room again
+abbrev pub Alternate : Bool → List Change → Type 0
+Alternate locked [] = Unit {0}
+Alternate false (AllLocked ∷ lines) = Alternate true lines
+Alternate true (RoomAgain ∷ lines) = Alternate false lines
+Alternate _ _ = ⊥
+
+-- After 'all locked' comes 'room again', and the other way round.
+abbrev pub LockedLinesAlternate : Type 0
+LockedLinesAlternate = (known : Bool) (locked : List Bool) → Alternate known (locked_lines known locked)

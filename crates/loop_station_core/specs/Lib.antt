@@ -1,0 +1,6 @@
+pub mod Frames
+pub mod Gaps
+pub mod Keeps
+pub mod Laws
+pub mod Saving
+pub mod Telling

@@ -1,0 +1,149 @@
+-- Which saves run, which wait, and what follows from what happens to them.
+use Rattle.std.specs.Prelude.{ℕ, ◌==◌, ◌&&◌, ◌||◌, ◌++◌, Bool, true, false, not, List, [], ◌∷◌, Option, Some, None, is_some, remove, slice_get, slice_set, if◌then◌else◌}
+use Rattle.std.specs.List.{position}
+use Rattle.loop_station_core.specs.declared.saves.SaveKey.{SaveKey}
+use Rattle.loop_station_core.specs.declared.saves.Save.{Save}
+use Rattle.loop_station_core.specs.declared.saves.Saves.{Saves}
+use Rattle.loop_station_core.specs.declared.saves.Asked.{Asked}
+use Rattle.loop_station_core.specs.declared.saves.Asked.TheVariants.{Begins, Waits, TooMany, Stopped}
+use Rattle.loop_station_core.specs.declared.saves.Cancelled.{Cancelled}
+use Rattle.loop_station_core.specs.declared.saves.Cancelled.TheVariants.{Running, Waiting, No}
+use Rattle.loop_station_core.specs.declared.saves.Ended.{Ended}
+use Rattle.loop_station_core.specs.declared.saves.StoppedSave.{StoppedSave}
+
+-- the saves that run, each in its place, and those that wait, in their order
+pub record Places : Type 0 where
+  pub running : List (Option Save)
+  pub waiting : List Save
+  pub stopped : Bool
+
+-- as the code has them
+abbrev pub shown : Saves → Places
+shown s = record { running = s.running.items; waiting = s.waiting.items; stopped = s.stopped }
+
+-- a save that has just been asked for
+abbrev pub new_save : SaveKey → Save
+new_save key = record { key = key; release = false; cancelled = false }
+
+-- it reads the clip of an id
+abbrev pub reads : ℕ → ℕ → Save → Bool
+reads camera id s = (s.key.camera == camera) && (s.key.id == id)
+
+-- it does, and counts: it isn't to end already, or that doesn't matter
+abbrev pub picks : ℕ → ℕ → Bool → Save → Bool
+picks camera id any s = reads camera id s && (any || not s.cancelled)
+
+-- such a save runs in a place
+abbrev pub holds : (Save → Bool) → Option Save → Bool
+holds p None = false
+holds p (Some s) = p s
+
+-- an element of a list is changed, if it is there
+abbrev pub update : {X : Type 0} → (X → X) → ℕ → List X → List X
+update f i xs = elim (slice_get xs i) [ None ↦ xs | Some x ↦ slice_set xs i (f x) ]
+
+-- what a place holds is changed, if it holds a save
+abbrev pub in_place : (Save → Save) → Option Save → Option Save
+in_place f None = None
+in_place f (Some s) = Some (f s)
+
+-- the place in which a save of a clip runs, and where one waits
+abbrev pub place_of : Places → ℕ → ℕ → Bool → Option ℕ
+place_of p camera id any = position (holds (picks camera id any)) p.running
+
+abbrev pub turn_of : Places → ℕ → ℕ → Option ℕ
+turn_of p camera id = position (reads camera id) p.waiting
+
+-- a save that runs or waits reads a clip
+abbrev pub is_read : Places → ℕ → ℕ → Bool
+is_read p camera id = is_some (place_of p camera id true) || is_some (turn_of p camera id)
+
+-- it releases its clip at its end, if no other save reads it then
+abbrev pub with_release : Save → Save
+with_release s = record s { release = true }
+
+-- A clip is to be released once no save reads it: the first save that reads it bears that. Whether there is one.
+abbrev pub wanted : Places → ℕ → ℕ → Places × Bool
+wanted p camera id = elim (place_of p camera id true) [
+  | Some place ↦ (record p { running = update (in_place with_release) place p.running }, true)
+  | None ↦ elim (turn_of p camera id) [
+    | Some at ↦ (record p { waiting = update with_release at p.waiting }, true)
+    | None ↦ (p, false)
+  ]
+]
+
+-- what a save that is gone leaves to the others that read its clip; whether the clip is released now
+abbrev pub left_by : Places → Save → Places × Bool
+left_by p s = if s.release
+    then (let w = wanted p s.key.camera s.key.id in (w.0, not w.1))
+    else (p, false)
+
+-- the first save that waits begins in a free place
+abbrev pub begun : Places → ℕ → Places × Option SaveKey
+begun p place = if p.stopped then (p, None) else elim p.waiting [
+  | [] ↦ (p, None)
+  | s ∷ ss ↦ (record p { running = slice_set p.running place (Some s); waiting = ss }, Some s.key)
+]
+
+-- a save is asked for
+abbrev pub asked : Places → SaveKey → Bool → Places × Asked
+asked p key automatic = if p.stopped then (p, Stopped) else elim (position (λ o. not (is_some o)) p.running) [
+  | Some place ↦ (record p { running = slice_set p.running place (Some (new_save key)) }, Begins place)
+  | None ↦ if automatic then (record p { waiting = p.waiting ++ new_save key ∷ [] }, Waits) else (p, TooMany)
+]
+
+-- nothing runs in a place any more
+abbrev pub freed : Places → ℕ → Places
+freed p place = record p { running = slice_set p.running place None }
+
+-- the save of a place has ended: what it leaves to the others, and the save that begins there
+abbrev pub after_end : Places → ℕ → Save → Places × Ended
+after_end p place s =
+    let rest = left_by (freed p place) s in
+    let next = begun rest.0 place in
+    (next.0, record { release = rest.1; begun = next.1 })
+
+-- what a place holds
+abbrev pub held_at : Places → ℕ → Option Save
+held_at p place = elim (slice_get p.running place) [ None ↦ None | Some o ↦ o ]
+
+-- the save of a place has ended, if there is one
+abbrev pub ended : Places → ℕ → Places × Ended
+ended p place = elim (held_at p place) [
+  | None ↦ (p, record { release = false; begun = None })
+  | Some s ↦ after_end p place s
+]
+
+-- it is to end before its text is whole
+abbrev pub with_cancel : Save → Save
+with_cancel s = record s { cancelled = true }
+
+-- a save of a clip that waits ends
+abbrev pub cancelled_at : Places → ℕ → Places × Cancelled
+cancelled_at p at = elim (slice_get p.waiting at) [
+  | None ↦ (p, No)
+  | Some s ↦ let rest = left_by (record p { waiting = remove p.waiting at }) s in (rest.0, Waiting rest.1)
+]
+
+-- a save of a clip is to end: one that runs, or else one that waits
+abbrev pub cancelled : Places → ℕ → ℕ → Places × Cancelled
+cancelled p camera id = elim (place_of p camera id false) [
+  | Some place ↦ (record p { running = update (in_place with_cancel) place p.running }, Running place)
+  | None ↦ elim (turn_of p camera id) [
+    | Some at ↦ cancelled_at p at
+    | None ↦ (p, No)
+  ]
+]
+
+-- the program ends: one save ends, those that run first
+abbrev pub stopped : Places → Places × Option StoppedSave
+stopped p = elim (position is_some p.running) [
+  | Some place ↦ elim (held_at p place) [
+    | None ↦ (record p { stopped = true }, None)
+    | Some s ↦ (record (freed p place) { stopped = true }, Some (record { key = s.key; place = Some place }))
+  ]
+  | None ↦ elim p.waiting [
+    | [] ↦ (record p { stopped = true }, None)
+    | s ∷ ss ↦ (record p { waiting = ss; stopped = true }, Some (record { key = s.key; place = None }))
+  ]
+]

@@ -1,0 +1,274 @@
+//! A keep of one camera: when it locks, and of which times.
+
+ghost use Rattle.std.specs.Prelude.{◌≡◌, ◌+◌, ◌-◌, ◌*◌, ◌^◌, ◌<◌, ◌↔◌, IsTrue, min, max, nat_le, if◌then◌else◌};
+ghost use Rattle.loop_station_core.specs.Keeps.{acts, ended, is_done, is_due, is_free, looked, moved, needed, part_locked, step, steps_of};
+
+use crate::Tally;
+
+// How many microseconds a keep waits at most while no frame makes progress.
+const STUCK: u64 = 60_000_000;
+
+// How many microseconds after its line a keep may end at most.
+const MOST_AFTER: u64 = 3_600_000_000;
+
+/// A keep of one camera that isn't done yet.
+#[derive(Clone, Copy)]
+pub struct Keep {
+    /// The number of its event.
+    pub event: u64,
+    /// The first microsecond since 1970 that is kept.
+    pub since: u64,
+    /// The last microsecond since 1970 that is kept. It may lie in the future.
+    pub until: u64,
+    /// The tag of its clips.
+    pub tag: u64,
+    // How many frames had come when its line was read, up to its end.
+    come: u64,
+    // How many frames had come up to its end, once that has passed.
+    all: Option<u64>,
+    // The count of frames' steps when a frame was last seen to make progress, and when that was.
+    steps: u64,
+    moved: u64,
+    // The newest block when it was last locked, and up to when.
+    block: u64,
+    part: Option<u64>,
+}
+
+// What is seen when a keep is looked at.
+#[derive(Clone, Copy)]
+struct Look {
+    tally: Tally,
+    time: u64,
+    come: u64,
+    block: u64,
+    locked: bool,
+    stopping: bool,
+}
+
+/// What a keep does now.
+#[derive(Clone, Copy)]
+pub enum KeepTurn {
+    /// It waits on.
+    Wait,
+    /// It locks what is held from its `since` to here, and goes on.
+    Part {
+        /// The last microsecond since 1970 that is locked now.
+        until: u64,
+    },
+    /// It locks what is held of its whole time, and is done.
+    Whole,
+}
+
+impl Keep {
+    /// A keep of an event, from `since` to `until`. Its line was read at the time `read`; `come` is how many frames had
+    /// come by then, and up to `until` where that was before.
+    pub fn new(
+        event: u64,
+        since: u64,
+        until: u64,
+        tag: u64,
+        read: u64,
+        come: u64,
+        tally: &Tally,
+    ) -> Keep
+        ensures { result ≡ record {
+          event = event;
+          since = since;
+          until = until;
+          tag = tag;
+          come = come;
+          all = (if nat_le until read then Some come else None);
+          steps = steps_of tally.now;
+          moved = read;
+          block = 0;
+          part = None;
+        } }
+    {
+        Keep {
+            event,
+            since,
+            until,
+            tag,
+            come,
+            all: if until <= read { Some(come) } else { None },
+            steps: tally.steps(),
+            moved: read,
+            block: 0,
+            part: None,
+        }
+    }
+
+    /// The time up to which it has locked what was held, if it has.
+    pub fn part(&self) -> Option<u64>
+        ensures { result ≡ self.now.part }
+    {
+        self.part
+    }
+
+    // A frame made progress, or not, since it was last looked at.
+    fn moved(self, steps: u64, now: u64) -> Keep
+        ensures { result ≡ moved self steps now }
+    {
+        if steps == self.steps {
+            return self;
+        }
+        Keep {
+            steps,
+            moved: now,
+            ..self
+        }
+    }
+
+    // How many frames had come up to its end is known from the first look after that on.
+    fn ended(self, now: u64, come: u64) -> Keep
+        ensures { result ≡ ended self now come }
+    {
+        if self.until <= now && self.all.is_none() {
+            return Keep {
+                all: Some(come.max(self.come)),
+                ..self
+            };
+        }
+        self
+    }
+
+    // It looks.
+    fn looked(self, look: &Look) -> Keep
+        ensures { result ≡ looked self look.now }
+    {
+        self.moved(look.tally.steps(), look.time)
+            .ended(look.time, look.come)
+    }
+
+    // Whether so many frames are at the desk or lost, or none makes progress.
+    fn is_free(&self, needs: u64, look: &Look) -> bool
+        ensures { result ≡ is_free needs self.now look.now }
+    {
+        look.tally.has_brought(needs) || look.locked || look.time.saturating_sub(self.moved) > STUCK
+    }
+
+    // How many frames have to be at the desk before it is done.
+    fn needed(&self, look: &Look) -> u64
+        ensures { result ≡ needed self.now look.now }
+    {
+        match self.all {
+            Some(all) => all,
+            None => look.come.max(self.come),
+        }
+    }
+
+    // Whether it is done.
+    fn is_done(&self, look: &Look) -> bool
+        ensures { result ≡ is_done self.now look.now }
+    {
+        (self.all.is_some() || look.stopping) && self.is_free(self.needed(look), look)
+    }
+
+    // Whether it locks what is there.
+    fn is_due(&self, look: &Look) -> bool
+        ensures { result ≡ is_due self.now look.now }
+    {
+        self.is_free(self.come, look) && !(self.part.is_some() && self.block == look.block)
+    }
+
+    // It locks what is there.
+    fn part_locked(self, look: &Look) -> (Keep, KeepTurn)
+        ensures { result ≡ part_locked self look.now }
+    {
+        let until = look.time.min(self.until);
+        let keep = Keep {
+            block: look.block,
+            part: Some(until),
+            ..self
+        };
+        (keep, KeepTurn::Part { until })
+    }
+
+    // What it does once it has looked.
+    fn acts(self, look: &Look) -> (Keep, KeepTurn)
+        ensures { result ≡ acts self look.now }
+    {
+        if self.is_done(look) {
+            return (self, KeepTurn::Whole);
+        }
+        if self.is_due(look) {
+            return self.part_locked(look);
+        }
+        (self, KeepTurn::Wait)
+    }
+}
+
+/// What a keep does at a time: `now`. `come` is how many frames have come up to the end of its time, or up to now where
+/// that lies ahead; `block` is the number of the newest block; `locked`: each block is locked; `stopping`: the program
+/// ends, so no further frame comes. A keep locks only once each frame that had come before its line is at the desk or
+/// lost, or each block is locked, or no frame has made progress for a minute.
+pub fn next_turn(
+    keep: Keep,
+    tally: &Tally,
+    now: u64,
+    come: u64,
+    block: u64,
+    locked: bool,
+    stopping: bool,
+) -> (Keep, KeepTurn)
+    ensures { result ≡ step keep (record {
+      tally = tally.now;
+      time = now;
+      come = come;
+      block = block;
+      locked = locked;
+      stopping = stopping;
+    }) }
+{
+    let look = Look {
+        tally: *tally,
+        time: now,
+        come,
+        block,
+        locked,
+        stopping,
+    };
+    keep.looked(&look).acts(&look)
+}
+
+/// The first and the last microsecond of a keep of so many seconds before its line was read, and so many after.
+pub fn bounds(read: u64, seconds: u32, after: u32) -> (u64, u64)
+    ensures { result ≡ (read - seconds * 1000000, min (read + after * 1000000) (2 ^ 64 - 1)) }
+{
+    (
+        read.saturating_sub(u64::from(seconds) * 1_000_000),
+        read.saturating_add(u64::from(after) * 1_000_000),
+    )
+}
+
+/// Whether a keep ends more than an hour after its line was read.
+pub fn is_too_far(read: u64, until: u64) -> bool
+    ensures { IsTrue result ↔ (read + 3600000000 < until) }
+{
+    until > read.saturating_add(MOST_AFTER)
+}
+
+/// Gives events their numbers.
+#[derive(Clone, Copy, Drop)]
+pub struct Numbers {
+    last: u64,
+}
+
+impl Numbers {
+    /// Each number is greater than this one, which was given last.
+    pub fn after(last: u64) -> Numbers
+        ensures { result.last ≡ last }
+    {
+        Numbers { last }
+    }
+
+    /// The number of an event whose line was read at this time: the time itself, or one more than the last number
+    /// where that isn't less.
+    pub fn next(&mut self, read: u64) -> u64
+        ensures number { self.old.last < 2 ^ 64 - 1 → result ≡ max read (self.old.last + 1) }
+        ensures last { self.new.last ≡ result }
+    {
+        self.last = read.max(self.last.saturating_add(1));
+        self.last
+    }
+}

@@ -1,0 +1,45 @@
+//! What holds over any list of events. Each function does nothing: its contract is the law.
+
+ghost use Rattle.loop_station_core.specs.Laws.{FramesAddUp, GapsAddUp, KeepsAreRight, LinesAreSo, LockedLinesAlternate, LostAreToldOnce, ReadClipsWait, ReleasesAreFree};
+
+/// Each frame that came is stored, lost, at the desk, or on its way to it.
+pub fn frames_add_up()
+    ensures { FramesAddUp }
+{}
+
+/// At looks that come one after the other, a keep locks what its line asks for, and only once each frame that had come
+/// before its line is at the desk or lost, or each block is locked, or no frame has made progress for a minute. It is
+/// done only once its end has passed, or nothing further comes.
+pub fn keeps_are_right()
+    ensures { KeepsAreRight }
+{}
+
+/// What is held of a time, and its gaps, are all of it.
+pub fn gaps_add_up()
+    ensures { GapsAddUp }
+{}
+
+/// A clip is released by the end of a save only where no other save reads it.
+pub fn releases_are_free()
+    ensures { ReleasesAreFree }
+{}
+
+/// A clip that a save reads isn't released when that is wanted, but waits.
+pub fn read_clips_wait()
+    ensures { ReadClipsWait }
+{}
+
+/// Each line says what was so when it was seen.
+pub fn lines_are_so()
+    ensures { LinesAreSo }
+{}
+
+/// Each lost frame is told once: by the end all are, and none twice.
+pub fn lost_are_told_once()
+    ensures { LostAreToldOnce }
+{}
+
+/// After 'all locked' comes 'room again', and the other way round.
+pub fn locked_lines_alternate()
+    ensures { LockedLinesAlternate }
+{}

@@ -1,0 +1,327 @@
+//! Places of saves: which save runs, which waits, and which clips are read meanwhile.
+
+ghost use Rattle.std.specs.Prelude.{◌≡◌, ◌≢◌, ◌++◌, ◌∷◌, if◌then◌else◌, ◌<◌, ◌==◌, IfOk, IfSome, Some, None, is_some, not, length, replicate, option_map, [], true, false};
+ghost use Rattle.std.specs.List.{position};
+ghost use Rattle.loop_station_core.specs.Saving.{asked, begun, cancelled, cancelled_at, ended, held_at, holds, is_read, left_by, picks, reads, shown, stopped, wanted};
+ghost use Rattle.loop_station_core.specs.declared.saves.Asked.TheVariants.{NoMemory, Waits};
+
+use std::alloc::{AllocError, Global};
+
+/// The clip of a save: its camera, its id, and the number of its first frame.
+#[derive(Clone, Copy)]
+pub struct SaveKey {
+    pub camera: usize,
+    pub id: u32,
+    pub first: u64,
+}
+
+// A save that runs or waits.
+#[derive(Clone, Copy)]
+struct Save {
+    key: SaveKey,
+    // Its clip is released once no save reads it.
+    release: bool,
+    // It is to end before its text is whole.
+    cancelled: bool,
+}
+
+/// What becomes of a save that is asked for.
+#[derive(Clone, Copy)]
+pub enum Asked {
+    /// It begins, in this place.
+    Begins(usize),
+    /// It waits for a place.
+    Waits,
+    /// Each place is taken, and it doesn't wait.
+    TooMany,
+    /// There is no memory for it to wait in.
+    NoMemory,
+    /// The program ends.
+    Stopped,
+}
+
+/// What becomes of a save that is to end before its text is whole.
+#[derive(Clone, Copy)]
+pub enum Cancelled {
+    /// It runs in this place, and ends when its thread sees that (`is_cancelled`).
+    Running(usize),
+    /// It waited, and has ended.
+    Waiting {
+        /// The clip is to be released now.
+        release: bool,
+    },
+    /// No save reads the clip, but those that end already.
+    No,
+}
+
+/// What follows from the end of a save.
+#[derive(Clone, Copy)]
+pub struct Ended {
+    /// The clip is to be released now: that was wanted, and no other save reads it.
+    pub release: bool,
+    /// The save that begins in the place that is free now.
+    pub begun: Option<SaveKey>,
+}
+
+/// A save that a stop of the program has ended.
+#[derive(Clone, Copy)]
+pub struct StoppedSave {
+    pub key: SaveKey,
+    /// The place in which it ran; none where it waited.
+    pub place: Option<usize>,
+}
+
+/// The saves that run, each in its place, and those that wait for a place, in their order.
+#[derive(Drop)]
+pub struct Saves {
+    running: Vec<Option<Save>>,
+    waiting: Vec<Save>,
+    stopped: bool,
+}
+
+// Whether a save reads the clip of an id.
+fn is_reader(save: &Save, camera: usize, id: u32) -> bool
+    ensures { result ≡ reads camera id save.now }
+{
+    save.key.camera == camera && save.key.id == id
+}
+
+// The first place whose save reads a clip; `any`: also one that is to end already.
+fn running_at(running: &[Option<Save>], camera: usize, id: u32, any: bool) -> Option<usize>
+    ensures place { result ≡ position (holds (picks camera id any)) running.now }
+    ensures bound { IfSome result (λ i. i < length running.now) }
+{
+    running.iter().position(|place| match place {
+        Some(save) => is_reader(save, camera, id) && (any || !save.cancelled),
+        None => false,
+    })
+}
+
+// The first save that waits and reads a clip.
+fn waiting_at(waiting: &[Save], camera: usize, id: u32) -> Option<usize>
+    ensures place { result ≡ position (reads camera id) waiting.now }
+    ensures bound { IfSome result (λ i. i < length waiting.now) }
+{
+    waiting.iter().position(|save| is_reader(save, camera, id))
+}
+
+// The first place that is taken.
+fn taken_place(running: &[Option<Save>]) -> Option<usize>
+    ensures place { result ≡ position is_some running.now }
+    ensures bound { IfSome result (λ i. i < length running.now) }
+{
+    running.iter().position(|place| place.is_some())
+}
+
+// The first place that is free.
+fn free_place(running: &[Option<Save>]) -> Option<usize>
+    ensures place { result ≡ position (λ o. not (is_some o)) running.now }
+    ensures bound { IfSome result (λ i. i < length running.now) }
+{
+    running.iter().position(|place| !place.is_some())
+}
+
+impl Saves {
+    /// No saves, and so many places.
+    pub fn new(alloc: Global, places: usize) -> Result<Saves, AllocError>
+        ensures { IfOk result (λ s. shown s
+            ≡ record { running = replicate places None; waiting = []; stopped = false }) }
+    {
+        let mut running = Vec::with_capacity(alloc, places)?;
+        for _ in 0..places {
+            running.push(None)?;
+        }
+        Ok(Saves {
+            running,
+            waiting: Vec::new(alloc),
+            stopped: false,
+        })
+    }
+
+    /// A save is asked for. Where each place is taken it waits, if it is automatic. Nothing changes where there is no
+    /// memory for that.
+    pub fn ask(&mut self, key: SaveKey, automatic: bool) -> Asked
+        ensures asked { result ≢ NoMemory → (shown self.new, result) ≡ asked (shown self.old) key automatic }
+        ensures full { result ≡ NoMemory → ((asked (shown self.old) key automatic).1 ≡ Waits)
+            × (shown self.new ≡ shown self.old) }
+    {
+        if self.stopped {
+            return Asked::Stopped;
+        }
+        let save = Save {
+            key,
+            release: false,
+            cancelled: false,
+        };
+        match free_place(&self.running) {
+            Some(place) => {
+                self.running[place] = Some(save);
+                Asked::Begins(place)
+            }
+            None => {
+                if !automatic {
+                    return Asked::TooMany;
+                }
+                if self.queue(save) {
+                    return Asked::Waits;
+                }
+                Asked::NoMemory
+            }
+        }
+    }
+
+    // A save waits after the others. Whether there was memory for that.
+    fn queue(&mut self, save: Save) -> bool
+        ensures { shown self.new ≡ (if result then record (shown self.old) {
+          waiting = (shown self.old).waiting ++ save ∷ [];
+        } else shown self.old) }
+    {
+        self.waiting.push(save).is_ok()
+    }
+
+    /// The save of a place has ended, whether its text is whole or not. The first one that waits begins in its place.
+    /// Nothing happens where no save runs there.
+    pub fn ended(&mut self, place: usize) -> Ended
+        ensures { (shown self.new, result) ≡ ended (shown self.old) place }
+    {
+        let Some(save) = self.held(place) else {
+            return Ended {
+                release: false,
+                begun: None,
+            };
+        };
+        self.running[place] = None;
+        let release = self.leave(save);
+        let begun = self.begin_next(place);
+        Ended { release, begun }
+    }
+
+    // What a place holds.
+    fn held(&self, place: usize) -> Option<Save>
+        ensures held { result ≡ held_at (shown self.now) place }
+        ensures bound { is_some result ≡ true → place < length self.now.running.items }
+    {
+        if place < self.running.len() {
+            return self.running[place];
+        }
+        None
+    }
+
+    // A save is gone. What it leaves to the others that read its clip; whether the clip is to be released now.
+    fn leave(&mut self, save: Save) -> bool
+        ensures { (shown self.new, result) ≡ left_by (shown self.old) save }
+    {
+        if save.release {
+            return !self.wants_release(save.key.camera, save.key.id);
+        }
+        false
+    }
+
+    // The first save that waits begins in a free place.
+    fn begin_next(&mut self, place: usize) -> Option<SaveKey>
+        requires { place < length self.old.running.items }
+        ensures { (shown self.new, result) ≡ begun (shown self.old) place }
+    {
+        if self.stopped || self.waiting.is_empty() {
+            return None;
+        }
+        let save = self.waiting.remove(0);
+        self.running[place] = Some(save);
+        Some(save.key)
+    }
+
+    /// The clip of the save that runs in a place.
+    pub fn at(&self, place: usize) -> Option<SaveKey>
+        ensures { result ≡ option_map (λ s. s.key) (held_at (shown self.now) place) }
+    {
+        match self.held(place) {
+            Some(save) => Some(save.key),
+            None => None,
+        }
+    }
+
+    /// Whether the save that runs in a place is to end before its text is whole.
+    pub fn is_cancelled(&self, place: usize) -> bool
+        ensures { result ≡ holds (λ s. s.cancelled) (held_at (shown self.now) place) }
+    {
+        match self.held(place) {
+            Some(save) => save.cancelled,
+            None => false,
+        }
+    }
+
+    /// Whether a save that runs or waits reads the clip of an id, so that it may not be released.
+    pub fn is_read(&self, camera: usize, id: u32) -> bool
+        ensures { result ≡ is_read (shown self.now) camera id }
+    {
+        running_at(&self.running, camera, id, true).is_some()
+            || waiting_at(&self.waiting, camera, id).is_some()
+    }
+
+    /// A clip is to be released. Returns whether that waits for the saves that read it: then the end of the last one
+    /// says so (`Ended`). Otherwise it is released now.
+    pub fn wants_release(&mut self, camera: usize, id: u32) -> bool
+        ensures { (shown self.new, result) ≡ wanted (shown self.old) camera id }
+    {
+        if let Some(place) = running_at(&self.running, camera, id, true) {
+            if let Some(save) = &mut self.running[place] {
+                save.release = true;
+            }
+            return true;
+        }
+        if let Some(at) = waiting_at(&self.waiting, camera, id) {
+            self.waiting[at].release = true;
+            return true;
+        }
+        false
+    }
+
+    /// A save of a clip is to end before its text is whole: one that runs, or else one that waits.
+    pub fn cancel(&mut self, camera: usize, id: u32) -> Cancelled
+        ensures { (shown self.new, result) ≡ cancelled (shown self.old) camera id }
+    {
+        if let Some(place) = running_at(&self.running, camera, id, false) {
+            if let Some(save) = &mut self.running[place] {
+                save.cancelled = true;
+            }
+            return Cancelled::Running(place);
+        }
+        match waiting_at(&self.waiting, camera, id) {
+            Some(at) => self.cancel_waiting(at),
+            None => Cancelled::No,
+        }
+    }
+
+    // A save that waits ends.
+    fn cancel_waiting(&mut self, at: usize) -> Cancelled
+        requires { at < length self.old.waiting.items }
+        ensures { (shown self.new, result) ≡ cancelled_at (shown self.old) at }
+    {
+        let save = self.waiting.remove(at);
+        let release = self.leave(save);
+        Cancelled::Waiting { release }
+    }
+
+    /// The program ends: ends one save, those that run first. None where no save is left. No save begins any more.
+    pub fn stop(&mut self) -> Option<StoppedSave>
+        ensures { (shown self.new, result) ≡ stopped (shown self.old) }
+    {
+        self.stopped = true;
+        if let Some(place) = taken_place(&self.running) {
+            let save = self.running[place]?;
+            self.running[place] = None;
+            return Some(StoppedSave {
+                key: save.key,
+                place: Some(place),
+            });
+        }
+        if self.waiting.is_empty() {
+            return None;
+        }
+        let save = self.waiting.remove(0);
+        Some(StoppedSave {
+            key: save.key,
+            place: None,
+        })
+    }
+}

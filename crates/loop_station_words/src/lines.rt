@@ -1,0 +1,1042 @@
+// The lines that are printed, as text and as JSON. docs/station.md says what each is.
+
+use crate::answers::{CameraStatus, print_head};
+use crate::part::Part::{Maybe, Millis, Number, Seconds, Text, Time, Words};
+use crate::part::{Part, UtcTime, ended, json_line, text_line};
+use json::Writer;
+use loop_record::Geometry;
+use loop_script::{Listing, run_length};
+use loop_store::{Clip, StoreFault};
+use std::alloc::{AllocError, Allocator, Global};
+use std::fmt::Display;
+use std::io::Write;
+use std::{io, str};
+
+// How many bytes of a line that is no order are printed at most.
+const MOST_OF_LINE: usize = 200;
+
+// The orders, as `help` lists them.
+const ORDERS: [&str; 11] = [
+    "keep [CAMERA] [SECONDS] [+AFTER] [TAG]",
+    "keep [CAMERA] from T to T [TAG]",
+    "release CAMERA ID [FIRST]",
+    "list",
+    "save CAMERA ID OUT",
+    "save! CAMERA ID OUT",
+    "cancel CAMERA ID",
+    "status",
+    "help",
+    "stop",
+    "@LABEL ORDER",
+];
+
+/// Lines, each as text and, where that is wanted, as a JSON object without its opening brace, so that a head may still
+/// come before it. Each method adds a line, or nothing where memory is refused.
+///
+/// The object has `kind`, the name of the method, and the members that the method names, in that order. A time is a text
+/// such as `2026-11-22T15:38:00.123Z`, in UTC; a duration is a number of microseconds, and its key ends in `micros`.
+#[derive(Drop)]
+pub struct Lines {
+    alloc: Global,
+    text: Vec<u8>,
+    json: Vec<u8>,
+    // The lines are wanted as JSON too.
+    with_json: bool,
+}
+
+impl Lines {
+    /// No line yet. `json` says whether the lines are wanted as JSON too.
+    pub fn new(alloc: Global, json: bool) -> Lines {
+        Lines {
+            alloc,
+            text: Vec::new(alloc),
+            json: Vec::new(alloc),
+            with_json: json,
+        }
+    }
+
+    /// The lines as text, each with its end.
+    pub fn text(&self) -> &[u8] {
+        &self.text
+    }
+
+    /// The lines as JSON, each with its end and without its opening brace; empty where JSON isn't wanted.
+    pub fn json(&self) -> &[u8] {
+        &self.json
+    }
+
+    /// Whether there is no line.
+    pub fn is_empty(&self) -> bool {
+        self.text.is_empty()
+    }
+
+    /// Adds other lines after these.
+    pub fn add(&mut self, other: &Lines) -> io::Result<()> {
+        self.append(&other.text, &other.json)
+    }
+
+    /// What a line of text begins with: the time of day, in UTC with milliseconds, and a label, if there are any.
+    pub fn head<W: Write>(out: &mut W, time: Option<u64>, label: Option<&str>) -> io::Result<()> {
+        print_head(out, time, label)
+    }
+
+    /// What a line of JSON begins with, up to its `kind`: `{"time":"2026-11-22T15:38:00.123Z","label":"me",`, where
+    /// either may be left out.
+    pub fn json_head<W: Write>(
+        alloc: Global,
+        out: &mut W,
+        time: Option<u64>,
+        label: Option<&str>,
+    ) -> io::Result<()> {
+        let mut head = Writer::new(Vec::new(alloc));
+        head.begin_object()?;
+        if let Some(micros) = time {
+            let time = UtcTime(micros).to_string(alloc)?;
+            head.key("time")?;
+            head.string(time.as_str())?;
+        }
+        if let Some(label) = label {
+            head.key("label")?;
+            head.string(label)?;
+        }
+        out.write_all(&head.into_inner())?;
+        if time.is_some() || label.is_some() {
+            out.write_all(b",")?;
+        }
+        Ok(())
+    }
+
+    // Adds lines of text, and the same as JSON, or neither.
+    fn append(&mut self, text: &[u8], json: &[u8]) -> io::Result<()> {
+        let before = self.text.len();
+        self.text.extend_from_slice(text)?;
+        if let Err(refused) = self.json.extend_from_slice(json) {
+            self.text.truncate(before);
+            return Err(io::Error::from(refused));
+        }
+        Ok(())
+    }
+
+    // Adds a line of such parts.
+    fn line(&mut self, kind: &str, parts: &[Part<'_>]) -> io::Result<()> {
+        let text = text_line(self.alloc, parts)?;
+        if !self.with_json {
+            return self.append(&text, &[]);
+        }
+        let json = json_line(self.alloc, kind, parts)?;
+        self.append(&text, &json)
+    }
+
+    // Adds a line of some words, a camera and some more words.
+    fn camera_line<'a>(
+        &mut self,
+        kind: &str,
+        words: &'a str,
+        camera: &'a str,
+        more: &'a str,
+    ) -> io::Result<()> {
+        self.line(kind, &[Words(words), Text("camera", camera), Words(more)])
+    }
+
+    // Adds a line of a camera, the id of a clip, a path and why.
+    fn path_line<'a, Y: Display>(
+        &mut self,
+        kind: &str,
+        words: &'a str,
+        (camera, id, path): (&'a str, u32, &'a str),
+        why: &Y,
+    ) -> io::Result<()> {
+        let why = why.to_string(self.alloc)?;
+        self.line_of_path(kind, words, (camera, id, path), why.as_str())
+    }
+
+    // The same, of the words of why.
+    fn line_of_path<'a>(
+        &mut self,
+        kind: &str,
+        words: &'a str,
+        (camera, id, path): (&'a str, u32, &'a str),
+        why: &'a str,
+    ) -> io::Result<()> {
+        self.line(
+            kind,
+            &[
+                Words(words),
+                Text("camera", camera),
+                Words(" "),
+                Number("id", u64::from(id)),
+                Words(" "),
+                Text("path", path),
+                Words(" "),
+                Text("why", why),
+            ],
+        )
+    }
+
+    // Adds a line of a camera and why.
+    fn why_line<'a, Y: Display>(
+        &mut self,
+        kind: &str,
+        words: &'a str,
+        camera: &'a str,
+        between: &'a str,
+        why: &Y,
+    ) -> io::Result<()> {
+        let why = why.to_string(self.alloc)?;
+        self.line_of_why(kind, words, camera, between, why.as_str())
+    }
+
+    // The same, of the words of why.
+    fn line_of_why<'a>(
+        &mut self,
+        kind: &str,
+        words: &'a str,
+        camera: &'a str,
+        between: &'a str,
+        why: &'a str,
+    ) -> io::Result<()> {
+        self.line(
+            kind,
+            &[
+                Words(words),
+                Text("camera", camera),
+                Words(between),
+                Text("why", why),
+            ],
+        )
+    }
+
+    // ---- answers
+
+    /// `kept CAMERA ID A..B from T to T event N`, followed by ` tag T` where the clip has a tag other than 0 and N: the
+    /// frames A to B of an event are locked as clip ID. `from` and `to` are the times of the first and the last one.
+    ///
+    /// JSON: `camera`, `id`, `first`, `last`, `from`, `to`, `event`, and `tag` as above.
+    pub fn kept(
+        &mut self,
+        camera: &str,
+        clip: &Clip,
+        from: u64,
+        to: u64,
+        event: u64,
+    ) -> io::Result<()> {
+        let tag = if clip.tag == 0 || clip.tag == event {
+            None
+        } else {
+            Some(clip.tag)
+        };
+        self.line(
+            "kept",
+            &[
+                Words("kept "),
+                Text("camera", camera),
+                Words(" "),
+                Number("id", u64::from(clip.id)),
+                Words(" "),
+                Number("first", clip.from),
+                Words(".."),
+                Number("last", clip.to),
+                Words(" from "),
+                Time("from", from),
+                Words(" to "),
+                Time("to", to),
+                Words(" event "),
+                Number("event", event),
+                Maybe(" tag ", "tag", tag),
+            ],
+        )
+    }
+
+    /// `kept CAMERA none event N`: the ring holds no frame of the event's time.
+    ///
+    /// JSON: `camera`, `event`.
+    pub fn kept_none(&mut self, camera: &str, event: u64) -> io::Result<()> {
+        self.line(
+            "kept_none",
+            &[
+                Words("kept "),
+                Text("camera", camera),
+                Words(" none event "),
+                Number("event", event),
+            ],
+        )
+    }
+
+    /// `held CAMERA 10.6 s of 60.0 s event N`: less is held of an event's time than was asked for. Both are in
+    /// microseconds.
+    ///
+    /// JSON: `camera`, `held_micros`, `asked_micros`, `event`.
+    pub fn held(&mut self, camera: &str, held: u64, asked: u64, event: u64) -> io::Result<()> {
+        self.line(
+            "held",
+            &[
+                Words("held "),
+                Text("camera", camera),
+                Words(" "),
+                Seconds("held_micros", held),
+                Words(" s of "),
+                Seconds("asked_micros", asked),
+                Words(" s event "),
+                Number("event", event),
+            ],
+        )
+    }
+
+    /// `gap CAMERA 720.0 s at T event N`: so many microseconds of an event's time have no frame, from T on.
+    ///
+    /// JSON: `camera`, `micros`, `at`, `event`.
+    pub fn gap(&mut self, camera: &str, micros: u64, at: u64, event: u64) -> io::Result<()> {
+        self.line(
+            "gap",
+            &[
+                Words("gap "),
+                Text("camera", camera),
+                Words(" "),
+                Seconds("micros", micros),
+                Words(" s at "),
+                Time("at", at),
+                Words(" event "),
+                Number("event", event),
+            ],
+        )
+    }
+
+    /// `event N from T to T`: an event whose end lies ahead has begun, or goes on after a start.
+    ///
+    /// JSON: `event`, `from`, `to`.
+    pub fn event_begun(&mut self, event: u64, since: u64, until: u64) -> io::Result<()> {
+        self.line(
+            "event_begun",
+            &[
+                Words("event "),
+                Number("event", event),
+                Words(" from "),
+                Time("from", since),
+                Words(" to "),
+                Time("to", until),
+            ],
+        )
+    }
+
+    /// `event N CAMERA whole`: each frame of the event that came from the camera is locked.
+    ///
+    /// JSON: `event`, `camera`.
+    pub fn event_whole(&mut self, event: u64, camera: &str) -> io::Result<()> {
+        self.line(
+            "event_whole",
+            &[
+                Words("event "),
+                Number("event", event),
+                Words(" "),
+                Text("camera", camera),
+                Words(" whole"),
+            ],
+        )
+    }
+
+    /// `event N CAMERA not whole WHY`: the event has ended before all its frames were locked.
+    ///
+    /// JSON: `event`, `camera`, `why`.
+    pub fn event_not_whole<Y: Display>(
+        &mut self,
+        event: u64,
+        camera: &str,
+        why: &Y,
+    ) -> io::Result<()> {
+        let why = why.to_string(self.alloc)?;
+        self.line_of_end(event, camera, why.as_str())
+    }
+
+    // The same, of the words of why.
+    fn line_of_end<'a>(&mut self, event: u64, camera: &'a str, why: &'a str) -> io::Result<()> {
+        self.line(
+            "event_not_whole",
+            &[
+                Words("event "),
+                Number("event", event),
+                Words(" "),
+                Text("camera", camera),
+                Words(" not whole "),
+                Text("why", why),
+            ],
+        )
+    }
+
+    /// `refused too far: a keep ends within an hour`: the end of a keep lies more than an hour ahead.
+    ///
+    /// JSON: nothing else.
+    pub fn too_far(&mut self) -> io::Result<()> {
+        self.line(
+            "too_far",
+            &[Words("refused too far: a keep ends within an hour")],
+        )
+    }
+
+    /// `refused CAMERA NO FAULT`: a refusal's number and name; after `Damaged` the number of the kind of damage, and
+    /// after `ClipNotHeld` the number of the frame.
+    ///
+    /// JSON: `camera`, `number`, `name`, and `damage` or `frame` as above.
+    pub fn refused(&mut self, camera: &str, fault: StoreFault) -> io::Result<()> {
+        let (damage, frame) = match fault {
+            StoreFault::Damaged(damage) => (Some(u64::from(damage.number())), None),
+            StoreFault::ClipNotHeld(frame) => (None, Some(frame)),
+            _ => (None, None),
+        };
+        self.line(
+            "refused",
+            &[
+                Words("refused "),
+                Text("camera", camera),
+                Words(" "),
+                Number("number", u64::from(fault.number())),
+                Words(" "),
+                Text("name", fault.name()),
+                Maybe(" ", "damage", damage),
+                Maybe(" ", "frame", frame),
+            ],
+        )
+    }
+
+    /// `released CAMERA ID`: the clip is unlocked.
+    ///
+    /// JSON: `camera`, `id`.
+    pub fn released(&mut self, camera: &str, id: u32) -> io::Result<()> {
+        self.line(
+            "released",
+            &[
+                Words("released "),
+                Text("camera", camera),
+                Words(" "),
+                Number("id", u64::from(id)),
+            ],
+        )
+    }
+
+    /// `refused CAMERA other clip ID FIRST`: the clip of that id begins with another frame than FIRST, and isn't
+    /// unlocked.
+    ///
+    /// JSON: `camera`, `id`, `first`.
+    pub fn not_released(&mut self, camera: &str, id: u32, first: u64) -> io::Result<()> {
+        self.line(
+            "not_released",
+            &[
+                Words("refused "),
+                Text("camera", camera),
+                Words(" other clip "),
+                Number("id", u64::from(id)),
+                Words(" "),
+                Number("first", first),
+            ],
+        )
+    }
+
+    /// `refused CAMERA saving`: a clip that is being saved isn't unlocked.
+    ///
+    /// JSON: `camera`.
+    pub fn saving(&mut self, camera: &str) -> io::Result<()> {
+        self.camera_line("saving", "refused ", camera, " saving")
+    }
+
+    /// `refused NAME too many orders`: as many orders wait for the camera as may.
+    pub fn too_many_orders(&mut self, camera: &str) -> io::Result<()> {
+        self.camera_line("too_many_orders", "refused ", camera, " too many orders")
+    }
+
+    /// `refused CAMERA too many saves`: as many clips are being saved as may be at once.
+    ///
+    /// JSON: `camera`.
+    pub fn too_many_saves(&mut self, camera: &str) -> io::Result<()> {
+        self.camera_line("too_many_saves", "refused ", camera, " too many saves")
+    }
+
+    /// `saved CAMERA ID PATH K`: a clip was saved, and has K frames.
+    ///
+    /// JSON: `camera`, `id`, `path`, `frames`.
+    pub fn saved<'a>(
+        &mut self,
+        camera: &'a str,
+        id: u32,
+        path: &'a str,
+        frames: u64,
+    ) -> io::Result<()> {
+        self.line(
+            "saved",
+            &[
+                Words("saved "),
+                Text("camera", camera),
+                Words(" "),
+                Number("id", u64::from(id)),
+                Words(" "),
+                Text("path", path),
+                Words(" "),
+                Number("frames", frames),
+            ],
+        )
+    }
+
+    /// `not saved CAMERA ID PATH WHY`: a clip wasn't saved.
+    ///
+    /// JSON: `camera`, `id`, `path`, `why`.
+    pub fn not_saved<'a, Y: Display>(
+        &mut self,
+        camera: &'a str,
+        id: u32,
+        path: &'a str,
+        why: &Y,
+    ) -> io::Result<()> {
+        self.path_line("not_saved", "not saved ", (camera, id, path), why)
+    }
+
+    /// `waits CAMERA ID PATH WHY`: a clip couldn't be saved yet, and is tried again each minute.
+    ///
+    /// JSON: `camera`, `id`, `path`, `why`.
+    pub fn save_waits<'a, Y: Display>(
+        &mut self,
+        camera: &'a str,
+        id: u32,
+        path: &'a str,
+        why: &Y,
+    ) -> io::Result<()> {
+        self.path_line("save_waits", "waits ", (camera, id, path), why)
+    }
+
+    /// `cancelled CAMERA ID`: the save of the clip has ended.
+    ///
+    /// JSON: `camera`, `id`.
+    pub fn cancelled(&mut self, camera: &str, id: u32) -> io::Result<()> {
+        self.line(
+            "cancelled",
+            &[
+                Words("cancelled "),
+                Text("camera", camera),
+                Words(" "),
+                Number("id", u64::from(id)),
+            ],
+        )
+    }
+
+    /// `refused CAMERA not saving ID`: the clip isn't being saved.
+    ///
+    /// JSON: `camera`, `id`.
+    pub fn not_saving(&mut self, camera: &str, id: u32) -> io::Result<()> {
+        self.line(
+            "not_saving",
+            &[
+                Words("refused "),
+                Text("camera", camera),
+                Words(" not saving "),
+                Number("id", u64::from(id)),
+            ],
+        )
+    }
+
+    /// `absent CAMERA WHY`: the camera's store isn't there.
+    ///
+    /// JSON: `camera`, `why`.
+    pub fn absent<Y: Display>(&mut self, camera: &str, why: &Y) -> io::Result<()> {
+        self.why_line("absent", "absent ", camera, " ", why)
+    }
+
+    /// `camera CAMERA`, and below it what its store holds, as a script's `list` has it.
+    ///
+    /// JSON, one object: `camera`, `next`, `frames`, which is an array of runs of numbers that follow one another, each
+    /// with `first` and `last`, and `clips`, an array of clips, each with `id`, `first`, `last` and `tag`.
+    pub fn camera<A: Allocator + Copy>(
+        &mut self,
+        camera: &str,
+        listing: &Listing<A>,
+    ) -> io::Result<()> {
+        let mut text = text_line(self.alloc, &[Words("camera "), Words(camera)])?;
+        listing.print(&mut text)?;
+        if !self.with_json {
+            return self.append(&text, &[]);
+        }
+        let json = camera_json(self.alloc, camera, listing)?;
+        self.append(&text, &json)
+    }
+
+    /// `status CAMERA stored N given up G waiting W behind S room R keeps K faults X source WORDS`, without ` keeps K`
+    /// where that isn't known.
+    ///
+    /// JSON: `camera`, `stored`, `given_up`, `waiting`, `behind_micros`, `room`, `keeps` where it is known, `faults`,
+    /// `source`.
+    pub fn status<'a>(&mut self, camera: &'a str, status: &CameraStatus<'a>) -> io::Result<()> {
+        self.line(
+            "status",
+            &[
+                Words("status "),
+                Text("camera", camera),
+                Words(" stored "),
+                Number("stored", status.stored),
+                Words(" given up "),
+                Number("given_up", status.given_up),
+                Words(" waiting "),
+                Number("waiting", status.waiting),
+                Words(" behind "),
+                Seconds("behind_micros", status.behind),
+                Words(" room "),
+                Number("room", status.room),
+                Maybe(" keeps ", "keeps", status.keeps),
+                Words(" faults "),
+                Number("faults", status.faults),
+                Words(" source "),
+                Text("source", status.source),
+            ],
+        )
+    }
+
+    /// `status CAMERA making PATH 40 %`: the status of a camera whose store is being made.
+    ///
+    /// JSON: `camera`, `path`, `percent`.
+    pub fn status_making<'a>(
+        &mut self,
+        camera: &'a str,
+        path: &'a str,
+        percent: u64,
+    ) -> io::Result<()> {
+        self.making_line(
+            "status_making",
+            "status ",
+            camera,
+            " making ",
+            path,
+            percent,
+        )
+    }
+
+    // Adds a line of a store that is being made.
+    fn making_line<'a>(
+        &mut self,
+        kind: &str,
+        words: &'a str,
+        camera: &'a str,
+        between: &'a str,
+        path: &'a str,
+        percent: u64,
+    ) -> io::Result<()> {
+        self.line(
+            kind,
+            &[
+                Words(words),
+                Text("camera", camera),
+                Words(between),
+                Text("path", path),
+                Words(" "),
+                Number("percent", percent),
+                Words(" %"),
+            ],
+        )
+    }
+
+    /// `no camera NAME`: no camera has this name.
+    ///
+    /// JSON: `camera`.
+    pub fn no_camera(&mut self, camera: &str) -> io::Result<()> {
+        self.camera_line("no_camera", "no camera ", camera, "")
+    }
+
+    /// `bad order: LINE`: a line that can't be read, or its first 200 bytes, each that can't be printed as `?`.
+    ///
+    /// JSON: `line`.
+    pub fn bad_order(&mut self, line: &[u8]) -> io::Result<()> {
+        let mut printed = Vec::new(self.alloc);
+        for byte in line.iter().take(MOST_OF_LINE) {
+            printed.push(printable(*byte))?;
+        }
+        let printed = str::from_utf8(&printed).unwrap_or("");
+        self.line("bad_order", &[Words("bad order: "), Text("line", printed)])
+    }
+
+    /// The orders, a line each.
+    ///
+    /// JSON: `order`.
+    pub fn help(&mut self) -> io::Result<()> {
+        for order in &ORDERS {
+            self.line("help", &[Text("order", order)])?;
+        }
+        Ok(())
+    }
+
+    /// `done`: a labelled order has been answered.
+    ///
+    /// JSON: nothing else.
+    pub fn done(&mut self) -> io::Result<()> {
+        self.line("done", &[Words("done")])
+    }
+
+    /// `stopped`: the program ends.
+    ///
+    /// JSON: nothing else.
+    pub fn stopped(&mut self) -> io::Result<()> {
+        self.line("stopped", &[Words("stopped")])
+    }
+
+    // ---- events
+
+    /// `source CAMERA on 640x480 YM12 25:1`: a camera's source gives frames that its store takes.
+    ///
+    /// JSON: `camera`, `width`, `height`, `format`, `rate_num`, `rate_den`.
+    pub fn source_on(&mut self, camera: &str, geometry: &Geometry) -> io::Result<()> {
+        self.frames_line("source_on", "source ", camera, " on ", geometry)
+    }
+
+    /// `other geometry CAMERA 640x480 YM12 25:1`: the frames of a camera's source aren't as its store has them.
+    ///
+    /// JSON: `camera`, `width`, `height`, `format`, `rate_num`, `rate_den`.
+    pub fn other_geometry(&mut self, camera: &str, geometry: &Geometry) -> io::Result<()> {
+        self.frames_line("other_geometry", "other geometry ", camera, " ", geometry)
+    }
+
+    // Adds a line of a camera and of what frames look like.
+    fn frames_line<'a>(
+        &mut self,
+        kind: &str,
+        words: &'a str,
+        camera: &'a str,
+        between: &'a str,
+        geometry: &Geometry,
+    ) -> io::Result<()> {
+        let letters = geometry.format.name();
+        let format = str::from_utf8(&letters).unwrap_or("");
+        self.line_of_frames(kind, (words, camera, between, format), geometry)
+    }
+
+    // The same, of the letters of the format.
+    fn line_of_frames<'a>(
+        &mut self,
+        kind: &str,
+        (words, camera, between, format): (&'a str, &'a str, &'a str, &'a str),
+        geometry: &Geometry,
+    ) -> io::Result<()> {
+        self.line(
+            kind,
+            &[
+                Words(words),
+                Text("camera", camera),
+                Words(between),
+                Number("width", u64::from(geometry.width)),
+                Words("x"),
+                Number("height", u64::from(geometry.height)),
+                Words(" "),
+                Text("format", format),
+                Words(" "),
+                Number("rate_num", u64::from(geometry.rate_num)),
+                Words(":"),
+                Number("rate_den", u64::from(geometry.rate_den)),
+            ],
+        )
+    }
+
+    /// `source CAMERA missing`: a camera's source can't be opened, or has ended.
+    ///
+    /// JSON: `camera`.
+    pub fn source_missing(&mut self, camera: &str) -> io::Result<()> {
+        self.camera_line("source_missing", "source ", camera, " missing")
+    }
+
+    /// `source CAMERA silent`: a camera's source is open, and no frame has come for two seconds.
+    ///
+    /// JSON: `camera`.
+    pub fn source_silent(&mut self, camera: &str) -> io::Result<()> {
+        self.camera_line("source_silent", "source ", camera, " silent")
+    }
+
+    /// `source CAMERA unusable WHY`: no store may have the frames of a camera's source.
+    ///
+    /// JSON: `camera`, `why`.
+    pub fn source_unusable<'a>(&mut self, camera: &'a str, why: &'a str) -> io::Result<()> {
+        self.line(
+            "source_unusable",
+            &[
+                Words("source "),
+                Text("camera", camera),
+                Words(" unusable "),
+                Text("why", why),
+            ],
+        )
+    }
+
+    /// `store CAMERA open`; `store CAMERA open holds 30.8 s of 300.0 s` where it holds less than the configuration asks
+    /// for. `less` has both durations, in microseconds.
+    ///
+    /// JSON: `camera`, and `held_micros` and `asked_micros` as above.
+    pub fn store_open(&mut self, camera: &str, less: Option<(u64, u64)>) -> io::Result<()> {
+        let Some((held, asked)) = less else {
+            return self.camera_line("store_open", "store ", camera, " open");
+        };
+        self.line(
+            "store_open",
+            &[
+                Words("store "),
+                Text("camera", camera),
+                Words(" open holds "),
+                Seconds("held_micros", held),
+                Words(" s of "),
+                Seconds("asked_micros", asked),
+                Words(" s"),
+            ],
+        )
+    }
+
+    /// `store CAMERA absent WHY`: a camera's store isn't there any more, or not yet.
+    ///
+    /// JSON: `camera`, `why`.
+    pub fn store_absent<Y: Display>(&mut self, camera: &str, why: &Y) -> io::Result<()> {
+        self.why_line("store_absent", "store ", camera, " absent ", why)
+    }
+
+    /// `not a store CAMERA PATH: ..`: the file where a camera's store belongs isn't a store, and what to do about it.
+    /// The path is given in two parts.
+    ///
+    /// JSON: `camera`, `path`.
+    pub fn not_a_store(&mut self, camera: &str, path: &str, end: &str) -> io::Result<()> {
+        let path = format!(in self.alloc; "{path}{end}")?;
+        self.line_of_store(camera, path.as_str())
+    }
+
+    // The same, of the whole path.
+    fn line_of_store<'a>(&mut self, camera: &'a str, path: &'a str) -> io::Result<()> {
+        self.line(
+            "not_a_store",
+            &[
+                Words("not a store "),
+                Text("camera", camera),
+                Words(" "),
+                Text("path", path),
+                Words(": move it away, and a store is made"),
+            ],
+        )
+    }
+
+    /// `making CAMERA PATH 40 %`: a camera's store is being made, and so much of it is.
+    ///
+    /// JSON: `camera`, `path`, `percent`.
+    pub fn making<'a>(&mut self, camera: &'a str, path: &'a str, percent: u64) -> io::Result<()> {
+        self.making_line("making", "making ", camera, " ", path, percent)
+    }
+
+    /// `given up CAMERA K since T`: K frames were lost since a time.
+    ///
+    /// JSON: `camera`, `frames`, `since`.
+    pub fn given_up(&mut self, camera: &str, frames: u64, since: u64) -> io::Result<()> {
+        self.line(
+            "given_up",
+            &[
+                Words("given up "),
+                Text("camera", camera),
+                Words(" "),
+                Number("frames", frames),
+                Words(" since "),
+                Time("since", since),
+            ],
+        )
+    }
+
+    /// `all locked CAMERA`: frames wait, because every block is locked.
+    ///
+    /// JSON: `camera`.
+    pub fn all_locked(&mut self, camera: &str) -> io::Result<()> {
+        self.camera_line("all_locked", "all locked ", camera, "")
+    }
+
+    /// `nearly all locked CAMERA`: four fifths of the blocks are locked.
+    ///
+    /// JSON: `camera`.
+    pub fn nearly_all_locked(&mut self, camera: &str) -> io::Result<()> {
+        self.camera_line("nearly_all_locked", "nearly all locked ", camera, "")
+    }
+
+    /// `room again CAMERA`: a block may be recorded into again.
+    ///
+    /// JSON: `camera`.
+    pub fn room_again(&mut self, camera: &str) -> io::Result<()> {
+        self.camera_line("room_again", "room again ", camera, "")
+    }
+
+    /// `behind CAMERA S`: frames that last so many microseconds wait.
+    ///
+    /// JSON: `camera`, `micros`.
+    pub fn behind(&mut self, camera: &str, micros: u64) -> io::Result<()> {
+        self.line(
+            "behind",
+            &[
+                Words("behind "),
+                Text("camera", camera),
+                Words(" "),
+                Seconds("micros", micros),
+            ],
+        )
+    }
+
+    /// `caught up CAMERA`: no more frames wait than usual.
+    ///
+    /// JSON: `camera`.
+    pub fn caught_up(&mut self, camera: &str) -> io::Result<()> {
+        self.camera_line("caught_up", "caught up ", camera, "")
+    }
+
+    /// `waited CAMERA 3.2 s since T`: memory was full, and a camera's source had to wait so many microseconds.
+    ///
+    /// JSON: `camera`, `micros`, `since`.
+    pub fn waited(&mut self, camera: &str, micros: u64, since: u64) -> io::Result<()> {
+        self.line(
+            "waited",
+            &[
+                Words("waited "),
+                Text("camera", camera),
+                Words(" "),
+                Seconds("micros", micros),
+                Words(" s since "),
+                Time("since", since),
+            ],
+        )
+    }
+
+    /// `stood still 3.2 s since T`: the program didn't run for so many microseconds.
+    ///
+    /// JSON: `micros`, `since`.
+    pub fn stood_still(&mut self, micros: u64, since: u64) -> io::Result<()> {
+        self.line(
+            "stood_still",
+            &[
+                Words("stood still "),
+                Seconds("micros", micros),
+                Words(" s since "),
+                Time("since", since),
+            ],
+        )
+    }
+
+    /// `disk CAMERA syncs in 12 ms`: how fast the disk of a camera's store syncs.
+    ///
+    /// JSON: `camera`, `micros`.
+    pub fn syncs(&mut self, camera: &str, micros: u64) -> io::Result<()> {
+        self.line(
+            "syncs",
+            &[
+                Words("disk "),
+                Text("camera", camera),
+                Words(" syncs in "),
+                Millis("micros", micros),
+                Words(" ms"),
+            ],
+        )
+    }
+
+    /// `disk CAMERA too slow: syncs in 250 ms, room for 16 frames a second`: the source's rate needs more than the disk
+    /// gives.
+    ///
+    /// JSON: `camera`, `micros`, `frames_a_second`.
+    pub fn too_slow(&mut self, camera: &str, micros: u64, frames_a_second: u64) -> io::Result<()> {
+        self.line(
+            "too_slow",
+            &[
+                Words("disk "),
+                Text("camera", camera),
+                Words(" too slow: syncs in "),
+                Millis("micros", micros),
+                Words(" ms, room for "),
+                Number("frames_a_second", frames_a_second),
+                Words(" frames a second"),
+            ],
+        )
+    }
+
+    /// `no answers PATH: ..`: the file for answers can't be written.
+    ///
+    /// JSON: `path`.
+    pub fn no_answers(&mut self, path: &str) -> io::Result<()> {
+        self.line(
+            "no_answers",
+            &[
+                Words("no answers "),
+                Text("path", path),
+                Words(": what is printed doesn't go there"),
+            ],
+        )
+    }
+
+    /// `dropped K lines`: nobody read so many lines in time.
+    ///
+    /// JSON: `lines`.
+    pub fn dropped_lines(&mut self, count: u64) -> io::Result<()> {
+        self.line(
+            "dropped_lines",
+            &[Words("dropped "), Number("lines", count), Words(" lines")],
+        )
+    }
+}
+
+// A byte as it is printed: `?` where it is none of ASCII's printed characters.
+fn printable(byte: u8) -> u8 {
+    if byte.is_ascii_graphic() || byte == b' ' {
+        byte
+    } else {
+        b'?'
+    }
+}
+
+// What a camera's store holds, as the line of an object.
+fn camera_json<A: Allocator + Copy>(
+    alloc: Global,
+    camera: &str,
+    listing: &Listing<A>,
+) -> Result<Vec<u8>, AllocError> {
+    let mut out = Writer::new(Vec::new(alloc));
+    out.key("kind")?;
+    out.string("camera")?;
+    out.key("camera")?;
+    out.string(camera)?;
+    out.key("next")?;
+    out.u64(listing.next)?;
+    out.key("frames")?;
+    write_runs(&listing.numbers, &mut out)?;
+    out.key("clips")?;
+    write_clips(&listing.clips, &mut out)?;
+    ended(out)
+}
+
+// Writes each longest run of numbers that follow one another.
+fn write_runs(numbers: &[u64], out: &mut Writer) -> Result<(), AllocError> {
+    out.begin_array()?;
+    let mut rest = numbers;
+    for _ in 0..numbers.len() {
+        if rest.is_empty() {
+            break;
+        }
+        let (run, behind) = rest.split_at(run_length(rest));
+        if let (Some(first), Some(last)) = (run.first(), run.last()) {
+            write_run(*first, *last, out)?;
+        }
+        rest = behind;
+    }
+    out.end_array()
+}
+
+// Writes one run.
+fn write_run(first: u64, last: u64, out: &mut Writer) -> Result<(), AllocError> {
+    out.begin_object()?;
+    out.key("first")?;
+    out.u64(first)?;
+    out.key("last")?;
+    out.u64(last)?;
+    out.end_object()
+}
+
+// Writes each clip.
+fn write_clips(clips: &[Clip], out: &mut Writer) -> Result<(), AllocError> {
+    out.begin_array()?;
+    for clip in clips {
+        out.begin_object()?;
+        out.key("id")?;
+        out.u64(u64::from(clip.id))?;
+        out.key("first")?;
+        out.u64(clip.from)?;
+        out.key("last")?;
+        out.u64(clip.to)?;
+        out.key("tag")?;
+        out.u64(clip.tag)?;
+        out.end_object()?;
+    }
+    out.end_array()
+}

@@ -1,0 +1,166 @@
+//! What a camera's store holds, for those who ask while its disk is busy.
+
+use crate::size::micros_of;
+use loop_record::Geometry;
+use loop_station_words::frames_in;
+use loop_store::Clip;
+use std::alloc::Global;
+use std::sync::atomic::{AtomicU64, Ordering};
+use std::sync::{Mutex, Wait};
+
+#[derive(Drop)]
+struct Inside {
+    geometry: Option<Geometry>,
+    clips: Vec<Clip>,
+}
+
+/// What a store holds: its next number, and its clips. The thread of its desk says what it changes.
+#[derive(Drop)]
+pub(crate) struct Stored {
+    inside: Mutex<Inside>,
+    next: AtomicU64,
+    period: AtomicU64,
+}
+
+impl Stored {
+    /// No store.
+    pub fn new(alloc: Global) -> Stored {
+        Stored {
+            inside: Mutex::new(Inside {
+                geometry: None,
+                clips: Vec::new(alloc),
+            }),
+            next: AtomicU64::new(0),
+            period: AtomicU64::new(0),
+        }
+    }
+
+    /// A store was opened.
+    pub fn begin<R: Wait>(&self, rt: &R, geometry: Geometry, next: u64, clips: Vec<Clip>) {
+        let mut inside = self.inside.lock(rt);
+        inside.geometry = Some(geometry);
+        inside.clips = clips;
+        self.next.store(next, Ordering::SeqCst);
+        self.period.store(micros_of(1, &geometry), Ordering::SeqCst);
+    }
+
+    /// This many frames were stored.
+    pub fn grow(&self, count: u32) {
+        self.next.fetch_add(u64::from(count), Ordering::SeqCst);
+    }
+
+    /// Clips were locked.
+    pub fn add<R: Wait>(&self, rt: &R, clips: &[Clip]) {
+        // Where memory is refused, `status` tells more room than there is until the store is opened again.
+        let _ = self.inside.lock(rt).clips.extend_from_slice(clips);
+    }
+
+    /// A clip was released.
+    pub fn remove<R: Wait>(&self, rt: &R, id: u32) {
+        let mut inside = self.inside.lock(rt);
+        let mut at = 0usize;
+        for clip in inside.clips.as_slice() {
+            if clip.id == id {
+                break;
+            }
+            at = at.saturating_add(1);
+        }
+        if at < inside.clips.len() {
+            inside.clips.remove(at);
+        }
+    }
+
+    /// Whether the clip of an id begins with this frame.
+    pub fn begins<R: Wait>(&self, rt: &R, id: u32, first: u64) -> bool {
+        let inside = self.inside.lock(rt);
+        inside
+            .clips
+            .iter()
+            .any(|clip| clip.id == id && clip.from == first)
+    }
+
+    /// The clips with a tag.
+    pub fn tagged<R: Wait>(&self, rt: &R, alloc: Global, tag: u64) -> Vec<Clip> {
+        let inside = self.inside.lock(rt);
+        let mut tagged = Vec::new(alloc);
+        for clip in inside.clips.as_slice() {
+            if clip.tag == tag {
+                // Where memory is refused, it isn't named at the event's end.
+                let _ = tagged.push(*clip);
+            }
+        }
+        tagged
+    }
+
+    /// How many microseconds a frame lasts; 0 where there is no store.
+    pub fn period(&self) -> u64 {
+        self.period.load(Ordering::SeqCst)
+    }
+
+    /// The number of the newest block.
+    pub fn newest_block<R: Wait>(&self, rt: &R) -> u64 {
+        let slots = match &self.inside.lock(rt).geometry {
+            Some(geometry) => u64::from(geometry.slots.max(1)),
+            None => 1,
+        };
+        self.next.load(Ordering::SeqCst).saturating_sub(1) / slots
+    }
+
+    /// How many frames were stored since the store was made, how many blocks may still be locked before none can be
+    /// used again, and how many keeps of so many seconds have room.
+    pub fn room<R: Wait>(&self, rt: &R, seconds: u32) -> (u64, u64, u64) {
+        let inside = self.inside.lock(rt);
+        let next = self.next.load(Ordering::SeqCst);
+        let Some(geometry) = inside.geometry else {
+            return (next, 0, 0);
+        };
+        let room = free_blocks(&geometry, next, inside.clips.as_slice());
+        let slots = u64::from(geometry.slots.max(1));
+        let frames = frames_in(
+            u64::from(seconds),
+            geometry.rate_num,
+            geometry.rate_den.max(1),
+        );
+        let blocks = frames.div_ceil(slots).saturating_add(1);
+        (next, room, room / blocks.max(1))
+    }
+}
+
+// How many blocks may still be locked: all blocks of the ring but the newest one and those that clips meet.
+fn free_blocks(geometry: &Geometry, next: u64, clips: &[Clip]) -> u64 {
+    let slots = u64::from(geometry.slots.max(1));
+    let newest = next.saturating_sub(1) / slots;
+    let mut locked = 0u64;
+    // The clips by rising numbers: `counted` is the first block that isn't counted yet.
+    let mut counted = 0u64;
+    for _ in 0..clips.len() {
+        let Some((first, last)) = next_blocks(clips, slots, counted) else {
+            break;
+        };
+        let first = first.max(counted);
+        let blocks = last.saturating_sub(first).saturating_add(1);
+        let with_newest = u64::from(first <= newest && newest <= last);
+        locked = locked.saturating_add(blocks).saturating_sub(with_newest);
+        counted = last.saturating_add(1);
+    }
+    u64::from(geometry.segments)
+        .saturating_sub(1)
+        .saturating_sub(locked)
+}
+
+// The blocks of the clip that has the lowest block from this one on.
+fn next_blocks(clips: &[Clip], slots: u64, from: u64) -> Option<(u64, u64)> {
+    let mut lowest: Option<(u64, u64)> = None;
+    for clip in clips {
+        let (first, last) = (clip.from / slots.max(1), clip.to / slots.max(1));
+        if last < from {
+            continue;
+        }
+        let first = first.max(from);
+        lowest = match lowest {
+            Some((low, end)) if low < first || low == first && end >= last => Some((low, end)),
+            _ => Some((first, last)),
+        };
+    }
+    lowest
+}

@@ -1,0 +1,80 @@
+//! A thread that looks ten times a second whether the program stood still and whether a source is silent, and once a
+//! second whether each store is still where it belongs.
+
+use crate::orders::Station;
+use crate::places::Places;
+use crate::state::CameraState;
+use std::alloc::AllocGlobal;
+use std::io::Write;
+use std::sync::Wait;
+use std::thread;
+use std::time::{Clock, Duration};
+
+// How many milliseconds pass between two looks.
+const LOOK_AGAIN: u64 = 100;
+
+// After so many looks it is looked for the stores.
+const LOOKS: u32 = 10;
+
+// The program stood still if so many microseconds more passed between two looks than should.
+const STILL: u64 = 1_000_000;
+
+/// Looks at the program, the sources and the stores until each camera is stopped.
+pub(crate) fn run_watch<R: AllocGlobal + Places + Wait + Clock, W: Write + Drop>(
+    rt: &R,
+    station: &Station<W>,
+) {
+    let Some(first) = station.cameras.as_slice().first() else {
+        return;
+    };
+    let timeline = first.timeline;
+    let mut looks = 0u32;
+    for _ in rt.forever() {
+        if station.cameras.iter().all(|state| state.is_stopped()) {
+            break;
+        }
+        let (began, up) = (timeline.now(rt), rt.uptime().unwrap_or(0));
+        thread::sleep(rt, Duration::from_millis(LOOK_AGAIN));
+        let now = timeline.now(rt);
+        // The clock of frames stands still while the machine sleeps, and that since its start goes on.
+        let slept = rt.uptime().unwrap_or(0).saturating_sub(up);
+        let passed = now.saturating_sub(began).max(slept);
+        if passed > STILL.saturating_add(LOOK_AGAIN.saturating_mul(1_000)) && station.events {
+            tell_still(rt, station, passed, began);
+        }
+        looks = looks.wrapping_add(1);
+        for state in station.cameras.as_slice() {
+            state.link.look(rt, now);
+            if looks % LOOKS == 0 {
+                look_for_store(rt, state);
+            }
+        }
+    }
+}
+
+// Prints that the program stood still.
+fn tell_still<R: Wait + Clock, W: Write + Drop>(
+    rt: &R,
+    station: &Station<W>,
+    micros: u64,
+    since: u64,
+) {
+    let mut lines = station.lines();
+    // Where memory for the line is refused, it isn't printed.
+    if lines.stood_still(micros, since).is_ok() {
+        station.outlet.put(rt, &lines);
+    }
+}
+
+// Ends the filming of a camera whose store's path names another file by now, or none. Where that can't be seen, the
+// store is as it was.
+fn look_for_store<R: Places + Wait>(rt: &R, state: &CameraState) {
+    let Some(place) = state.link.place(rt) else {
+        return;
+    };
+    if let Ok(there) = rt.place_of(state.config.store.as_str()) {
+        if there != Some(place) {
+            state.move_away(rt);
+        }
+    }
+}
