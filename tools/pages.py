@@ -6,7 +6,7 @@ import shutil
 # Commands of which some numbers differ from run to run, which they are, and why. In their place
 # any number may stand.
 VARYING = (
-    ("loop_station", r"\d+\.\.\d+|(next|stored|waiting|\.y4m) \d+",
+    ("loop_station", r"\d+\.\.\d+|(next|stored|waiting|event|\.y4m) \d+|\d{4}-\d\d-\d\dT[\d:.]+Z",
      "how many frames there are, and wait, depends on the moment"),
 )
 
@@ -20,8 +20,12 @@ ELSEWHERE = (
     (r"ffplay", "needs a screen", None),
     (r"gst-launch", "needs a screen and GStreamer", None),
     (r"y4mdenoise", "needs mjpegtools", "y4mdenoise"),
+    (r"^imagej", "needs a screen and ImageJ", None),
+    (r"^napari", "needs a screen and napari", None),
     (r"^rt ", "needs the kit", None),
     (r"^tools/check", "takes minutes, and the programs", None),
+    (r"^tools/demo", "runs until Ctrl-C, and needs the page's packages", None),
+    (r"^\.ci/run", "is the gate", None),
 )
 
 
@@ -33,7 +37,8 @@ class Wrong(Exception):
 
 class Part:
     """A part of a page that has to be judged: a command that is typed (`$ `), a line of a block
-    without one, or words of a program within the text. `shown` is what it prints by the page."""
+    without one, words of a program within the text, or a file: a fenced block, whose first line
+    names it (```python NAME). `shown` is what a command prints by the page, or a file's lines."""
 
     def __init__(self, kind, section, line, text):
         self.kind, self.section, self.line, self.text, self.shown = kind, section, line, text, []
@@ -42,9 +47,17 @@ class Part:
 def parts_of(page):
     """The parts of a page in their order. In a block, which is indented by four spaces, `$ ` begins
     a command, and what it prints follows."""
-    found, section, typed = [], "", None
+    found, section, typed, file = [], "", None, None
     for place, line in enumerate(page.splitlines(), 1):
-        if not line.startswith("    "):
+        if file:
+            if line == "```":
+                file = None
+            else:
+                file.shown.append(line)
+        elif line.startswith("```"):
+            typed, file = None, Part("file", section, place, line.split()[1])
+            found.append(file)
+        elif not line.startswith("    "):
             typed = None
             if line.startswith("#"):
                 section = line.lstrip("# ")
@@ -83,7 +96,7 @@ def varying(command):
 
 def without_numbers(text, which=r"\d+"):
     """A text in which each of these numbers stands for any other."""
-    return re.sub(which, lambda found: re.sub(r"\b\d+\b", "N", found.group()), text)
+    return re.sub(which, lambda found: re.sub(r"\d+", "N", found.group()), text)
 
 
 def compare(where, part, told, loose=False):

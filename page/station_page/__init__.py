@@ -2,19 +2,28 @@
 are recorded, and gives orders as anybody may, so the recorder never waits for it, and nothing that is proved stands on it.
 
     settings    the station's configuration, and the page's own words
-    reader      stores as they are now, frame by frame, by the layout of tools/layout.py
-    pictures    frames as JPEG and PNG
+    reader      stores as they are now, frame by frame, by the module lapyrei
+    pictures    frames as JPEG and PNG, stretched for the eye, and their values
+    eye         what a camera shows: its newest frame, that of a moment, pictures of both
+    push        what an open page is sent, over one answer that doesn't end
     films       clips as MP4, YUV4MPEG2, PNGs and CSV
+    events      clips of one press as one event
+    bundle      an event as one zip
     words       the lines that the station prints, and sentences with what to do
     orders      the pipe of orders, and the answers
     notes       what people write beside clips
     alerts      what went wrong, until somebody has seen it
     watched     a camera, and what was seen of it last
+    workers     threads that read and draw, for each camera its own
     kept        what became of a keep
+    spans       what a keep didn't get of the time that was asked for
+    journal     who changed what
+    advice      what to do where a camera isn't well
     laboratory  all of these together: how each camera stands
     guard       which connections and requests are let in
     asked       what stands in a request, within its bounds
     server      the addresses
+    console     the addresses of the console: the answer that doesn't end, events, single pixels
     metrics     Prometheus's text
     limits      every bound
 """

@@ -1,17 +1,21 @@
-"""What went wrong, until somebody has seen it; told to a command or a webhook as well."""
+"""What went wrong, until somebody has seen it, or until it is over; told to a command or a webhook as well."""
 import asyncio
 import contextlib
 import json
-import logging
+import os
+import signal
 import time
 from dataclasses import asdict, dataclass
 
 import aiohttp
 
-from . import limits
+from . import limits, words
+from .films import last_words
+from .journal import Journal
 from .words import Event
 
-log = logging.getLogger("loop_page")
+# What is wrong with a camera, or with the station (None), of a kind.
+Cause = tuple[str, str | None]
 
 
 @dataclass
@@ -27,16 +31,20 @@ class Alert:
 
 
 class Alerts:
-    """The warnings that nobody has seen yet, newest last. One that comes again counts up: thousands of lines of one kind are one alert."""
+    """The warnings that nobody has seen yet, newest last. One that comes again counts up: thousands of lines of one kind are one alert. One whose
+    cause is over leaves."""
 
-    def __init__(self, on_alert: list[str], webhook: str | None) -> None:
-        self.command, self.webhook = on_alert, webhook
+    def __init__(self, on_alert: list[str], webhook: str | None, journal: Journal) -> None:
+        self.command, self.webhook, self.journal = on_alert, webhook, journal
         self.alerts: list[Alert] = []
+        # What is wrong now, whether somebody has seen it or not.
+        self.standing: set[Cause] = set()
         self.count, self.told, self.not_told = 0, 0, 0
         self.queue: asyncio.Queue[Alert] = asyncio.Queue(limits.DELIVERIES)
 
     def add(self, event: Event) -> None:
         """A warning has come."""
+        self.standing.add((event.kind, event.camera))
         for alert in self.alerts:
             if (alert.kind, alert.camera) == (event.kind, event.camera):
                 alert.times, alert.time, alert.text = alert.times + 1, time.time(), event.text
@@ -50,6 +58,25 @@ class Alerts:
             except asyncio.QueueFull:
                 self.not_told += 1
 
+    def stands(self, *kinds: str, camera: str | None) -> bool:
+        """Whether something of these kinds is wrong now."""
+        return any((kind, camera) in self.standing for kind in kinds)
+
+    def set(self, kind: str, camera: str | None, text: str) -> str | None:
+        """Warns of what is wrong now, once; or ends that warning where there is no text. Answers the text of one that it ended."""
+        if not text:
+            return self.over(kind, camera)
+        if (kind, camera) not in self.standing:
+            self.add(Event(kind, camera, True, text))
+        return None
+
+    def over(self, kind: str, camera: str | None) -> str | None:
+        """What was wrong isn't any more: its warning leaves. Answers its text where nobody had seen it yet."""
+        self.standing.discard((kind, camera))
+        ended = [alert for alert in self.alerts if (alert.kind, alert.camera) == (kind, camera)]
+        self.alerts = [alert for alert in self.alerts if alert not in ended]
+        return ended[0].text if ended else None
+
     def seen(self, id_: int) -> bool:
         """Somebody has seen an alert."""
         before = len(self.alerts)
@@ -61,31 +88,40 @@ class Alerts:
         return [asdict(alert) for alert in self.alerts]
 
     async def deliver(self) -> None:
-        """Tells the command and the webhook, one after the other, without end."""
+        """Tells the command and the webhook, one after the other, without end. What can't be told is written down."""
         while True:
             alert = await self.queue.get()
-            for tell in [self.run_command] * bool(self.command) + [self.post] * bool(self.webhook):
+            for name, tell in [("on_alert", self.run_command)] * bool(self.command) + [("webhook", self.post)] * bool(
+                self.webhook
+            ):
                 try:
                     await tell(alert)
                     self.told += 1
-                except (OSError, asyncio.TimeoutError, aiohttp.ClientError) as fault:
+                except Exception as fault:
                     self.not_told += 1
-                    log.warning("an alert wasn't told: %s: %s", tell.__name__, fault)
+                    self.journal.add("not told", f"{name} failed: {why(fault)}. It wasn't told: {alert.text}")
 
     async def run_command(self, alert: Alert) -> None:
-        """Runs the command, without a shell; the sentence is its input."""
+        """Runs the command, without a shell; the sentence is its input. It ends, with all that it began, where it needs too long."""
         run = await asyncio.create_subprocess_exec(
-            *self.command, stdin=asyncio.subprocess.PIPE, stdout=asyncio.subprocess.DEVNULL
+            *self.command,
+            stdin=asyncio.subprocess.PIPE,
+            stdout=asyncio.subprocess.DEVNULL,
+            stderr=asyncio.subprocess.PIPE,
+            start_new_session=True,
         )
+        told = asyncio.create_task(last_words(run))
         try:
-            await asyncio.wait_for(run.communicate(alert.text.encode() + b"\n"), limits.DELIVERY_SECONDS)
+            await asyncio.wait_for(give(run, alert.text), limits.DELIVERY_SECONDS)
+            if run.returncode:
+                said = await asyncio.wait_for(asyncio.shield(told), 1)
+                raise OSError(f"{self.command[0]} ended with {run.returncode}: {said}")
         finally:
+            told.cancel()
             if run.returncode is None:
                 with contextlib.suppress(ProcessLookupError):
-                    run.kill()
+                    os.killpg(run.pid, signal.SIGKILL)
                 await run.wait()
-        if run.returncode:
-            raise OSError(f"{self.command[0]} ended with {run.returncode}")
 
     async def post(self, alert: Alert) -> None:
         """Posts the alert as JSON to the webhook."""
@@ -97,4 +133,22 @@ class Alerts:
                 self.webhook, data=data, headers={"Content-Type": "application/json"}, allow_redirects=False
             ) as answer:
                 if answer.status >= 300:
-                    raise OSError(f"{self.webhook} answers {answer.status}")
+                    raise OSError(f"the webhook answers {answer.status}")
+
+
+async def give(run: asyncio.subprocess.Process, text: str) -> None:
+    """Gives a command its input, and waits for its end. One that doesn't read its input has none."""
+    with contextlib.suppress(BrokenPipeError, ConnectionResetError):
+        run.stdin.write(text.encode() + b"\n")
+        await run.stdin.drain()
+    run.stdin.close()
+    await run.wait()
+
+
+def why(fault: Exception) -> str:
+    """Why something couldn't be told. An address may have a secret in it, so it isn't said."""
+    if isinstance(fault, asyncio.TimeoutError):
+        return f"it took longer than {limits.DELIVERY_SECONDS:.0f} s"
+    if isinstance(fault, aiohttp.ClientConnectorError):
+        return f"no connection: {words.plain(str(fault.os_error))}"
+    return words.plain(str(fault)) or type(fault).__name__

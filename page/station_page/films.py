@@ -1,20 +1,27 @@
 """Clips as files: MP4 by ffmpeg, sent while it is made; YUV4MPEG2, byte for byte as `loop_cli export` writes it; PNGs in a zip; numbers and times."""
 import asyncio
 import contextlib
+import fcntl
 import io
 import os
+import shutil
 import tempfile
+import time
 import zipfile
 from collections.abc import AsyncIterator, Iterator
 from dataclasses import dataclass
+from pathlib import Path
 
 import layout
 
 from . import limits, pictures
 from .reader import Clip, Gone, Reading, Source
 from .words import Unfit, iso
+from .workers import DRAWING
 
 FRAME_LINE = b"FRAME\n"
+# How folders of films are called, and the file in one that its page has locked.
+PREFIX, LOCK = "loop_page.", "lock"
 # A film that plays while it is made: it needs no end to be read.
 ENCODER = [
     "-an",
@@ -26,6 +33,9 @@ ENCODER = [
     "20",
     "-threads",
     "2",
+    # No frame waits to be looked at: 240 MB at 3840x2160 in the place of 820 MB.
+    "-tune",
+    "zerolatency",
     "-pix_fmt",
     "yuv420p",
     "-vf",
@@ -100,7 +110,7 @@ class Text:
     async def pieces(self, start: int, end: int) -> AsyncIterator[bytes]:
         """The bytes from a place to another, a piece at a time."""
         for at in range(start, end, limits.PIECE):
-            yield await asyncio.to_thread(self.part, at, min(limits.PIECE, end - at))
+            yield await self.source.do(self.part, at, min(limits.PIECE, end - at))
 
 
 # ----------------------------------------------------------------------------------------------- numbers, PNGs
@@ -135,24 +145,25 @@ class Gathered(io.RawIOBase):
         return whole
 
 
-def zip_pieces(fetch: Fetch) -> Iterator[bytes]:
-    """A zip with a PNG for each frame and the table of times, a frame at a time."""
-    out = Gathered()
+async def zip_stream(fetch: Fetch) -> AsyncIterator[bytes]:
+    """A zip with a PNG for each frame and the table of times, a frame at a time, in pieces that aren't long."""
+    out, geometry = Gathered(), fetch.source.geometry
     with zipfile.ZipFile(out, "w", zipfile.ZIP_STORED) as archive:
         archive.writestr("frames.csv", csv_of(fetch))
         for frame in fetch.frames:
-            picture = pictures.png(fetch.source.geometry, fetch.source.frame(frame.number))
+            data = await fetch.source.do(fetch.source.frame, frame.number)
+            picture = await DRAWING.do(pictures.png, geometry, data)
             archive.writestr(f"{frame.number:010}_{iso(frame.time).replace(':', '-')}.png", picture)
-            yield out.take()
-    yield out.take()
+            for piece in parted(out.take()):
+                yield piece
+    for piece in parted(out.take()):
+        yield piece
 
 
-async def zip_stream(fetch: Fetch) -> AsyncIterator[bytes]:
-    """The same, from a thread, in pieces that aren't long."""
-    pieces = zip_pieces(fetch)
-    while (piece := await asyncio.to_thread(next, pieces, None)) is not None:
-        for at in range(0, len(piece), limits.PIECE):
-            yield piece[at : at + limits.PIECE]
+def parted(whole: bytes) -> Iterator[bytes]:
+    """Bytes in pieces that aren't long."""
+    for at in range(0, len(whole), limits.PIECE):
+        yield whole[at : at + limits.PIECE]
 
 
 # ----------------------------------------------------------------------------------------------- MP4
@@ -190,13 +201,39 @@ class Film:
                     return
 
 
+def is_left(folder: Path) -> bool:
+    """Whether a folder of films is one whose page has ended without removing it: nobody holds its lock. Only the user's own count."""
+    try:
+        if folder.is_symlink() or not folder.is_dir() or folder.stat().st_uid != os.geteuid():
+            return False
+        with open(folder / LOCK, "rb") as file:
+            fcntl.flock(file, fcntl.LOCK_EX | fcntl.LOCK_NB)
+    except FileNotFoundError:
+        # Of a page before there were locks, or of one that has just begun.
+        return time.time() - folder.stat().st_mtime > limits.LEFT_SECONDS
+    except OSError:
+        return False
+    return True
+
+
+def clear(parent: str) -> None:
+    """Removes the films that pages left that were killed. Those of another page that runs stay."""
+    for folder in Path(parent).glob(f"{PREFIX}*"):
+        with contextlib.suppress(OSError):
+            if is_left(folder):
+                shutil.rmtree(folder)
+
+
 class Films:
     """The films that are made, one at a time, and those that were, in a folder that ends with the page."""
 
     def __init__(self) -> None:
-        self.folder = tempfile.TemporaryDirectory(
-            prefix="loop_page.", dir=os.environ.get("CACHE_DIRECTORY") or "/var/tmp"
-        )
+        parent = os.environ.get("CACHE_DIRECTORY") or "/var/tmp"
+        clear(parent)
+        self.folder = tempfile.TemporaryDirectory(prefix=PREFIX, dir=parent)
+        # Held as long as the page runs, however it ends.
+        self.lock = open(os.path.join(self.folder.name, LOCK), "wb")
+        fcntl.flock(self.lock, fcntl.LOCK_EX)
         self.films: dict[str, Film] = {}
         self.turn, self.count = asyncio.Semaphore(1), 0
 
@@ -254,7 +291,7 @@ class Films:
         try:
             with busy:
                 async with self.turn:
-                    await self.encode(film, Text(fetch))
+                    await self.encode(film, Text(fetch), fetch.clip.since)
             await film.grow(is_done=True)
             self.tidy()
         except (FilmFault, Gone, OSError, Unfit) as fault:
@@ -265,8 +302,8 @@ class Films:
                 self.remove(key)
                 await film.grow(fault=film.why)
 
-    async def encode(self, film: Film, text: Text) -> None:
-        """Runs ffmpeg over a clip."""
+    async def encode(self, film: Film, text: Text, since: int) -> None:
+        """Runs ffmpeg over a clip that begins at a time, which the film has as that of its creation."""
         try:
             run = await asyncio.create_subprocess_exec(
                 "nice",
@@ -279,7 +316,10 @@ class Films:
                 "yuv4mpegpipe",
                 "-i",
                 "pipe:0",
-                *ENCODER,
+                *ENCODER[:-1],
+                "-metadata",
+                f"creation_time={iso(since)}",
+                ENCODER[-1],
                 stdin=asyncio.subprocess.PIPE,
                 stdout=asyncio.subprocess.PIPE,
                 stderr=asyncio.subprocess.PIPE,
@@ -312,6 +352,7 @@ class Films:
                 film.task.cancel()
                 await asyncio.gather(film.task, return_exceptions=True)
         self.folder.cleanup()
+        self.lock.close()
 
 
 async def feed(run: asyncio.subprocess.Process, text: Text) -> None:

@@ -1,5 +1,6 @@
 """Which connections and requests are let in: bounds for slow and many clients, names of hosts, tokens, sessions, and the origin of changes."""
 import asyncio
+import hashlib
 import hmac
 import secrets
 import socket
@@ -27,10 +28,12 @@ HEADERS = {
 }
 # What is answered to anybody.
 OPEN = {"/sign-in", "/healthz", "/static/page.css", "/static/icon.svg", "/favicon.ico"}
+# To what a page of another site may lead: of all else it may use nothing.
+ENTRANCES = {"/", "/sign-in", "/healthz", "/favicon.ico"}
 OWN_HEADER = "X-Loop-Page"
 
 
-class Connection(asyncio.Protocol):
+class Connection(asyncio.BufferedProtocol):
     """A connection, before aiohttp's own: it is closed where its request isn't whole in time, or its client reads nothing."""
 
     def __init__(self, inner: asyncio.Protocol, gate: "Gate") -> None:
@@ -39,11 +42,13 @@ class Connection(asyncio.Protocol):
         self.working, self.since = 0, time.monotonic()
         self.paused: float | None = None
         self.is_in = False
+        # Whether somebody who may pass has used it. Until then it has its first seconds alone, and makes room for others.
+        self.is_known = gate.settings.token is None
 
     def connection_made(self, transport: asyncio.BaseTransport) -> None:
         """It has begun; one too many ends at once."""
         self.transport = transport
-        if len(self.gate.connections) >= limits.CONNECTIONS:
+        if not self.gate.has_room():
             self.gate.refused += 1
             transport.abort()
             return
@@ -60,10 +65,22 @@ class Connection(asyncio.Protocol):
             self.gate.connections.discard(self)
             self.inner.connection_lost(exc)
 
-    def data_received(self, data: bytes) -> None:
+    def get_buffer(self, sizehint: int) -> memoryview:
+        """Where the system puts what the client sends: little at a time, so that little is made of it before it is looked at."""
+        return self.gate.buffer
+
+    def buffer_updated(self, nbytes: int) -> None:
         """The client has sent something."""
         if self.is_in:
-            self.inner.data_received(data)
+            self.inner.data_received(bytes(self.gate.buffer[:nbytes]))
+            if self.has_too_much():
+                self.gate.refused += 1
+                self.transport.abort()
+
+    def has_too_much(self) -> bool:
+        """Whether more waits behind the request that is worked on than a client may send: other requests; or anything after
+        `Upgrade`, which no answer here is. aiohttp would keep all of it."""
+        return len(self.inner._messages) > limits.REQUESTS_WAITING or len(self.inner._message_tail) > limits.BODY_BYTES
 
     def eof_received(self) -> bool | None:
         """The client sends no more."""
@@ -86,7 +103,8 @@ class Connection(asyncio.Protocol):
     def end(self) -> None:
         """A request was answered."""
         self.working -= 1
-        self.since = time.monotonic()
+        if self.is_known:
+            self.since = time.monotonic()
 
     def is_late(self, now: float) -> bool:
         """Whether nothing has come of it in time."""
@@ -101,6 +119,8 @@ class Gate:
     def __init__(self, settings: Settings) -> None:
         self.settings, self.refused, self.late = settings, 0, 0
         self.connections: set[Connection] = set()
+        # What has just come of any connection: it is taken from here at once.
+        self.buffer = memoryview(bytearray(limits.RECEIVE_BYTES))
         self.sessions: dict[str, float] = {}
         self.wrong: dict[str, list[float]] = {}
 
@@ -113,6 +133,20 @@ class Gate:
                 self.late += 1
                 connection.transport.abort()
 
+    def has_room(self) -> bool:
+        """Whether one more connection is let in. Of those who aren't signed in the oldest one makes room, first such as nothing is
+        worked on; of the others only one on which nothing is."""
+        strangers = [it for it in self.connections if not it.is_known]
+        if len(strangers) < limits.STRANGERS and len(self.connections) < limits.CONNECTIONS:
+            return True
+        oldest = min(strangers or self.connections, key=lambda it: (it.working > 0, it.since))
+        if oldest.is_known and oldest.working:
+            return False
+        self.refused += 1
+        self.connections.discard(oldest)
+        oldest.transport.abort()
+        return True
+
     def is_host(self, request: web.Request) -> bool:
         """Whether the request names this host: a page without a token answers to this machine's names alone, whatever name leads here."""
         try:
@@ -121,31 +155,27 @@ class Gate:
             return False
         return bool(self.settings.token) or is_loopback(name) or name == self.settings.host
 
-    def is_let_in(self, request: web.Request) -> bool:
-        """Whether a request comes from somebody who knows the token."""
-        if self.settings.token is None or request.path in OPEN:
-            return True
-        return self.is_bearer(request) or self.is_signed_in(request)
+    def is_known(self, request: web.Request) -> bool:
+        """Whether a request comes from somebody who knows the token. The right one always counts, also from an address that others
+        guess from: behind a proxy all have one address."""
+        return self.settings.token is None or self.is_same(bearer_of(request)) or self.is_signed_in(request)
 
-    def is_bearer(self, request: web.Request) -> bool:
-        """Whether a request brings the token itself."""
-        kind, _, token = request.headers.get("Authorization", "").partition(" ")
-        return self.settings.token is not None and kind.lower() == "bearer" and self.is_token(token, request)
+    def is_same(self, given: str) -> bool:
+        """Whether a text is the token, in a time that doesn't depend on where they differ."""
+        token = self.settings.token
+        return token is not None and hmac.compare_digest(given.strip().encode(errors="replace"), token.encode())
 
-    def is_token(self, given: str, request: web.Request) -> bool:
-        """Whether a text is the token, in a time that doesn't depend on where they differ. Wrong ones are counted, by the address that sent them."""
-        if self.settings.token is None:
-            return False
-        is_right = hmac.compare_digest(given.strip().encode(errors="replace"), self.settings.token.encode())
-        if given and not is_right:
-            address = str(request.remote)
-            self.wrong[address] = [*self.wrong.pop(address, []), time.monotonic()][-limits.WRONG_TOKENS :]
-            while len(self.wrong) > limits.GUESSERS:
-                del self.wrong[next(iter(self.wrong))]
-        return is_right
+    def guess(self, given: str, request: web.Request) -> None:
+        """Counts a wrong token, by the address that sent it."""
+        if not given:
+            return
+        address = str(request.remote)
+        self.wrong[address] = [*self.wrong.pop(address, []), time.monotonic()][-limits.WRONG_TOKENS :]
+        while len(self.wrong) > limits.GUESSERS:
+            del self.wrong[next(iter(self.wrong))]
 
     def has_guessed(self, request: web.Request) -> bool:
-        """Whether too many wrong tokens came from an address in the last minute for another one to be looked at."""
+        """Whether too many wrong tokens came from an address in the last minute: then another wrong one has to wait."""
         times = self.wrong.get(str(request.remote), [])
         return len(times) >= limits.WRONG_TOKENS and time.monotonic() - times[0] < 60
 
@@ -164,6 +194,16 @@ class Gate:
         self.sessions[name] = now + limits.SESSION_SECONDS
         return name
 
+    def who(self, request: web.Request) -> tuple[str, str]:
+        """Who asks, for the journal: the address, and the session or how else the token came. A proxy on this machine says whose
+        request it gives on; from elsewhere that is anybody's word, and isn't taken."""
+        address, forwarded = str(request.remote), request.headers.get("X-Forwarded-For", "")
+        if forwarded and is_loopback(address):
+            address = f"{forwarded.split(',')[-1].strip()[:64]} by {address}"
+        if self.is_signed_in(request):
+            return address, f"session {session_word(request.cookies[COOKIE])}"
+        return address, "token" if self.is_same(bearer_of(request)) else "no session"
+
     def is_own(self, request: web.Request) -> bool:
         """Whether a change is asked for by this page, or by no page at all: a browser names the page that asks as the origin, and lets no other page
         send a header of our own."""
@@ -172,4 +212,21 @@ class Gate:
             return False
         if origin is not None:
             return origin in (f"http://{request.host}", f"https://{request.host}")
-        return OWN_HEADER in request.headers or self.is_bearer(request)
+        return OWN_HEADER in request.headers or self.is_same(bearer_of(request))
+
+    def is_elsewhere(self, request: web.Request) -> bool:
+        """Whether another site's page asks, by what the browser says of it. It may lead people to the page, and use nothing of it: a
+        film in that page would keep the machine at work."""
+        site = request.headers.get("Sec-Fetch-Site")
+        return site not in (None, "same-origin", "none") and request.path not in ENTRANCES
+
+
+def bearer_of(request: web.Request) -> str:
+    """The token that a request brings by itself; nothing where it brings none."""
+    kind, _, token = request.headers.get("Authorization", "").partition(" ")
+    return token if kind.lower() == "bearer" else ""
+
+
+def session_word(name: str) -> str:
+    """A short word for a session, of which its secret name can't be reckoned."""
+    return hashlib.sha256(name.encode(errors="replace")).hexdigest()[:6]

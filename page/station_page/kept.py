@@ -16,6 +16,8 @@ class Kept:
     is_kept: bool
     text: str
     clips: list[Clip]
+    # What is missing of the time that was asked for, in a sentence; nothing where all is there.
+    lack: str = ""
 
     def as_object(self) -> dict:
         """For JSON."""
@@ -31,13 +33,15 @@ class Kept:
             }
             for clip in self.clips
         ]
-        return {"camera": self.camera, "kept": self.is_kept, "text": self.text, "clips": clips}
+        return {"camera": self.camera, "kept": self.is_kept, "text": self.text, "clips": clips, "lack": self.lack}
 
 
 def told(name: str, clips: list[Clip]) -> Kept:
     """That clips were kept, in a sentence."""
     spans = " and ".join(
         f"clip {clip.id} from {words.iso(clip.since)} to {words.iso(clip.until)}, {clip.count()} frames"
+        if clip.is_seen()
+        else f"clip {clip.id}, frames {clip.first} to {clip.last}"
         for clip in clips
     )
     return Kept(name, True, f"{name}: kept {spans}.", clips)
@@ -46,7 +50,7 @@ def told(name: str, clips: list[Clip]) -> Kept:
 def not_kept(line: str) -> Kept:
     """Why nothing was kept, by the station's line, in a sentence with what to do."""
     verb, *rest = line.split(" ", 2)
-    if verb == "kept" and rest[1:] == ["none"]:
+    if verb == "kept" and rest[1:] and rest[1].split()[0] == "none":
         return Kept(
             rest[0], False, f"{rest[0]}: {NOTHING}, since no stored frame is of that time. Is the camera recording?", []
         )

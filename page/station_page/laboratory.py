@@ -10,22 +10,40 @@ from dataclasses import replace
 
 import layout
 
-from . import limits, words
+from . import limits, spans, words
 from .alerts import Alerts
 from .films import Fetch, Films, fetch_of
+from .journal import Journal
 from .kept import NOTHING, PART, Kept, not_kept, told
 from .notes import Notes, NotesFault, key_of
 from .orders import NoStation, Orders
 from .reader import Clip, Gone, Reader, Reading, Source
 from .settings import Settings
 from .watched import Watched, refusal, settle
-from .words import Event, Unfit
+from .words import Event, Status, Unfit
+from .workers import NO_ANSWER, looks_of, reads_of
 
 log = logging.getLogger("loop_page")
 # Pieces of a timeline that a page is sent, the newest.
 PIECES = 300
-# What comes at each start of the station, and passes with the other kind of event: of these it is only warned where they last.
-PASSING = {"missing": "source", "absent": "open"}
+# What comes at each start of the station, and passes by itself: of these it is only warned where they last.
+PASSING = ("missing", "absent")
+# Which warnings are over once there is good news of a kind; and all that the station says of a camera.
+ENDS = {
+    "source": ("missing", "other"),
+    "open": ("absent", "not a store"),
+    "room": ("locked",),
+    "caught up": ("behind",),
+}
+OF_STATION = ("missing", "other", "absent", "not a store", "locked", "behind")
+# What is the cause where no frames come, so that it isn't warned of twice.
+NO_FRAMES = ("missing", "other", "absent", "not a store", "locked", "lost", "hangs")
+# The words with which a line begins that says what became of a keep.
+ANSWERS = ("kept", "refused", "absent")
+# Why there is no note beside a clip that isn't seen in its store yet: it would be found by the clip's times.
+UNSEEN = "The note isn't written, since the page can't read the store at the moment. Write it beside the clip."
+OTHER_SIZE = "its source gives frames of another size, format or rate than its store, so nothing is stored."
+ALL_LOCKED = "all of its room is locked, and recording has stopped. Release a clip that you don't need."
 # A camera that gives less of its rate is shown as one to look at.
 LEAST_RATE = 0.8
 
@@ -35,12 +53,21 @@ class Laboratory:
 
     def __init__(self, settings: Settings) -> None:
         self.settings = settings
-        self.cameras = {camera.name: Watched(camera, Reader(camera.store)) for camera in settings.cameras}
-        self.alerts = Alerts(settings.on_alert, settings.webhook)
+        self.cameras = {
+            camera.name: Watched(camera, Reader(camera.store, reads_of(camera.name)), looks=looks_of(camera.name))
+            for camera in settings.cameras
+        }
+        self.journal = Journal()
+        self.alerts = Alerts(settings.on_alert, settings.webhook, self.journal)
         self.orders = Orders(settings.orders, settings.answers, self.on_event)
         self.notes, self.films = Notes(settings.notes), Films()
         self.fetching: collections.Counter[tuple[str, int]] = collections.Counter()
         self.releasing: set[tuple[str, int]] = set()
+        # Held from a look at a clip until its release is given, so that no other order of this page comes between.
+        self.ordering = asyncio.Lock()
+        # Whether the station takes `release CAMERA ID FIRST`.
+        self.takes_first = False
+        self.begun = time.monotonic()
         self.is_running, self.was_running, self.said = self.orders.pipe.is_read(), False, 0.0
         self.streams, self.wanted, self.version, self.looked = 0, time.monotonic(), 0, 0.0
         self.changed, self.hurry = asyncio.Condition(), asyncio.Event()
@@ -53,14 +80,34 @@ class Laboratory:
     def on_event(self, text: str) -> None:
         """A line of the station that nobody asked for."""
         event = words.read_event(text)
-        if event and event.kind in PASSING:
-            self.passing.pop((event.kind, event.camera), asyncio.Future()).cancel()
+        if not event:
+            return
+        watched = self.cameras.get(event.camera or "")
+        if watched and event.kind in ("absent", "open"):
+            watched.absent = text.split(" ", 3)[3] if event.kind == "absent" else ""
+        for kind in ENDS.get(event.kind, ()):
+            self.over(kind, event.camera)
+        if event.kind in PASSING:
+            self.pass_by(event.kind, event.camera)
             self.passing[event.kind, event.camera] = asyncio.create_task(self.add_later(event))
-        elif event:
-            for kind, end in PASSING.items():
-                if end == event.kind and not event.is_bad:
-                    self.passing.pop((kind, event.camera), asyncio.Future()).cancel()
+        else:
             self.add(event)
+
+    def pass_by(self, kind: str, camera: str | None) -> None:
+        """What might have become a warning has passed."""
+        self.passing.pop((kind, camera), asyncio.Future()).cancel()
+
+    def over(self, kind: str, camera: str | None, is_told: bool = True) -> None:
+        """What was wrong isn't any more. Its warning leaves, and the news say so."""
+        self.pass_by(kind, camera)
+        text = self.alerts.over(kind, camera)
+        if text and is_told:
+            self.tell_news(f"Over: {text}")
+
+    def tell_news(self, text: str) -> None:
+        """Good news, for all open pages."""
+        self.good_news.append({"time": time.time(), "text": text})
+        self.hurry.set()
 
     async def add_later(self, event: Event) -> None:
         """Warns of what may pass by itself, where it hasn't by then."""
@@ -70,10 +117,12 @@ class Laboratory:
 
     def add(self, event: Event) -> None:
         """Something has happened. All open pages are sent it at once."""
-        if event.is_bad:
-            self.alerts.add(event)
-        else:
-            self.good_news.append({"time": time.time(), "text": event.text})
+        if not event.is_bad:
+            self.tell_news(event.text)
+            return
+        if event.kind in NO_FRAMES:
+            self.over("silent", event.camera, is_told=False)
+        self.alerts.add(event)
         self.hurry.set()
 
     async def watch(self) -> None:
@@ -102,56 +151,133 @@ class Laboratory:
                 await asyncio.wait_for(self.changed.wait_for(lambda: self.version != version), limits.FRESH_SECONDS)
 
     async def ask(self) -> None:
-        """Asks the station how its cameras stand, without end."""
+        """Asks the station how its cameras stand, without end: soon, until it has answered once, and after it has come again."""
         while True:
             if self.orders.has_answers and self.orders.pipe.is_read():
                 with contextlib.suppress(NoStation):
                     await self.ask_status()
             for _ in range(int(limits.IDLE_ASK_SECONDS / limits.ASK_SECONDS)):
                 await asyncio.sleep(limits.ASK_SECONDS)
-                if self.streams or time.monotonic() - self.wanted < 10:
+                if not self.said or self.streams or time.monotonic() - self.wanted < 10:
                     break
 
     async def ask_status(self) -> None:
-        """Asks once."""
-        for line in await self.orders.ask("status"):
-            found = words.read_status(line)
-            if found and found[0] in self.cameras:
-                self.cameras[found[0]].status = found[1]
-            elif line.startswith("absent ") and len(parts := line.split(" ", 2)) == 3 and parts[1] in self.cameras:
-                self.cameras[parts[1]].status = None
+        """Asks once; and first, of each station, which orders it takes."""
+        if not self.said:
+            self.takes_first = any(words.TAKES_FIRST.search(line) for line in await self.orders.ask("help"))
+        await self.orders.ask("status", each=self.on_status)
         self.said = time.monotonic()
+
+    def on_status(self, line: str) -> None:
+        """A line of the station's `status`. What it says is so now: what was said before the page began, nobody has heard, and an event may
+        have been lost."""
+        found = words.read_status(line)
+        if found and found[0] in self.cameras:
+            self.on_stands(self.cameras[found[0]], found[1])
+        elif line.startswith("absent ") and len(parts := line.split(" ", 2)) == 3 and parts[1] in self.cameras:
+            watched = self.cameras[parts[1]]
+            watched.status, is_same = None, watched.absent == parts[2]
+            if not (is_same and self.is_known("absent", parts[1])):
+                self.on_event(f"store {parts[1]} absent {parts[2]}")
+
+    def is_known(self, kind: str, camera: str) -> bool:
+        """Whether something is warned of, or will be soon."""
+        return self.alerts.stands(kind, camera=camera) or (kind, camera) in self.passing
+
+    def on_stands(self, watched: Watched, status: Status) -> None:
+        """How a camera with a store stands."""
+        name, watched.status, watched.absent = watched.camera.name, status, ""
+        self.over("absent", name)
+        self.over("not a store", name)
+        if status.source == "missing":
+            if not self.is_known("missing", name):
+                self.on_event(f"source {name} missing")
+        else:
+            self.over("missing", name)
+        if status.source == "other geometry":
+            self.set("other", name, f"{name}: {OTHER_SIZE}")
+        else:
+            self.over("other", name)
+        if status.room:
+            self.over("locked", name)
+        if status.behind is not None and status.behind <= 1:
+            self.over("behind", name)
 
     async def look(self) -> None:
         """Looks once, and sends all pages what was seen."""
         await self.look_at(list(self.cameras))
+        self.judge_station()
         for watched in self.cameras.values():
             self.judge(watched)
-        self.is_running, self.looked = self.orders.pipe.is_read(), time.monotonic()
-        if self.settings.orders and self.was_running and not self.is_running:
-            self.alerts.add(
-                Event("station", None, True, "The station has ended. Nothing is recorded until it is started again.")
-            )
-        self.was_running = self.is_running
+        self.looked = time.monotonic()
         state = json.dumps(self.standing(), separators=(",", ":")).encode()
         async with self.changed:
             self.version, self.state = self.version + 1, state
             self.changed.notify_all()
 
+    def judge_station(self) -> None:
+        """Warns where no station runs: one that ran, at once; one that never did, after a while."""
+        self.is_running = self.orders.pipe.is_read()
+        is_old = time.monotonic() - self.begun > limits.HANGING_SECONDS
+        if self.is_running or not self.settings.orders:
+            self.set("station", None, "")
+        elif self.was_running:
+            self.set("station", None, "The station has ended. Nothing is recorded until it is started again.")
+        elif is_old:
+            self.set("station", None, f"The station doesn't run: nobody reads orders at {self.settings.orders}. Start it.")
+        if self.was_running and not self.is_running:
+            self.forget_station()
+        self.was_running = self.is_running
+
+    def forget_station(self) -> None:
+        """What a station said that has ended isn't so any more, nor not so."""
+        self.said = 0.0
+        for name, watched in self.cameras.items():
+            watched.status, watched.absent = None, ""
+            for kind in OF_STATION:
+                self.over(kind, name, is_told=False)
+
+    def set(self, kind: str, camera: str | None, text: str) -> None:
+        """Warns of what is wrong now, by the page's own eyes; or says that it is over, where there is no text."""
+        if text and not self.alerts.stands(kind, camera=camera):
+            self.add(Event(kind, camera, True, text))
+        elif not text:
+            self.over(kind, camera)
+
     def judge(self, watched: Watched) -> None:
-        """Warns where a store that was there isn't any more, or is damaged."""
+        """Warns of what the page sees by itself: whether or not the station says something of it, or can."""
+        name, reading = watched.camera.name, watched.reading
+        hanging = watched.hangs()
+        if not hanging:
+            self.set("hangs", name, "")
+        elif hanging > limits.HANGING_SECONDS:
+            self.set("hangs", name, f"{name}: its disk doesn't answer. Look at the disk.")
+        self.judge_store(watched)
+        is_silent = watched.is_silent(limits.SILENT_SECONDS)
+        is_locked = reading is not None and reading.is_all_locked()
+        if is_locked and is_silent:
+            self.set("locked", name, f"{name}: {ALL_LOCKED}")
+        elif reading is not None and not is_locked and not is_silent:
+            self.set("locked", name, "")
+        has_cause = self.alerts.stands(*NO_FRAMES, camera=name) or self.alerts.stands("station", camera=None)
+        if reading is None or not is_silent:
+            self.set("silent", name, "")
+        elif not has_cause and not any((kind, name) in self.passing for kind in PASSING):
+            self.set("silent", name, f"{name}: no new frames come. See that the camera is plugged in and its program runs.")
+
+    def judge_store(self, watched: Watched) -> None:
+        """Warns where a store that was there isn't any more, or is damaged; or where there is none, and nobody says why."""
+        name = watched.camera.name
         if watched.reading:
             watched.was_there = True
+            self.set("lost", name, "")
         elif watched.was_there:
             watched.was_there = False
-            self.alerts.add(
-                Event(
-                    "lost",
-                    watched.camera.name,
-                    True,
-                    f"{watched.camera.name}: its store was there, and now: {refusal(watched.why)}",
-                )
-            )
+            self.set("lost", name, f"{name}: its store was there, and now: {refusal(watched.why)}")
+        elif watched.why and time.monotonic() - self.begun > limits.HANGING_SECONDS:
+            is_said = self.alerts.stands("absent", "not a store", "missing", camera=name)
+            if not is_said and not self.alerts.stands("station", camera=None):
+                self.set("lost", name, f"{name}: {refusal(watched.why)}")
 
     # ------------------------------------------------------------------------------------------- how all stands
 
@@ -175,19 +301,23 @@ class Laboratory:
             "station": station,
             "alerts": self.alerts.listed(),
             "news": list(self.good_news)[-3:],
+            "journal": self.journal.listed(limits.JOURNAL_SENT),
             "notes_fault": self.notes.fault,
+            "notes": self.notes.version,
             "cameras": [self.camera(watched) for watched in self.cameras.values()],
         }
 
     def camera(self, watched: Watched) -> dict:
         """How a camera stands."""
-        level, text = self.camera_state(watched)
+        level, text, kind, shortly = self.camera_state(watched)
         status = watched.status if self.orders.has_answers else None
         found = {
             "name": watched.camera.name,
             "keep": watched.camera.keep,
             "level": level,
             "state": text,
+            "kind": kind,
+            "short": shortly,
             "given_up": status and status.given_up,
             "behind": status and status.behind,
             "room": status and status.room,
@@ -214,38 +344,60 @@ class Laboratory:
             found |= {"newest": [newest.number, newest.time], "oldest": [oldest.number, oldest.time]}
         return found
 
-    def camera_state(self, watched: Watched) -> tuple[str, str]:
-        """How a camera stands, as a word for its colour and in a sentence."""
-        reading, silent = watched.reading, time.monotonic() - watched.changed
+    def camera_state(self, watched: Watched) -> tuple[str, str, str, str]:
+        """How a camera stands: as a word for its colour, in a sentence, as a word for what it is, and shortly for a picture's edge."""
         if waited := watched.hangs():
-            return "bad", f"Its disk hasn't answered for {words.seconds_words(waited)}. Look at the disk."
-        source = watched.status.source if watched.status and self.orders.has_answers else "on"
+            return "bad", f"Its disk hasn't answered for {words.seconds_words(waited)}. Look at the disk.", "hangs", "disk hangs"
+        reading, source = watched.reading, self.source_of(watched)
+        if watched.absent and self.orders.has_answers:
+            return "bad", f"It isn't recorded: {words.meaning(watched.absent)}.", "absent", "not recorded"
         if reading is None:
-            return "bad", refusal(watched.why)
+            return "bad", refusal(watched.why), "absent", "not recorded"
         if source == "other geometry":
-            return "bad", "Its source gives frames of another size, format or rate than its store. Nothing is stored."
+            text = "Its source gives frames of another size, format or rate than its store. Nothing is stored."
+            return "bad", text, "other", "other frames"
+        is_silent = watched.is_silent(limits.STILL_SECONDS)
+        if reading.is_all_locked():
+            when = "has stopped" if is_silent else "stops when the newest block is full"
+            return "bad", f"All of its room is locked. Recording {when}: release a clip.", "locked", "all locked"
+        if is_silent:
+            return self.silent_state(watched, source)
         if not reading.frames:
-            return "warn", "No frame is stored yet."
-        if (
-            silent > max(2.0, 3 / reading.geometry.rate() + limits.LOOK_SECONDS)
-            and time.time() - reading.frames[-1].time / 1e6 > 2
-        ):
-            why = "its source is missing" if source == "missing" else "the camera may be away, or the station"
-            return (
-                "bad",
-                f"No new frame for {words.seconds_words(max(silent, time.time() - reading.frames[-1].time / 1e6))}: {why}.",
-            )
-        if reading.removed_next() is None and len(reading.store.with_frames()) == reading.geometry.segments:
-            return "bad", "All of its room is locked. Recording stops when the newest block is full: release a clip."
-        if watched.status and watched.status.behind and watched.status.behind > 1:
-            return "warn", f"The disk is slow: {watched.status.behind} s of frames wait for it."
+            return "warn", "No frame is stored yet.", "empty", "no frames yet"
+        if not watched.has_moved:
+            return "warn", "The page waits for a new frame.", "waiting", "waiting"
+        return self.recording_state(watched, reading)
+
+    def source_of(self, watched: Watched) -> str:
+        """What the station says of a camera's source; `on` where it says nothing."""
+        return watched.status.source if watched.status and self.orders.has_answers else "on"
+
+    def silent_state(self, watched: Watched, source: str) -> tuple[str, str, str, str]:
+        """A camera of which no new frames come. How long it has been is reckoned by a clock only where it stood still before the page began."""
+        silent = watched.silent()
+        if self.settings.orders and not self.is_running:
+            why = "the station doesn't run. Start it"
+        elif source == "missing":
+            why = "its source is missing. See that the camera is plugged in and its program runs"
+        else:
+            why = "the camera may be away, or its program. Look at both"
+        if watched.newest is None:
+            return "bad", f"No frame is stored, and none comes: {why}.", "silent", "no frames"
+        if not watched.has_moved:
+            silent = max(silent, time.time() - watched.newest[1] / 1e6)
+        shortly = f"no frames for {int(silent)} s" if silent < 600 else "no frames"
+        return "bad", f"No new frame for {words.seconds_words(silent)}: {why}.", "silent", shortly
+
+    def recording_state(self, watched: Watched, reading: Reading) -> tuple[str, str, str, str]:
+        """A camera of which frames come."""
+        behind = watched.status.behind if watched.status else None
+        if behind and behind > 1:
+            return "warn", f"The disk is slow: {behind} s of frames wait for it.", "behind", f"{behind} s behind"
         rate, asked = reading.rate(), reading.geometry.rate()
         if rate is not None and rate < asked * LEAST_RATE:
-            return (
-                "warn",
-                f"Recording {rate:.1f} of {asked:.1f} frames a second: the camera gives fewer, or frames were lost.",
-            )
-        return "good", "Recording."
+            text = f"Recording {rate:.1f} of {asked:.1f} frames a second: the camera gives fewer, or frames were lost."
+            return "warn", text, "slow", f"{rate:.0f} of {asked:.0f} a second"
+        return "good", "Recording.", "good", "recording"
 
     def watched(self, name: object) -> Watched:
         """The camera of a name."""
@@ -259,7 +411,7 @@ class Laboratory:
         self.wanted = time.monotonic()
         reading, source = watched.reading, watched.source
         if watched.hangs():
-            raise Unfit(503, "Its disk doesn't answer.")
+            raise Unfit(503, NO_ANSWER)
         if reading is None or source is None:
             raise Unfit(
                 503, refusal(watched.why) if watched.why else "The page has only just begun. Try again in a moment."
@@ -303,13 +455,60 @@ class Laboratory:
         order = "keep" + (f" {camera}" if camera is not None else "") + what
         self.wanted = time.monotonic()
         if self.orders.has_answers:
-            lines = await self.orders.ask(order, limits.CHANGE_SECONDS)
-            await self.look_at(names, is_new=True)
-            kept = self.kept_of(lines)
+            kept = await self.keep_heard(order, names)
         else:
             kept = await self.keep_unheard(order, names)
         self.hurry.set()
+        kept = [self.with_lack(one, seconds, span) for one in kept]
         return await self.noted(kept, note)
+
+    async def keep_heard(self, order: str, names: list[str]) -> list[Kept]:
+        """Gives an order to a station whose answers are heard. A camera whose disk doesn't answer holds up no other one's answer."""
+        async with self.ordering:
+            waiting = self.orders.begin(order)
+        self.hurry.set()
+        try:
+            lines = await self.orders.answer(waiting, limits.CHANGE_SECONDS, lambda lines: self.is_enough(lines, names))
+        except NoStation:
+            if not answered(waiting.lines):
+                raise
+            lines = waiting.lines
+        is_whole = waiting.done.done() and waiting.done.exception() is None
+        late = [] if is_whole else [name for name in names if name not in answered(lines)]
+        return await self.find(lines) + [Kept(name, False, f"{name}: {self.late_text(name)}", []) for name in late]
+
+    def is_enough(self, lines: list[str], names: list[str]) -> bool:
+        """Whether only cameras haven't answered yet whose disks don't."""
+        late = set(names) - answered(lines)
+        return len(late) < len(names) and all(self.cameras[name].hangs() for name in late)
+
+    def late_text(self, name: str) -> str:
+        """What is told of a camera that hasn't answered a keep."""
+        hanging = self.cameras[name].hangs()
+        why = f"its disk hasn't answered for {words.seconds_words(hanging)}" if hanging else "it hasn't answered in time"
+        return f"no answer, since {why}. It may still be kept: look at its clips."
+
+    async def find(self, lines: list[str]) -> list[Kept]:
+        """What the lines of an answer say, with the times of its clips, for which their stores are looked at until they show them."""
+        end = time.monotonic() + limits.FIND_SECONDS
+        while True:
+            told_of = sorted({match[1] for line in lines if (match := words.KEPT.fullmatch(line))} & set(self.cameras))
+            await self.look_at(told_of, is_new=True)
+            kept = self.kept_of(lines)
+            unseen = {one.camera for one in kept if not all(clip.is_seen() for clip in one.clips)}
+            if all(self.cameras[name].hangs() for name in unseen if name in self.cameras) or time.monotonic() > end:
+                return kept
+            await asyncio.sleep(0.1)
+
+    def with_lack(self, kept: Kept, seconds: int | None, span: tuple[int, int] | None) -> Kept:
+        """What became of a keep, with what it didn't get of the time that was asked for."""
+        watched = self.cameras.get(kept.camera or "")
+        if not kept.clips or not watched or not watched.reading or not all(clip.is_seen() for clip in kept.clips):
+            return kept
+        until = span[1] if span else max(watched.now(), max(clip.until for clip in kept.clips))
+        since = span[0] if span else until - (seconds or 0) * 1_000_000
+        lack = spans.lack(watched.reading, kept.clips, since, min(until, watched.now()) if span else until)
+        return replace(kept, text=f"{kept.text} {lack}", lack=lack) if lack else kept
 
     async def look_at(self, names: list[str], is_new: bool = False) -> None:
         """Looks at some cameras together, and waits for a while until that is done. A look that is to be new begins after this call."""
@@ -325,12 +524,13 @@ class Laboratory:
         clips, found = collections.defaultdict(list), []
         for line in lines:
             if match := words.KEPT.fullmatch(line):
-                watched = self.cameras.get(match[1])
-                clip = watched and watched.reading and watched.reading.clip(int(match[2]))
-                clips[match[1]].append(
-                    clip or Clip(int(match[2]), int(match[3]), int(match[4]), int(match[5] or 0), 0, 0)
-                )
-            else:
+                watched, (id_, first, last) = self.cameras.get(match[1]), map(int, match.group(2, 3, 4))
+                # By its frames too: a look that is late may have an earlier clip of that id.
+                clip = watched and watched.reading and watched.reading.clip(id_)
+                if not clip or (clip.first, clip.last) != (first, last):
+                    clip = Clip(id_, first, last, int(match["tag"] or match["event"] or 0), 0, 0)
+                clips[match[1]].append(clip)
+            elif not line.startswith(words.BESIDE_KEPT):
                 refused = not_kept(line)
                 found.append(
                     replace(refused, text=refused.text.replace(NOTHING, PART)) if refused.camera in clips else refused
@@ -373,10 +573,12 @@ class Laboratory:
             text = one.text
             try:
                 for clip in one.clips:
+                    if not clip.is_seen():
+                        raise NotesFault(UNSEEN)
                     await asyncio.to_thread(self.put_note, one.camera or "", clip, note)
             except NotesFault as fault:
                 text = f"{text} {fault}"
-            found.append(Kept(one.camera, one.is_kept, text, one.clips))
+            found.append(replace(one, text=text))
         return found
 
     def put_note(self, camera: str, clip: Clip, text: str) -> None:
@@ -397,38 +599,40 @@ class Laboratory:
         return watched, reading, source, clip
 
     async def release(self, camera: str, id_: int, first: int | None) -> str:
-        """Releases a clip that isn't being fetched."""
-        await self.look_at([self.watched(camera).camera.name], is_new=True)
-        self.clip(camera, id_, first)
+        """Releases a clip that isn't being fetched: the one that begins with this frame, where that is given."""
         key = (camera, id_)
         if self.fetching[key] or key in self.releasing:
             raise Unfit(409, "The clip is being fetched, or released already. Wait until that has ended.")
         self.releasing.add(key)
         try:
-            lines = (
-                await self.orders.ask(f"release {camera} {id_}", limits.CHANGE_SECONDS)
-                if self.orders.has_answers
-                else []
-            )
-            if not self.orders.has_answers:
-                self.orders.give(f"release {camera} {id_}")
-                await asyncio.sleep(0.5)
+            async with self.ordering:
+                await self.look_at([self.watched(camera).camera.name], is_new=True)
+                *_, clip = self.clip(camera, id_, first)
+                order = self.release_order(camera, clip)
+                waiting = self.orders.begin(order) if self.orders.has_answers else None
+                if waiting is None:
+                    self.orders.give(order)
+            lines = await self.orders.answer(waiting, limits.CHANGE_SECONDS) if waiting else []
+            await asyncio.sleep(0 if waiting else 0.5)
             await self.look_at([camera], is_new=True)
         finally:
             self.releasing.discard(key)
             self.hurry.set()
         if f"released {camera} {id_}" in lines:
             return f"{camera}: clip {id_} is released. Its room is used again."
-        if self.orders.has_answers:
+        if waiting:
             raise Unfit(409, f"{camera}: clip {id_} isn't released: {words.meaning(' '.join(lines) or 'no answer')}.")
-        if any(
-            (clip.id, clip.first) == (id_, first if first is not None else clip.first) for clip in self.clips_of(camera)
-        ):
+        reading = self.cameras[camera].reading
+        if reading is None or reading.clip_of(id_, clip.first, clip.last):
             raise Unfit(
                 409,
                 f"{camera}: clip {id_} still stands. The configuration has no `answers`, so the page can't say why.",
             )
         return f"{camera}: clip {id_} is released, as its store shows."
+
+    def release_order(self, camera: str, clip: Clip) -> str:
+        """The order that releases a clip. A station that takes the clip's first frame releases no other one that has its id by then."""
+        return f"release {camera} {clip.id}" + (f" {clip.first}" if self.takes_first else "")
 
     @contextlib.contextmanager
     def busy(self, camera: str, id_: int) -> Iterator[None]:
@@ -456,3 +660,8 @@ class Laboratory:
         await self.films.close()
         self.orders.pipe.close()
         self.orders.reader.close()
+
+
+def answered(lines: list[str]) -> set[str]:
+    """The cameras of which lines say what became of an order."""
+    return {parts[1] for line in lines if len(parts := line.split(" ")) > 2 and parts[0] in ANSWERS}

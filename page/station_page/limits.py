@@ -1,9 +1,16 @@
 """Every bound of the page, by its name."""
 
-# Connections at a time, of all kinds; how many of them may be event streams, and how many fetches.
+# Connections at a time, of all kinds; how many of them may be of those who aren't signed in, how many
+# event streams, and how many fetches, of all cameras and of one.
 CONNECTIONS = 300
+STRANGERS = 100
 STREAMS = 64
-FETCHES = 16
+FETCHES = 48
+CAMERA_FETCHES = 12
+# The bytes that are taken from a connection at a time, and how many requests may wait there behind
+# the one that is worked on.
+RECEIVE_BYTES = 16 * 1024
+REQUESTS_WAITING = 16
 # Seconds in which a request has to be whole, and in which a client that reads nothing has to read something.
 REQUEST_SECONDS = 15
 READ_SECONDS = 20
@@ -17,8 +24,14 @@ IDLE_SECONDS = 5.0
 FRESH_SECONDS = 2.0
 ASK_SECONDS = 5.0
 IDLE_ASK_SECONDS = 60.0
-# How long a disk may need for a look before nobody waits for it.
+# How long a disk may need for a look before nobody waits for it, and for a picture.
 DISK_SECONDS = 1.0
+PICTURE_SECONDS = 5.0
+# The threads that read one camera's frames, and how many reads may wait for them; the threads that
+# draw pictures of all cameras.
+CAMERA_THREADS = 2
+CAMERA_READS = 64
+DRAW_THREADS = 2
 # How long a keep or a release may wait for its answer: what waits for a slow disk is stored first.
 CHANGE_SECONDS = 15.0
 # How long another order may wait for its answer, and how often the answers are looked at while one is awaited, and else.
@@ -31,21 +44,36 @@ ORDERS = 32
 KEEP_SECONDS = 86_400
 NOTE_BYTES = 500
 NOTES = 4096
-# How long a source may be missing, or a store absent, before it is warned of.
+# How often it is looked at whether an answer of which a part came is enough.
+ENOUGH_SECONDS = 0.25
+# How long a source may be missing, or a store absent, before it is warned of; how long frames, a disk or
+# a station may be away before the page warns of it by its own eyes.
 PASSING_SECONDS = 3.0
+SILENT_SECONDS = 4.0
+HANGING_SECONDS = 5.0
+# After how many seconds without a new frame a camera isn't shown as one that records.
+STILL_SECONDS = 2.0
+# How long a clip that was kept is looked for in its store, for its times and its note.
+FIND_SECONDS = 3.0
 # Alerts that are remembered, and those that wait for the command or the webhook; the seconds that these may take.
 ALERTS = 100
 DELIVERIES = 100
 DELIVERY_SECONDS = 30.0
+# The lines of who changed what that are remembered, and those that each open page is sent.
+JOURNAL = 200
+JOURNAL_SENT = 30
 # The width to which pictures of tiles, and those of clips in the list, are made smaller.
 TILE_WIDTH = 640
 THUMB_WIDTH = 160
-# Pictures that are remembered.
+# Pictures that are remembered, and the bytes that these may take together.
 PICTURES = 64
+PICTURE_BYTES = 16 * 1024 * 1024
 # Films that wait to be made, that are remembered, and the bytes that these may take together.
 FILMS_WAITING = 8
 FILMS = 16
 FILM_BYTES = 2 * 1024**3
+# Seconds after which a folder of films without a lock is one that a page left.
+LEFT_SECONDS = 60.0
 # Seconds after which a film that nobody reads any more isn't made on.
 FILM_IDLE_SECONDS = 5.0
 # The bytes of a piece that is read from a store and sent.
@@ -57,3 +85,38 @@ WRONG_TOKENS = 20
 GUESSERS = 1000
 # The largest number of a frame.
 NUMBERS_END = 2**62
+# Pictures of one camera a second: live, while an event is played, at least, and of all cameras of a page together.
+LIVE_RATE = 8
+PLAY_RATE = 25
+LEAST_PICTURES = 5
+PICTURES_A_SECOND = 60
+# How long a look at the newest frame serves all pages; how long a round waits for a disk.
+PEEK_SECONDS = 0.04
+ROUND_SECONDS = 1.0
+# The bytes that a page may not have taken yet before it is sent no further picture, and for how many
+# seconds it is then sent no state either.
+WAITING_BYTES = 64 * 1024
+STATE_SECONDS = 2.0
+# Reads for pictures of one camera that may wait.
+EYE_READS = 64
+# After how many seconds pictures become smaller where the network is slow, and larger where it isn't: at first, and at most.
+PACE_SECONDS = 2.0
+CALM_SECONDS = 6.0
+CALM_MOST = 60.0
+# The width of a picture, at least and at most, and of that by which a stretch is chosen; by how little it may differ and is left.
+LEAST_WIDTH = 16
+MOST_WIDTH = 16384
+AUTO_WIDTH = 256
+AUTO_CALM = 3
+# A time without frames that is a hole: microseconds beyond the period.
+HOLE = 200_000
+# The bytes of pictures that are remembered of each camera.
+EYE_BYTES = 2 * 1024 * 1024
+# Events that are fetched at a time.
+EVENT_FETCHES = 8
+# The clips of an event that a request may name, and those that a store has room for.
+EVENT_CLIPS = 256
+EVENT_CLIPS_A_STORE = 64
+# The zips whose progress pages are told, and for how many seconds after their end.
+PROGRESS = 32
+PROGRESS_SECONDS = 30.0

@@ -1,8 +1,8 @@
 """What people write beside clips, in a file of the page's own: by the store's path, the clip's id and the times of its first and last frame, so
 that a note never comes to stand beside other frames. The file is written anew, synced, and put in the old one's place."""
+import contextlib
 import json
 import os
-import tempfile
 import threading
 from pathlib import Path
 
@@ -35,7 +35,16 @@ class Notes:
     def __init__(self, path: str) -> None:
         self.path, self.lock = path, threading.Lock()
         self.notes: dict[str, str] = {}
+        # It grows with each change, so that open pages see that there is one.
+        self.version = 0
+        # What a page left that was killed while it wrote.
+        with contextlib.suppress(OSError):
+            os.unlink(self.new())
         self.fault = self.load()
+
+    def new(self) -> str:
+        """The path of a file of notes that isn't whole yet."""
+        return f"{self.path}.new"
 
     def load(self) -> str | None:
         """Reads the file. Answers why it can't be, if so; then it is never written over."""
@@ -71,13 +80,13 @@ class Notes:
             if line:
                 changed[key_of(store, clip)] = line
             self.write(changed)
-            self.notes = changed
+            self.notes, self.version = changed, self.version + 1
 
     def write(self, notes: dict[str, str]) -> None:
         """Writes the file: a new one, synced, in the old one's place."""
-        folder, new = Path(self.path).parent, ""
+        folder, new = Path(self.path).parent, self.new()
         try:
-            descriptor, new = tempfile.mkstemp(prefix=".loop_page.", dir=folder)
+            descriptor = os.open(new, os.O_WRONLY | os.O_CREAT | os.O_TRUNC | os.O_NOFOLLOW | os.O_CLOEXEC, 0o600)
             with os.fdopen(descriptor, "w", encoding="utf-8") as file:
                 json.dump({"version": VERSION, "notes": notes}, file, ensure_ascii=False, indent=1)
                 file.flush()
@@ -89,6 +98,6 @@ class Notes:
             finally:
                 os.close(descriptor)
         except OSError as fault:
-            if new and os.path.exists(new):
+            with contextlib.suppress(OSError):
                 os.unlink(new)
             raise NotesFault(f"The note can't be written: {self.path}: {fault.strerror}.") from None

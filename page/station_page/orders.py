@@ -6,6 +6,7 @@ import os
 import secrets
 import select
 import stat
+import time
 from collections.abc import Callable
 
 from . import limits
@@ -131,11 +132,23 @@ class AnswerReader:
 
 
 class Waiting:
-    """An order that waits for its last line."""
+    """An order that waits for its last line. `each` is told each line when it comes, among the events that come beside it."""
 
-    def __init__(self) -> None:
+    def __init__(self, label: str, each: Callable[[str], None] | None = None) -> None:
+        self.label, self.each = label, each
         self.lines: list[str] = []
         self.done: asyncio.Future[None] = asyncio.get_running_loop().create_future()
+
+    def take(self, text: str) -> None:
+        """A line of its answer."""
+        self.lines.append(text)
+        if self.each:
+            self.each(text)
+
+
+def label_of(prefix: str, order: str, count: int) -> str:
+    """The label of an order. Those of `status` are known by theirs, so that the service's journal leaves them out."""
+    return f"{prefix}-{'poll-' if order == 'status' else ''}{count}"
 
 
 class Orders:
@@ -144,30 +157,51 @@ class Orders:
     def __init__(self, orders: str | None, answers: str | None, on_event: Callable[[str], None]) -> None:
         self.pipe, self.reader, self.on_event = OrderPipe(orders), AnswerReader(answers), on_event
         self.waiting: dict[str, Waiting] = {}
-        self.prefix, self.count = f"page-{secrets.token_hex(4)}", 0
+        self.prefix, self.counts = f"page-{secrets.token_hex(4)}", {True: 0, False: 0}
         self.has_answers = answers is not None
         self.wake = asyncio.Event()
         self.reader.open(at_end=True)
 
-    async def ask(self, order: str, seconds: float = limits.ANSWER_SECONDS) -> list[str]:
-        """Gives an order, and waits for its answer."""
+    def begin(self, order: str, each: Callable[[str], None] | None = None) -> Waiting:
+        """Gives an order whose answer is to be heard. It is written before this returns."""
         if len(self.waiting) >= limits.ORDERS:
             raise NoStation("Too many orders wait for an answer. Try again in a moment.")
-        self.count += 1
-        label, waiting = f"{self.prefix}-{self.count}", Waiting()
-        self.waiting[label] = waiting
+        kind = order == "status"
+        self.counts[kind] += 1
+        waiting = Waiting(label_of(self.prefix, order, self.counts[kind]), each)
+        self.pipe.write(f"@{waiting.label} {order}")
+        self.waiting[waiting.label] = waiting
+        self.wake.set()
+        return waiting
+
+    async def answer(
+        self, waiting: Waiting, seconds: float, is_enough: Callable[[list[str]], bool] | None = None
+    ) -> list[str]:
+        """The lines that answer an order, once they are there: all of them, or, where `is_enough` says so of those that came, these."""
+        end = time.monotonic() + seconds
         try:
-            self.pipe.write(f"@{label} {order}")
-            self.wake.set()
-            await asyncio.wait_for(waiting.done, seconds)
+            while not waiting.done.done():
+                if is_enough and is_enough(waiting.lines):
+                    return waiting.lines
+                left = end - time.monotonic()
+                if left <= 0:
+                    raise asyncio.TimeoutError
+                await asyncio.wait([waiting.done], timeout=min(left, limits.ENOUGH_SECONDS) if is_enough else left)
+            waiting.done.result()
         except asyncio.TimeoutError:
             raise NoStation(
                 f"The station hasn't answered within {seconds:.0f} seconds. It may still do what was asked: look at the clips. "
                 "Does it run, is its disk slow, and does it write its answers where the page reads them?"
             ) from None
         finally:
-            del self.waiting[label]
+            del self.waiting[waiting.label]
         return waiting.lines
+
+    async def ask(
+        self, order: str, seconds: float = limits.ANSWER_SECONDS, each: Callable[[str], None] | None = None
+    ) -> list[str]:
+        """Gives an order, and waits for its answer."""
+        return await self.answer(self.begin(order, each), seconds)
 
     def give(self, order: str) -> None:
         """Gives an order without a label, to a station whose answers nobody can read."""
@@ -182,7 +216,7 @@ class Orders:
         if waiting and line.text == "done" and not waiting.done.done():
             waiting.done.set_result(None)
         elif waiting:
-            waiting.lines.append(line.text)
+            waiting.take(line.text)
 
     def give_up(self) -> None:
         """Tells those who wait that the station has ended."""

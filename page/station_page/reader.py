@@ -1,22 +1,20 @@
-"""Stores as they are now. The layout, and how a store that changes meanwhile is read, are those of tools/layout.py; here stands what is
-remembered between two readings, so that one costs the heads of the new frames alone."""
+"""Stores as they are now. The layout, how a store that changes meanwhile is read, and how a frame is known to be whole are the module lapyrei's; here
+stands what the page makes of a reading."""
+import asyncio
 import os
-import stat
 import threading
-import time
 from bisect import bisect_left
 from dataclasses import dataclass
 
-import layout
+from lapyrei import layout
+from lapyrei.errors import Gone
+from lapyrei.files import Known, read_steadily
+from lapyrei.files import StoreFile as OpenStore
 
-# A hole in time is longer than three frame periods, and than one and so many microseconds: as store_info has it.
-HOLE = 200_000
+from .workers import Workers
+
 # The frames by which the rate is reckoned.
 RATE_FRAMES = 50
-
-
-class Gone(Exception):
-    """A frame, or a clip, that isn't held any more."""
 
 
 @dataclass(frozen=True)
@@ -34,6 +32,10 @@ class Clip:
         """How many frames it has."""
         return self.last - self.first + 1
 
+    def is_seen(self) -> bool:
+        """Whether it was seen in its store: the station tells its numbers alone, and then it has no times."""
+        return self.until > 0
+
 
 @dataclass(frozen=True)
 class Piece:
@@ -43,47 +45,6 @@ class Piece:
     last: int
     since: int
     until: int
-
-
-class Known:
-    """The heads of frames that were read before, by the segment's place: a block's frames stay as they are as long as it is there."""
-
-    def __init__(self) -> None:
-        self.blocks: dict[int, tuple[int, list]] = {}
-
-    def frames_of(self, read_at, geometry: layout.Geometry, segments: list) -> list:
-        """The frames' heads. The first one of each block is read again, so that a store that was formatted anew is seen."""
-        frames = []
-        for segment in segments:
-            if not segment.open:
-                self.blocks.pop(segment.place, None)
-                continue
-            block, heads = self.blocks.get(segment.place, (None, []))
-            if heads and (
-                block != segment.block
-                or len(heads) > segment.whole
-                or heads[:1] != layout.read_slots(read_at, geometry, first_slot(segment))
-            ):
-                heads = []
-            new = layout.read_slots(read_at, geometry, segment, len(heads))
-            # Another list, so that readings made before keep theirs.
-            heads = heads + new if new else heads
-            self.blocks[segment.place] = (segment.block, heads)
-            frames += heads
-        return frames
-
-
-def first_slot(segment: layout.Segment) -> layout.Segment:
-    """A segment as if it had one frame."""
-    short = layout.Segment.__new__(layout.Segment)
-    short.place, short.open, short.block, short.gates, short.whole = (
-        segment.place,
-        segment.open,
-        segment.block,
-        segment.gates,
-        min(1, segment.whole),
-    )
-    return short
 
 
 class Reading:
@@ -98,6 +59,15 @@ class Reading:
     def clip(self, id_: int) -> Clip | None:
         """The clip of an id."""
         return next((clip for clip in self.clips if clip.id == id_), None)
+
+    def clip_of(self, id_: int, first: int, last: int) -> Clip | None:
+        """The clip of an id that has these frames: ids are used again."""
+        found = self.clip(id_)
+        return found if found and (found.first, found.last) == (first, last) else None
+
+    def is_all_locked(self) -> bool:
+        """Whether no block is left into which further frames could come."""
+        return self.removed_next() is None and len(self.store.with_frames()) == self.geometry.segments
 
     def rate(self) -> float | None:
         """Frames a second, by the newest ones."""
@@ -130,8 +100,7 @@ class Reading:
 
     def divide(self) -> list[Piece]:
         """The pieces, reckoned."""
-        frames, period = self.frames, 1_000_000 * self.geometry.den // self.geometry.num
-        longest = max(3 * period, period + HOLE)
+        frames, longest = self.frames, layout.longest_step(self.geometry)
         # A frame as a tuple, since this is done for each frame, often: its number is the first, and its time the fourth.
         breaks = [
             place
@@ -167,59 +136,11 @@ class Reading:
         return self.frames[start : start + clip.count()]
 
 
-class OpenStore:
-    """An open file of a store, from which the bytes of frames are read. It stays open for all who read it."""
-
-    def __init__(self, path: str) -> None:
-        try:
-            self.file = os.open(path, os.O_RDONLY | os.O_NONBLOCK | os.O_CLOEXEC)
-        except OSError as fault:
-            raise layout.Refused(
-                "missing" if isinstance(fault, FileNotFoundError) else f"cannot open: {fault.strerror}"
-            ) from None
-        found = os.fstat(self.file)
-        if not stat.S_ISREG(found.st_mode):
-            raise layout.Refused("not a file")
-        self.identity = (found.st_dev, found.st_ino)
-
-    def read_at(self, at: int, count: int) -> bytes:
-        """Bytes from a place on. A file that is cut meanwhile has fewer than asked for; one that is too short for a store is judged by its first bytes."""
-        try:
-            data = os.pread(self.file, count, at)
-        except OSError as fault:
-            raise layout.Refused(f"cannot read: {fault.strerror}") from None
-        if len(data) < count and at:
-            raise layout.Unsteady
-        return data
-
-    def part(self, geometry: layout.Geometry, place: int, number: int, at: int, count: int) -> bytes:
-        """A part of the bytes of a frame, which stands in the segment of a place. It is the frame's, and not another's, by the header before and
-        after, and by the frame's head."""
-        block, slot = divmod(number, geometry.slots)
-        self.expect(geometry, place, block, slot)
-        head = layout.Frame(*layout.SLOT_HEAD.unpack(self.read_at(geometry.slot_at(place, slot), layout.HEAD))[:5])
-        data = self.read_at(geometry.slot_at(place, slot) + layout.HEAD + at, count)
-        self.expect(geometry, place, block, slot)
-        if head.number != number:
-            raise Gone(f"frame {number} isn't held any more")
-        return data
-
-    def expect(self, geometry: layout.Geometry, place: int, block: int, slot: int) -> None:
-        """Sees that a frame is whole in its place."""
-        segment = layout.Segment(place, self.read_at(geometry.segment_at(place), layout.HEADER), geometry.slots)
-        if not segment.open or segment.block != block or slot >= segment.whole:
-            raise Gone(f"frame {block * geometry.slots + slot} isn't held any more")
-
-    def __del__(self) -> None:
-        if hasattr(self, "file"):
-            os.close(self.file)
-
-
 class Source:
     """The frames of a reading, to be fetched: the open file, and where each block is."""
 
-    def __init__(self, opened: OpenStore, reading: Reading) -> None:
-        self.opened, self.geometry = opened, reading.geometry
+    def __init__(self, opened: OpenStore, reading: Reading, reads: Workers | None = None) -> None:
+        self.opened, self.geometry, self.reads = opened, reading.geometry, reads
         self.places = {segment.block: segment.place for segment in reading.store.with_frames()}
 
     def part(self, number: int, at: int, count: int) -> bytes:
@@ -236,12 +157,19 @@ class Source:
         """All bytes of a frame."""
         return self.part(number, 0, self.geometry.size)
 
+    async def do(self, work, *words, seconds: float | None = None):
+        """Does what reads the store, in the threads of its camera."""
+        if self.reads is None:
+            return await asyncio.to_thread(work, *words)
+        return await self.reads.do(work, *words, seconds=seconds)
+
 
 class Reader:
     """A store in the file of a path, read again and again. Readings are made one at a time, from any thread."""
 
-    def __init__(self, path: str) -> None:
-        self.path, self.lock = path, threading.Lock()
+    def __init__(self, path: str, reads: Workers | None = None) -> None:
+        """`reads` are the threads in which its frames are read."""
+        self.path, self.lock, self.reads = path, threading.Lock(), reads
         self.opened: OpenStore | None = None
         self.known = Known()
 
@@ -269,10 +197,5 @@ class Reader:
         """A reading of one moment."""
         opened = self.opened
         assert opened is not None
-        for _ in range(layout.TRIES):
-            try:
-                reading = Reading(layout.read_once(opened.read_at, os.fstat(opened.file).st_size, self.known.frames_of))
-                return reading, Source(opened, reading)
-            except layout.Unsteady:
-                time.sleep(0.002)
-        raise layout.Refused("the store changes faster than it can be read")
+        reading = Reading(read_steadily(opened, self.known))
+        return reading, Source(opened, reading, self.reads)

@@ -1,4 +1,5 @@
 """The page's addresses, and the program."""
+import argparse
 import asyncio
 import collections
 import json
@@ -6,32 +7,30 @@ import logging
 import re
 import signal
 import sys
-from collections.abc import AsyncIterator
+from collections.abc import AsyncIterator, Awaitable
 from pathlib import Path
 
-from aiohttp import web
+from aiohttp import http_exceptions, web
 
-from . import limits, metrics, pictures
+from . import limits, metrics, pictures, words
 from .asked import moment_in, number_in, problem, range_of
+from .console import Console
 from .films import FilmFault, Text, csv_of, zip_stream
-from .guard import COOKIE, HEADERS, Connection, Gate
+from .guard import COOKIE, HEADERS, OPEN, Connection, Gate, bearer_of, session_word
+from .journal import Expected, PlainFormatter
 from .laboratory import Laboratory
 from .notes import NotesFault
 from .orders import NoStation
 from .reader import Gone
 from .settings import BadSettings, Settings, read_settings
 from .words import Unfit
+from .workers import DRAWING, NO_ANSWER
 
 log = logging.getLogger("loop_page")
+TOO_MANY = "Too many wrong tokens came from your address. Wait a minute, or bring the right one."
 STATIC = Path(__file__).parent / "static"
-STATIC_FILES = {
-    "page.html": "text/html",
-    "page.js": "text/javascript",
-    "timeline.js": "text/javascript",
-    "page.css": "text/css",
-    "sign_in.html": "text/html",
-    "icon.svg": "image/svg+xml",
-}
+TYPES = {".html": "text/html", ".js": "text/javascript", ".css": "text/css", ".svg": "image/svg+xml"}
+STATIC_FILES = {path.name: TYPES[path.suffix] for path in sorted(STATIC.iterdir()) if path.suffix in TYPES}
 KINDS = {
     "mp4": "video/mp4",
     "y4m": "video/x-yuv4mpeg2",
@@ -41,25 +40,42 @@ KINDS = {
 }
 
 
+# Requests that are none, and clients that leave, for which aiohttp would write where it failed: it asserts that they are there.
+MALFORMED = Expected((http_exceptions.HttpProcessingError, web.RequestPayloadError, ConnectionError, AssertionError))
+
+
 class Pictures:
     """The pictures that were made last, so that several pages cost as much as one."""
 
     def __init__(self) -> None:
         self.made: collections.OrderedDict[tuple, bytes] = collections.OrderedDict()
-        self.turn = asyncio.Lock()
+        self.bytes = 0
+        # One at a time of each store, so that one frame of each is in memory. A disk that doesn't answer holds up its own pictures alone.
+        self.turns: collections.defaultdict[tuple, asyncio.Lock] = collections.defaultdict(asyncio.Lock)
 
     async def jpeg(self, source, frame, width: int | None) -> bytes:
-        """A frame as JPEG, made once."""
+        """A frame as JPEG, made once. Unfit where its disk doesn't answer."""
         key = (source.opened.identity, frame.number, frame.time, width)
-        async with self.turn:
+        try:
+            return await asyncio.wait_for(self.made_of(key, source, frame, width), limits.PICTURE_SECONDS)
+        except asyncio.TimeoutError:
+            raise Unfit(503, NO_ANSWER) from None
+
+    async def made_of(self, key: tuple, source, frame, width: int | None) -> bytes:
+        """The picture of a key, once it is its turn."""
+        async with self.turns[source.opened.identity]:
             if key not in self.made:
-                self.made[key] = await asyncio.to_thread(
-                    lambda: pictures.jpeg(source.geometry, source.frame(frame.number), width)
-                )
-                while len(self.made) > limits.PICTURES:
-                    self.made.popitem(last=False)
+                data = await source.do(source.frame, frame.number)
+                self.remember(key, await DRAWING.do(pictures.jpeg, source.geometry, data, width))
             self.made.move_to_end(key)
             return self.made[key]
+
+    def remember(self, key: tuple, body: bytes) -> None:
+        """Remembers a picture, and drops those that were asked for longest ago."""
+        self.made[key] = body
+        self.bytes += len(body)
+        while len(self.made) > 1 and (len(self.made) > limits.PICTURES or self.bytes > limits.PICTURE_BYTES):
+            self.bytes -= len(self.made.popitem(last=False)[1])
 
 
 class Page:
@@ -68,8 +84,9 @@ class Page:
     def __init__(self, settings: Settings) -> None:
         self.laboratory, self.gate = Laboratory(settings), Gate(settings)
         self.registry = metrics.registry_of(self.laboratory, self.gate)
-        self.pictures, self.fetches = Pictures(), 0
+        self.pictures, self.fetches = Pictures(), collections.Counter()
         self.files = {name: (STATIC / name).read_bytes() for name in STATIC_FILES}
+        self.console = Console(self)
 
     def app(self) -> web.Application:
         """All of them."""
@@ -86,6 +103,7 @@ class Page:
         get("/metrics", self.metrics)
         get("/api/status", self.status)
         get("/api/clips", self.clips)
+        get("/api/journal", self.journal)
         get(f"/api/cameras/{camera}/newest.jpg", self.newest)
         get(f"/api/cameras/{camera}/frame", self.frame)
         get(rf"/api/cameras/{camera}/frames/{{number:\d{{1,19}}}}.jpg", self.frame_picture)
@@ -94,6 +112,7 @@ class Page:
         post("/api/release", self.release)
         post("/api/note", self.note)
         post("/api/seen", self.seen)
+        self.console.add_to(app)
         return app
 
     # ------------------------------------------------------------------------------------------- who is let in
@@ -106,6 +125,7 @@ class Page:
             raise web.HTTPBadRequest()
         connection.begin()
         try:
+            connection.is_known = self.gate.is_known(request)
             response = await self.judged(request, handler)
         finally:
             connection.end()
@@ -133,6 +153,8 @@ class Page:
             return problem(507, str(fault))
         except asyncio.TimeoutError:
             return problem(408, "The request's body didn't come in time.")
+        except web.RequestPayloadError:
+            return problem(400, "The request's body can't be read.")
         except web.HTTPException as answer:
             if answer.status in (301, 302, 303):
                 self.dress(answer)
@@ -142,22 +164,45 @@ class Page:
                 f"{answer.reason}.",
                 {key: answer.headers[key] for key in ("Allow", "Content-Range") if key in answer.headers},
             )
+        except ConnectionError:
+            # The client has left.
+            raise
+        except Exception:
+            log.exception("%s %s failed", request.method, request.path)
+            return problem(500, "The page has failed at this. Its journal says where.")
 
     def gate_of(self, request: web.Request) -> None:
         """Refuses who may not pass."""
         if not self.gate.is_host(request):
             raise Unfit(421, "This page answers to the names of its own machine alone. Another name wants a token.")
-        if self.gate.has_guessed(request) and request.path != "/healthz" and not self.gate.is_signed_in(request):
-            raise Unfit(429, "Too many wrong tokens came from your address. Wait a minute.")
-        if not self.gate.is_let_in(request):
-            if request.method == "GET" and request.path == "/":
-                raise web.HTTPSeeOther("/sign-in")
-            raise Unfit(401, "Sign in, or bring the token: Authorization: Bearer TOKEN.")
+        if not self.gate.is_known(request) and request.path not in OPEN:
+            self.refuse_stranger(request)
+        if request.headers.get("Content-Encoding", "identity").lower() != "identity":
+            raise Unfit(415, "Send the body as it is, and not packed.")
+        if self.gate.is_elsewhere(request):
+            raise Unfit(403, "Another site's page asks for this. Open it from the page itself.")
         if request.method not in ("GET", "HEAD") and not self.gate.is_own(request):
             raise Unfit(
                 403,
                 "A change has to come from this page (Origin), or with the header X-Loop-Page: 1, or with the token as a bearer.",
             )
+
+    def refuse_stranger(self, request: web.Request) -> None:
+        """Says to somebody without the token what to do. Of a wrong one it is counted from where it came."""
+        if self.gate.has_guessed(request):
+            raise Unfit(429, TOO_MANY)
+        given = bearer_of(request)
+        self.gate.guess(given, request)
+        self.note_guesses(request, given)
+        if request.method == "GET" and request.path == "/":
+            raise web.HTTPSeeOther("/sign-in")
+        raise Unfit(401, "Sign in, or bring the token: Authorization: Bearer TOKEN.")
+
+    def note_guesses(self, request: web.Request, given: str) -> None:
+        """Writes down, once a minute, that too many wrong tokens came from an address."""
+        if given and self.gate.has_guessed(request):
+            text = f"{limits.WRONG_TOKENS} wrong tokens came within a minute. More of them have to wait."
+            self.laboratory.journal.add("wrong tokens", text, self.gate.who(request))
 
     # ------------------------------------------------------------------------------------------- the page itself
 
@@ -192,20 +237,44 @@ class Page:
         """A person gives the token."""
         if request.content_type != "application/x-www-form-urlencoded":
             raise Unfit(415, "Send the form.")
-        form = await asyncio.wait_for(request.post(), limits.REQUEST_SECONDS)
+        try:
+            form = await asyncio.wait_for(request.post(), limits.REQUEST_SECONDS)
+        except (ValueError, LookupError):
+            raise Unfit(400, "The form can't be read.") from None
         token = form.get("token", "")
-        if not isinstance(token, str) or not self.gate.is_token(token, request):
-            await asyncio.sleep(0.5)
-            page = self.files["sign_in.html"].replace(b'<p id="wrong" hidden>', b'<p id="wrong">')
-            return web.Response(status=403, body=page, content_type="text/html", charset="utf-8")
+        if not isinstance(token, str) or not self.gate.is_same(token):
+            return await self.refuse_sign_in(request, str(token))
+        name = self.gate.sign_in()
+        address, _ = self.gate.who(request)
+        self.laboratory.journal.add("sign-in", "signed in.", (address, f"session {session_word(name)}"))
         answer = web.HTTPSeeOther("/")
         answer.set_cookie(
-            COOKIE, self.gate.sign_in(), httponly=True, samesite="Strict", path="/", max_age=limits.SESSION_SECONDS
+            COOKIE,
+            name,
+            httponly=True,
+            samesite="Strict",
+            path="/",
+            max_age=limits.SESSION_SECONDS,
+            # A proxy with TLS stands before the page where its origin says so.
+            secure=request.headers.get("Origin", "").startswith("https://"),
         )
         raise answer
 
+    async def refuse_sign_in(self, request: web.Request, token: str) -> web.Response:
+        """Answers a wrong token, after a while; too many of them at once."""
+        if self.gate.has_guessed(request):
+            raise Unfit(429, TOO_MANY)
+        self.gate.guess(token, request)
+        log.warning("a wrong token came from %s", self.gate.who(request)[0])
+        self.note_guesses(request, token)
+        await asyncio.sleep(0.5)
+        page = self.files["sign_in.html"].replace(b'<p id="wrong" hidden>', b'<p id="wrong">')
+        return web.Response(status=403, body=page, content_type="text/html", charset="utf-8")
+
     async def sign_out(self, request: web.Request) -> web.Response:
         """A person ends the session."""
+        if self.gate.is_signed_in(request):
+            self.laboratory.journal.add("sign-out", "signed out.", self.gate.who(request))
         self.gate.sessions.pop(request.cookies.get(COOKIE, ""), None)
         answer = web.HTTPSeeOther("/sign-in")
         answer.del_cookie(COOKIE)
@@ -258,6 +327,10 @@ class Page:
         """All clips."""
         await self.laboratory.fresh()
         return web.json_response({"clips": self.laboratory.clips()})
+
+    async def journal(self, request: web.Request) -> web.Response:
+        """Who changed what, and what couldn't be told."""
+        return web.json_response({"journal": self.laboratory.journal.listed()})
 
     async def newest(self, request: web.Request) -> web.Response:
         """The newest stored frame; or the one of a number, so that pages that look at the same time cost one picture."""
@@ -325,8 +398,10 @@ class Page:
                 raise Unfit(400, "Give seconds, or from and to, where from isn't after to.")
         elif not isinstance(seconds, int) or isinstance(seconds, bool) or not 1 <= seconds <= limits.KEEP_SECONDS:
             raise Unfit(400, f"seconds is a whole number from 1 to {limits.KEEP_SECONDS}.")
-        kept = await self.laboratory.keep(camera, seconds, span, note)
-        is_kept = bool(kept) and any(one.is_kept for one in kept)
+        kept = await self.change(
+            request, "keep", keep_words(camera, seconds, span, note), self.laboratory.keep(camera, seconds, span, note)
+        )
+        is_kept = any(one.is_kept for one in kept)
         return web.json_response(
             {"kept": is_kept, "answers": [one.as_object() for one in kept]}, status=200 if is_kept else 409
         )
@@ -343,7 +418,9 @@ class Page:
     async def release(self, request: web.Request) -> web.Response:
         """Releases a clip."""
         _, camera, id_, first = await self.of_clip(request, set())
-        return web.json_response({"text": await self.laboratory.release(camera, id_, first)})
+        order = f"clip {id_} of {camera}" + ("" if first is None else f" from frame {first}")
+        text = await self.change(request, "release", order, self.laboratory.release(camera, id_, first))
+        return web.json_response({"text": text})
 
     async def note(self, request: web.Request) -> web.Response:
         """Writes a note beside a clip."""
@@ -351,13 +428,33 @@ class Page:
         if not isinstance(body.get("note"), str):
             raise Unfit(400, "note isn't a text.")
         *_, clip = self.laboratory.clip(camera, id_, first)
-        await asyncio.to_thread(self.laboratory.put_note, camera, clip, body["note"])
+        work = asyncio.to_thread(self.laboratory.put_note, camera, clip, body["note"])
+        await self.change(request, "note", f"clip {id_} of {camera}: {body['note'][: limits.NOTE_BYTES]}", work)
         return web.json_response({"text": "The note is written."})
+
+    async def change(self, request: web.Request, kind: str, order: str, work: Awaitable):
+        """Does what somebody asked for, and writes down who, and what became of it."""
+        who = self.gate.who(request)
+        try:
+            found = await work
+        except (Unfit, NoStation, NotesFault) as fault:
+            self.laboratory.journal.add(kind, f"{order}: refused: {fault}", who)
+            raise
+        except Exception as fault:
+            self.laboratory.journal.add(kind, f"{order}: failed: {fault!r}", who)
+            raise
+        told = " ".join(one.text for one in found) if isinstance(found, list) else found or "written."
+        self.laboratory.journal.add(kind, f"{order}: {told}", who)
+        self.laboratory.hurry.set()
+        return found
 
     async def seen(self, request: web.Request) -> web.Response:
         """Somebody has seen a warning."""
-        body = await self.body(request, {"id"})
-        if not isinstance(body.get("id"), int) or not self.laboratory.alerts.seen(body["id"]):
+        body = await self.body(request, {"id", "ids"})
+        wanted = body["ids"] if "ids" in body else [body.get("id")]
+        if not isinstance(wanted, list) or not all(isinstance(id_, int) for id_ in wanted):
+            raise Unfit(404, "There is no such warning any more.")
+        if not sum(self.laboratory.alerts.seen(id_) for id_ in wanted):
             raise Unfit(404, "There is no such warning any more.")
         self.laboratory.hurry.set()
         return web.json_response({"text": "Seen."})
@@ -371,14 +468,15 @@ class Page:
         fetch = self.laboratory.fetch(camera, id_, number_in(request.query.get("first"), limits.NUMBERS_END, "first"))
         if kind == "jpg":
             return await self.picture(fetch.source, fetch.frames[len(fetch.frames) // 2], limits.THUMB_WIDTH)
-        if self.fetches >= limits.FETCHES:
+        # A bound for each camera, so that those of one whose disk doesn't answer leave the others theirs.
+        if self.fetches.total() >= limits.FETCHES or self.fetches[camera] >= limits.CAMERA_FETCHES:
             raise Unfit(503, "Too many clips are being fetched. Try again in a minute.")
-        self.fetches += 1
+        self.fetches[camera] += 1
         try:
             with self.laboratory.busy(camera, id_):
                 return await getattr(self, f"fetch_{kind}")(request, fetch)
         finally:
-            self.fetches -= 1
+            self.fetches[camera] -= 1
 
     def file_response(self, request: web.Request, fetch, kind: str) -> web.StreamResponse:
         """An answer that is a file: it is saved under a name, or played where `play` is asked for."""
@@ -392,14 +490,14 @@ class Page:
         self, request: web.Request, response: web.StreamResponse, pieces: AsyncIterator[bytes]
     ) -> web.StreamResponse:
         """Sends a body. Where it can't go on, the connection is broken off, so that nobody takes a part for the whole."""
-        await response.prepare(request)
-        if request.method == "HEAD":
-            return response
         try:
+            await response.prepare(request)
+            if request.method == "HEAD":
+                return response
             async for piece in pieces:
                 await response.write(piece)
             await response.write_eof()
-        except (Gone, FilmFault, OSError) as fault:
+        except (Gone, FilmFault, Unfit, OSError) as fault:
             if not isinstance(fault, ConnectionError):
                 log.warning("%s broke off: %s", request.path, fault)
             if request.transport:
@@ -458,6 +556,12 @@ class Page:
             return await self.send_known(request, fetch, "mp4", film.size, pieces)
 
 
+def keep_words(camera: object, seconds: int | None, span: tuple[int, int] | None, note: str) -> str:
+    """A keep that was asked for, in words."""
+    what = f"from {words.iso(span[0])} to {words.iso(span[1])}" if span else f"{seconds} s"
+    return f"{what} of {camera if isinstance(camera, str) else 'all cameras'}" + (f", note {note[:limits.NOTE_BYTES]!r}" if note else "")
+
+
 async def end_all(tasks: list[asyncio.Task]) -> None:
     """Ends all tasks. Before Python 3.12 `wait_for` loses a cancellation that comes together with what it waits for: then there is another one."""
     while left := [task for task in tasks if not task.done()]:
@@ -469,7 +573,10 @@ async def end_all(tasks: list[asyncio.Task]) -> None:
 async def serve(settings: Settings) -> None:
     """Runs the page until it is told to end."""
     page = Page(settings)
-    runner = web.AppRunner(page.app(), access_log=None, keepalive_timeout=limits.REQUEST_SECONDS)
+    # A body stays as it was sent: one that is packed would be unpacked before anybody has looked at who sends it.
+    runner = web.AppRunner(
+        page.app(), access_log=None, keepalive_timeout=limits.REQUEST_SECONDS, auto_decompress=False
+    )
     await runner.setup()
     loop = asyncio.get_running_loop()
     server = await loop.create_server(
@@ -504,16 +611,17 @@ async def serve(settings: Settings) -> None:
             raise fault
 
 
-def main(words: list[str]) -> int:
-    """Reads the words; answers the status."""
-    logging.basicConfig(format="loop_page: %(message)s", level=logging.WARNING)
+def main(given: argparse.Namespace) -> int:
+    """Reads the files that the options name, and serves; answers the status."""
+    lines = logging.StreamHandler()
+    lines.setFormatter(PlainFormatter())
+    logging.basicConfig(handlers=[lines], level=logging.WARNING)
+    log.setLevel(logging.INFO)
+    logging.getLogger("aiohttp.server").addFilter(MALFORMED)
     try:
-        settings = read_settings(words)
+        settings = read_settings(given)
         asyncio.run(serve(settings))
-    except BadSettings as fault:
-        print(f"loop_page: {fault}", file=sys.stderr)
-        return 1
-    except OSError as fault:
-        print(f"loop_page: {fault}", file=sys.stderr)
+    except (BadSettings, OSError) as fault:
+        print(words.plain(f"loop_page: {fault}"), file=sys.stderr)
         return 1
     return 0

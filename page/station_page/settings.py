@@ -3,6 +3,8 @@ import argparse
 import ipaddress
 import os
 import re
+import secrets
+import stat
 import tomllib
 from dataclasses import dataclass, field
 from pathlib import Path
@@ -10,6 +12,10 @@ from pathlib import Path
 NAME = re.compile(r"[A-Za-z0-9_-]{1,32}")
 WORDS = {"listen", "token", "on_alert", "webhook", "notes", "folder"}
 TOKEN_LEAST = 16
+# The random bytes of a token that the page makes.
+TOKEN_BYTES = 32
+# Where the version stands: beside the installed modules, or beside the sources.
+VERSION_FILES = ("../VERSION", "../../VERSION")
 
 
 class BadSettings(Exception):
@@ -107,9 +113,16 @@ def address_of(listen: str) -> tuple[str, int]:
 
 
 def token_in(path: str) -> str:
-    """The token in a file: its first line."""
+    """The token in a file: its first line. Nobody else may know it, so a file that others may read or write is refused."""
     try:
         with open(path, encoding="ascii") as file:
+            found = os.fstat(file.fileno())
+            if not stat.S_ISREG(found.st_mode):
+                raise BadSettings(f"token: {path} isn't a file")
+            if found.st_mode & (stat.S_IRWXO | stat.S_IWGRP):
+                raise BadSettings(f"token: {path}: others may read or write it. Take that right away: chmod o=,g-w {path}")
+            if found.st_uid not in (0, os.geteuid()):
+                raise BadSettings(f"token: {path} belongs to another user, who may change it. Make a file of your own")
             token = file.readline(1024).strip()
     except OSError as fault:
         raise BadSettings(f"token: {path}: {fault.strerror}") from None
@@ -120,20 +133,49 @@ def token_in(path: str) -> str:
     return token
 
 
+def make_token(path: str) -> None:
+    """Makes a file with a new token, which its owner alone may read. One that is there stays as it is."""
+    try:
+        file = os.open(path, os.O_WRONLY | os.O_CREAT | os.O_EXCL | os.O_NOFOLLOW | os.O_CLOEXEC, 0o600)
+        with os.fdopen(file, "w", encoding="ascii") as out:
+            # Whatever the mask of the caller.
+            os.fchmod(out.fileno(), 0o600)
+            out.write(secrets.token_urlsafe(TOKEN_BYTES) + "\n")
+            out.flush()
+            os.fsync(out.fileno())
+    except OSError as fault:
+        raise BadSettings(f"--make-token: {path}: {fault.strerror}") from None
+
+
+def version() -> str:
+    """The version of the program."""
+    for place in VERSION_FILES:
+        path = Path(__file__).resolve().parent / place
+        if path.is_file():
+            return path.read_text(encoding="ascii").strip()
+    return "unknown"
+
+
 def parser() -> argparse.ArgumentParser:
     """The options."""
     words = argparse.ArgumentParser(
         prog="loop_page",
+        usage="loop_page CONFIG [OPTIONS..]\n       loop_page --make-token FILE",
         description="See, press and fetch what a station records, in a browser.",
         epilog="docs/page.md and loop_page(1) describe it.",
     )
-    words.add_argument("config", metavar="CONFIG", help="the station's own configuration file")
+    words.add_argument("config", metavar="CONFIG", nargs="?", help="the station's own configuration file")
+    words.add_argument("--version", action="version", version=f"loop_page {version()}")
+    words.add_argument(
+        "--make-token", metavar="FILE", help="make a file with a new token, which you alone may read, and end"
+    )
     words.add_argument(
         "--listen",
         metavar="ADDRESS:PORT",
         help="where the page is (127.0.0.1:8080); another address than this machine's wants a token",
     )
-    words.add_argument("--token", metavar="FILE", help="a file whose first line is the token, of 16 characters or more")
+    words.add_argument("--token", metavar="FILE", help="a file whose first line is the token, of 16 characters or more; "
+        "others may neither read nor write it")
     words.add_argument(
         "--settings", metavar="FILE", help="more words: listen, token, on_alert, webhook, notes, folder (TOML)"
     )
@@ -160,9 +202,17 @@ def own_words(path: str | None) -> dict:
     return own
 
 
-def read_settings(words: list[str]) -> Settings:
-    """Reads options and files."""
-    given = parser().parse_args(words)
+def options_of(words: list[str]) -> argparse.Namespace:
+    """Reads the options. `--help`, `--version` and unknown words end the program here."""
+    options = parser()
+    given = options.parse_args(words)
+    if (given.config is None) == (given.make_token is None):
+        options.error("name the station's configuration file, or --make-token FILE alone")
+    return given
+
+
+def read_settings(given: argparse.Namespace) -> Settings:
+    """Reads the files that the options name."""
     own = own_words(given.settings)
     config = toml_of(given.config)
     named = {

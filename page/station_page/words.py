@@ -6,11 +6,17 @@ from dataclasses import dataclass
 EPOCH = datetime.datetime(1970, 1, 1, tzinfo=datetime.timezone.utc)
 STAMP = re.compile(r"(\d{4}-\d\d-\d\dT\d\d:\d\d:\d\d(?:\.\d{1,6})?Z) ")
 LABEL = re.compile(r"@([A-Za-z0-9_-]{1,32}) ")
-KEPT = re.compile(r"kept (\S+) (\d{1,2}) (\d{1,19})\.\.(\d{1,19})(?: tag (\d{1,20}))?")
+KEPT = re.compile(
+    r"kept (\S+) (\d{1,2}) (\d{1,19})\.\.(\d{1,19})(?: from (?P<since>\S+) to (?P<until>\S+) event (?P<event>\d{1,20}))?(?: tag (?P<tag>\d{1,20}))?"
+)
+# How the lines begin that stand beside those of a keep's clips: how much is held, what is missing, how far it goes.
+BESIDE_KEPT = ("held ", "gap ", "event ")
 STATUS = re.compile(
-    r"status (\S+) stored (\d{1,19}) given up (\d{1,19}) waiting (\d{1,19})(?: behind (\d{1,9}(?:\.\d)?))? room (\d{1,9}) faults (\d{1,19}) source (.{1,100})"
+    r"status (\S+) stored (\d{1,19}) given up (\d{1,19}) waiting (\d{1,19})(?: behind (\d{1,9}(?:\.\d)?))? room (\d{1,9})(?: keeps \d{1,9})? faults (\d{1,19}) source (.{1,100})"
 )
 
+# The line of `help` of a station that releases a clip by its first frame too.
+TAKES_FIRST = re.compile(r"^release CAMERA ID \[?FIRST")
 # What a refusal, or an absence, means, and what to do.
 WHY = {
     "AllLocked": "all of its room is locked. Release a clip that you don't need",
@@ -45,6 +51,11 @@ WHY = {
     "saving": "the clip is being saved. Wait until that has ended",
 }
 UNKNOWN = "docs/station.md says what this means"
+
+
+def plain(text: str) -> str:
+    """A text in one line, in which each sign that does something to a terminal is shown as what it is."""
+    return "".join(sign if sign.isprintable() else ascii(sign)[1:-1] for sign in text)
 
 
 class Unfit(Exception):
@@ -87,7 +98,8 @@ class Status:
 
 
 def read_line(raw: str) -> Line:
-    """A line without its time, and its label apart."""
+    """A line without its time, and its label apart. A name of a file in it may have any sign."""
+    raw = plain(raw)
     text = raw[stamped.end() :] if (stamped := STAMP.match(raw)) else raw
     labelled = LABEL.match(text)
     return Line(labelled[1], text[labelled.end() :]) if labelled else Line(None, text)
@@ -196,6 +208,12 @@ def iso(microseconds: int) -> str:
         return (EPOCH + datetime.timedelta(microseconds=microseconds)).strftime("%Y-%m-%dT%H:%M:%S.%fZ")
     except OverflowError:
         return str(microseconds)
+
+
+def clock(microseconds: int) -> str:
+    """A time of the day, UTC, to a tenth of a second; the number itself where it is none."""
+    text = iso(microseconds)
+    return f"{text[11:21]}Z" if text.endswith("Z") else text
 
 
 def seconds_words(seconds: float) -> str:

@@ -1,4 +1,5 @@
 """What the tests share: a laboratory in a folder, with the station of fake_station.py and a page."""
+import fcntl
 import http.client
 import json
 import os
@@ -14,11 +15,61 @@ import pytest
 
 HERE = Path(__file__).resolve().parent
 PROGRAM = Path(os.environ.get("LOOP_PAGE") or HERE.parent / "loop_page")
-sys.path[1:1] = [str(HERE.parent.parent / "tools"), str(PROGRAM.resolve().parent)]
+# The module lapyrei is that beside the page which is judged.
+PLACES = [PROGRAM.resolve().parent.parent / "python", PROGRAM.resolve().parent, HERE.parent.parent / "tools", HERE.parent.parent / "python"]
+sys.path[1:1] = map(str, PLACES)
 sys.dont_write_bytecode = True
+import lapyrei.layout  # noqa: E402,F401  Before tools/layout.py, which would take the one beside it.
 STATION = os.environ.get("FAKE_STATION") or str(HERE / "fake_station.py")
+# How much longer than on a machine that has time a test waits for something before it fails. What has to be quick is measured by the test itself.
+PATIENCE = 4
 OWN = {"X-Loop-Page": "1", "Content-Type": "application/json"}
 CAMERAS = [{"name": "left", "pattern": "64x48 YM12 100:1"}, {"name": "right", "pattern": "33x21 GREY 50:1"}]
+
+
+TOKEN = "a-token-of-more-than-16"
+
+
+def token_in(folder, text=TOKEN):
+    """Makes a file with a token, which nobody else may read, and answers its path."""
+    path = Path(folder) / "token"
+    path.write_text(text)
+    path.chmod(0o600)
+    return str(path)
+
+
+# What a page loads first where its disk or its clock is to be wrong: reads of a file named in the file `hangs` wait until it isn't any more, and the
+# system's clock is as many seconds wrong as the file `clock` says.
+SPOILT = """
+import os, time
+here = os.path.dirname(__file__)
+def text(name):
+    try:
+        with open(os.path.join(here, name)) as file:
+            return file.read()
+    except OSError:
+        return ""
+plain_read, plain_time = os.pread, time.time
+def pread(file, count, at):
+    while (name := text("hangs")) and name in os.readlink(f"/proc/self/fd/{file}"):
+        time.sleep(0.05)
+    return plain_read(file, count, at)
+os.pread, time.time = pread, lambda: plain_time() + float(text("clock") or 0)
+"""
+
+
+# A page with other bounds than those of limits.py.
+LIMITED = """
+import runpy, sys
+sys.dont_write_bytecode = True
+sys.path[1:1] = {path!r}
+from station_page import limits
+for name, value in {bounds!r}.items():
+    assert hasattr(limits, name), name
+    setattr(limits, name, value)
+sys.argv[0] = {program!r}
+runpy.run_path({program!r}, run_name="__main__")
+"""
 
 
 class Answer:
@@ -61,6 +112,8 @@ class Laboratory:
             text=True,
             **more,
         )
+        # What nobody reads yet holds up no program that prints much.
+        fcntl.fcntl(run.stdout, fcntl.F_SETPIPE_SZ, 1 << 20)
         self.runs.append(run)
         return run
 
@@ -77,15 +130,21 @@ class Laboratory:
         """The cameras' names."""
         return re.findall(r'^name = "(.*)"', (self.folder / "station.toml").read_text(), re.M)
 
-    def start_page(self, *words):
+    def start_limited(self, *words, **bounds):
+        """Starts the page with other bounds, by their names in limits.py."""
+        path = [str(PROGRAM.resolve().parent), str(HERE.parent.parent / "tools")]
+        (self.folder / "limited.py").write_text(LIMITED.format(path=path, bounds=bounds, program=str(PROGRAM.resolve())))
+        return self.start_page(*words, program=["/usr/bin/python3", "-B", "limited.py"])
+
+    def start_page(self, *words, program=(str(PROGRAM),), **environment):
         """Starts the page, and waits until it has looked at its cameras."""
         self.page = self.begin(
-            str(PROGRAM),
+            *program,
             self.config,
             "--listen",
             "127.0.0.1:0",
             *words,
-            env=dict(os.environ, CACHE_DIRECTORY=str(self.folder)),
+            env=dict(os.environ, CACHE_DIRECTORY=str(self.folder)) | environment,
         )
         line = self.page.stdout.readline()
         found = re.fullmatch(r"loop_page: http://127\.0\.0\.1:(\d+)/\n", line)
@@ -93,9 +152,28 @@ class Laboratory:
         self.port = int(found[1])
         return self
 
+    def start_spoilt(self, *words):
+        """Starts the page so that its disk and its clock may become wrong."""
+        (self.folder / "spoilt").mkdir()
+        (self.folder / "spoilt" / "sitecustomize.py").write_text(SPOILT)
+        return self.start_page(*words, PYTHONPATH=str(self.folder / "spoilt"))
+
+    def spoil(self, name, text):
+        """Makes a disk hang (`hangs`, a file's name), or the clock wrong (`clock`, by seconds); a text without anything ends that."""
+        (self.folder / "spoilt" / f"{name}.new").write_text(text)
+        os.rename(self.folder / "spoilt" / f"{name}.new", self.folder / "spoilt" / name)
+
+    def journal(self):
+        """Who changed what."""
+        return self.ask("/api/journal").json()["journal"]
+
+    def alerts(self):
+        """The kinds and cameras of the warnings."""
+        return [(it["kind"], it["camera"]) for it in self.status()["alerts"]]
+
     def until(self, reached, what, seconds=10):
-        """Waits for something, and answers it."""
-        end = time.monotonic() + seconds
+        """Waits for something, and answers it: for so many seconds on a machine that has time, and for longer on one that is busy."""
+        end = time.monotonic() + seconds * PATIENCE
         while time.monotonic() < end:
             found = reached()
             if found:

@@ -4,8 +4,11 @@
     fake_station.py CONFIG
 
 It films a pendulum into each camera's store of the configuration, in the size, format and rate of `pattern`. Beside the station's
-orders it takes `!print LINE`, which prints a line; `!pause CAMERA` and `!go CAMERA`, which stop and start its frames; and `!mute`, after which
-nothing is answered any more."""
+orders it takes `!print LINE`, which prints a line; `!pause CAMERA` and `!go CAMERA`, which stop and start its frames; `!mute`, after which
+nothing is answered any more; `!absent CAMERA WHY` and `!there CAMERA`, between which it has no store; `!source CAMERA WORDS`, which its status then
+says; `!behind CAMERA SECONDS`, the same; `!hang CAMERA`, after which it answers no keep, whose answer never ends; `!saving CAMERA`, whose clips can't be
+released; and `!first`, after which it releases a clip by its first frame, and says so in `help`. A camera's `scene` is what it films: a
+`pendulum`, also `warm` or `cold`, or a dark `beam`."""
 import datetime
 import math
 import os
@@ -22,6 +25,8 @@ sys.path.insert(1, str(Path(__file__).resolve().parent.parent.parent / "tools"))
 import layout
 
 EPOCH = datetime.datetime(1970, 1, 1, tzinfo=datetime.timezone.utc)
+# After so many frames the pendulum is back.
+SWING = 105
 LABELLED = re.compile(r"(?:@([A-Za-z0-9_-]{1,32}) )?(.*)")
 
 
@@ -33,6 +38,7 @@ class Film(layout.Ring):
         width, height = map(int, size.split("x"))
         num, den = map(int, rate.split(":"))
         self.words, self.name, self.is_paused, self.given_up, self.still = words, words["name"], False, 0, None
+        self.reel: dict[int, bytes] = {}
         # A small image, since the file is written and not an image.
         super().__init__(1, 1, b"GREY", words.get("segments", 8), 1)
         self.geometry = layout.geometry_of(
@@ -53,22 +59,47 @@ class Film(layout.Ring):
         luma = (40 + 70 * across / width + 50 * down / height).astype(numpy.uint8)
         luma[:: max(1, height // 6)] = 30
         luma[:, :: max(1, width // 8)] = 30
+        ends = {"warm": ((100, 120), (140, 170)), "cold": ((140, 170), (100, 120))}
+        ends = ends.get(self.words.get("scene"), ((110, 170), (150, 100)))
         colours = [
-            numpy.linspace(*ends, size).astype(numpy.uint8).tobytes()
-            for ends, size in zip(((110, 170), (150, 100)), layout.planes_of(width, height, self.geometry.format)[1:])
+            numpy.linspace(*both, size).astype(numpy.uint8).tobytes()
+            for both, size in zip(ends, layout.planes_of(width, height, self.geometry.format)[1:])
         ]
+        if self.words.get("scene") == "beam":
+            luma = numpy.random.default_rng(7).integers(6, 12, luma.shape).astype(numpy.uint8)
         return luma, b"".join(colours)
+
+    def beam(self, luma, number: int) -> bytes:
+        """A frame with a dim beam that wanders."""
+        height, width = luma.shape
+        down, across = numpy.mgrid[0:height, 0:width]
+        x, y = width * (0.56 + 0.03 * math.cos(number * 0.05)), height * (0.48 + 0.03 * math.sin(number * 0.07))
+        far = ((across - x) / width * 4) ** 2 + ((down - y) / height * 3.2) ** 2
+        light = 62 * numpy.exp(-far * 2.2) * (0.8 + 0.2 * numpy.cos(far * 26))
+        return (luma + light).astype(numpy.uint8).tobytes() + self.still[1]
+
+    def filmed(self, number: int) -> bytes:
+        """The bytes of a frame. A scene that is named comes again after a swing, so that it costs little."""
+        if "scene" not in self.words:
+            return self.pixels(number)
+        place = number % SWING
+        if place not in self.reel:
+            self.reel[place] = self.pixels(place)
+        return self.reel[place]
 
     def pixels(self, number: int) -> bytes:
         """The bytes of a frame: a pendulum."""
         if self.still is None:
             self.still = self.scene()
         luma, width, height = self.still[0].copy(), self.geometry.width, self.geometry.height
+        if self.words.get("scene") == "beam":
+            return self.beam(luma, number)
         angle, arm, ball = 0.9 * math.cos(number * 0.12), height * 0.7, max(2, height // 10)
         for part in numpy.linspace(0, 1, height):
-            luma[int(arm * part * math.cos(angle)), int(width / 2 + arm * part * math.sin(angle))] = 235
+            across = min(max(0, int(width / 2 + arm * part * math.sin(angle))), width - 1)
+            luma[int(arm * part * math.cos(angle)), across] = 235
         top, left = int(arm * math.cos(angle)) - ball, int(width / 2 + arm * math.sin(angle)) - ball
-        box = luma[max(0, top) : top + 2 * ball, max(0, left) : left + 2 * ball]
+        box = luma[max(0, top) : top + 2 * ball, max(0, left) : max(0, left + 2 * ball)]
         down, across = numpy.mgrid[0 : box.shape[0], 0 : box.shape[1]]
         box[(down + max(0, top) - top - ball) ** 2 + (across + max(0, left) - left - ball) ** 2 < ball * ball] = 225
         return luma.tobytes() + self.still[1]
@@ -89,12 +120,18 @@ class Film(layout.Ring):
             self.times[self.next] = moment = self.due
             self.write(
                 self.geometry.slot_at(index, slot),
-                layout.head(self.next, self.next, moment, self.geometry.size) + self.pixels(self.next),
+                layout.head(self.next, self.next, moment, self.geometry.size) + self.filmed(self.next),
             )
             self.write(self.geometry.segment_at(index) + layout.GATES_AT + slot, bytes([layout.OPEN]))
             self.next += 1
             self.due += self.period
         return True
+
+    def catch_up(self) -> None:
+        """Stores what came before an order, as the station does: on a busy machine frames are late."""
+        now, end = time.time() * 1e6, time.monotonic() + 5
+        while self.due <= now and time.monotonic() < end and self.film():
+            pass
 
     def keep(self, first: int, last: int, tag: int) -> list[str]:
         """Locks the frames of a time."""
@@ -122,6 +159,8 @@ class Station:
         self.rest, self.is_mute, self.is_over = b"", False, False
         self.out = None
         self.full: set[str] = set()
+        self.absent, self.sources, self.behind = {}, {}, {}
+        self.hanging, self.saving, self.takes_first = set(), set(), False
 
     def say(self, text: str) -> None:
         """Prints a line, with its time."""
@@ -159,7 +198,8 @@ class Station:
         if order.startswith("!"):
             self.command(order[1:])
             return
-        for text in [*self.answer(order), *(["done"] if label else [])]:
+        is_late = order.startswith("keep") and self.hanging
+        for text in [*self.answer(order), *(["done"] if label and not is_late else [])]:
             self.say(f"@{label} {text}" if label else text)
 
     def command(self, order: str) -> None:
@@ -171,30 +211,55 @@ class Station:
             self.is_mute = True
         elif verb in ("pause", "go"):
             self.films[rest].is_paused = verb == "pause"
+        elif verb == "first":
+            self.takes_first = True
+        elif verb == "there":
+            del self.absent[rest]
+        elif verb in ("hang", "saving"):
+            getattr(self, {"hang": "hanging", "saving": "saving"}[verb]).add(rest)
+        elif verb in ("absent", "source", "behind"):
+            camera, _, words = rest.partition(" ")
+            {"absent": self.absent, "source": self.sources, "behind": self.behind}[verb][camera] = words
 
     def answer(self, order: str) -> list[str]:
         """The lines that answer an order."""
         parts = order.split(" ")
         if parts[0] == "keep":
             return self.keep(parts[1:])
-        if parts[0] == "release" and len(parts) == 3:
-            film = self.films.get(parts[1])
-            if film is None:
-                return [f"no camera {parts[1]}"]
-            if int(parts[2]) not in film.clips:
-                return [f"refused {parts[1]} 12 NoSuchClip"]
-            film.unlock(int(parts[2]))
-            self.full.discard(parts[1])
-            return [f"released {parts[1]} {parts[2]}"]
+        if parts[0] == "release" and len(parts) == 3 + (self.takes_first and len(parts) == 4):
+            return self.release(*parts[1:])
+        if order == "help":
+            return ["keep [CAMERA] [SECONDS [TAG]]", "release CAMERA ID" + (" FIRST" if self.takes_first else "")]
         if order == "status":
-            return [
-                f"status {name} stored {film.next} given up {film.given_up} waiting 0 behind 0.0 room 3 faults 0 source {'missing' if film.is_paused else 'on'}"
-                for name, film in self.films.items()
-            ]
+            return [self.status(name, film) for name, film in self.films.items()]
         if order == "stop":
             self.is_over = True
             return ["stopped"]
         return [f"bad order: {order[:200]}"]
+
+    def release(self, name: str, id_: str, first: str | None = None) -> list[str]:
+        """Does a release."""
+        film = self.films.get(name)
+        if film is None:
+            return [f"no camera {name}"]
+        if name in self.saving:
+            return [f"refused {name} saving"]
+        if int(id_) not in film.clips or (first is not None and film.clips[int(id_)][0] != int(first)):
+            return [f"refused {name} 12 NoSuchClip"]
+        film.unlock(int(id_))
+        self.full.discard(name)
+        return [f"released {name} {id_}"]
+
+    def status(self, name: str, film: Film) -> str:
+        """How a camera stands."""
+        if name in self.absent:
+            return f"absent {name} {self.absent[name]}"
+        source = self.sources.get(name, "missing" if film.is_paused else "on")
+        behind = self.behind.get(name, "0.0")
+        room = 0 if name in self.full else 3
+        return (
+            f"status {name} stored {film.next} given up {film.given_up} waiting 0 behind {behind} room {room} faults 0 source {source}"
+        )
 
     def keep(self, parts: list[str]) -> list[str]:
         """Does a keep."""
@@ -212,7 +277,14 @@ class Station:
                 now,
                 int(parts[1]) if len(parts) > 1 else 0,
             )
-        return [line for name in names for line in self.films[name].keep(first, last, tag)]
+        lines = []
+        for name in names:
+            if name in self.absent:
+                lines.append(f"absent {name} {self.absent[name]}")
+            elif name not in self.hanging:
+                self.films[name].catch_up()
+                lines += self.films[name].keep(first, last, tag)
+        return lines
 
     def moment(self, text: str) -> int:
         """The microseconds of a time."""

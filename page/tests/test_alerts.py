@@ -20,8 +20,9 @@ def test_an_event_is_a_warning_until_it_is_seen(make):
 
 
 def test_a_source_that_comes_at_once_is_no_warning_and_one_that_stays_away_is(make):
-    lab = make()
-    lab.filmed()
+    lab = make(page=False)
+    (lab.folder / "page.toml").write_text('on_alert = ["tee", "-a", "told to a command"]\n')
+    lab.start_page("--settings", str(lab.folder / "page.toml")).filmed()
     for line in (
         "source left missing",
         "store left absent NoStore",
@@ -32,6 +33,9 @@ def test_a_source_that_comes_at_once_is_no_warning_and_one_that_stays_away_is(ma
         lab.order(f"!print {line}")
     lab.until(lambda: lab.status()["alerts"], "warning", 6)
     assert [(it["kind"], it["camera"]) for it in lab.status()["alerts"]] == [("missing", "right")]
+    command = lab.folder / "told to a command"
+    lab.until(lambda: command.exists() and command.read_text(), "command")
+    assert "left" not in command.read_text()
 
 
 def test_good_news_and_unknown_lines_are_no_warnings(make):
@@ -157,18 +161,12 @@ def test_a_disk_that_does_not_answer_holds_up_no_other_camera(monkeypatch):
             watched.begin()
             await laboratory.settle([watched])
         took = time.monotonic() - start
-        asked = types.SimpleNamespace(
-            cameras={"left": watched},
-            wanted=0,
-            watched=lambda name: watched,
-            orders=types.SimpleNamespace(has_answers=False),
-        )
-        state = laboratory.Laboratory.camera_state(asked, watched)
+        state = laboratory.Laboratory.camera_state(types.SimpleNamespace(), watched)
         let_go.set()
-        await laboratory.settle([watched])
+        await watched.looking
         return took, state, watched.hangs(), watched.why
 
     took, state, hangs, why = asyncio.run(look())
     assert (
-        0.3 < took < 2 and state[0] == "bad" and "disk hasn't answered" in state[1] and hangs == 0 and why == "missing"
+        0.1 < took < 1 and state[0] == "bad" and "disk hasn't answered" in state[1] and hangs == 0 and why == "missing"
     )

@@ -210,6 +210,18 @@ def test_a_fetch_whose_frames_are_taken_away_breaks_off(make):
         assert len(front) + len(all_of(client)) < length
 
 
+def test_a_zip_whose_frames_are_taken_away_never_looks_whole(make):
+    """Its length isn't known before: only the end of the last piece says that it is whole."""
+    lab = make(cameras=[{"name": "left", "pattern": "640x480 YM12 25:1", "segments": 3, "slots": 10}])
+    lab.filmed(25).keep(20)
+    with slow_client(lab, "/api/clips/left/0.zip") as client:
+        front = client.recv(4096)
+        assert b"chunked" in front
+        lab.order("release left 0")
+        time.sleep(2)
+        assert not (front + all_of(client)).endswith(b"0\r\n\r\n")
+
+
 def slow_client(lab, path):
     """A client that has asked for something, and into which little goes."""
     client = socket.socket()

@@ -133,9 +133,9 @@ def test_a_frame_is_never_that_of_another_block(tmp_path):
         os.close(file)
 
 
-@pytest.mark.parametrize("moment", range(4))
+@pytest.mark.parametrize("moment", range(7))
 def test_a_frame_that_is_overwritten_while_it_is_read_is_gone(tmp_path, moment):
-    """Its block is removed before one of the four reads, and another one has come in its place: it is never the bytes of that one."""
+    """Its block is removed before one of the seven reads, and another one has come in its place: it is never the bytes of that one."""
     path, ring = tmp_path / "a.loop", layout.Ring(64, 48, b"GREY", 3, 2)
     put(path, ring)
     with open(path, "r+b") as file:

@@ -1,451 +1,511 @@
-// The laboratory's page: what the server says of the cameras, and what people ask of them.
-import { Timeline } from "/static/timeline.js";
+// The laboratory's page as a console: how all stands, the press, warnings and keys. The other scripts have pictures, timeline and events.
+import { Events, camerasOf } from "/static/events.js";
+import { Large } from "/static/large.js";
+import { Link, ask } from "/static/link.js";
+import { Stage } from "/static/stage.js";
+import { Timeline, rangeWords } from "/static/timeline.js";
+import { View } from "/static/view.js";
+import { byId, clock, count, icon, length, make, mark, say, zone } from "/static/words.js";
 
-const byId = (id) => document.getElementById(id);
 const LOST_AFTER = 2500;
-const tiles = new Map();
-const rows = new Map();
+const SECONDS = [5, 10, 15, 20, 30, 45, 60, 90, 120, 180, 300, 600, 900, 1800, 3600];
+const MOST_SECONDS = 86400;
+const ANSWER_STAYS = 15000;
+const DIGITS = 700;
+const PHONE = matchMedia("(max-width: 760px)");
+const TOUCH = matchMedia("(pointer: coarse)");
+const LEVELS = ["good", "unknown", "warn", "bad"];
+
+let standing = null;
+let more = {};
 let cameraNames = [];
 let heard = performance.now();
-let source = null;
-let clipsSeen = null;
-let clipsAsked = 0;
+let isLost = false;
+let answeredAt = 0;
 
-// ------------------------------------------------------------------------------------------------ words
+const large = new Large();
+const stage = new Stage((name) => view.open(name));
+const link = new Link((head, body) => hear(head, body));
+const events = new Events({ play: (event) => view.playEvent(event), answered });
+const timeline = new Timeline({ scrub: (time) => view.scrub(time), pin: (time) => view.pin(time), choose: () => name() });
+const view = new View(link, stage, large, timeline, (text) => answered(text, "bad"));
+large.wish = (camera) => view.stretch[camera];
+large.stretched = (points) => view.setStretch(large.name, points);
+view.told = () => {
+  events.plays(view.event?.key ?? null);
+  lanes();
+  within();
+};
 
-/** An element with its attributes, properties and children. */
-function make(kind, given = {}, ...children) {
-  const element = document.createElement(kind);
-  for (const [key, value] of Object.entries(given)) {
-    if (key in element && key !== "list") element[key] = value;
-    else element.setAttribute(key, value);
+// ------------------------------------------------------------------------------------------------ what the server says
+
+const text = new TextDecoder();
+
+/** A message of the server. */
+function hear(head, body) {
+  heard = performance.now();
+  if (isLost) found();
+  if (head.kind === "picture" || head.kind === "none") {
+    if (head.turn !== link.turn && head.live !== view.isLive()) return;
+    const work = head.kind === "picture" ? "take" : "blank";
+    if (view.camera) large[work](head, body);
+    else stage[work](head, body);
+  } else if (head.kind === "moment") {
+    view.playing(head);
+  } else if (head.kind === "state") {
+    show(JSON.parse(text.decode(body)));
+  } else if (head.kind === "more") {
+    more = JSON.parse(text.decode(body)).cameras;
+    if (standing) show(standing);
+  } else if (head.kind === "events") {
+    events.show(JSON.parse(text.decode(body)));
+    within();
+  } else if (head.kind === "progress") {
+    events.moved(JSON.parse(text.decode(body)));
   }
-  element.append(...children);
-  return element;
-}
-
-/** A time of the day, in the zone of the browser; with its date where that isn't today's. */
-export function clock(microseconds) {
-  const moment = new Date(microseconds / 1000);
-  const two = (number) => String(number).padStart(2, "0");
-  const parts = [moment.getHours(), moment.getMinutes(), moment.getSeconds()].map(two);
-  const time = `${parts.join(":")}.${String(moment.getMilliseconds()).padStart(3, "0")}`;
-  const day = `${moment.getFullYear()}-${two(moment.getMonth() + 1)}-${two(moment.getDate())}`;
-  return moment.toDateString() === new Date().toDateString() ? time : `${day} ${time}`;
-}
-
-/** A length of time. */
-export function length(seconds) {
-  if (seconds < 60) return `${seconds.toFixed(1)} s`;
-  return `${Math.floor(seconds / 60)} min ${Math.floor(seconds % 60)} s`;
-}
-
-/** A number of bytes. */
-function size(bytes) {
-  return bytes < 1e6 ? `${Math.ceil(bytes / 1000)} kB` : bytes < 1e9 ? `${(bytes / 1e6).toFixed(1)} MB` : `${(bytes / 1e9).toFixed(2)} GB`;
-}
-
-/** Sets a text where it is another one, so that nothing is read aloud again. */
-function say(element, text) {
-  if (element.textContent !== text) element.textContent = text;
-}
-
-/** Shows a state, in words and in a colour. */
-function state(element, level, text, kind = "state") {
-  const wanted = `${kind} ${level}`;
-  if (element.className !== wanted) element.className = wanted;
-  say(element, text);
-}
-
-// ------------------------------------------------------------------------------------------------ the server
-
-/** Asks the server for something, and answers its JSON. What goes wrong is thrown, in a sentence. */
-export async function ask(path, body) {
-  let answer;
-  try {
-    answer = await fetch(path, body === undefined ? {} : {
-      method: "POST", headers: { "Content-Type": "application/json", "X-Loop-Page": "1" }, body: JSON.stringify(body),
-    });
-  } catch {
-    throw new Error("The page's server doesn't answer. Does loop_page run?");
-  }
-  if (answer.status === 401) location.assign("/sign-in");
-  const found = await answer.json().catch(() => ({}));
-  if (!answer.ok && !found.answers) throw new Error(found.error || `The server answers ${answer.status}.`);
-  return found;
-}
-
-/** Listens to the server, again where it was lost. */
-function listen() {
-  source = new EventSource("/events");
-  source.onmessage = (event) => {
-    heard = performance.now();
-    byId("lost").hidden = true;
-    document.body.classList.remove("lost");
-    show(JSON.parse(event.data));
-  };
-  source.onerror = () => {
-    if (source.readyState === EventSource.CLOSED) setTimeout(() => ask("/api/status").catch(() => {}).finally(listen), 1000);
-  };
 }
 
 /** Says that the server is lost, once nothing was heard of it for a while. */
 function watch() {
-  const silent = performance.now() - heard;
-  if (silent < LOST_AFTER || !byId("lost").hidden) return;
+  if (isLost || performance.now() - heard < LOST_AFTER) return;
+  isLost = true;
   document.body.classList.add("lost");
-  byId("lost").textContent = `This page has lost its server at ${clock((Date.now() - silent) * 1000)}. What you see is of that time. `
-    + "Recording may well go on. Does loop_page run, and is the network there? The page tries again each second.";
-  byId("lost").hidden = false;
-  state(byId("station"), "unknown", "The page has lost its server.");
-  for (const tile of tiles.values()) state(tile.state, "unknown", "The page has lost its server.");
+  banner();
+  pill();
+}
+
+/** The server is there again. */
+function found() {
+  isLost = false;
+  document.body.classList.remove("lost");
+  banner();
+  pill();
 }
 
 /** Shows how all stands. */
-function show(standing) {
-  state(byId("station"), ...standing.station);
-  byId("leave").hidden = !standing.has_token;
-  showAlerts(standing.alerts);
-  const news = standing.news.at(-1);
-  say(byId("news"), news ? `${clock(news.time * 1e6)} ${news.text}` : "");
-  const names = standing.cameras.map((camera) => camera.name);
-  if (names.join() !== cameraNames.join()) begin(standing.cameras, names);
-  for (const camera of standing.cameras) tiles.get(camera.name).show(camera, standing.now * 1e6);
-  const seen = JSON.stringify(standing.cameras.map((camera) => camera.clips));
-  if (seen !== clipsSeen) {
-    clipsSeen = seen;
-    loadClips();
-  }
+function show(state) {
+  standing = state;
+  byId("leave").hidden = !state.has_token;
+  const names = state.cameras.map((camera) => camera.name);
+  if (names.join() !== cameraNames.join()) begin(state.cameras, names);
+  stage.show(state.cameras);
+  timeline.skew = state.now * 1e6 - Date.now() * 1000;
+  lanes();
+  const shown = state.cameras.find((camera) => camera.name === view.camera);
+  if (shown) large.show(shown, more[shown.name]);
+  pill();
+  banner();
+  alerts();
+  room();
+  name();
 }
 
-/** Makes the tiles of the cameras, and their names in the list. */
+/** The lanes of what is shown: of a camera that is large its own. */
+function lanes() {
+  if (!standing) return;
+  const names = view.cameras();
+  timeline.show(standing.cameras.filter((camera) => !names || names.includes(camera.name)), standing.now);
+}
+
+/** The cameras' names in both lists. */
 function begin(cameras, names) {
   cameraNames = names;
-  tiles.clear();
-  byId("camera").replaceChildren(make("option", { value: "" }, "All cameras"), ...names.map((name) => make("option", { value: name }, name)));
-  for (const camera of cameras) tiles.set(camera.name, new Tile(camera.name));
-  byId("tiles").replaceChildren(...[...tiles.values()].map((tile) => tile.element));
+  byId("camera").replaceChildren(make("option", { value: "" }, names.length > 1 ? `All ${names.length}${PHONE.matches ? "" : " cameras"}` : "The camera"), ...names.map((name) => make("option", { value: name }, `${name} alone`)));
+  byId("camera").hidden = names.length < 2;
+  events.names(names);
   if (cameras[0].keep) byId("seconds").value = cameras[0].keep;
-  name();
+}
+
+// ------------------------------------------------------------------------------------------------ how it stands
+
+/** Whether a camera records. */
+const records = (camera) => camera.level !== "bad" && Boolean(camera.newest);
+
+/** How many cameras record. */
+function pill() {
+  const element = byId("pill");
+  if (isLost || !standing) {
+    element.className = "pill unknown";
+    say(element, isLost ? "Server lost" : "Not connected yet");
+    return;
+  }
+  const all = standing.cameras.length, good = standing.cameras.filter(records).length;
+  const level = standing.station[0] === "bad" || !good ? "bad" : good < all ? "warn" : "good";
+  element.className = `pill ${level}`;
+  const words = level === "bad" ? "Not recording" : "Recording", numbers = `${standing.station[0] === "bad" ? 0 : good} of ${all}`;
+  if (element.textContent !== `${words} ${numbers}`) element.replaceChildren(`${words} `, make("b", {}, numbers));
+}
+
+/** All that is wrong now, the worst first, each as {level, text, advice}. */
+function troubles() {
+  if (isLost) {
+    const at = clock((Date.now() - (performance.now() - heard)) * 1000);
+    return [{ level: "bad", text: `This page has lost its server at ${at}. What you see is of that time. Recording may well go on.`,
+      advice: "Does loop_page run (systemctl status loop_page), and is the network there? The page tries again each second." }];
+  }
+  if (!standing) return [];
+  const list = [];
+  const [level, text] = standing.station;
+  if (level !== "good") list.push({ level, text, advice: level === "bad" ? "Start the station: systemctl start loop_station. Until then nothing is recorded." : "docs/page.md, \u201cBegin\u201d, says how the station's file names its pipes." });
+  for (const camera of standing.cameras) {
+    if (camera.level !== "good") list.push({ level: camera.level, camera: camera.name, text: camera.state, advice: more[camera.name]?.advice || "" });
+  }
+  if (standing.notes_fault) list.push({ level: "warn", text: standing.notes_fault, advice: "Notes aren't written until then. Clips are kept nevertheless." });
+  return list.sort((one, other) => LEVELS.indexOf(other.level) - LEVELS.indexOf(one.level));
+}
+
+/** The worst thing now in one line; the rest is under the bell. */
+function banner() {
+  const list = troubles(), element = byId("banner");
+  const unseen = (standing?.alerts || []).filter((alert) => !alert.over);
+  let level = "good", words = standing ? calm() : "The page connects to its server.", camera = "";
+  if (list.length) [level, words, camera] = [list[0].level, list[0].text, list[0].camera || ""];
+  else if (unseen.length) [level, words] = ["warn", `${clock(unseen.at(-1).time * 1e6)} ${unseen.at(-1).text}`];
+  else if (!standing) level = "unknown";
+  const rest = list.length > 1 ? ` And ${list.length - 1} more.` : "";
+  const wanted = `banner ${level}`;
+  if (element.className !== wanted) element.className = wanted;
+  if (byId("banner-text").textContent !== `${camera}${camera ? ": " : ""}${words}${rest}`) {
+    byId("banner-text").replaceChildren(...(camera ? [make("b", {}, camera), ": "] : []), words, rest);
+  }
+  byId("what").hidden = !list.some((it) => it.advice);
+}
+
+/** What is said where nothing is wrong. */
+function calm() {
+  const news = (standing.news || []).at(-1);
+  return news && standing.now - news.time < 60 ? `${clock(news.time * 1e6)} ${news.text}` : "All is well.";
+}
+
+/** What to do about each trouble. */
+function advise() {
+  const rows = troubles().filter((it) => it.advice).flatMap((it) => [
+    make("dt", { className: `state ${it.level}` }, `${it.camera ? `${it.camera}: ` : ""}${it.text}`), make("dd", {}, it.advice)]);
+  byId("advice-list").replaceChildren(...rows);
+  byId("advice").showModal();
 }
 
 // ------------------------------------------------------------------------------------------------ warnings
 
 const alertRows = new Map();
 
-/** Shows the warnings that nobody has seen. */
-function showAlerts(alerts) {
-  document.title = alerts.length ? `(${alerts.length}) Laboratory` : "Laboratory";
-  const ids = new Set(alerts.map((alert) => alert.id));
+/** The warnings that nobody has seen, under the bell, the newest first. */
+function alerts() {
+  const list = standing.alerts;
+  document.title = list.length ? `(${list.length}) Laboratory` : "Laboratory";
+  const bell = byId("bell"), badge = byId("badge");
+  mark(bell, "aria-label", list.length ? `Warnings: ${list.length} not seen` : "Warnings: none");
+  badge.hidden = !list.length;
+  say(badge, String(list.length));
+  byId("all-seen").hidden = !list.length;
+  say(byId("warnings-title"), list.length ? count(list.length, "warning") : "No warnings");
+  const ids = new Set(list.map((alert) => alert.id));
   for (const [id, row] of alertRows) {
     if (ids.has(id)) continue;
     row.remove();
     alertRows.delete(id);
   }
-  for (const alert of alerts) {
+  for (const alert of list) {
     if (!alertRows.has(alert.id)) {
-      const seen = make("button", { type: "button" }, "Seen");
-      seen.setAttribute("aria-label", `Seen: ${alert.text}`);
-      seen.onclick = () => ask("/api/seen", { id: alert.id }).catch((fault) => answered(fault.message, false));
-      alertRows.set(alert.id, make("div", { className: "alert notice bad" }, make("span"), seen));
-      byId("alerts").append(alertRows.get(alert.id));
+      const seen = make("button", { type: "button", className: "quiet", ariaLabel: `Seen: ${alert.text}` }, "Seen");
+      seen.onclick = () => sawAll([alert.id]);
+      alertRows.set(alert.id, make("li", { className: "bad" }, make("span"), make("time"), seen));
+      byId("alerts").prepend(alertRows.get(alert.id));
     }
-    const when = clock(alert.time * 1e6);
-    say(alertRows.get(alert.id).firstChild, alert.times > 1 ? `${alert.text} (${alert.times} times, at last ${when})` : `${when} ${alert.text}`);
+    const row = alertRows.get(alert.id);
+    row.className = alert.over ? "good over" : "bad";
+    say(row.children[0], `${alert.text}${alert.times > 1 ? ` (${alert.times} times)` : ""}${alert.over ? " It is over." : ""}`);
+    say(row.children[1], clock(alert.time * 1e6));
   }
+  happened();
+}
+
+/** What happened, and who changed what, the newest first. */
+function happened() {
+  const changes = (standing.journal || []).map((it) => ({
+    time: it.time, bad: it.kind === "not told" || / (refused|failed): /.test(it.text), text: `${it.kind}${it.address ? `, ${it.address}, ${it.session}` : ""}: ${it.text}` }));
+  const told = [...(standing.news || []), ...changes].sort((one, other) => other.time - one.time).slice(0, 30);
+  const key = JSON.stringify(told);
+  if (key === happened.key) return;
+  happened.key = key;
+  byId("done-title").hidden = !told.length;
+  byId("done").replaceChildren(...told.map((it) => make("li", { className: it.bad ? "bad" : "good" }, folded(it.text), make("time", {}, clock(it.time * 1e6)))));
+}
+
+/** A long text, of which what was done is shown, and what became of it is unfolded. */
+function folded(text) {
+  const [front, ...rest] = text.split(/: (?=\S)/), order = [front, rest.shift()].filter(Boolean).join(": ");
+  if (text.length < 100 || !rest.length) return make("span", {}, text);
+  return make("details", {}, make("summary", {}, order), make("p", {}, rest.join(": ")));
+}
+
+/** Somebody has seen warnings: these, and none that came meanwhile. */
+function sawAll(ids) {
+  ask("/api/seen", { ids }).catch((fault) => answered(fault.message, "bad"));
+}
+
+function ring() {
+  const panel = byId("warnings");
+  if (panel.open) panel.close();
+  else panel.show();
+  byId("bell").setAttribute("aria-expanded", String(panel.open));
+  if (!panel.open) byId("bell").focus();
+}
+
+// ------------------------------------------------------------------------------------------------ room
+
+/** How many more events of so many seconds fit: of the camera that has least room. */
+function left(seconds) {
+  const rooms = standing.cameras.filter((camera) => more[camera.name]?.slots).map((camera) => {
+    const { room_blocks: blocks, slots, clips_left: clips } = more[camera.name];
+    return Math.max(0, Math.min(clips, Math.floor(blocks / (Math.ceil(seconds * camera.asked_rate / slots) + 1))));
+  });
+  return rooms.length ? Math.min(...rooms) : null;
+}
+
+/** How much is locked, and for how much there is room. */
+function room() {
+  const shares = standing.cameras.map((camera) => camera.locked).filter((it) => it !== undefined), most = Math.max(0, ...shares);
+  const locked = byId("locked"), wanted = `Locked ${Math.round(most * 100)} % of the ring`;
+  if (locked.textContent !== wanted) locked.replaceChildren("Locked ", make("b", { className: "num" }, `${Math.round(most * 100)} %`), " of the ring");
+  byId("meter").style.width = `${Math.round(most * 100)}%`;
+  const seconds = wishedSeconds() || 60, number = left(seconds);
+  byId("meter").parentElement.classList.toggle("full", number === 0);
+  say(byId("room"), roomWords(number, seconds));
+}
+
+function roomWords(number, seconds) {
+  if (number === null) return "";
+  if (number === 0) return `no room for another event of ${length(seconds)}: release one`;
+  return `room for ${count(number, "more event").replace("more events", "more events")} of ${length(seconds)}`;
 }
 
 // ------------------------------------------------------------------------------------------------ press
 
-/** Says what became of something. */
-function answered(text, isGood) {
-  byId("answers").prepend(make("p", { className: `notice ${isGood ? "good" : "bad"}` }, text));
-  while (byId("answers").children.length > 6) byId("answers").lastChild.remove();
+/** Says what became of something, beside the button. */
+function answered(text, level) {
+  answeredAt = performance.now();
+  const element = byId("answer");
+  element.className = `answer ${level}`;
+  element.replaceChildren(make("span", {}, text));
 }
 
-/** Asks for a change, and says what became of it. */
-function change(path, body) {
-  return ask(path, body).then((found) => answered(found.text, true), (fault) => answered(fault.message, false));
+/** The seconds that are wished; nothing where the field has none. */
+function wishedSeconds() {
+  const typed = byId("seconds").value.trim();
+  return /^\d{1,5}$/.test(typed) && Number(typed) >= 1 && Number(typed) <= MOST_SECONDS ? Number(typed) : null;
 }
 
-/** Keeps, and says what was kept or why not. */
-async function keep(wish) {
-  byId("answers").replaceChildren(make("p", { className: "notice unknown" }, "Asked."));
-  try {
-    const found = await ask("/api/keep", wish);
-    byId("answers").replaceChildren();
-    for (const answer of found.answers) answered(keptWords(answer), answer.kept);
-  } catch (fault) {
-    byId("answers").replaceChildren();
-    answered(fault.message, false);
-  }
-}
-
-/** What was kept, with times of the browser's zone; and what the server says besides, of a note that can't be written. */
-function keptWords(answer) {
-  const clips = answer.clips.filter((clip) => clip.from_us);
-  if (!clips.length) return answer.text;
-  const spans = clips.map((clip) => `clip ${clip.id}, from ${clock(clip.from_us)} to ${clock(clip.to_us)}`);
-  return `${answer.camera}: kept as ${spans.join(" and ")}. ${answer.text.split(" frames. ")[1] || ""}`;
-}
-
-/** The button's name has the seconds and the camera. */
+/** The button says what pressing does. */
 function name() {
-  const camera = byId("camera").value;
-  byId("press").textContent = `Keep the last ${byId("seconds").value || "?"} s${camera ? ` of ${camera}` : ""}`;
-}
-
-// ------------------------------------------------------------------------------------------------ a camera
-
-class Tile {
-  constructor(name) {
-    this.name = name;
-    this.cursor = null;
-    this.shown = null;
-    this.steps = 0;
-    this.isAsking = false;
-    this.path = `/api/cameras/${encodeURIComponent(name)}`;
-    this.state = make("p", { className: "state unknown" });
-    this.image = make("img", { alt: `${name}: no frame yet`, width: 640, height: 480 });
-    this.when = make("p", { className: "when" });
-    this.facts = make("dl");
-    this.canvas = make("canvas", { className: "timeline", tabIndex: 0 });
-    this.timeline = new Timeline(this.canvas, name, this);
-    this.live = this.button("Live", () => this.goLive());
-    this.back = this.button("One frame back", () => this.step(-1, false));
-    this.on = this.button("One frame on", () => this.step(1, false));
-    this.start = this.button("Range starts here", () => this.timeline.end("from", this.moment()));
-    this.stop = this.button("Range ends here", () => this.timeline.end("to", this.moment()));
-    this.keepRange = this.button("Keep this range", () => this.keep());
-    this.keepRange.disabled = true;
-    this.range = make("p", { className: "when", role: "status" });
-    const tools = make("div", { className: "tools" }, this.live, this.back, this.on, this.start, this.stop, this.keepRange);
-    const title = make("h3", { id: `tile-${name}` }, name);
-    this.element = make("article", { className: "tile" }, title, this.state, this.image, this.when, this.canvas, tools, this.range, this.facts);
-    this.element.setAttribute("aria-labelledby", `tile-${name}`);
-    this.image.onload = () => { this.isLoading = false; };
-    this.image.onerror = () => { this.isLoading = false; this.shown = null; };
-  }
-
-  /** A button of this camera. */
-  button(text, work) {
-    const button = make("button", { type: "button" }, text);
-    button.setAttribute("aria-label", `${text}: ${this.name}`);
-    button.onclick = work;
-    return button;
-  }
-
-  /** Shows how the camera stands. */
-  show(camera, now) {
-    this.camera = camera;
-    state(this.state, camera.level, camera.state);
-    const hasFrames = Boolean(camera.newest);
-    for (const button of [this.live, this.back, this.on, this.start, this.stop]) button.disabled = !hasFrames;
-    this.showFacts(camera);
-    this.timeline.show(camera, now);
-    if (!hasFrames) {
-      say(this.when, "No frame.");
-      return;
-    }
-    if (!this.cursor) this.showLive(camera);
-  }
-
-  /** Shows the newest frame, where it is another one and the last one has come. */
-  showLive(camera) {
-    const [number, time] = camera.newest;
-    if (number === this.shown || this.isLoading) return;
-    this.isLoading = true;
-    this.shown = number;
-    this.image.src = `${this.path}/newest.jpg?number=${number}`;
-    this.image.alt = `${this.name}: the newest stored frame`;
-    say(this.when, `Live: ${clock(time)}, frame ${number}`);
-    this.live.setAttribute("aria-pressed", "true");
-    this.timeline.name(`live, ${clock(time)}`);
-  }
-
-  /** Shows the facts. */
-  showFacts(camera) {
-    const facts = [
-      ["Rate", camera.rate ? `${camera.rate.toFixed(1)} of ${camera.asked_rate.toFixed(1)} frames a second` : "unknown"],
-      ["Ring holds", camera.seconds === undefined ? "nothing" : `${length(camera.seconds)}, ${camera.frames} frames`],
-      ["Locked", camera.locked === undefined ? "nothing" : `${Math.round(camera.locked * 100)} % of the room`],
-      ["Behind", camera.behind === null ? "unknown" : `${camera.behind.toFixed(1)} s`],
-      ["Given up", camera.given_up === null ? "unknown" : `${camera.given_up} frames`],
-    ];
-    const wanted = facts.flatMap(([word, text]) => [make("dt", {}, word), make("dd", {}, text)]);
-    if (this.facts.children.length !== wanted.length) this.facts.replaceChildren(...wanted);
-    else wanted.forEach((element, place) => say(this.facts.children[place], element.textContent));
-  }
-
-  /** The time at which this tile stands. */
-  moment() {
-    return this.cursor ? this.cursor.time : this.camera?.newest?.[1];
-  }
-
-  /** Shows a frame that was found. */
-  showFrame(frame) {
-    this.cursor = frame;
-    this.shown = null;
-    this.isLoading = false;
-    this.image.src = `${this.path}/frames/${frame.number}.jpg`;
-    this.image.alt = `${this.name}: frame ${frame.number}, of ${clock(frame.time)}`;
-    say(this.when, `${clock(frame.time)}, frame ${frame.number}`);
-    this.live.setAttribute("aria-pressed", "false");
-    this.timeline.cursor(frame.time);
-    this.timeline.name(`${clock(frame.time)}, frame ${frame.number}`);
-  }
-
-  /** Shows the frame of a moment. */
-  async go(time) {
-    try {
-      this.showFrame(await ask(`${this.path}/frame?time=${Math.round(time)}`));
-    } catch (fault) {
-      answered(fault.message, false);
-    }
-  }
-
-  /** Goes some frames on; keys that come while a frame is asked for are one step together. */
-  async step(by, isRange) {
-    const from = this.moment();
-    this.steps += by;
-    if (this.isAsking || from === undefined) return;
-    this.isAsking = true;
-    try {
-      while (this.steps) {
-        const steps = this.steps;
-        this.steps = 0;
-        const number = this.cursor ? this.cursor.number : this.camera.newest[0];
-        this.showFrame(await ask(`${this.path}/frame?number=${number}&by=${steps}`));
-        if (isRange) this.timeline.extend(from, this.cursor.time);
-      }
-    } catch (fault) {
-      this.steps = 0;
-      answered(fault.message, false);
-    }
-    this.isAsking = false;
-  }
-
-  /** Shows the newest frames again. */
-  goLive() {
-    this.cursor = null;
-    this.shown = null;
-    this.timeline.cursor(null);
-    if (this.camera?.newest) this.showLive(this.camera);
-  }
-
-  /** A range was chosen, or none is. */
-  chosen(range) {
-    this.keepRange.disabled = !range;
-    say(this.range, range ? `Range: ${clock(range.from)} to ${clock(range.to)}, ${length((range.to - range.from) / 1e6)}` : "");
-  }
-
-  /** Keeps the chosen range. */
-  keep() {
-    const range = this.timeline.range;
-    if (range) keep({ camera: this.name, from: Math.round(range.from), to: Math.round(range.to), note: byId("note").value });
+  const range = timeline.range, seconds = wishedSeconds(), camera = byId("camera").value;
+  const lasting = range ? (range.to - range.from) / 1e6 : seconds;
+  let words = range ? `Keep ${length(lasting)} from ${clock(range.from)}` : `Keep the last ${seconds ? (seconds < 100 ? `${seconds} s` : length(seconds)) : "? s"}`;
+  if (camera) words += ` of ${camera}`;
+  const number = standing && lasting ? left(lasting) : null;
+  if (number === 0) words += ": the ring is then full, and recording stops";
+  say(byId("press-text"), words);
+  byId("press").classList.toggle("long", words.length > 26);
+  say(byId("range"), range ? `Range: ${rangeWords(range)}` : TOUCH.matches ? "Drag for a range, tap for a moment, pinch to zoom" : "Drag for a range, click for a moment, wheel to zoom");
+  if (performance.now() - answeredAt > ANSWER_STAYS && standing) {
+    const element = byId("answer"), idle = range ? `K keeps the range of ${camera || "all cameras"}. Esc lets it go.` : roomWords(left(seconds || 60), seconds || 60);
+    element.className = "answer idle";
+    if (element.textContent !== idle) element.replaceChildren(make("span", {}, idle ? idle[0].toUpperCase() + idle.slice(1) + (idle.endsWith(".") ? "" : ".") : ""));
   }
 }
 
-// ------------------------------------------------------------------------------------------------ clips
-
-/** Asks for the list of clips. An answer that a newer one has overtaken is dropped. */
-async function loadClips() {
-  const asked = ++clipsAsked;
+/** Keeps the last seconds, or the range, of all cameras or of one. */
+async function keep() {
+  const range = timeline.range, seconds = wishedSeconds(), camera = byId("camera").value;
+  if (!range && !seconds) {
+    answered(`Seconds are a whole number from 1 to ${MOST_SECONDS}.`, "bad");
+    byId("seconds").focus();
+    return;
+  }
+  const wish = range ? { from: Math.round(range.from), to: Math.round(range.to) } : { seconds };
+  if (camera) wish.camera = camera;
+  const note = byId("note").value;
+  byId("press").classList.add("asked");
+  answered("Asked.", "unknown");
   try {
-    const { clips } = await ask("/api/clips");
-    if (asked === clipsAsked) showClips(clips);
+    const found = await ask("/api/keep", { ...wish, note });
+    const [words, level] = keptWords(found.answers, range ? (range.to - range.from) / 1e6 : seconds);
+    answered(words, level);
+    if (found.kept) {
+      // What was written while the answer was awaited stays.
+      if (byId("note").value === note) byId("note").value = "";
+      if (range && timeline.range === range) timeline.choose(null);
+      events.kept(found.answers.flatMap((answer) => (answer.kept ? answer.clips.map((clip) => ({ ...clip, camera: answer.camera })) : [])));
+    }
   } catch (fault) {
-    clipsSeen = null;
-    answered(fault.message, false);
+    answered(fault.message, "bad");
   }
+  byId("press").classList.remove("asked");
 }
 
-/** Shows the list; rows that stay are left as they are, with what is being typed there. */
-function showClips(clips) {
-  const keys = new Set(clips.map(keyOf));
-  for (const [key, row] of rows) {
-    if (keys.has(key)) continue;
-    row.remove();
-    rows.delete(key);
+/** What was kept of all cameras, in one sentence; and of which not, and why. */
+function keptWords(answers, seconds) {
+  const kept = answers.filter((answer) => answer.kept), not = answers.filter((answer) => !answer.kept);
+  const faults = faultWords(not);
+  if (!kept.length) return [faults || "Nothing was kept.", "bad"];
+  const names = [...new Set(kept.map((answer) => answer.camera))], clips = kept.flatMap((answer) => answer.clips).filter((clip) => clip.from_us);
+  const all = new Set(answers.map((answer) => answer.camera).filter(Boolean)).size;
+  const who = names.length < all ? `${names.length} of ${all} cameras` : camerasOf({ cameras: names });
+  const tail = [lackWords(kept), ...remarksOf(kept), faults].filter(Boolean).join(" ");
+  if (!clips.length) return [`Kept: ${who}. ${tail}`, tail ? "warn" : "good"];
+  const from = Math.min(...clips.map((clip) => clip.from_us)), to = Math.max(...clips.map((clip) => clip.to_us)), took = (to - from) / 1e6;
+  const words = `Kept ${length(took < seconds - 1 ? took : seconds)} of ${who}, ${clock(from)} to ${clock(to)} ${zone(to)}.`;
+  return [tail ? `${words} ${tail}` : words, tail ? "warn" : "good"];
+}
+
+/** Of which cameras nothing was kept, and why: those of one reason together. */
+function faultWords(answers) {
+  const reasons = new Map();
+  for (const { camera, text } of answers) {
+    const reason = camera && text.startsWith(`${camera}: `) ? text.slice(camera.length + 2) : text;
+    reasons.set(reason, [...(reasons.get(reason) || []), camera]);
   }
-  byId("no-clips").hidden = clips.length > 0;
-  clips.forEach((clip, place) => {
-    const key = keyOf(clip);
-    if (!rows.has(key)) rows.set(key, rowOf(clip));
-    const row = rows.get(key);
-    if (row.note !== document.activeElement) row.note.value = clip.note;
-    if (byId("clips").children[place] !== row) byId("clips").insertBefore(row, byId("clips").children[place] || null);
-  });
+  return [...reasons].map(([reason, names]) => {
+    if (!names[0]) return reason;
+    return `${names.length < 4 ? names.join(", ") : `${names.length} cameras`}: ${reason}`;
+  }).join(" ");
 }
 
-const keyOf = (clip) => `${clip.camera} ${clip.id} ${clip.first} ${clip.from_us}`;
-
-/** A clip in the list. */
-function rowOf(clip) {
-  const path = `/api/clips/${encodeURIComponent(clip.camera)}/${clip.id}`;
-  const called = `clip ${clip.id} of ${clip.camera}`;
-  const note = make("input", { type: "text", value: clip.note, maxLength: 400, autocomplete: "off" });
-  const write = make("button", { type: "submit", ariaLabel: `Write the note of ${called}` }, "Write note");
-  const form = make("form", {}, make("label", {}, "Note ", note), write);
-  form.onsubmit = (event) => {
-    event.preventDefault();
-    const { camera, id, first } = clip;
-    change("/api/note", { camera, id, first, note: note.value });
-  };
-  const play = make("button", { type: "button", ariaLabel: `Play ${called}` }, "Play");
-  play.onclick = () => playClip(`${path}.mp4?play&first=${clip.first}`, called);
-  const gets = [["mp4", "MP4"], ["y4m", "YUV4MPEG2"], ["zip", "PNGs in a zip"], ["csv", "Times as CSV"]].map(([kind, text]) =>
-    make("a", { href: `${path}.${kind}?first=${clip.first}`, download: "", ariaLabel: `${text}: ${called}` }, text));
-  const release = make("button", { type: "button", ariaLabel: `Release ${called}` }, "Release");
-  release.onclick = () => releaseClip(clip, called);
-  const image = make("img", { src: `${path}.jpg?first=${clip.first}`, alt: `The middle of ${called}`, loading: "lazy", width: 160, height: 120 });
-  const lasting = `${length(clip.seconds)}, ${clip.frames} frames, ${size(clip.bytes)} raw${clip.tag ? `, tag ${clip.tag}` : ""}`;
-  const times = make("p", { className: "when" }, `${clock(clip.from_us)} to ${clock(clip.to_us)}: ${lasting}`);
-  const title = make("h3", {}, `${clip.camera}, clip ${clip.id}`);
-  const row = make("li", {}, image, make("div", {}, title, times, form, make("div", { className: "gets" }, play, ...gets, release)));
-  row.note = note;
-  return row;
+/** Which cameras have less than was asked for; of one the reason, of several how much each has, and the reasons are under the bell. */
+function lackWords(kept) {
+  const lacking = kept.filter((answer) => answer.lack);
+  if (!lacking.length) return "";
+  if (lacking.length === 1) return kept.length > 1 ? `${lacking[0].camera}: ${lacking[0].lack}` : lacking[0].lack;
+  const held = (answer) => answer.clips.reduce((sum, clip) => sum + (clip.to_us - clip.from_us) / 1e6, 0);
+  const named = lacking.slice(0, 4).map((answer) => `${answer.camera} ${length(held(answer))}`), rest = lacking.length - named.length;
+  return `Less than was asked for: ${named.join(", ")}${rest ? `, and ${rest} more` : ""}. Why is under the bell.`;
 }
 
-/** Plays a clip. */
-function playClip(address, called) {
-  const player = byId("player"), video = player.querySelector("video");
-  byId("player-title").textContent = `Play ${called}`;
-  byId("player-fault").textContent = "";
-  video.onerror = async () => {
-    if (!video.getAttribute("src")) return;
-    const answer = await fetch(address, { headers: { Range: "bytes=0-0" } }).then((found) => found.json(), () => ({})).catch(() => ({}));
-    byId("player-fault").textContent = answer.error || "The film can't be played here. Download it.";
-  };
-  video.src = address;
-  player.showModal();
-  video.play().catch(() => {});
-  player.onclose = () => {
-    video.removeAttribute("src");
-    video.load();
-  };
+/** What else is said of what was kept, as of a note that can't be written; each once. */
+function remarksOf(kept) {
+  return new Set(kept.map((answer) => (answer.text.split(" frames. ")[1] || "").replace(answer.lack || "", "").trim()).filter(Boolean));
 }
 
-/** Releases a clip, once that was asked. */
-function releaseClip(clip, called) {
-  const sure = byId("sure");
-  byId("sure-text").textContent = `The ${called} is from ${clock(clip.from_us)} to ${clock(clip.to_us)}. `
-    + "Once it is released, its frames are overwritten, and nobody gets them back.";
-  sure.returnValue = "no";
-  sure.onclose = () => {
-    if (sure.returnValue !== "yes") return;
-    change("/api/release", { camera: clip.camera, id: clip.id, first: clip.first });
-  };
-  sure.showModal();
+/** Less or more time, by steps. */
+function stepSeconds(by) {
+  const now = wishedSeconds() || 60;
+  const next = by > 0 ? SECONDS.find((it) => it > now) ?? now : SECONDS.findLast((it) => it < now) ?? now;
+  byId("seconds").value = next;
+  name();
+  if (standing) room();
+}
+
+// ------------------------------------------------------------------------------------------------ the event of a large picture
+
+let shownWithin = null;
+
+/** The event that the large picture is of. */
+function within() {
+  if (!view.camera) return;
+  const moment = view.shown() ?? timeline.now(), event = events.at(view.camera, moment);
+  if (event?.key === shownWithin) return;
+  shownWithin = event?.key;
+  byId("within-title").hidden = !event;
+  if (!event) return byId("within").replaceChildren();
+  const play = make("button", { type: "button", className: "quiet" }, icon("play"), " Side by side"), get = make("button", { type: "button", className: "quiet" }, icon("down"), " Download");
+  play.onclick = () => view.playEvent(event);
+  get.onclick = () => events.fetch(event);
+  const top = make("div", { className: "top" }, make("time", {}, clock(event.from_us)), make("span", { className: "len num" }, `${length(event.seconds)} \u00b7 ${camerasOf(event)}`));
+  byId("within").replaceChildren(make("li", { className: "event" }, top, make("div", {}, event.note || "no note"), make("div", { className: "acts" }, play, get)));
+}
+
+// ------------------------------------------------------------------------------------------------ keys
+
+const KEYS = [
+  ["K", "keep: the last seconds, or the range"], ["N", "write the note"], ["1 to 9", "that camera large; two digits for the tenth and on"], ["0, Esc", "all cameras; let the range go; live"],
+  ["L", "live"], ["Space", "play, stop"], ["\u2190 \u2192", "a frame back, on; with Shift a range"], ["Page Up, Page Down", "a second back, on"], ["Home, End", "the first moment, the last"],
+  ["I, O", "the range starts here, ends here"], ["+ \u2212", "zoom the timeline"], ["< >", "move the timeline"], ["A", "stretch a large picture by itself, or not"], ["B", "warnings"], ["E", "events"], ["?", "these keys"],
+];
+let digits = "";
+let digitsTimer = null;
+
+/** A digit: a camera by its place. */
+function digit(key) {
+  clearTimeout(digitsTimer);
+  digits += key;
+  const place = Number(digits), isMore = place && place * 10 <= cameraNames.length;
+  if (place >= 1 && place <= cameraNames.length) view.open(cameraNames[place - 1]);
+  else if (key === "0") view.open(null);
+  if (isMore) digitsTimer = setTimeout(() => { digits = ""; }, DIGITS);
+  else digits = "";
+}
+
+/** Lets go, step by step: the panel, the range, the moment, the large picture. */
+function escape() {
+  if (byId("warnings").open) ring();
+  else if (timeline.range) timeline.choose(null);
+  else if (view.moment !== null || view.scrubbed !== null) view.live();
+  else if (view.camera) view.open(null);
+}
+
+/** Goes some frames on, and makes the range longer where that is asked for. */
+function step(by, isRange) {
+  const from = view.moment ?? timeline.now();
+  if (!isRange) timeline.anchor = null;
+  view.step(by, isRange ? (moment) => timeline.extend(from, moment) : undefined);
+}
+
+const WORK = {
+  k: keep, n: () => byId("note").focus(), l: () => view.live(), " ": () => view.toggle(), i: () => view.bound("from"), o: () => view.bound("to"),
+  "+": () => timeline.zoom(1 / 1.5), "=": () => timeline.zoom(1 / 1.5), "-": () => timeline.zoom(1.5), "<": () => timeline.pan(-0.3), ">": () => timeline.pan(0.3),
+  a: () => large.auto(), b: ring, e: () => (byId("events").querySelector("button") || byId("events")).focus(), "?": () => byId("help").showModal(),
+  pageup: () => view.second(-1), pagedown: () => view.second(1), home: () => view.edge(false), end: () => view.edge(true),
+};
+
+function pressed(event) {
+  if (event.ctrlKey || event.altKey || event.metaKey || document.querySelector("dialog:modal")) return;
+  const target = event.target, isField = target.matches("input, select, textarea"), key = event.key.toLowerCase();
+  if (key === "escape") {
+    if (isField) target.blur();
+    else escape();
+    return;
+  }
+  // In a field letters are text; on a button the space bar presses it.
+  if (isField || (key === " " && target.matches("button, summary, a"))) return;
+  if (key === "arrowleft" || key === "arrowright") step((key === "arrowleft" ? -1 : 1), event.shiftKey);
+  else if (key === "enter" && target === timeline.canvas && timeline.range) keep();
+  else if (/^\d$/.test(key)) digit(key);
+  else if (WORK[key] && !(event.repeat && key === "k")) WORK[key]();
+  else return;
+  event.preventDefault();
 }
 
 // ------------------------------------------------------------------------------------------------ begin
 
+/** The time of the day, by the server's clock, with its zone. */
+function tick() {
+  const now = timeline.now(), whole = clock(now, 1), element = byId("clock");
+  if (!standing) return;
+  if (element.children.length !== 1) element.replaceChildren("", make("small"));
+  element.firstChild.data = whole.slice(0, -2);
+  say(element.lastChild, `${whole.slice(-2)} ${zone(now)}`);
+}
+
+byId("bell").append(icon("bell"), make("span", { id: "badge", className: "badge", hidden: true, ariaHidden: "true" }));
+byId("leave").querySelector("button").append(icon("out"));
+byId("warnings-close").append(icon("close"));
+byId("keys").append(...KEYS.flatMap(([keys, what]) => [make("dt", {}, ...keys.split(", ").flatMap((key, place) => [place ? " " : "", make("kbd", {}, key)])), make("dd", {}, what)]));
+say(byId("zone"), `Times on this page are ${zone()}, the zone of your browser. Names and times in files are UTC. Triangle: wrong; diamond: look; circle: well.`);
+byId("bell").onclick = ring;
+byId("warnings-close").onclick = ring;
+byId("all-seen").onclick = () => sawAll(standing.alerts.map((alert) => alert.id));
+byId("ask").onclick = () => byId("help").showModal();
+byId("what").onclick = advise;
+byId("all").onclick = () => view.open(null);
+byId("less").onclick = () => stepSeconds(-1);
+byId("more").onclick = () => stepSeconds(1);
+byId("seconds").oninput = () => { name(); if (standing) room(); };
+byId("camera").onchange = name;
 byId("keep").onsubmit = (event) => {
   event.preventDefault();
-  keep({ camera: byId("camera").value || null, seconds: Number(byId("seconds").value), note: byId("note").value });
+  keep();
 };
-byId("seconds").oninput = name;
-byId("camera").onchange = name;
-listen();
+document.addEventListener("keydown", pressed);
+link.listen();
 setInterval(watch, 250);
+setInterval(tick, 100);

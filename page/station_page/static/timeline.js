@@ -1,61 +1,174 @@
-// The ring of a camera as a timeline: from its oldest held frame to now. Time without frames is drawn short.
+// One timeline for all cameras, a lane each: what is held, gaps, events, what goes next, and now. It shows a span of time that follows the clock, or stands.
+import { byId, clock, colour, length, make, penOf, zone } from "/static/words.js";
 
-const GAPS = 0.2;
-const DRAG = 5;
 const SECOND = 1e6;
+const DRAG = 5;
+const LEAST = 10 * SECOND;
+const STEPS = [1, 2, 5, 10, 15, 30, 60, 120, 300, 600, 900, 1800, 3600, 7200, 10800, 21600, 43200, 86400];
+const ZOOM = 1.4;
 
 export class Timeline {
-  constructor(canvas, name, tile) {
-    this.canvas = canvas;
-    this.camera = name;
-    this.tile = tile;
+  /** `told` has what the page does: scrub(time or null), pin(time), choose(range), step(by), live(). */
+  constructor(told) {
+    this.told = told;
+    this.canvas = byId("tracks");
+    this.scale = byId("scale");
+    this.cameras = [];
+    this.span = 600 * SECOND;
+    this.isAll = false;
+    this.end = null;
     this.range = null;
     this.at = null;
-    this.parts = [];
-    canvas.setAttribute("role", "slider");
-    canvas.setAttribute("aria-label", `Timeline of ${name}`);
-    canvas.setAttribute("aria-describedby", "legend");
+    this.hover = this.held = null;
+    this.skew = 0;
+    this.pointers = new Map();
+    const canvas = this.canvas;
     canvas.onpointerdown = (event) => this.down(event);
     canvas.onpointermove = (event) => this.move(event);
     canvas.onpointerup = (event) => this.up(event);
-    canvas.onpointercancel = () => { this.from = null; };
-    canvas.onkeydown = (event) => this.key(event);
+    canvas.onpointercancel = (event) => this.cancel(event);
+    canvas.onpointerleave = () => this.leave();
+    canvas.addEventListener("wheel", (event) => this.wheel(event), { passive: false });
+    for (const button of document.querySelectorAll(".zooms button")) button.onclick = () => this.zoomTo(button.dataset.span);
     new ResizeObserver(() => this.draw()).observe(canvas);
+    setInterval(() => this.draw(), 250);
+    this.telling();
   }
 
-  /** Shows how the ring stands. */
-  show(camera, now) {
-    this.state = camera;
-    this.now = now;
-    this.parts = camera.pieces && camera.pieces.length ? place(camera.pieces, Math.max(now, camera.newest[1])) : [];
+  /** Now, by the server's clock, in microseconds. */
+  now() {
+    return Date.now() * 1000 + this.skew;
+  }
+
+  /** Shows how the cameras stand. */
+  show(cameras, now) {
+    this.skew = now * SECOND - Date.now() * 1000;
+    const names = cameras.map((camera) => camera.name).join();
+    if (!this.names) this.isAll = Math.min(...cameras.filter((camera) => camera.oldest).map((camera) => camera.oldest[1])) > now * SECOND - this.span;
+    if (names !== this.names) {
+      this.names = names;
+      byId("names").replaceChildren(...cameras.map((camera) => make("li", { title: camera.name }, camera.name)));
+      this.canvas.style.height = `calc(${cameras.length} * var(--lane))`;
+      this.telling();
+    }
+    this.cameras = cameras;
     this.draw();
   }
 
-  /** Where the frame that is looked at stands; none where the newest is. */
+  /** From when something is held. */
+  oldest() {
+    return Math.min(this.now() - LEAST, ...this.cameras.filter((camera) => camera.oldest).map((camera) => camera.oldest[1]));
+  }
+
+  /** The times at both ends of what is shown. Under the pointer it stands still. */
+  window() {
+    const end = this.end ?? this.held ?? this.now();
+    if (!this.isAll) return [end - this.span, end];
+    const since = this.oldest();
+    return [since - (end - since) * 0.01, end];
+  }
+
+  timeAt(event) {
+    const box = this.canvas.getBoundingClientRect(), [begin, end] = this.window();
+    const share = Math.min(1, Math.max(0, (event.clientX - box.left) / Math.max(1, box.width)));
+    return begin + share * (end - begin);
+  }
+
+  /** Shows a span that a button names, up to now. */
+  zoomTo(span) {
+    this.isAll = span === "all";
+    if (!this.isAll) this.span = Number(span) * SECOND;
+    this.end = null;
+    this.telling();
+    this.draw();
+  }
+
+  /** Shows a time as large as can be: an event's, or a range. */
+  reveal(from, to) {
+    const spare = Math.max((to - from) * 0.04, SECOND / 2);
+    this.isAll = false;
+    this.span = Math.max(LEAST, to - from + 2 * spare);
+    this.end = (from + to) / 2 + this.span / 2;
+    this.follow();
+    this.telling();
+    this.draw();
+  }
+
+  /** Remembers what is shown, until `back`. */
+  leaveOff() {
+    this.before ??= { span: this.span, isAll: this.isAll };
+  }
+
+  /** Follows the clock again, as it did before. */
+  back() {
+    if (this.before) ({ span: this.span, isAll: this.isAll } = this.before);
+    this.before = null;
+    this.end = null;
+    this.telling();
+    this.draw();
+  }
+
+  /** Zooms about a time, which stays where it is. Once all is shown, it stays at that. */
+  zoom(factor, time) {
+    const [begin, end] = this.window(), all = (this.now() - this.oldest()) * 1.01;
+    if (this.held) this.held = this.now();
+    const about = time ?? (this.at !== null && this.at > begin && this.at < end ? this.at : end);
+    const span = Math.max(LEAST, (end - begin) * factor);
+    this.isAll = span >= all;
+    if (!this.isAll) this.span = span;
+    this.end = this.isAll ? null : about + (end - about) * (span / (end - begin));
+    this.follow();
+    this.telling();
+    this.draw();
+  }
+
+  /** Moves what is shown, by a part of it. */
+  pan(share) {
+    if (this.isAll) return;
+    this.end = Math.max(this.oldest() + this.span / 2, (this.end ?? this.now()) + share * this.span);
+    this.follow();
+    this.draw();
+  }
+
+  /** Follows the clock where the end is near it. */
+  follow() {
+    if (this.end !== null && this.end >= this.now() - this.span * 0.005) this.end = null;
+  }
+
+  /** Moves what is shown so that a time is within. */
+  see(time) {
+    const [begin, end] = this.window();
+    if (this.isAll || (time >= begin && time <= end)) return;
+    this.end = time + this.span * 0.5;
+    this.follow();
+  }
+
+  /** Says which span the buttons name. */
+  telling() {
+    for (const button of document.querySelectorAll(".zooms button")) {
+      const is = button.dataset.span === "all" ? this.isAll : !this.isAll && this.end === null && Number(button.dataset.span) * SECOND === this.span;
+      button.classList.toggle("on", is);
+      button.setAttribute("aria-pressed", String(is));
+    }
+  }
+
+  /** Where the pictures stand; none where they are live. */
   cursor(time) {
     this.at = time;
+    if (time !== null) this.see(time);
     this.draw();
-  }
-
-  /** What is read aloud. */
-  name(text) {
-    const { oldest, newest } = this.state;
-    this.canvas.setAttribute("aria-valuetext", text);
-    this.canvas.setAttribute("aria-valuemin", Math.floor(oldest[1] / 1000));
-    this.canvas.setAttribute("aria-valuemax", Math.floor(newest[1] / 1000));
-    this.canvas.setAttribute("aria-valuenow", Math.floor((this.at ?? newest[1]) / 1000));
   }
 
   /** Sets the range. */
   choose(range) {
     this.range = range;
     this.anchor = null;
-    this.tile.chosen(range);
+    this.told.choose(range);
     this.draw();
   }
 
-  /** Sets one end of the range, and the other one where it isn't there or lies on the wrong side. */
-  end(which, time) {
+  /** Sets one end of the range, and the other one where it isn't there or is on the wrong side. */
+  bound(which, time) {
     const range = this.range ? { ...this.range } : { from: time, to: time };
     range[which] = time;
     if (range.from > range.to) range[which === "from" ? "to" : "from"] = time;
@@ -69,172 +182,200 @@ export class Timeline {
     this.anchor = anchor;
   }
 
-  /** The time at a place of the canvas. */
-  timeAt(event) {
-    const box = this.canvas.getBoundingClientRect();
-    const x = Math.min(1, Math.max(0, (event.clientX - box.left) / box.width));
-    const part = this.parts.find((it) => x <= it.x1) || this.parts.at(-1);
-    return part.x1 > part.x0 ? part.t0 + (x - part.x0) / (part.x1 - part.x0) * (part.t1 - part.t0) : part.t0;
-  }
-
-  /** Where a time is, from 0 to 1. */
-  placeOf(time) {
-    const part = this.parts.find((it) => time <= it.t1) || this.parts.at(-1);
-    const share = part.t1 > part.t0 ? (time - part.t0) / (part.t1 - part.t0) : 0;
-    return part.x0 + Math.min(1, Math.max(0, share)) * (part.x1 - part.x0);
-  }
-
   down(event) {
-    if (!this.parts.length || event.button) return;
+    if (event.button) return;
     this.canvas.setPointerCapture(event.pointerId);
-    this.canvas.focus();
+    this.pointers.set(event.pointerId, event.clientX);
+    if (this.pointers.size === 2) {
+      this.isDrag = false;
+      this.from = null;
+      this.apart = this.distance();
+      return;
+    }
     this.from = { x: event.clientX, time: this.timeAt(event) };
     this.isDrag = false;
   }
 
+  /** How far two fingers are apart. */
+  distance() {
+    const [one, other] = [...this.pointers.values()];
+    return Math.max(10, Math.abs(one - other));
+  }
+
   move(event) {
-    if (!this.from || !this.parts.length) return;
-    this.isDrag ||= Math.abs(event.clientX - this.from.x) > DRAG;
-    if (!this.isDrag) return;
+    this.held ??= this.now();
+    if (this.pointers.has(event.pointerId)) this.pointers.set(event.pointerId, event.clientX);
+    if (this.pointers.size === 2) {
+      const apart = this.distance(), box = this.canvas.getBoundingClientRect();
+      const middle = [...this.pointers.values()].reduce((sum, x) => sum + x, 0) / 2;
+      this.zoom(this.apart / apart, this.timeAt({ clientX: Math.min(middle, box.right) }));
+      this.apart = apart;
+      return;
+    }
     const time = this.timeAt(event);
-    this.choose({ from: Math.min(this.from.time, time), to: Math.max(this.from.time, time) });
+    this.hover = Math.min(time, this.now());
+    this.told.scrub(this.hover);
+    if (this.from) {
+      this.isDrag ||= Math.abs(event.clientX - this.from.x) > DRAG;
+      if (this.isDrag) this.choose({ from: Math.min(this.from.time, time), to: Math.min(this.now(), Math.max(this.from.time, time)) });
+    }
+    this.draw();
   }
 
   up(event) {
-    if (!this.from) return;
-    const time = this.from.time;
+    this.pointers.delete(event.pointerId);
+    const from = this.from;
     this.from = null;
-    if (!this.isDrag) this.tile.go(time);
+    if (from && !this.isDrag) this.told.pin(from.time);
+    if (event.pointerType !== "mouse") this.leave();
   }
 
-  key(event) {
-    if (!this.parts.length || event.ctrlKey || event.altKey || event.metaKey) return;
-    const second = Math.max(1, Math.round(this.state.asked_rate));
-    const arrows = { ArrowLeft: -1, ArrowDown: -1, ArrowRight: 1, ArrowUp: 1 };
-    const steps = { ...arrows, PageUp: -second, PageDown: second, Home: -999999, End: 999999 }[event.key];
-    if (steps !== undefined) {
-      if (!event.shiftKey) this.anchor = null;
-      this.tile.step(steps, event.shiftKey);
-    } else if (event.key === "Escape") {
-      this.choose(null);
-      this.tile.goLive();
-    } else if (event.key === "Enter" && this.range) {
-      this.tile.keep();
-    } else {
-      return;
-    }
-    event.preventDefault();
+  cancel(event) {
+    this.pointers.delete(event.pointerId);
+    this.from = null;
+    this.leave();
   }
+
+  leave() {
+    if (this.from) return;
+    this.hover = this.held = null;
+    this.told.scrub(null);
+    this.draw();
+  }
+
+  wheel(event) {
+    if (event.altKey) return;
+    event.preventDefault();
+    const sideways = event.shiftKey ? event.deltaY : event.deltaX;
+    if (Math.abs(sideways) > Math.abs(event.shiftKey ? 0 : event.deltaY)) this.pan(sideways / 800);
+    else if (event.deltaY) this.zoom(ZOOM ** (event.deltaY / 100), this.timeAt(event));
+  }
+
+  /** What is read aloud. */
+  name(text) {
+    const [begin, end] = this.window();
+    const canvas = this.canvas;
+    canvas.setAttribute("aria-valuemin", Math.floor(begin / 1000));
+    canvas.setAttribute("aria-valuemax", Math.floor(end / 1000));
+    canvas.setAttribute("aria-valuenow", Math.floor((this.at ?? end) / 1000));
+    canvas.setAttribute("aria-valuetext", text);
+  }
+
+  // ---------------------------------------------------------------------------------------------- drawing
 
   /** Draws all of it. */
   draw() {
-    const ratio = devicePixelRatio || 1, box = this.canvas.getBoundingClientRect();
-    const width = Math.max(1, Math.round(box.width * ratio)), height = Math.max(1, Math.round(box.height * ratio));
-    if (this.canvas.width !== width || this.canvas.height !== height) Object.assign(this.canvas, { width, height });
-    const pen = this.canvas.getContext("2d");
-    pen.clearRect(0, 0, width, height);
-    if (!this.parts.length) return;
-    const band = { top: height * 0.3, height: height * 0.5 };
-    const fill = (from, to, style, top = band.top, high = band.height) => {
-      const x = this.placeOf(from) * width;
+    if (!this.cameras.length) return;
+    const [begin, end] = this.window();
+    const { pen, width, height } = penOf(this.canvas);
+    this.x = (time) => (time - begin) / (end - begin) * width;
+    const high = height / this.cameras.length;
+    this.cameras.forEach((camera, place) => this.drawLane(pen, camera, place * high, high, width));
+    if (this.range) this.drawRange(pen, height);
+    this.drawLine(pen, this.now(), height, colour("press"), 2);
+    if (this.at !== null) this.drawLine(pen, this.at, height, colour("range"), 2);
+    if (this.hover !== null) this.drawLine(pen, this.hover, height, colour("ink"), 1);
+    this.drawScale(begin, end);
+  }
+
+  /** An upright line at a time. */
+  drawLine(pen, time, height, style, wide) {
+    pen.fillStyle = style;
+    pen.fillRect(Math.min(this.x(time), pen.canvas.clientWidth - wide / 2) - wide / 2, 0, wide, height);
+  }
+
+  /** A camera's lane: what is held, and above it its clips and what goes next. Where nothing is held, upright stripes. */
+  drawLane(pen, camera, y, high, width) {
+    const top = y + high * 0.2, tall = high * 0.6;
+    pen.fillStyle = striped(pen, colour("edge"), 0);
+    pen.fillRect(0, top, Math.min(width, this.x(this.now())), tall);
+    if (!camera.pieces) return;
+    const fill = (from, to, style, spare = 0) => {
+      const left = Math.max(0, this.x(from)), right = Math.min(width, Math.max(this.x(to), this.x(from) + 2));
+      if (right <= 0 || left >= width) return;
       pen.fillStyle = style;
-      pen.fillRect(x, top, Math.max(2 * ratio, this.placeOf(to) * width - x), high);
+      pen.fillRect(left, top - spare, right - left, tall + 2 * spare);
     };
-    for (const part of this.parts) {
-      pen.fillStyle = part.isGap ? striped(pen, "#fff", "#b8c2cc", 0, ratio) : "#7fb2e0";
-      pen.fillRect(part.x0 * width, band.top, Math.max(1, (part.x1 - part.x0) * width), band.height);
+    const period = SECOND / (camera.asked_rate || 25);
+    for (const [, , since, until] of camera.pieces) {
+      fill(since, until + period, colour("panel"));
+      fill(since, until + period, colour("held"));
     }
-    this.drawNext(fill, pen, width, ratio, band);
-    for (const [, , , since, until] of this.state.clips) fill(since, until, striped(pen, "#e4d3f5", "#6b2fa0", 1, ratio));
-    this.drawNumbers(pen, width, ratio, band);
-    if (this.range) this.drawRange(pen, width, height, ratio);
-    if (this.at !== null) {
-      pen.fillStyle = "#17212b";
-      pen.fillRect(this.placeOf(this.at) * width - ratio, 0, 2 * ratio, height);
-    }
-  }
-
-  /** The clips' numbers, above where they begin; one that would stand in another one stands after it. */
-  drawNumbers(pen, width, ratio, band) {
-    pen.fillStyle = "#4a1a78";
-    pen.font = `${12 * ratio}px system-ui, sans-serif`;
-    let free = 0;
-    for (const [id, , , since] of [...this.state.clips].sort((one, other) => one[3] - other[3])) {
-      const text = String(id), x = Math.max(free, this.placeOf(since) * width + 2 * ratio);
-      pen.fillText(text, x, band.top - 3 * ratio);
-      free = x + pen.measureText(text).width + 5 * ratio;
+    for (const [, , , since, until] of camera.clips || []) fill(since, until + period, colour("clip"), high * 0.1);
+    const next = nextOf(camera);
+    if (next) {
+      fill(...next, colour("panel"));
+      fill(...next, striped(pen, colour("bad"), 1));
     }
   }
 
-  /** The place that is overwritten next: striped, with a mark below it. */
-  drawNext(fill, pen, width, ratio, band) {
-    if (!this.state.removed_next) return;
-    const [first, last] = this.state.removed_next;
-    const piece = this.state.pieces.find((it) => it[0] <= last && it[1] >= first);
-    if (!piece) return;
-    const [begin, end, since, until] = piece;
-    const share = (number) => (end > begin ? (Math.min(Math.max(number, begin), end) - begin) / (end - begin) : 0);
-    const time = (number) => since + share(number) * (until - since);
-    fill(time(first), time(last), striped(pen, "#fff", "#a3160f", -1, ratio));
-    const x = this.placeOf(time(first)) * width, y = band.top + band.height;
-    pen.fillStyle = "#a3160f";
-    pen.beginPath();
-    pen.moveTo(x, y);
-    pen.lineTo(x + 10 * ratio, y + 10 * ratio);
-    pen.lineTo(x, y + 10 * ratio);
-    pen.fill();
+  /** The range that is chosen. */
+  drawRange(pen, height) {
+    const left = this.x(this.range.from), wide = Math.max(3, this.x(this.range.to) - left);
+    pen.save();
+    pen.globalAlpha = 0.28;
+    pen.fillStyle = colour("range");
+    pen.fillRect(left, 0, wide, height);
+    pen.restore();
+    pen.strokeStyle = colour("range");
+    pen.lineWidth = 2;
+    pen.strokeRect(left, 1, wide, height - 2);
   }
 
-  /** The range that is chosen: a dashed frame. */
-  drawRange(pen, width, height, ratio) {
-    const x = this.placeOf(this.range.from) * width, wide = Math.max(3 * ratio, this.placeOf(this.range.to) * width - x);
-    pen.fillStyle = "rgb(255 200 90 / 45%)";
-    pen.fillRect(x, ratio, wide, height - 2 * ratio);
-    pen.strokeStyle = "#7a4b00";
-    pen.lineWidth = 2 * ratio;
-    pen.setLineDash([5 * ratio, 3 * ratio]);
-    pen.strokeRect(x, ratio, wide, height - 2 * ratio);
-    pen.setLineDash([]);
+  /** Times of the day above, at round ones, as many as fit. */
+  drawScale(begin, end) {
+    const { pen, width, height } = penOf(this.scale);
+    const seconds = (end - begin) / SECOND, room = seconds < 3 * STEPS.length ? 70 : 62;
+    const step = (STEPS.find((it) => width / (seconds / it) >= room + 14) || 86400) * SECOND;
+    const shift = -new Date(end / 1000).getTimezoneOffset() * 60 * SECOND;
+    pen.font = "12px system-ui, sans-serif";
+    pen.textBaseline = "middle";
+    const nowAt = (this.now() - begin) / (end - begin) * width, isNow = nowAt <= width + 1;
+    if (isNow) {
+      pen.fillStyle = colour("ink");
+      pen.fillText("now", width - 24, height / 2);
+    }
+    for (let time = Math.ceil((begin + shift) / step) * step - shift; time <= end; time += step) {
+      const at = (time - begin) / (end - begin) * width, text = clock(time).slice(0, step < 60 * SECOND ? undefined : -3);
+      const wide = pen.measureText(text).width;
+      pen.fillStyle = colour("edge-strong");
+      pen.fillRect(at, height - 4, 1, 4);
+      if (at + 4 + wide > width - (isNow ? 32 : 0)) continue;
+      pen.fillStyle = colour("faint");
+      pen.fillText(text, at + 3, height / 2);
+    }
   }
 }
 
-/** Where pieces and the gaps between them stand, from 0 to 1; all gaps together take at most a part. */
-function place(pieces, now) {
-  const sorted = [...pieces].sort((a, b) => a[2] - b[2]);
-  const parts = [];
-  for (const [, , since, until] of sorted) {
-    const before = parts.at(-1);
-    if (before && since > before.t1) parts.push({ t0: before.t1, t1: since, isGap: true });
-    parts.push({ t0: Math.max(since, before ? before.t0 : since), t1: Math.max(until, since + SECOND / 1000), isGap: false });
-  }
-  if (now > parts.at(-1).t1 + SECOND) parts.push({ t0: parts.at(-1).t1, t1: now, isGap: true });
-  const all = (isGap) => parts.filter((it) => it.isGap === isGap).reduce((sum, it) => sum + it.t1 - it.t0, 0);
-  const held = all(false), gaps = all(true);
-  const scale = gaps > held * GAPS ? held * GAPS / gaps : 1;
-  let x = 0;
-  for (const part of parts) {
-    part.x0 = x;
-    x += (part.t1 - part.t0) * (part.isGap ? scale : 1) / (held + gaps * scale);
-    part.x1 = x;
-  }
-  return parts;
+/** The time of the block that is overwritten next. */
+export function nextOf(camera) {
+  if (!camera.removed_next) return null;
+  const [first, last] = camera.removed_next;
+  const piece = camera.pieces.find((it) => it[0] <= last && it[1] >= first);
+  if (!piece) return null;
+  const [begin, end, since, until] = piece;
+  const time = (number) => since + (end > begin ? (Math.min(Math.max(number, begin), end) - begin) / (end - begin) : 0) * (until - since);
+  return [time(first), time(last)];
+}
+
+/** A range in words. */
+export function rangeWords(range) {
+  return `${clock(range.from, 1)} to ${clock(range.to, 1)} ${zone(range.to)}, ${length((range.to - range.from) / SECOND)}`;
 }
 
 const patterns = new Map();
 
-/** A pattern of stripes: upright, or aslant to one side. */
-function striped(pen, back, front, slant, ratio) {
-  const key = `${back} ${front} ${slant} ${ratio}`;
+/** A pattern of stripes: upright, or aslant. */
+function striped(pen, front, slant) {
+  const key = `${front} ${slant}`;
   if (!patterns.has(key)) {
-    const side = Math.round(8 * ratio), tile = new OffscreenCanvas(side, side), ink = tile.getContext("2d");
-    ink.fillStyle = back;
-    ink.fillRect(0, 0, side, side);
+    const tile = new OffscreenCanvas(6, 6), ink = tile.getContext("2d");
     ink.strokeStyle = front;
-    ink.lineWidth = side / 3;
+    ink.lineWidth = slant ? 2 : 1;
     ink.beginPath();
-    for (const shift of [-side, 0, side]) {
-      ink.moveTo(shift + side / 2 - slant * side / 2, side);
-      ink.lineTo(shift + side / 2 + slant * side / 2, 0);
+    for (const shift of [-6, 0, 6]) {
+      ink.moveTo(shift + 3 - slant * 3, 6);
+      ink.lineTo(shift + 3 + slant * 3, 0);
     }
     ink.stroke();
     patterns.set(key, pen.createPattern(tile, "repeat"));

@@ -1,0 +1,103 @@
+"""Clips as events: one press keeps a time of several cameras, and that is one event. The station has no
+numbers for events yet, so `events_of` goes by the times of clips; where it has, this is the function to
+change."""
+# By how much the ends of clips of one press may differ, in microseconds, beside two periods of the
+# slower camera: the newest frame of one may not have been stored when the press came.
+NEAR_END = 400_000
+NEAR_START = 100_000
+
+
+class Group:
+    """Clips of one press, as dicts of `Laboratory.clips`, and the time that they have together."""
+
+    def __init__(self, clip: dict) -> None:
+        self.clips, self.tag = [clip], clip["tag"]
+        self.since, self.until, self.period = clip["from_us"], clip["to_us"], period_of(clip)
+
+    def add(self, clip: dict) -> None:
+        """A clip comes to it."""
+        self.clips.append(clip)
+        self.since, self.until = min(self.since, clip["from_us"]), max(self.until, clip["to_us"])
+        self.period = max(self.period, period_of(clip))
+
+    def is_free(self, clip: dict) -> bool:
+        """Whether no clip of the same camera shares a frame with it: a press keeps each once."""
+        return not any(
+            it["camera"] == clip["camera"]
+            and it["first"] <= clip["last"]
+            and clip["first"] <= it["last"]
+            for it in self.clips
+        )
+
+    def meets(self, clip: dict) -> bool:
+        """Whether a clip is of the same press, by its times: both ends are near; or it is a part
+        beside a hole, within the time of the press, that reaches an end or stands beside others."""
+        if clip["to_us"] < self.since or self.until < clip["from_us"] or clip["tag"] != self.tag:
+            return False
+        slack = 2 * max(self.period, period_of(clip))
+        starts = abs(clip["from_us"] - self.since) <= NEAR_START + slack
+        ends = abs(clip["to_us"] - self.until) <= NEAR_END + slack
+        if starts and ends:
+            return self.is_free(clip)
+        begins = clip["from_us"] >= self.since - NEAR_START - slack
+        if not begins or clip["to_us"] > self.until + NEAR_END + slack or not self.is_free(clip):
+            return False
+        return starts or ends or any(it["camera"] == clip["camera"] for it in self.clips)
+
+
+def period_of(clip: dict) -> float:
+    """The microseconds from a frame to the next, by a clip's own frames."""
+    return (clip["to_us"] - clip["from_us"]) / max(1, clip["frames"] - 1)
+
+
+def groups_of(clips: list[dict]) -> list[Group]:
+    """The clips of each press together. Long ones come first: what a hole cut short joins them."""
+    groups: list[Group] = []
+    for clip in sorted(
+        clips, key=lambda it: (it["from_us"] - it["to_us"], it["to_us"], it["camera"])
+    ):
+        near = [group for group in groups if group.meets(clip)]
+        if near:
+            min(near, key=lambda group: abs(group.until - clip["to_us"])).add(clip)
+        else:
+            groups.append(Group(clip))
+    return groups
+
+
+def events_of(clips: list[dict]) -> list[dict]:
+    """The events of all clips, the newest first, as objects for JSON: `key` names an event as long as
+    its clips stay; times are in microseconds since 1970."""
+    found = []
+    for group in groups_of(clips):
+        ordered = sorted(group.clips, key=lambda it: (it["camera"], it["first"]))
+        notes = list(dict.fromkeys(it["note"] for it in ordered if it["note"]))
+        since, until = group.since, group.until
+        found.append(
+            {
+                "key": "~".join(f"{it['camera']}.{it['id']}.{it['first']}" for it in ordered),
+                "from_us": since,
+                "to_us": until,
+                "seconds": max(it["seconds"] for it in ordered)
+                if len(ordered) == 1
+                else span(group),
+                "cameras": list(dict.fromkeys(it["camera"] for it in ordered)),
+                "bytes": sum(it["bytes"] for it in ordered),
+                "note": "; ".join(notes),
+                "tag": ordered[0]["tag"],
+                "fetched": any(it["fetched"] for it in ordered),
+                "clips": [
+                    {
+                        key: it[key]
+                        for key in ("camera", "id", "first", "last", "from_us", "to_us", "frames")
+                    }
+                    for it in ordered
+                ],
+            }
+        )
+    return sorted(found, key=lambda it: (it["to_us"], it["from_us"], it["key"]), reverse=True)
+
+
+def span(group: Group) -> float:
+    """The seconds from the first frame of an event to the end of its last one."""
+    last = max(group.clips, key=lambda it: it["to_us"])
+    return (group.until - group.since + period_of(last)) / 1_000_000

@@ -1,0 +1,127 @@
+// The server: requests, and the one answer that doesn't end, over which all comes that is new.
+
+/** Asks the server for something, and answers its JSON. What goes wrong is thrown, in a sentence. */
+export async function ask(path, body) {
+  let answer;
+  try {
+    answer = await fetch(path, body === undefined ? {} : {
+      method: "POST", headers: { "Content-Type": "application/json", "X-Loop-Page": "1" }, body: JSON.stringify(body),
+    });
+  } catch {
+    throw new Error("The page's server doesn't answer. Does loop_page run?");
+  }
+  if (answer.status === 401) location.assign("/sign-in");
+  const found = await answer.json().catch(() => ({}));
+  if (!answer.ok && !found.answers) throw new Error(found.error || found.text || `The server answers ${answer.status}.`);
+  return found;
+}
+
+const AGAIN = 1000;
+const LENGTHS = 8;
+
+/** Bytes that have come, until messages of them are whole. */
+class Gathered {
+  constructor() {
+    this.parts = [];
+    this.size = 0;
+  }
+
+  add(part) {
+    this.parts.push(part);
+    this.size += part.length;
+  }
+
+  /** The first so many bytes; none where fewer have come. With `keep` they stay. */
+  take(count, keep = false) {
+    if (this.size < count) return null;
+    if (this.parts[0].length < count) {
+      const whole = new Uint8Array(this.size);
+      let at = 0;
+      for (const part of this.parts) {
+        whole.set(part, at);
+        at += part.length;
+      }
+      this.parts = [whole];
+    }
+    const found = this.parts[0].subarray(0, count);
+    if (keep) return found;
+    this.parts[0] = this.parts[0].subarray(count);
+    this.size -= count;
+    if (!this.parts[0].length) this.parts.shift();
+    return found;
+  }
+}
+
+export class Link {
+  /** `heard` is called with each message: its head, and the bytes of its body. */
+  constructor(heard) {
+    this.heard = heard;
+    this.view = {};
+    this.turn = 0;
+    this.id = null;
+    this.text = new TextDecoder();
+  }
+
+  /** Listens, again where the server was lost. */
+  async listen() {
+    for (;;) {
+      try {
+        await this.once();
+      } catch {
+        // Lost: `watch` in page.js says so.
+      }
+      this.id = null;
+      await new Promise((done) => setTimeout(done, AGAIN));
+    }
+  }
+
+  /** Listens until the server is lost. */
+  async once() {
+    const answer = await fetch("/api/stream");
+    if (answer.status === 401) location.assign("/sign-in");
+    if (!answer.ok) return;
+    const reader = answer.body.getReader(), gathered = new Gathered();
+    for (;;) {
+      const { done, value } = await reader.read();
+      if (done) return;
+      gathered.add(value);
+      while (this.message(gathered));
+    }
+  }
+
+  /** Hands on a message, where one is whole. */
+  message(gathered) {
+    const front = gathered.take(LENGTHS, true);
+    if (!front) return false;
+    const look = new DataView(front.buffer, front.byteOffset, LENGTHS), head = look.getUint32(0), body = look.getUint32(4);
+    const whole = gathered.take(LENGTHS + head + body);
+    if (!whole) return false;
+    const told = JSON.parse(this.text.decode(whole.subarray(LENGTHS, LENGTHS + head)));
+    if (told.kind === "hello") {
+      this.id = told.id;
+      this.send();
+    }
+    this.heard(told, whole.subarray(LENGTHS + head));
+    return true;
+  }
+
+  /** Says what this page looks at. Where that changes while it is said, the newest is said after it. */
+  look(view) {
+    this.view = view;
+    this.turn += 1;
+    this.send();
+    return this.turn;
+  }
+
+  async send() {
+    if (this.isSending || !this.id) {
+      this.isStale = true;
+      return;
+    }
+    this.isSending = true;
+    this.isStale = false;
+    await ask("/api/view", { ...this.view, stream: this.id, turn: this.turn }).catch(() => {});
+    this.isSending = false;
+    if (this.isStale) this.send();
+  }
+}
