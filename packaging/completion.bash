@@ -1,4 +1,4 @@
-# bash completion for loop_cli, loop_station, loop_page, store_info and store_picture
+# bash completion for loop_cli, loop_station, loop_page, store_info, store_picture and lapyrei-export
 
 _loop_cli() {
     local word=${COMP_WORDS[COMP_CWORD]} command=${COMP_WORDS[1]}
@@ -21,15 +21,17 @@ _loop_files() {
 }
 
 _loop_station() {
-    if [ "$COMP_CWORD" -eq 1 ]; then
-        _loop_files "${COMP_WORDS[COMP_CWORD]}"
-    fi
+    local word=${COMP_WORDS[COMP_CWORD]}
+    case $COMP_CWORD,$word in
+        1,-*) mapfile -t COMPREPLY < <(compgen -W "--help --version" -- "$word") ;;
+        1,*) _loop_files "$word" ;;
+    esac
 }
 
 _loop_page() {
     local word=${COMP_WORDS[COMP_CWORD]}
     case $word in
-        -*) mapfile -t COMPREPLY < <(compgen -W "--listen --token --settings --folder --notes --help" -- "$word") ;;
+        -*) mapfile -t COMPREPLY < <(compgen -W "--listen --token --make-token --settings --folder --notes --help --version" -- "$word") ;;
         *) _loop_files "$word" ;;
     esac
 }
@@ -37,15 +39,25 @@ _loop_page() {
 _store_info() {
     local word=${COMP_WORDS[COMP_CWORD]}
     COMPREPLY=()
-    case $COMP_CWORD in
-        1) _loop_files "$word" ;;
-        2) mapfile -t COMPREPLY < <(compgen -W "last at --json" -- "$word") ;;
+    case $COMP_CWORD,$word in
+        1,-*) mapfile -t COMPREPLY < <(compgen -W "--help --version" -- "$word") ;;
+        1,*) _loop_files "$word" ;;
+        2,*) mapfile -t COMPREPLY < <(compgen -W "last at --json" -- "$word") ;;
     esac
 }
 
 _store_picture() {
     local word=${COMP_WORDS[COMP_CWORD]}
-    mapfile -t COMPREPLY < <(if [ "$COMP_CWORD" -eq 1 ]; then compgen -W "strip" -- "$word"; fi; compgen -f -- "$word")
+    mapfile -t COMPREPLY < <(if [ "$COMP_CWORD" -eq 1 ]; then compgen -W "strip --help --version" -- "$word"; fi; compgen -f -- "$word")
+}
+
+_lapyrei_export() {
+    local word=${COMP_WORDS[COMP_CWORD]}
+    case $word in
+        -*) mapfile -t COMPREPLY < <(compgen -W "--output --from --to --last --clip --events --rgb --luma --matrix --full-range \
+            --lossless --compress --force --quiet --help --version" -- "$word") ;;
+        *) mapfile -t COMPREPLY < <(compgen -W "h5 zarr tiff mkv mp4 png npy csv" -- "$word"; compgen -f -- "$word") ;;
+    esac
 }
 
 complete -o filenames -F _loop_cli loop_cli
@@ -53,3 +65,4 @@ complete -o filenames -F _loop_station loop_station
 complete -o filenames -F _loop_page loop_page
 complete -o filenames -F _store_info store_info
 complete -o filenames -F _store_picture store_picture
+complete -o filenames -F _lapyrei_export lapyrei-export

@@ -20,6 +20,10 @@ import glob
 import re
 import sys
 
+import about
+
+about.answers(__doc__)
+
 STORE, DESK, PIPELINE = "crates/loop_store/src/", "crates/loop_desk/src/", "crates/loop_pipeline/src/"
 WHOLE = {STORE + file: None for file in ["make.rt", "reopen.rt", "store.rt", "command.rt"]}
 WRITES = {STORE + "store.rt": ["append", "lock"], STORE + "command.rt": ["run"]}
@@ -43,7 +47,7 @@ QUESTIONS = {
 }
 # The clauses that say what a power loss leaves, and of the records that say more than that, the fields that do.
 LOSS = {"", "goes", "ran", "moments", "headline", "keeps", "footage"}
-FIELDS = {"Formats": {"moments"}, "OpensKeeping": {"moments"}, "Goes": {"leaves"}, "DeskGoes": {"store", "pending"}, "LaneRan": {"calls", "shown", "desk"}, "LaneKeeps": {"ran", "footage"}, "CameraKeeps": {"calls", "goes", "footage"}}
+FIELDS = {"Formats": {"moments"}, "OpensKeeping": {"moments"}, "Goes": {"leaves"}, "DeskGoes": {"store", "pending"}, "LaneRan": {"calls", "shown", "desk"}, "LaneKeeps": {"ran", "footage"}, "CameraKeeps": {"calls", "goes", "parts", "are", "went", "footage"}}
 BEGIN = re.compile(r"(?:abbrev pub|pub record|pub data|abbrev|record|data|pub(?! mod)) ([^ :({]+)")
 USE = re.compile(r"use Rattle\.(\w+)\.specs\.([\w.]+?)(?:\.\{([^}]*)\}| as (\w+))\s*;?$", re.M)
 WORD = re.compile(r"(?<![\w'.])[A-Za-z_][\w']*(?:\.[A-Za-z_][\w']*)?")

@@ -5,7 +5,8 @@
  *   LOOP_LOG    a file to which each change of it is appended before it is made, and each sync and answer once it was made: a byte W, T, S or A,
  *               two numbers of 8 bytes (place or length, and count of bytes), and the bytes of a write or an answer
  *   LOOP_TEXT   a second file, whatever it is opened as: that of an export or a save, or of a store that gets its name later. The log has it made (c), its
- *               writes (w), lengths (t), syncs (s), the syncs of its folder (f), and that it is renamed (r)
+ *               writes (w), lengths (t), syncs (s), the syncs of its folder (f), and that it is renamed (r). While a save isn't whole its file is
+ *               TEXT.part, and it counts as made once it has its name
  *   LOOP_MODE   a device or a program that breaks its word:
  *                 no_sync      a sync does nothing
  *                 late_sync    a sync is made only before the next write: what is answered in between isn't on the disk
@@ -16,8 +17,10 @@
  *               flock, statx, readlink, pread, pwrite, ftruncate, fsync, fdatasync, rename and unlink. ERRNO 0: the read or write is of one byte alone
  *   LOOP_KILL   COUNT   the program is killed (SIGKILL) before its call of that number, from 0, that writes, cuts, syncs or renames LOOP_FILE or LOOP_TEXT, or
  *               syncs their folder
- *   LOOP_STALL  FROM:EVERY:HOLD:EACH   a disk that stalls: from FROM on, and every EVERY after it, each sync of a file NAME.loop that comes within
- *               HOLD ends only after that, and each other one takes EACH more; all in milliseconds, FROM of CLOCK_MONOTONIC
+ *   LOOP_STALL  FROM:EVERY:HOLD:EACH   a disk that stalls: from FROM on, and every EVERY after it, each sync of a file NAME.loop, of one that is
+ *               made for it (NAME.loop.new), or of one beside it (NAME.loop.sync) that comes within HOLD ends only after that, and each other one takes EACH more; all in milliseconds, FROM of CLOCK_MONOTONIC
+ *   LOOP_STALLED   NAME   LOOP_STALL stalls only files whose path has this name
+ *   LOOP_CLOSE  MILLIS   a named pipe is closed only so much later
  *   LOOP_THREADS   COUNT   the thread of that number, from 0, can't be started (EAGAIN)
  *   LOOP_CLIP   COUNT, or COUNT:on   the call of that number, from 0, that writes LOOP_FILE's clip table, or syncs it after such a write, fails (EIO), or
  *               all from there on
@@ -109,8 +112,12 @@ static int is_open_as(int fd, const char *path) {
     return stands(path, &there) && fstat(fd, &here) == 0 && here.st_dev == there.st_dev && here.st_ino == there.st_ino;
 }
 
+/* The text, or its file while it isn't whole and has another name. */
 static int is_text(int fd) {
-    return is_open_as(fd, getenv("LOOP_TEXT"));
+    const char *text = getenv("LOOP_TEXT");
+    char part[4096];
+    if (is_open_as(fd, text)) return 1;
+    return text && snprintf(part, sizeof part, "%s.part", text) < (int)sizeof part && is_open_as(fd, part);
 }
 
 /* Whether an open file is the folder of a path. */
@@ -153,7 +160,7 @@ static int opened(const char *path, int flags, int mode_bits) {
     int was_there = stands(text, &found);
     int fd = syscall(SYS_openat, AT_FDCWD, path, flags, mode_bits);
     if (fd >= 0 && file && !strcmp(path, file)) file_fd = fd;
-    if (fd >= 0 && text && !was_there && is_text(fd)) note('c', 0, 0, NULL);
+    if (fd >= 0 && text && !was_there && is_open_as(fd, text)) note('c', 0, 0, NULL);
     return fd;
 }
 
@@ -185,6 +192,17 @@ int statx(int fd, const char *path, int flags, unsigned mask, struct statx *out)
 
 int unlink(const char *path) {
     return fails_if(0) ? -1 : (int)syscall(SYS_unlink, path);
+}
+
+/* A text that is whole gets its name. */
+int link(const char *from, const char *to) {
+    const char *text = getenv("LOOP_TEXT");
+    int is_texts = text && !strcmp(to, text);
+    if (fails_if(0)) return -1;
+    if (is_texts) reached();
+    int answer = (int)syscall(SYS_link, from, to);
+    if (answer == 0 && is_texts) note('c', 0, 0, NULL);
+    return answer;
 }
 
 int rename(const char *from, const char *to) {
@@ -291,7 +309,12 @@ static void stall(int fd) {
     char name[4096], link[64];
     snprintf(link, sizeof link, "/proc/self/fd/%d", fd);
     ssize_t length = syscall(SYS_readlink, link, name, sizeof name);
-    if (length < (ssize_t)sizeof END - 1 || memcmp(name + length - (sizeof END - 1), END, sizeof END - 1)) return;
+    if (length < 0 || length >= (ssize_t)sizeof name) return;
+    name[length] = 0;
+    const char *end = strstr(name, END);
+    if (!end || (strcmp(end, ".loop") && strcmp(end, ".loop.new") && strncmp(end, ".loop.sync", 10))) return;
+    const char *only = getenv("LOOP_STALLED");
+    if (only && !strstr(name, only)) return;
     struct timespec now;
     clock_gettime(CLOCK_MONOTONIC, &now);
     long long at = now.tv_sec * 1000LL + now.tv_nsec / 1000000 - from;
@@ -299,6 +322,17 @@ static void stall(int fd) {
     long long rest = at % every < hold ? hold - at % every : each;
     struct timespec pause = {rest / 1000, rest % 1000 * 1000000};
     nanosleep(&pause, NULL);
+}
+
+int close(int fd) {
+    const char *given = getenv("LOOP_CLOSE");
+    struct stat found;
+    if (given && fstat(fd, &found) == 0 && S_ISFIFO(found.st_mode)) {
+        long long millis = atoll(given);
+        struct timespec pause = {millis / 1000, millis % 1000 * 1000000};
+        nanosleep(&pause, NULL);
+    }
+    return syscall(SYS_close, fd);
 }
 
 /* A sync of the text or of its folder. */

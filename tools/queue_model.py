@@ -32,6 +32,10 @@ import random
 import subprocess
 import sys
 
+import about
+
+about.answers(__doc__)
+
 MOST_BUFFERS, MIN_QUEUED = 32, 1
 ERRNO = dict.fromkeys(range(1, 19), 22) | {5: 5, 9: 11, 10: 16, 11: 16, 15: 16, 17: 12}
 FLAGS = {"Dequeued": 0, "Prepared": 0x400, "Queued": 0x2, "Active": 0x2, "Done": 0x4, "Error": 0x44}

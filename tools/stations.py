@@ -10,8 +10,9 @@ from pathlib import Path
 
 LIBC = ctypes.CDLL(None)
 PARENT_DEATH = 1
-# How the lines begin that tell what happens by itself.
-EVENTS = ("source ", "store ", "given up ", "all locked ", "room again ", "behind ", "caught up ", "no answers ")
+# How the lines begin that tell what happens by itself, and those beside the clips of a keep.
+EVENTS = ("source ", "store ", "given up ", "all locked ", "room again ", "behind ", "caught up ", "no answers ", "dropped ", "waited ", "stood still ",
+          "disk ", "making ", "nearly all locked ", "waits ", "held ", "gap ")
 
 
 class Silent(Exception):
@@ -99,7 +100,7 @@ class Station:
             line = next((it.removeprefix("@stored ") for it in lines if it.startswith(words)), "")
             if line not in seen:
                 seen.append(line)
-            if line.startswith("status") and int(line.split()[3]) >= least:
+            if line.startswith(f"status {camera} stored") and int(line.split()[3]) >= least:
                 return seen
             time.sleep(0.02)
         raise Silent(f"{camera} has stored no {least} frames in {seconds} s: {seen[-3:]}")
