@@ -1,3 +1,4 @@
+pub mod CameraLaws
 pub mod FrameLaws
 pub mod GapLaws
 pub mod KeepLaws

@@ -1,10 +1,15 @@
 -- What holds over any list of events.
-use Rattle.std.specs.Prelude.{ℕ, ◌+◌, ◌-◌, ◌*◌, ◌^◌, ◌≡◌, ◌≤◌, ◌<◌, Bool, true, false, List, [], ◌∷◌, Option, Some, None, IfSome}
+use Rattle.std.specs.Prelude.{ℕ, ◌+◌, ◌-◌, ◌*◌, ◌^◌, ◌≡◌, ◌≤◌, ◌<◌, Bool, true, false, List, [], ◌∷◌, Option, Some, None, IfSome, is_some}
+use Rattle.loop_station_core.specs.Cameras.{lived}
 use Rattle.loop_station_core.specs.Frames.{Step, after, all_of, come_in, no_frames}
 use Rattle.loop_station_core.specs.Gaps.{AreWithin, gaps, missing}
 use Rattle.loop_station_core.specs.Keeps.{AreInOrder, EachTurn, HasTimesOf, IsRight, IsSound}
 use Rattle.loop_station_core.specs.Saving.{Places, is_read, left_by, wanted}
 use Rattle.loop_station_core.specs.Telling.{known_after, lines_of, told_locked}
+use Rattle.loop_station_core.specs.declared.camera.Camera.{Camera}
+use Rattle.loop_station_core.specs.declared.camera.Event.{Event}
+use Rattle.loop_station_core.specs.declared.camera.Event.TheVariants.{Filming}
+use Rattle.loop_station_core.specs.declared.camera.FilmingEvent.TheVariants.{Stop, Begin, Break, Move}
 use Rattle.loop_station_core.specs.declared.keep.Keep.{Keep}
 use Rattle.loop_station_core.specs.declared.keep.Look.{Look}
 use Rattle.loop_station_core.specs.declared.runs.Run.{Run}
@@ -99,3 +104,24 @@ Alternate _ _ = ⊥
 -- After 'all locked' comes 'room again', and the other way round.
 abbrev pub LockedLinesAlternate : Type 0
 LockedLinesAlternate = (known : Bool) (locked : List Bool) → Alternate known (locked_lines known locked)
+
+-- Once the program ends, it ends for each camera, whatever happens.
+abbrev pub StopsAreForGood : Type 0
+StopsAreForGood = (c : Camera) (events : List Event) → (lived c (Filming Stop ∷ events)).stopping ≡ true
+
+-- nothing breaks, and the store stays where it is
+abbrev pub NothingBreaks : List Event → Type 0
+NothingBreaks [] = Unit {0}
+NothingBreaks (Filming Break ∷ events) = ⊥
+NothingBreaks (Filming Move ∷ events) = ⊥
+NothingBreaks (e ∷ events) = NothingBreaks events
+
+-- A filming isn't over before something breaks, or its store is moved away.
+abbrev pub FilmingsGoOn : Type 0
+FilmingsGoOn = (c : Camera) (events : List Event) → NothingBreaks events
+    → (lived c (Filming Begin ∷ events)).over ≡ false
+
+-- A source that is told as silent waits for a byte.
+abbrev pub SilentSourcesWait : Type 0
+SilentSourcesWait = (c : Camera) (events : List Event) → c.silent ≡ false
+    → (lived c events).silent ≡ true → is_some (lived c events).waits ≡ true

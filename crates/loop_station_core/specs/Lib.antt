@@ -1,3 +1,4 @@
+pub mod Cameras
 pub mod Frames
 pub mod Gaps
 pub mod Keeps

@@ -1,6 +1,6 @@
 //! What holds over any list of events. Each function does nothing: its contract is the law.
 
-ghost use Rattle.loop_station_core.specs.Laws.{FramesAddUp, GapsAddUp, KeepsAreRight, LinesAreSo, LockedLinesAlternate, LostAreToldOnce, ReadClipsWait, ReleasesAreFree};
+ghost use Rattle.loop_station_core.specs.Laws.{FilmingsGoOn, FramesAddUp, GapsAddUp, KeepsAreRight, LinesAreSo, LockedLinesAlternate, LostAreToldOnce, ReadClipsWait, ReleasesAreFree, SilentSourcesWait, StopsAreForGood};
 
 /// Each frame that came is stored, lost, at the desk, or on its way to it.
 pub fn frames_add_up()
@@ -42,4 +42,19 @@ pub fn lost_are_told_once()
 /// After 'all locked' comes 'room again', and the other way round.
 pub fn locked_lines_alternate()
     ensures { LockedLinesAlternate }
+{}
+
+/// Once the program ends, it ends for each camera, whatever happens.
+pub fn stops_are_for_good()
+    ensures { StopsAreForGood }
+{}
+
+/// A filming isn't over before something breaks, or its store is moved away.
+pub fn filmings_go_on()
+    ensures { FilmingsGoOn }
+{}
+
+/// A source that is told as silent waits for a byte.
+pub fn silent_sources_wait()
+    ensures { SilentSourcesWait }
 {}

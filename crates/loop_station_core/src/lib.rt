@@ -15,6 +15,7 @@
 //! what was so, and each lost frame is told once.
 #![tactic(auto)]
 
+mod camera;
 mod changes;
 mod keep;
 pub mod laws;
@@ -22,6 +23,7 @@ mod runs;
 mod saves;
 mod tally;
 
+pub use camera::{Act, Camera, Event, FilmingEvent, SourceEvent};
 pub use changes::{Change, Changes, KINDS, NOT_THERE_YET, Reported, Seen, SourceSeen, StoreSeen};
 pub use keep::{Keep, KeepTurn, Numbers, bounds, is_too_far, next_turn};
 pub use runs::{ClipSpan, Gap, Run, Shortfall, is_covered, shortfall_of};

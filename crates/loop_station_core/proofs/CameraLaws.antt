@@ -1,0 +1,51 @@
+-- What holds of a camera whatever happens.
+use Rattle.std.proofs.Common.{◌≡◌, Bool, true, false, List, [], ◌∷◌, Some, None, is_some, arith, refl}
+use Rattle.std.proofs.lemmas.Grind.{common_steps}
+use Rattle.loop_station_core.specs.Cameras.{lived, step}
+use Rattle.loop_station_core.specs.Laws.{NothingBreaks}
+use Rattle.loop_station_core.specs.declared.camera.Camera.{Camera}
+use Rattle.loop_station_core.specs.declared.camera.Event.{Event}
+use Rattle.loop_station_core.specs.declared.camera.Event.TheVariants.{Filming, Source}
+use Rattle.loop_station_core.specs.declared.camera.FilmingEvent.TheVariants.{Stop, Begin, Store, AllLocked, Break, Move, End, Leave}
+
+stays : (c : Camera) (e : Event) → c.stopping ≡ true → (step c e).0.stopping ≡ true
+stays c e h = grind (arith, common_steps)
+
+stays-after : (c : Camera) (es : List Event) → c.stopping ≡ true → (lived c es).stopping ≡ true
+stays-after c [] h = h
+stays-after c (e ∷ es) h = stays-after (step c e).0 es (stays c e h)
+
+pub stops-for-good : (c : Camera) (es : List Event) → (lived c (Filming Stop ∷ es)).stopping ≡ true
+stops-for-good c es = stays-after (step c (Filming Stop)).0 es refl
+
+goes-on : (c : Camera) (es : List Event) → NothingBreaks es → c.over ≡ false → (lived c es).over ≡ false
+goes-on c [] u h = h
+goes-on c (Filming Stop ∷ es) u h = goes-on (step c (Filming Stop)).0 es u h
+goes-on c (Filming Begin ∷ es) u h = goes-on (step c (Filming Begin)).0 es u refl
+goes-on c (Filming (Store n) ∷ es) u h = goes-on (step c (Filming (Store n))).0 es u h
+goes-on c (Filming AllLocked ∷ es) u h = goes-on (step c (Filming AllLocked)).0 es u h
+goes-on c (Filming Break ∷ es) u h = elim u [ ]
+goes-on c (Filming Move ∷ es) u h = elim u [ ]
+goes-on c (Filming (End b) ∷ es) u h = goes-on (step c (Filming (End b))).0 es u h
+goes-on c (Filming Leave ∷ es) u h =
+    let e : (step c (Filming Leave)).0.over ≡ false = grind (arith, common_steps) in
+    goes-on (step c (Filming Leave)).0 es u e
+goes-on c (Source s ∷ es) u h =
+    let e : (step c (Source s)).0.over ≡ false = grind (arith, common_steps) in
+    goes-on (step c (Source s)).0 es u e
+
+pub filmings-on : (c : Camera) (es : List Event) → NothingBreaks es → (lived c (Filming Begin ∷ es)).over ≡ false
+filmings-on c es u = goes-on (step c (Filming Begin)).0 es u refl
+
+waits-on : (c : Camera) (e : Event) → (c.silent ≡ true → is_some c.waits ≡ true)
+    → (step c e).0.silent ≡ true → is_some (step c e).0.waits ≡ true
+waits-on c e h s = grind (arith, common_steps)
+
+waits-after : (c : Camera) (es : List Event) → (c.silent ≡ true → is_some c.waits ≡ true)
+    → (lived c es).silent ≡ true → is_some (lived c es).waits ≡ true
+waits-after c [] h = h
+waits-after c (e ∷ es) h = waits-after (step c e).0 es (waits-on c e h)
+
+pub silent-wait : (c : Camera) (es : List Event) → c.silent ≡ false
+    → (lived c es).silent ≡ true → is_some (lived c es).waits ≡ true
+silent-wait c es h = waits-after c es (λ s. grind (arith, common_steps))
