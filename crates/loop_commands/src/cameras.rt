@@ -149,7 +149,7 @@ impl Guide for Post {
         Some(tick_time(n, &self.geometry))
     }
 
-    fn flushes_again(&self, _fault: StoreFault) -> bool {
+    fn flushes_again<R: Wait>(&self, _rt: &R, _fault: StoreFault) -> bool {
         false
     }
 }

@@ -116,7 +116,7 @@ fn take_all<R: Wait, S: FrameSource + Drop, P: PlaneMemory, G: Guide>(
         match front.take(alloc, &mut spare) {
             TakeOutcome::Frame => link.given.ring(rt),
             TakeOutcome::NoFrame => {
-                guide.lacked();
+                guide.lacked(rt);
                 link.given.ring(rt);
             }
             TakeOutcome::RingFull => link.room.wait(rt, seen),
@@ -171,13 +171,13 @@ fn bring_all<R: Wait, D: Disk + Drop, G: Guide>(
     let mut some = false;
     'frames: for _ in 0..RING {
         match back.bring() {
-            Brought::Submitted(number) => guide.brought(back, number),
-            Brought::GivenUp(_, frame) => guide.gave_up(back, frame),
+            Brought::Submitted(number) => guide.brought(rt, back, number),
+            Brought::GivenUp(_, frame) => guide.gave_up(rt, back, frame),
             Brought::DeskFull if refused => {
                 let Some(frame) = back.give_up() else {
                     break;
                 };
-                guide.gave_up(back, frame);
+                guide.gave_up(rt, back, frame);
             }
             Brought::DeskFull | Brought::Nothing => break,
         }
@@ -224,11 +224,11 @@ pub fn film_back<R: Wait + Clock, D: Disk + Drop, G: Guide>(
         let rest = if !refused && back.status().pending > 0 {
             match back.flush() {
                 Ok(flushed) => {
-                    guide.stored(&back, flushed);
+                    guide.stored(rt, &back, flushed);
                     0
                 }
                 Err(fault) => {
-                    refused = !guide.flushes_again(fault);
+                    refused = !guide.flushes_again(rt, fault);
                     if refused { 0 } else { FLUSH_AGAIN }
                 }
             }

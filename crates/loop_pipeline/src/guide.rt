@@ -23,26 +23,26 @@ pub trait Guide: Visits {
     fn ticked<R: Wait>(&self, rt: &R, tick: Tick) {}
 
     /// A buffer came back without a frame, which its tick couldn't get.
-    fn lacked(&self) {}
+    fn lacked<R: Wait>(&self, rt: &R) {}
 
     /// The desk accepted a frame under this number.
-    fn brought<D: Disk + Drop>(&self, back: &Back<D, Self>, number: u64)
+    fn brought<R: Wait, D: Disk + Drop>(&self, rt: &R, back: &Back<D, Self>, number: u64)
         requires { IsAccepted D.medium back.now number }
     {}
 
     /// This frame was given up: the desk refused it, or a flush was refused.
-    fn gave_up<D: Disk + Drop>(&self, back: &Back<D, Self>, frame: LostFrame)
+    fn gave_up<R: Wait, D: Disk + Drop>(&self, rt: &R, back: &Back<D, Self>, frame: LostFrame)
         requires { IsGivenUp D.medium back.now frame }
     {}
 
     /// A flush stored frames.
-    fn stored<D: Disk + Drop>(&self, back: &Back<D, Self>, done: Flushed)
+    fn stored<R: Wait, D: Disk + Drop>(&self, rt: &R, back: &Back<D, Self>, done: Flushed)
         requires { IsLast D.medium back.now (flushed (Ok done)) }
     {}
 
     /// Whether a flush that was refused with this fault is tried again, after a while or once the desk's thread is
     /// woken. If not, frames for which the desk has no room are given up.
-    fn flushes_again(&self, fault: StoreFault) -> bool;
+    fn flushes_again<R: Wait>(&self, rt: &R, fault: StoreFault) -> bool;
 
     /// Serves what others ask of the desk. It is called between flushes, by the desk's own thread.
     fn visit<R: Wait + Clock, D: Disk + Drop>(

@@ -6,7 +6,6 @@
 
 use crate::absent::Absent;
 use crate::asked::held_of_asked;
-use crate::link::SourceState;
 use crate::state::CameraState;
 use loop_station_core::{Change, KINDS, NOT_THERE_YET, Reported, Seen, SourceSeen, StoreSeen};
 use loop_station_words::Lines;
@@ -52,7 +51,7 @@ impl LastReported {
             Some(Ok(())) => StoreSeen::Open,
             Some(Err(Absent::Stopped)) => StoreSeen::Stopped,
             // That it is being made is told in its place.
-            Some(Err(Absent::NoStore)) if state.link.making(rt).is_some() => StoreSeen::Unknown,
+            Some(Err(Absent::NoStore)) if state.life.making(rt).is_some() => StoreSeen::Unknown,
             Some(Err(Absent::NoStore)) => {
                 self.absent = Some(Absent::NoStore);
                 StoreSeen::Absent(NOT_THERE_YET)
@@ -100,14 +99,15 @@ impl LastReported {
         state: &CameraState,
         lines: &mut Lines,
     ) -> io::Result<()> {
-        match state.link.source(rt) {
-            SourceState::Unusable(why) if self.unusable == Some(why) => Ok(()),
-            SourceState::Unusable(why) => {
+        let why = state.life.unusable(rt);
+        match state.life.camera(rt).source_seen() {
+            SourceSeen::Unusable if self.unusable == Some(why) => Ok(()),
+            SourceSeen::Unusable => {
                 self.unusable = Some(why);
                 lines.source_unusable(state.config.name.as_str(), why)
             }
-            SourceState::Missing => Ok(()),
-            SourceState::On | SourceState::Silent | SourceState::OtherGeometry => {
+            SourceSeen::Missing => Ok(()),
+            SourceSeen::On | SourceSeen::Silent | SourceSeen::Other => {
                 self.unusable = None;
                 Ok(())
             }
@@ -121,7 +121,7 @@ impl LastReported {
         state: &CameraState,
         lines: &mut Lines,
     ) -> io::Result<()> {
-        let percent = state.link.making(rt);
+        let percent = state.life.making(rt);
         let quarter = percent.map(|percent| percent / 25);
         if quarter == self.making {
             return Ok(());
@@ -142,7 +142,7 @@ impl LastReported {
         state: &CameraState,
         lines: &mut Lines,
     ) -> io::Result<()> {
-        let (Some(micros), Some(geometry)) = (state.link.sync(rt), state.link.store(rt)) else {
+        let (Some(micros), Some(geometry)) = (state.life.sync(rt), state.life.store(rt)) else {
             return Ok(());
         };
         if self.disk {
@@ -169,14 +169,14 @@ impl LastReported {
     ) -> io::Result<()> {
         let name = state.config.name.as_str();
         match change {
-            Change::SourceOn => match state.link.header(rt, Duration::from_millis(0)) {
+            Change::SourceOn => match state.life.header(rt, Duration::from_millis(0)) {
                 Some(geometry) => lines.source_on(name, &geometry),
                 None => Ok(()),
             },
             Change::SourceMissing => lines.source_missing(name),
             Change::SourceSilent => lines.source_silent(name),
             Change::StoreOpen => {
-                let less = match state.link.store(rt) {
+                let less = match state.life.store(rt) {
                     Some(geometry) => held_of_asked(&geometry, &state.config.room),
                     None => None,
                 };
@@ -199,15 +199,9 @@ impl LastReported {
 
 // What is seen of a camera now.
 fn seen_of<R: Wait + Clock>(rt: &R, state: &CameraState, store: StoreSeen) -> Seen {
-    let source = match state.link.source(rt) {
-        SourceState::On => SourceSeen::On,
-        SourceState::Missing => SourceSeen::Missing,
-        SourceState::Silent => SourceSeen::Silent,
-        SourceState::OtherGeometry => SourceSeen::Other,
-        SourceState::Unusable(_) => SourceSeen::Unusable,
-    };
+    let camera = state.life.camera(rt);
     let (_, room, _) = state.stored_room(rt);
-    let blocks = match state.link.store(rt) {
+    let blocks = match state.life.store(rt) {
         Some(geometry) if matches!(store, StoreSeen::Open) => u64::from(
             geometry.segments,
         ).saturating_sub(1),
@@ -215,14 +209,14 @@ fn seen_of<R: Wait + Clock>(rt: &R, state: &CameraState, store: StoreSeen) -> Se
     };
     Seen {
         now: state.timeline.now(rt),
-        source,
+        source: camera.source_seen(),
         store,
         lost: state.tally(rt).lost(),
-        locked: state.is_locked(),
+        locked: camera.locked,
         behind: state.behind_micros(rt),
         waited: state.feed.waited(rt),
         room,
         blocks,
-        stopping: state.is_stopped(),
+        stopping: camera.stopping,
     }
 }

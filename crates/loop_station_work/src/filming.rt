@@ -17,12 +17,11 @@ use loop_pipeline::{Camera, Ended, Unfilmed, film_camera, heap_start, new_queue,
 use loop_plane::HeapPlane;
 use loop_record::Geometry;
 use loop_script::LIMITS;
-use loop_station_core::Keep;
+use loop_station_core::{Act, FilmingEvent, Keep};
 use loop_station_words::{RingSize, StoreSize};
 use loop_store::{Clip, OpenRefused, Store, StoreFault};
 use std::alloc::{AllocGlobal, Global};
 use std::io::Write;
-use std::sync::atomic::Ordering;
 use std::sync::{Arc, Wait};
 use std::thread;
 use std::thread::Threads;
@@ -54,7 +53,7 @@ pub(crate) fn run_camera<
 >(rt: &R, state: &CameraState, outlet: &Outlet<W>) {
     let mut printed = false;
     for _ in rt.forever() {
-        if state.is_stopped() {
+        if state.is_stopped(rt) {
             break;
         }
         let why = match open_store(rt, state) {
@@ -72,24 +71,25 @@ pub(crate) fn run_camera<
 
 // Measures once how long a sync of the store's disk takes.
 fn measure<R: Places + Wait + Clock>(rt: &R, state: &CameraState) {
-    if state.link.sync(rt).is_none() {
+    if state.life.sync(rt).is_none() {
         if let Some(micros) = rt.sync_time(state.config.store.as_str(), &state.timeline) {
-            state.link.set_sync(rt, micros);
+            state.life.set_sync(rt, micros);
         }
     }
 }
 
 // The store isn't there, and isn't tried again for a while.
 fn rest<R: Wait + Clock>(rt: &R, state: &CameraState, why: Absent) {
-    state.link.set_place(rt, None);
+    state.life.set_place(rt, None);
     state.leave(rt, why);
-    if matches!(why, Absent::Moved) {
-        // A store is made anew for the frames that come, once that is told.
-        state.link.lose_store(rt);
-        thread::sleep(rt, Duration::from_millis(MOVED_AGAIN));
-    } else if !state.is_stopped() {
-        state.faults.fetch_add(1, Ordering::SeqCst);
-        thread::sleep(rt, Duration::from_millis(OPEN_AGAIN));
+    match state.life.on(rt, FilmingEvent::Leave) {
+        Act::MakeAnew => {
+            // A store is made anew for the frames that come, once that is told.
+            state.life.lose_store(rt);
+            thread::sleep(rt, Duration::from_millis(MOVED_AGAIN));
+        }
+        Act::OpenAgain => thread::sleep(rt, Duration::from_millis(OPEN_AGAIN)),
+        _ => {}
     }
 }
 
@@ -127,7 +127,7 @@ fn open_store<R: AllocGlobal + Places + Wait + Clock>(
         Err(fault) => return Err(Absent::of(path, fault)),
     };
     let place = rt.place_of(path).unwrap_or_default();
-    state.link.set_place(rt, place);
+    state.life.set_place(rt, place);
     match Store::open(rt.alloc(), disk) {
         Ok(store) => Ok(store),
         Err(OpenRefused { fault, disk: _ }) => Err(Absent::Store(fault)),
@@ -146,12 +146,12 @@ fn make_store<R: AllocGlobal + Places + Wait + Clock>(
     let geometry = geometry_for(&header, &state.config.room)?;
     let path = state.config.store.as_str();
     let made = rt.make_store(path, geometry, |percent| {
-        state.link.set_making(rt, Some(percent));
-        !state.is_stopped()
+        state.life.set_making(rt, Some(percent));
+        !state.is_stopped(rt)
     });
-    state.link.set_making(rt, None);
+    state.life.set_making(rt, None);
     state
-        .link
+        .life
         .set_place(rt, rt.place_of(path).unwrap_or_default());
     made
 }
@@ -159,10 +159,10 @@ fn make_store<R: AllocGlobal + Places + Wait + Clock>(
 // What the source's header says, once it is there; None where the camera is stopped before that.
 fn wait_header<R: Wait + Clock>(rt: &R, state: &CameraState) -> Option<Geometry> {
     for _ in rt.forever() {
-        if state.is_stopped() {
+        if state.is_stopped(rt) {
             return None;
         }
-        if let Some(header) = state.link.header(rt, Duration::from_millis(LOOK_AGAIN)) {
+        if let Some(header) = state.life.header(rt, Duration::from_millis(LOOK_AGAIN)) {
             return Some(header);
         }
     }
@@ -191,7 +191,7 @@ fn film_into<R: AllocGlobal + Places + Threads + Wait + Clock + Sync>(
 ) -> Absent {
     let mut store = store;
     let (geometry, next) = (store.geometry(), store.next());
-    if !state.link.set_store(rt, geometry) {
+    if !state.life.set_store(rt, geometry) {
         // They came before the store was there, and no store takes them.
         state.feed.clear(rt);
         state.lose_rest(rt);
@@ -210,7 +210,7 @@ fn film_into<R: AllocGlobal + Places + Threads + Wait + Clock + Sync>(
     let filmed = film(rt, state, camera);
     count_lost(rt, state, before, &filmed);
     state.lose_rest(rt);
-    why_ended(state, filmed)
+    why_ended(rt, state, filmed)
 }
 
 // Tells the printer which clips a store has: those that aren't saved yet are saved by themselves, where the camera has a
@@ -284,22 +284,19 @@ fn count_lost<R: Wait>(rt: &R, state: &CameraState, before: u64, filmed: &Filmed
         .saturating_add(ended.missed)
         .saturating_add(ended.failed);
     let (come, _) = state.feed.counts(rt);
-    state.counts.settle(rt, come, before, lost);
+    state.life.settle(rt, come, before, lost);
 }
 
 // Why a filming ended.
-fn why_ended(state: &CameraState, filmed: Filmed) -> Absent {
-    match filmed {
-        Ok(ended) => {
-            if state.is_moved() && !state.is_stopped() {
-                Absent::Moved
-            } else if state.is_stopped() && !ended.desk.status().must_reopen {
-                Absent::Stopped
-            } else {
-                Absent::Store(StoreFault::MustReopen)
-            }
-        }
-        Err(_refused) => Absent::NoBuffers,
+fn why_ended<R: Wait>(rt: &R, state: &CameraState, filmed: Filmed) -> Absent {
+    let Ok(ended) = filmed else {
+        return Absent::NoBuffers;
+    };
+    let must_reopen = ended.desk.status().must_reopen;
+    match state.life.on(rt, FilmingEvent::End(must_reopen)) {
+        Act::Finish => Absent::Stopped,
+        Act::MakeAnew => Absent::Moved,
+        _ => Absent::Store(StoreFault::MustReopen),
     }
 }
 

@@ -2,8 +2,7 @@
 //!
 //! Each camera has a thread for its source (`source`), which puts frames into a `feed`, and two threads that film it
 //! (`filming`): the store is opened or made, and loop_pipeline's `film_camera` brings the frames to it. `state` is what
-//! the threads of a camera share, and guides them. `link` is what source and store know of each other, `counts` what
-//! is counted, `asked` how large a store has to be, and `absent` why it isn't there. `input` has what a source's
+//! the threads of a camera share, and guides them. `life` is what is known and counted of it under one lock, `asked` how large a store has to be, and `absent` why it isn't there. `input` has what a source's
 //! pipe brings, and finds the next header in it. `clock` has the time of frames, and `size` their bytes and how many wait.
 //!
 //! `run` starts all that. `orders` reads orders and does them: it asks a camera through its `inbox`, and the thread of
@@ -26,7 +25,6 @@ mod answering;
 mod asked;
 mod clerk;
 mod clock;
-mod counts;
 mod events;
 mod feed;
 mod filming;
@@ -34,7 +32,7 @@ mod growing;
 mod inbox;
 mod input;
 mod jobs;
-mod link;
+mod life;
 mod notes;
 mod orders;
 mod outlet;

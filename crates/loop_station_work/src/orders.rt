@@ -214,8 +214,13 @@ fn perform<R: AllocGlobal + Places + Wait + Clock, W: Write + Drop>(
             keep(rt, station, read, label, &camera, period, tag)
         }
         Order::Release { camera, id, first } => {
-            let request = Request::Release(id, first);
-            ask_one(rt, station, label, camera.text(), request)
+            ask_one(
+                rt,
+                station,
+                label,
+                camera.text(),
+                Request::Release(id, first),
+            )
         }
         Order::Save {
             camera,
@@ -224,33 +229,34 @@ fn perform<R: AllocGlobal + Places + Wait + Clock, W: Write + Drop>(
             replace,
         } => {
             let out = String::from_str(station.alloc, out.text())?;
-            ask_one(
-                rt,
-                station,
-                label,
-                camera.text(),
-                Request::Save(id, out, replace),
-            )
+            let request = Request::Save(id, out, replace);
+            ask_one(rt, station, label, camera.text(), request)
         }
         Order::Cancel { camera, id } => cancel(rt, station, label, camera.text(), id),
         Order::List => list(rt, station, label),
-        Order::Status => {
-            let mut lines = station.lines();
-            // Where memory for the lines is refused, nothing is printed.
-            if status(rt, station, &mut lines).is_ok() {
-                station.answer(rt, label, lines);
-            }
+        Order::Status | Order::Help | Order::Stop => {
+            tell_all(rt, station, label, matches!(order, Order::Help));
             Ok(())
         }
-        Order::Help => {
-            let mut lines = station.lines();
-            // As above.
-            if lines.help().is_ok() {
-                station.answer(rt, label, lines);
-            }
-            Ok(())
-        }
-        Order::Stop => Ok(()),
+    }
+}
+
+// Answers with the status of each camera, or with each order's line.
+fn tell_all<R: Wait, W: Write + Drop>(
+    rt: &R,
+    station: &Station<W>,
+    label: Option<&str>,
+    help: bool,
+) {
+    let mut lines = station.lines();
+    let told = if help {
+        lines.help()
+    } else {
+        status(rt, station, &mut lines)
+    };
+    // Where memory for the lines is refused, nothing is printed.
+    if told.is_ok() {
+        station.answer(rt, label, lines);
     }
 }
 

@@ -2,6 +2,7 @@
 
 use crate::absent::Absent;
 use crate::clerk::{FoundClip, LEAST_GAP};
+use crate::life::source_name;
 use crate::state::CameraState;
 use loop_desk::{Kept, Outline};
 use loop_script::Listing;
@@ -10,7 +11,6 @@ use loop_station_words::{CameraStatus, Lines};
 use loop_store::StoreFault;
 use std::io;
 use std::sync::Wait;
-use std::sync::atomic::Ordering;
 
 /// Tells what a keep has locked up to a time, a line for each clip, and why not everything was locked. Where nothing
 /// of its time lies ahead, it also tells how much of it is held, and where frames are missing.
@@ -128,7 +128,7 @@ pub(crate) fn tell_status<R: Wait>(
     match state.jobs.attended(rt) {
         Some(Ok(())) => {}
         Some(Err(why)) => {
-            return match state.link.making(rt) {
+            return match state.life.making(rt) {
                 Some(percent) => {
                     lines.status_making(name, state.config.store.as_str(), u64::from(percent))
                 }
@@ -137,8 +137,8 @@ pub(crate) fn tell_status<R: Wait>(
         }
         None => return lines.absent(name, &Absent::Opening),
     }
-    let tally = state.tally(rt);
-    let source = state.link.source(rt).name();
+    let (tally, camera) = (state.tally(rt), state.life.camera(rt));
+    let source = source_name(camera.source_seen());
     let (stored, room, keeps) = state.stored_room(rt);
     lines.status(
         name,
@@ -149,7 +149,7 @@ pub(crate) fn tell_status<R: Wait>(
             behind: state.behind_micros(rt),
             room,
             keeps: Some(keeps),
-            faults: state.faults.load(Ordering::SeqCst),
+            faults: camera.faults,
             source,
         },
     )

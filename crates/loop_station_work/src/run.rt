@@ -65,6 +65,32 @@ pub fn run_station<
     let alloc = rt.alloc();
     check_answers(rt, path, &config)?;
     check_minutes(rt, &config)?;
+    let (station, tap, orders) = station_of(rt, path, config, out)?;
+    start_saves(rt, &station)?;
+    start_outlet(rt, &station)?;
+    start_tap(rt, &station, &tap)?;
+    start_sources(rt, &station)?;
+    let line = Vec::with_capacity(alloc, MAX_LINE + 1)?;
+    let Ok(input) = BufReader::new(alloc, input) else {
+        return Err(NotBegun::NoMemory);
+    };
+    if !run_behind(rt, &station, orders, input, line, Vec::new(alloc), watched) {
+        return Err(NotBegun::NoMemory);
+    }
+    station.tell_end(rt);
+    station.outlet.end(rt);
+    Ok(!station.outlet.has_failed())
+}
+
+// What a station is by its configuration, before any of its threads runs: with the tap of its answers, and the path of its
+// orders.
+fn station_of<R: AllocGlobal + Places + Wait + Clock, W: Write + Drop>(
+    rt: &R,
+    path: &str,
+    config: Config,
+    out: W,
+) -> Result<(Station<W>, Option<Arc<Tap>>, Option<String>), NotBegun> {
+    let alloc = rt.alloc();
     let taken = taken_paths(alloc, path, &config)?;
     let Config {
         orders,
@@ -99,20 +125,7 @@ pub fn run_station<
         numbers: Mutex::new(Numbers::after(0)),
         last: Mutex::new(None),
     };
-    start_saves(rt, &station)?;
-    start_outlet(rt, &station)?;
-    start_tap(rt, &station, &tap)?;
-    start_sources(rt, &station)?;
-    let line = Vec::with_capacity(alloc, MAX_LINE + 1)?;
-    let Ok(input) = BufReader::new(alloc, input) else {
-        return Err(NotBegun::NoMemory);
-    };
-    if !run_behind(rt, &station, orders, input, line, Vec::new(alloc), watched) {
-        return Err(NotBegun::NoMemory);
-    }
-    station.tell_end(rt);
-    station.outlet.end(rt);
-    Ok(!station.outlet.has_failed())
+    Ok((station, tap, orders))
 }
 
 // The timeline of the frames, which begins now.
@@ -172,13 +185,19 @@ fn start_saves<
 
 // The files and pipes that no clip may be written to: the configuration and all that it names.
 fn taken_paths(alloc: Global, path: &str, config: &Config) -> Result<Vec<String>, NotBegun> {
+    let mut taken = own_paths(alloc, path, config)?;
+    if let Some(answers) = &config.answers {
+        add_path(alloc, &mut taken, answers.as_str())?;
+    }
+    Ok(taken)
+}
+
+// The configuration, and what it names to be read or recorded into.
+fn own_paths(alloc: Global, path: &str, config: &Config) -> Result<Vec<String>, NotBegun> {
     let mut taken = Vec::new(alloc);
     add_path(alloc, &mut taken, path)?;
     if let Some(orders) = &config.orders {
         add_path(alloc, &mut taken, orders.as_str())?;
-    }
-    if let Some(answers) = &config.answers {
-        add_path(alloc, &mut taken, answers.as_str())?;
     }
     for camera in config.cameras.as_slice() {
         add_path(alloc, &mut taken, camera.store.as_str())?;
@@ -200,19 +219,7 @@ fn check_answers<R: AllocGlobal + Places>(
     let Some(answers) = &config.answers else {
         return Ok(());
     };
-    let mut taken = Vec::new(rt.alloc());
-    add_path(rt.alloc(), &mut taken, path)?;
-    if let Some(orders) = &config.orders {
-        add_path(rt.alloc(), &mut taken, orders.as_str())?;
-    }
-    for camera in config.cameras.as_slice() {
-        add_path(rt.alloc(), &mut taken, camera.store.as_str())?;
-        let made = format!(in rt.alloc(); "{}.new", camera.store.as_str())?;
-        add_path(rt.alloc(), &mut taken, made.as_str())?;
-        if let Source::Path(source) = &camera.source {
-            add_path(rt.alloc(), &mut taken, source.as_str())?;
-        }
-    }
+    let taken = own_paths(rt.alloc(), path, config)?;
     if taken
         .iter()
         .any(|other| rt.is_same(answers.as_str(), other.as_str()))
@@ -373,8 +380,7 @@ fn run_in<
         finish_orders(rt, station);
         stop_saves(rt, station);
         for state in station.cameras.as_slice() {
-            state.stop();
-            state.threads.wake(rt);
+            state.stop(rt);
         }
     }
     for handle in handles {
@@ -451,14 +457,14 @@ fn watch<R: AllocGlobal + Wait + Clock, W: Write + Drop>(
     }
     for _ in rt.forever() {
         for _ in 0..STATUS_STEPS {
-            let over = station.cameras.iter().all(|state| state.is_stopped());
+            let over = station.cameras.iter().all(|state| state.is_stopped(rt));
             look(rt, station, reported.as_mut_slice());
             if over {
                 return;
             }
             thread::sleep(rt, Duration::from_millis(100));
         }
-        let over = station.cameras.iter().all(|state| state.is_stopped());
+        let over = station.cameras.iter().all(|state| state.is_stopped(rt));
         if watched && !over {
             show(rt, station);
         }

@@ -695,7 +695,7 @@ fn write<R: AllocGlobal + Places + Wait>(
         }
         SaveTarget::Folder(_) => false,
     };
-    let Some(geometry) = state.link.store(rt) else {
+    let Some(geometry) = state.life.store(rt) else {
         return Err(NotSaved::Absent(Absent::NoStore));
     };
     let mut file = rt.open_text(path, replace)?;

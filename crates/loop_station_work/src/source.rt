@@ -9,7 +9,6 @@
 ghost use Rattle.std.specs.Prelude.{◌≡◌, IfSome, length};
 
 use crate::input::{Input, find_header};
-use crate::link::{Offered, SourceState};
 use crate::outlet::Outlet;
 use crate::places::Places;
 use crate::size::{frames_before, size_of};
@@ -17,6 +16,7 @@ use crate::state::CameraState;
 use loop_capture::{FrameSource, Pattern};
 use loop_desk::frame_memory;
 use loop_record::Geometry;
+use loop_station_core::{Act, SourceEvent};
 use loop_station_words::{RingSize, Source};
 use loop_y4m::{GeometryFault, Y4mFault, Y4mReader};
 use std::alloc::AllocGlobal;
@@ -58,7 +58,7 @@ pub(crate) fn run_source<R: AllocGlobal + Places + Wait + Clock, W: Write + Drop
     outlet: &Outlet<W>,
 ) {
     for _ in rt.forever() {
-        if state.is_stopped() {
+        if state.is_stopped(rt) {
             break;
         }
         match &state.config.source {
@@ -120,7 +120,7 @@ fn play_pattern<R: AllocGlobal + Wait + Clock, W: Write + Drop>(
     let mut pattern = Pattern::new();
     let mut beat = beat_of(rt, state, geometry);
     for _ in rt.forever() {
-        if state.is_stopped() {
+        if state.is_stopped(rt) {
             break;
         }
         let epoch = state.feed.epoch(rt);
@@ -145,18 +145,18 @@ fn offer<R: AllocGlobal + Wait + Clock, W: Write + Drop>(
     outlet: &Outlet<W>,
     geometry: &Geometry,
 ) -> bool {
-    match state.link.offer(rt, *geometry) {
-        Offered::Fits => {
+    match state.life.offer(rt, *geometry) {
+        Act::Take => {
             state
                 .feed
                 .reserve(rt, frames_before(state.config.memory, geometry));
             true
         }
-        Offered::Refused => {
+        Act::Refuse => {
             tell_other(rt, state, outlet, geometry);
             false
         }
-        Offered::StillRefused => false,
+        _ => false,
     }
 }
 
@@ -185,7 +185,7 @@ fn play_file<R: AllocGlobal + Places + Wait + Clock, W: Write + Drop>(
     path: &str,
 ) {
     let Ok(file) = rt.open_input(path) else {
-        state.link.set_source(rt, SourceState::Missing);
+        state.life.on_source(rt, SourceEvent::Missing);
         return;
     };
     let Ok(metadata) = file.metadata() else {
@@ -208,8 +208,8 @@ fn play_file<R: AllocGlobal + Places + Wait + Clock, W: Write + Drop>(
             break;
         }
     }
-    state.link.end_read(rt);
-    state.link.end_source(rt);
+    state.life.on_source(rt, SourceEvent::Read);
+    state.life.on_source(rt, SourceEvent::Close);
 }
 
 // Waits until an input has more, in a pipe for its next writer. Returns whether it has: not where the camera is stopped,
@@ -223,15 +223,17 @@ fn waits_for_more<R: Places + Wait + Clock, I: Read + Drop>(
 ) -> bool {
     let mut reads = 0u32;
     for _ in rt.forever() {
-        if state.is_stopped() {
+        if state.is_stopped(rt) {
             return false;
         }
-        state.link.begin_read(rt, state.timeline.now(rt));
+        begin_read(rt, state);
         let more = input.has_more();
-        state.link.end_read(rt);
+        state.life.on_source(rt, SourceEvent::Read);
         match more {
             Ok(true) => return true,
-            Ok(false) => state.link.end_source(rt),
+            Ok(false) => {
+                state.life.on_source(rt, SourceEvent::Close);
+            }
             Err(_) => return false,
         }
         reads = reads.wrapping_add(1);
@@ -241,6 +243,12 @@ fn waits_for_more<R: Places + Wait + Clock, I: Read + Drop>(
         thread::sleep(rt, Duration::from_millis(READ_AGAIN));
     }
     unreachable!()
+}
+
+// The source's thread waits for a byte from now on.
+fn begin_read<R: Wait + Clock>(rt: &R, state: &CameraState) {
+    let now = state.timeline.now(rt);
+    state.life.on_source(rt, SourceEvent::Wait(now));
 }
 
 // How a stream of frames ended.
@@ -269,7 +277,7 @@ fn goes_on<R: Wait + Clock, I: Read + Drop>(
         StreamEnd::Ended => return true,
         StreamEnd::Failed => return false,
         StreamEnd::Unusable(why) => {
-            state.link.set_source(rt, SourceState::Unusable(why));
+            state.life.set_unusable(rt, why);
             input.return_rest_of_line();
         }
         StreamEnd::OtherLine => input.return_line(),
@@ -279,9 +287,9 @@ fn goes_on<R: Wait + Clock, I: Read + Drop>(
             }
         }
     }
-    state.link.begin_read(rt, state.timeline.now(rt));
+    begin_read(rt, state);
     let found = input.seek_header();
-    state.link.end_read(rt);
+    state.life.on_source(rt, SourceEvent::Read);
     found.is_ok()
 }
 
@@ -305,10 +313,10 @@ fn play_stream<R: AllocGlobal + Wait + Clock, I: Read + Drop, W: Write + Drop>(
     input: &mut Input<I>,
     paced: bool,
 ) -> StreamEnd {
-    state.link.begin_read(rt, state.timeline.now(rt));
+    begin_read(rt, state);
     input.begin_line();
     let opened = Y4mReader::open(&mut *input);
-    state.link.end_read(rt);
+    state.life.on_source(rt, SourceEvent::Read);
     let mut reader = match opened {
         Ok(reader) => reader,
         Err(Y4mFault::Truncated) => return StreamEnd::Ended,
@@ -321,7 +329,7 @@ fn play_stream<R: AllocGlobal + Wait + Clock, I: Read + Drop, W: Write + Drop>(
     };
     let mut beat = beat_of(rt, state, &geometry);
     for _ in rt.forever() {
-        if state.is_stopped() {
+        if state.is_stopped(rt) {
             return StreamEnd::Ended;
         }
         if paced {
@@ -348,7 +356,7 @@ fn row_for<R: AllocGlobal + Wait + Clock>(rt: &R, state: &CameraState, size: u32
         if let Ok(bytes) = frame_memory(rt.alloc(), spare, size as usize) {
             return Some(bytes);
         }
-        if state.is_stopped() {
+        if state.is_stopped(rt) {
             return None;
         }
         thread::sleep(rt, Duration::from_millis(MEMORY_AGAIN));
@@ -366,9 +374,9 @@ fn next_of<R: AllocGlobal + Wait + Clock, I: Read + Drop>(
     let Some(mut bytes) = row_for(rt, state, reader.frame_bytes()) else {
         return Err(StreamEnd::Ended);
     };
-    state.link.begin_read(rt, state.timeline.now(rt));
+    begin_read(rt, state);
     let came = reader.next_frame(&mut bytes);
-    state.link.end_read(rt);
+    state.life.on_source(rt, SourceEvent::Read);
     match came {
         Ok(true) => {}
         // A frame that breaks off is dropped.

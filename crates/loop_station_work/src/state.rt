@@ -6,12 +6,11 @@ use crate::absent::Absent;
 use crate::answering::{Answering, KeptClip, Message, Note, OpenEvent, Posts, SaveOrder};
 use crate::clerk::{FoundClip, attend};
 use crate::clock::Timeline;
-use crate::counts::Counts;
 use crate::feed::Feed;
 use crate::growing::{Growing, Ongoing};
 use crate::inbox::Inbox;
 use crate::jobs::{Job, Jobs, Request};
-use crate::link::SourceLink;
+use crate::life::Life;
 use crate::replies::{tell_clips, tell_shortfall};
 use crate::save::{NotSaved, Saves, begin_ordered, tell_ended};
 use crate::size::micros_of;
@@ -21,12 +20,11 @@ use loop_desk::Flushed;
 use loop_disk::Disk;
 use loop_pipeline::{Back, Guide, Link, LostFrame, Visits};
 use loop_record::Geometry;
-use loop_station_core::{Keep, Run, Tally};
+use loop_station_core::{Act, FilmingEvent, Keep, Run, Tally};
 use loop_station_words::{CameraConfig, Lines};
 use loop_store::{Clip, ReadFrame, StoreFault};
 use std::alloc::{AllocError, Global};
 use std::io;
-use std::sync::atomic::{AtomicBool, AtomicU64, Ordering};
 use std::sync::{Arc, Wait};
 use std::time::{Clock, Duration};
 
@@ -67,8 +65,8 @@ pub struct CameraState {
     pub timeline: Timeline,
     /// The queue of its source's frames.
     pub feed: Arc<Feed>,
-    /// What its source and its store know of each other.
-    pub link: SourceLink,
+    /// What is known and counted of it.
+    pub life: Life,
     /// What the threads that film it share.
     pub threads: Link,
     /// The orders that wait for it.
@@ -81,19 +79,8 @@ pub struct CameraState {
     pub(crate) saves: Arc<Saves>,
     /// The inbox for reads of frames for a save.
     pub reader: Inbox<u64, Result<ReadFrame, StoreFault>, Absent>,
-    /// What is counted.
-    pub counts: Counts,
     /// What its store held when it was last changed.
     stored: Stored,
-    /// How often the disk or the store failed, and the store was opened again.
-    pub faults: AtomicU64,
-    /// The filming is over: desk or queue is broken, and the store is opened again.
-    over: AtomicBool,
-    /// Every block is locked, as the last flush reported.
-    locked: AtomicBool,
-    stopped: AtomicBool,
-    /// The store's path names another file by now, or none.
-    moved: AtomicBool,
 }
 
 impl CameraState {
@@ -114,20 +101,14 @@ impl CameraState {
             config,
             timeline,
             feed: Arc::new(alloc, Feed::new(alloc)?)?,
-            link: SourceLink::new(),
+            life: Life::new(),
             threads: Link::new(alloc)?,
             jobs: Jobs::new(alloc)?,
             desk: Ongoing::new(alloc)?,
             posts,
             saves,
             reader: Inbox::new(),
-            counts: Counts::new(),
             stored: Stored::new(alloc),
-            faults: AtomicU64::new(0),
-            over: AtomicBool::new(false),
-            locked: AtomicBool::new(false),
-            stopped: AtomicBool::new(false),
-            moved: AtomicBool::new(false),
         })
     }
 
@@ -139,7 +120,7 @@ impl CameraState {
     /// What is counted of its frames.
     pub(crate) fn tally<R: Wait>(&self, rt: &R) -> Tally {
         let (come, _) = self.feed.counts(rt);
-        self.counts.tally(rt, come)
+        self.life.tally(rt, come)
     }
 
     /// How many microseconds a frame lasts, as its store has it; 0 where there is no store.
@@ -351,25 +332,20 @@ impl CameraState {
     }
 
     /// Ends everything that runs for the camera.
-    pub fn stop(&self) {
-        self.stopped.store(true, Ordering::SeqCst);
+    pub fn stop<R: Wait>(&self, rt: &R) {
+        self.life.on(rt, FilmingEvent::Stop);
+        self.threads.wake(rt);
     }
 
     /// The store was moved away: the filming ends, and a store is made anew.
     pub fn move_away<R: Wait>(&self, rt: &R) {
-        self.moved.store(true, Ordering::SeqCst);
-        self.over.store(true, Ordering::SeqCst);
+        self.life.on(rt, FilmingEvent::Move);
         self.threads.wake(rt);
     }
 
-    /// Whether it was moved away.
-    pub fn is_moved(&self) -> bool {
-        self.moved.load(Ordering::SeqCst)
-    }
-
     /// Whether it is to end.
-    pub fn is_stopped(&self) -> bool {
-        self.stopped.load(Ordering::SeqCst)
+    pub fn is_stopped<R: Wait>(&self, rt: &R) -> bool {
+        self.life.camera(rt).stopping
     }
 
     /// Asks for the frame of a number. The answer has to be taken from the reader.
@@ -381,9 +357,7 @@ impl CameraState {
     /// Its store is there, and the camera is filmed from now on. Orders are taken.
     pub fn begin<R: Wait>(&self, rt: &R, geometry: Geometry, next: u64, clips: Vec<Clip>) {
         self.stored.begin(rt, geometry, next, clips);
-        self.over.store(false, Ordering::SeqCst);
-        self.moved.store(false, Ordering::SeqCst);
-        self.locked.store(false, Ordering::SeqCst);
+        self.life.on(rt, FilmingEvent::Begin);
         self.jobs.open(rt);
         self.reader.open(rt);
     }
@@ -431,15 +405,19 @@ impl CameraState {
     }
 
     /// Whether frames wait because every block is locked.
-    pub fn is_locked(&self) -> bool {
-        self.locked.load(Ordering::SeqCst)
+    pub fn is_locked<R: Wait>(&self, rt: &R) -> bool {
+        self.life.camera(rt).locked
     }
 
-    // Whether the filming is to end: desk or queue is broken, or the program ends and no frame that the source gave
-    // before waits for the device.
-    fn is_done<R: Wait>(&self, rt: &R) -> bool {
-        let (come, taken) = self.feed.counts(rt);
-        self.over.load(Ordering::SeqCst) || self.is_stopped() && come == taken
+    // How many frames have come from its source.
+    fn come<R: Wait>(&self, rt: &R) -> u64 {
+        let (come, _) = self.feed.counts(rt);
+        come
+    }
+
+    // A frame was given up on its way to the desk.
+    fn give_up<R: Wait>(&self, rt: &R) {
+        self.life.give_up(rt, self.come(rt));
     }
 
     /// Desk and queue are given up: what was in them and isn't stored is lost, and counted. The camera's thread calls
@@ -447,12 +425,12 @@ impl CameraState {
     pub fn lose_rest<R: Wait>(&self, rt: &R) {
         let (come, taken) = self.feed.counts(rt);
         let ready = u64::from(self.feed.is_ready(rt));
-        self.counts.lose(rt, come, taken.saturating_sub(ready));
+        self.life.lose(rt, come, taken.saturating_sub(ready));
     }
 
     /// The duration in microseconds of the frames that have come from the source and are neither stored nor given up.
     pub fn behind_micros<R: Wait>(&self, rt: &R) -> u64 {
-        match self.link.store(rt) {
+        match self.life.store(rt) {
             Some(geometry) => micros_of(self.tally(rt).behind(), &geometry),
             None => 0,
         }
@@ -472,7 +450,8 @@ impl Guide for CameraState {
     /// A tick for each frame of the source, at the time when it came.
     fn next_tick<R: Wait + Clock>(&self, rt: &R, _n: u64) -> Option<u64> {
         for _ in rt.forever() {
-            if self.is_done(rt) {
+            let (come, taken) = self.feed.counts(rt);
+            if !self.life.camera(rt).films(come, taken) {
                 return None;
             }
             if let Some(time) = self.feed.make_ready(rt, Duration::from_millis(LOOK_AGAIN)) {
@@ -482,43 +461,46 @@ impl Guide for CameraState {
         unreachable!()
     }
 
-    fn ticked<R: Wait>(&self, _rt: &R, tick: Tick) {
+    fn ticked<R: Wait>(&self, rt: &R, tick: Tick) {
         match tick {
             Tick::Completed(_) | Tick::Failed(_) => {}
-            Tick::Missed => self.counts.give_up(),
-            Tick::Idle | Tick::Ended | Tick::WrongSize => self.over.store(true, Ordering::SeqCst),
+            Tick::Missed => self.give_up(rt),
+            Tick::Idle | Tick::Ended | Tick::WrongSize => {
+                self.life.on(rt, FilmingEvent::Break);
+            }
         }
     }
 
-    fn lacked(&self) {
-        self.counts.give_up();
+    fn lacked<R: Wait>(&self, rt: &R) {
+        self.give_up(rt);
     }
 
-    fn brought<D: Disk + Drop>(&self, _back: &Back<D, CameraState>, _number: u64) {
-        self.counts.bring();
+    fn brought<R: Wait, D: Disk + Drop>(&self, rt: &R, _back: &Back<D, CameraState>, _number: u64) {
+        self.life.bring(rt, self.come(rt));
     }
 
-    fn gave_up<D: Disk + Drop>(&self, _back: &Back<D, CameraState>, _frame: LostFrame) {
-        self.counts.give_up();
+    fn gave_up<R: Wait, D: Disk + Drop>(
+        &self,
+        rt: &R,
+        _back: &Back<D, CameraState>,
+        _frame: LostFrame,
+    ) {
+        self.give_up(rt);
     }
 
-    fn stored<D: Disk + Drop>(&self, _back: &Back<D, CameraState>, done: Flushed) {
-        self.counts.store(done.stored);
+    fn stored<R: Wait, D: Disk + Drop>(&self, rt: &R, _back: &Back<D, CameraState>, done: Flushed) {
+        self.life.store_frames(rt, done.stored);
         self.stored.grow(done.stored);
-        if done.stored > 0 {
-            self.locked.store(false, Ordering::SeqCst);
-        }
     }
 
     /// Where each block is locked, the frames wait until the program ends. Where the disk failed, the filming ends, and
     /// the store is opened again.
-    fn flushes_again(&self, fault: StoreFault) -> bool {
-        if fault == StoreFault::AllLocked {
-            self.locked.store(true, Ordering::SeqCst);
-            return !self.is_stopped();
-        }
-        self.over.store(true, Ordering::SeqCst);
-        false
+    fn flushes_again<R: Wait>(&self, rt: &R, fault: StoreFault) -> bool {
+        let event = match fault {
+            StoreFault::AllLocked => FilmingEvent::AllLocked,
+            _ => FilmingEvent::Break,
+        };
+        self.life.on(rt, event) == Act::FlushAgain
     }
 
     /// Orders are done only while the desk works. Once it is broken the filming ends, and the store is opened again.
@@ -528,12 +510,12 @@ impl Guide for CameraState {
         alloc: Global,
         back: &mut Back<D, CameraState>,
     ) {
-        if !self.over.load(Ordering::SeqCst) {
+        if !self.life.camera(rt).over {
             attend(rt, alloc, self, back);
         }
         // A lock or an unlock may have failed on the disk while no frame waits, so no flush would report it.
         if back.status().must_reopen {
-            self.over.store(true, Ordering::SeqCst);
+            self.life.on(rt, FilmingEvent::Break);
         }
     }
 }

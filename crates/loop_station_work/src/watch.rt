@@ -30,7 +30,7 @@ pub(crate) fn run_watch<R: AllocGlobal + Places + Wait + Clock, W: Write + Drop>
     let timeline = first.timeline;
     let mut looks = 0u32;
     for _ in rt.forever() {
-        if station.cameras.iter().all(|state| state.is_stopped()) {
+        if station.cameras.iter().all(|state| state.is_stopped(rt)) {
             break;
         }
         let (began, up) = (timeline.now(rt), rt.uptime().unwrap_or(0));
@@ -44,7 +44,7 @@ pub(crate) fn run_watch<R: AllocGlobal + Places + Wait + Clock, W: Write + Drop>
         }
         looks = looks.wrapping_add(1);
         for state in station.cameras.as_slice() {
-            state.link.look(rt, now);
+            state.life.look(rt, now);
             if looks % LOOKS == 0 {
                 look_for_store(rt, state);
             }
@@ -69,7 +69,7 @@ fn tell_still<R: Wait + Clock, W: Write + Drop>(
 // Ends the filming of a camera whose store's path names another file by now, or none. Where that can't be seen, the
 // store is as it was.
 fn look_for_store<R: Places + Wait>(rt: &R, state: &CameraState) {
-    let Some(place) = state.link.place(rt) else {
+    let Some(place) = state.life.place(rt) else {
         return;
     };
     if let Ok(there) = rt.place_of(state.config.store.as_str()) {

@@ -45,7 +45,7 @@ impl Guide for Four {
         if n < 4 { Some(n * 40_000) } else { None }
     }
 
-    fn flushes_again(&self, _fault: StoreFault) -> bool {
+    fn flushes_again<R: Wait>(&self, _rt: &R, _fault: StoreFault) -> bool {
         false
     }
 }

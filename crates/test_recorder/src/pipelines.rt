@@ -67,20 +67,25 @@ impl Guide for Guided {
         Some(n.saturating_add(self.first).saturating_mul(1_000))
     }
 
-    fn brought<D: Disk + Drop>(&self, _back: &Back<D, Guided>, _number: u64) {
+    fn brought<R: Wait, D: Disk + Drop>(&self, _rt: &R, _back: &Back<D, Guided>, _number: u64) {
         self.brought.fetch_add(1, Ordering::SeqCst);
     }
 
-    fn gave_up<D: Disk + Drop>(&self, _back: &Back<D, Guided>, _frame: LostFrame) {
+    fn gave_up<R: Wait, D: Disk + Drop>(
+        &self,
+        _rt: &R,
+        _back: &Back<D, Guided>,
+        _frame: LostFrame,
+    ) {
         self.gave_up.fetch_add(1, Ordering::SeqCst);
     }
 
-    fn stored<D: Disk + Drop>(&self, _back: &Back<D, Guided>, done: Flushed) {
+    fn stored<R: Wait, D: Disk + Drop>(&self, _rt: &R, _back: &Back<D, Guided>, done: Flushed) {
         self.stored
             .fetch_add(u64::from(done.stored), Ordering::SeqCst);
     }
 
-    fn flushes_again(&self, _fault: StoreFault) -> bool {
+    fn flushes_again<R: Wait>(&self, _rt: &R, _fault: StoreFault) -> bool {
         false
     }
 
