@@ -55,8 +55,10 @@ def parts_of(page):
             else:
                 file.shown.append(line)
         elif line.startswith("```"):
-            typed, file = None, Part("file", section, place, line.split()[1])
-            found.append(file)
+            # One without a name shows what is printed elsewhere.
+            name = line.split()[1:]
+            typed, file = None, Part("file", section, place, name[0] if name else "")
+            found += [file] if name else []
         elif not line.startswith("    "):
             typed = None
             if line.startswith("#"):
