@@ -83,8 +83,8 @@ impl FrameSource for RecordSource {
 
 /// Records into the stores in files, prints each camera's next number, and returns the program's status: 0; 1 where a
 /// file can't be opened, a store can't be opened or can't keep so many blocks, or a camera can't be set up, which is
-/// then printed on `err`, and where `out` or `err` fails. What a store refuses during the recording leaves it at 0; which
-/// frames a camera lost is printed on `err`.
+/// then printed on `err`, and where `out` or `err` fails. What a store refuses during the recording leaves it at 0;
+/// which frames a camera lost is printed on `err`.
 pub(crate) fn run_record<
     R: AllocGlobal + Files<File = File> + Threads + Wait + Clock + Sync,
     W: Write,

@@ -1,10 +1,10 @@
 -- Frames add up.
 use Rattle.std.proofs.Common.{◌≡◌, ◌+◌, ◌<◌, ◌^◌, List, [], ◌∷◌, arith}
 use Rattle.std.proofs.lemmas.Grind.{common_steps}
-use Rattle.loop_station_core.specs.Frames.{Frames, Step, after, all_of, brings, come_by, come_in, comes, gives_up, loses, moved, no_frames, stores}
+use Rattle.loop_station_core.specs.Frames.{Flow, Step, after, all_of, brings, come_by, come_in, comes, gives_up, loses, moved, no_frames, stores}
 
 -- one step adds a frame, or none
-step-adds : (f : Frames) (s : Step) → all_of f + come_by s < 2 ^ 64 → all_of (moved f s) ≡ all_of f + come_by s
+step-adds : (f : Flow) (s : Step) → all_of f + come_by s < 2 ^ 64 → all_of (moved f s) ≡ all_of f + come_by s
 step-adds f comes h = grind (arith, common_steps)
 step-adds f brings h = omega arith
 step-adds f gives_up h = omega arith
@@ -12,7 +12,7 @@ step-adds f (stores n) h = omega arith
 step-adds f (loses n) h = omega arith
 
 -- the same of each list of steps
-adds : (f : Frames) (steps : List Step) → all_of f + come_in steps < 2 ^ 64 → all_of (after f steps) ≡ all_of f + come_in steps
+adds : (f : Flow) (steps : List Step) → all_of f + come_in steps < 2 ^ 64 → all_of (after f steps) ≡ all_of f + come_in steps
 adds f [] h = omega arith
 adds f (s ∷ ss) h =
     let one : all_of (moved f s) ≡ all_of f + come_by s = step-adds f s (omega arith) in

@@ -1,7 +1,7 @@
 -- What a keep does is right by its line.
 use Rattle.std.proofs.Common.{◌≡◌, ℕ, ◌≤◌, ◌-◌, ◌⊎◌, ◌||◌, ◌&&◌, ◌==◌, Bool, true, false, not, List, [], ◌∷◌, Option, Some, None, arith, refl, inl, inr, is_some, unwrap_or, max, nat_le, if◌then◌else◌}
 use Rattle.std.proofs.lemmas.Grind.{common_steps}
-use Rattle.loop_station_core.specs.Keeps.{AreInOrder, EachTurn, HasTimesOf, IsFree, IsRight, IsSound, acts, ended, is_done, is_due, is_free, looked, moved, part_locked, step, steps_of}
+use Rattle.loop_station_core.specs.Keeps.{AreInOrder, EachTurn, HasTimesOf, IsClear, IsRight, IsTimely, acts, ended, is_done, is_due, is_free, looked, moved, part_locked, step, steps_of}
 use Rattle.loop_station_core.specs.declared.keep.Keep.{Keep}
 use Rattle.loop_station_core.specs.declared.keep.Look.{Look}
 use Rattle.loop_station_core.specs.declared.keep.KeepTurn.{KeepTurn}
@@ -37,7 +37,7 @@ acts-times k l = elim (is_done k l) as (λ b. let r : Keep × KeepTurn = if b th
     ]
 
 -- what is known of its end stays right
-sound-along : (k k' : Keep) (now : ℕ) → IsSound now k → HasTimesOf k k' → k'.all ≡ k.all → IsSound now k'
+sound-along : (k k' : Keep) (now : ℕ) → IsTimely now k → HasTimesOf k k' → k'.all ≡ k.all → IsTimely now k'
 sound-along k k' now s t e n h =
     let is : k.all ≡ Some n = cc in
     let was = s n is in
@@ -45,7 +45,7 @@ sound-along k k' now s t e n h =
     let come : k'.come ≡ k.come = t.4 in
     (omega arith, omega arith)
 
-sound-later : (k : Keep) (now later : ℕ) → now ≤ later → IsSound now k → IsSound later k
+sound-later : (k : Keep) (now later : ℕ) → now ≤ later → IsTimely now k → IsTimely later k
 sound-later k now later h s n e = let was = s n e in (omega arith, was.1)
 
 moved-all : (k : Keep) (steps now : ℕ) → (moved k steps now).all ≡ k.all
@@ -53,36 +53,36 @@ moved-all k steps now = elim (steps == k.steps) as (λ b. (if b then k else reco
     [ true ↦ refl | false ↦ refl ]
 
 -- how many frames had come by its end is seen once that has passed
-ended-sound : (k : Keep) (now come : ℕ) → IsSound now k → IsSound now (ended k now come)
+ended-sound : (k : Keep) (now come : ℕ) → IsTimely now k → IsTimely now (ended k now come)
 ended-sound k now come s = at (nat_le k.until now && not (is_some k.all)) refl
   where
-    at : (b : Bool) → nat_le k.until now && not (is_some k.all) ≡ b → IsSound now (if b then record k { all = Some (max come k.come) } else k)
+    at : (b : Bool) → nat_le k.until now && not (is_some k.all) ≡ b → IsTimely now (if b then record k { all = Some (max come k.come) } else k)
     at true h n e = let is : max come k.come ≡ n = cc in (grind (arith, common_steps), omega arith)
     at false h n e = s n e
 
-looked-sound : (k : Keep) (l : Look) → IsSound l.time k → IsSound l.time (looked k l)
+looked-sound : (k : Keep) (l : Look) → IsTimely l.time k → IsTimely l.time (looked k l)
 looked-sound k l s = ended-sound (moved k (steps_of l.tally) l.time) l.time l.come
     (sound-along k (moved k (steps_of l.tally) l.time) l.time s (moved-times k (steps_of l.tally) l.time) (moved-all k (steps_of l.tally) l.time))
 
 -- what it means that a keep is free
-free-means : (needs : ℕ) (k : Keep) (l : Look) → is_free needs k l ≡ true → IsFree needs k l
+free-means : (needs : ℕ) (k : Keep) (l : Look) → is_free needs k l ≡ true → IsClear needs k l
 free-means needs k l h = grind (arith, common_steps)
 
-free-of-fewer : (few many : ℕ) (k : Keep) (l : Look) → few ≤ many → IsFree many k l → IsFree few k l
+free-of-fewer : (few many : ℕ) (k : Keep) (l : Look) → few ≤ many → IsClear many k l → IsClear few k l
 free-of-fewer few many k l h (inl enough) = inl (omega arith)
 free-of-fewer few many k l h (inr stuck) = inr stuck
 
 -- what it means that it is done
-done-at : (a : Option ℕ) (k : Keep) (l : Look) → k.all ≡ a → IsSound l.time k
+done-at : (a : Option ℕ) (k : Keep) (l : Look) → k.all ≡ a → IsTimely l.time k
     → (is_some a || l.stopping) && is_free (unwrap_or a (max l.come k.come)) k l ≡ true
-    → ((k.until ≤ l.time) ⊎ (l.stopping ≡ true)) × IsFree k.come k l
+    → ((k.until ≤ l.time) ⊎ (l.stopping ≡ true)) × IsClear k.come k l
 done-at (Some n) k l e s h = (inl (s n e).0, free-of-fewer k.come n k l (s n e).1 (free-means n k l h))
 done-at None k l e s h =
     let both : (l.stopping ≡ true) × (is_free (max l.come k.come) k l ≡ true) = grind (arith, common_steps) in
     (inr both.0, free-of-fewer k.come (max l.come k.come) k l (omega arith) (free-means (max l.come k.come) k l both.1))
 
 -- what a keep that has looked does is right
-acts-right : (k : Keep) (l : Look) → IsSound l.time k → IsRight k l (acts k l).0 (acts k l).1
+acts-right : (k : Keep) (l : Look) → IsTimely l.time k → IsRight k l (acts k l).0 (acts k l).1
 acts-right k l s = done (is_done k l) refl
   where
     due : (b : Bool) → is_due k l ≡ b → let r : Keep × KeepTurn = if b then part_locked k l else (k, Wait) in IsRight k l r.0 r.1
@@ -111,14 +111,14 @@ right-along k k' l after Whole h r =
 step-times : (k : Keep) (l : Look) → HasTimesOf k (step k l).0
 step-times k l = times-joined k (looked k l) (step k l).0 (looked-times k l) (acts-times (looked k l) l).0
 
-step-right : (k : Keep) (l : Look) → IsSound l.time k → IsRight k l (step k l).0 (step k l).1
+step-right : (k : Keep) (l : Look) → IsTimely l.time k → IsRight k l (step k l).0 (step k l).1
 step-right k l s = right-along k (looked k l) l (step k l).0 (step k l).1 (looked-times k l) (acts-right (looked k l) l (looked-sound k l s))
 
-step-sound : (k : Keep) (l : Look) → IsSound l.time k → IsSound l.time (step k l).0
+step-sound : (k : Keep) (l : Look) → IsTimely l.time k → IsTimely l.time (step k l).0
 step-sound k l s = sound-along (looked k l) (step k l).0 l.time (looked-sound k l s) (acts-times (looked k l) l).0 (acts-times (looked k l) l).1
 
 -- the same of each look of a list, by the line of the first keep
-all-right : (first k : Keep) (now : ℕ) (looks : List Look) → HasTimesOf first k → IsSound now k → AreInOrder now looks
+all-right : (first k : Keep) (now : ℕ) (looks : List Look) → HasTimesOf first k → IsTimely now k → AreInOrder now looks
     → EachTurn (λ look after turn. IsRight first look after turn × HasTimesOf first after) k looks
 all-right first k now [] h s o = tt
 all-right first k now (l ∷ ls) h s o =
@@ -127,6 +127,6 @@ all-right first k now (l ∷ ls) h s o =
       all-right first (step k l).0 l.time ls (times-joined first k (step k l).0 h (step-times k l)) (step-sound k l later) o.1,
     )
 
-pub keeps-right : (k : Keep) (now : ℕ) (looks : List Look) → IsSound now k → AreInOrder now looks
+pub keeps-right : (k : Keep) (now : ℕ) (looks : List Look) → IsTimely now k → AreInOrder now looks
     → EachTurn (λ look after turn. IsRight k look after turn × HasTimesOf k after) k looks
 keeps-right k now looks s o = all-right k k now looks (refl, refl, refl, refl, refl) s o

@@ -1,7 +1,7 @@
 -- Lines say what is so, once.
 use Rattle.std.proofs.Common.{◌≡◌, ℕ, ◌+◌, ◌-◌, ◌≤◌, ◌==◌, ◌||◌, ◌&&◌, Bool, true, false, List, [], ◌∷◌, Option, Some, None, IfSome, arith, refl, nat_lt, if◌then◌else◌}
 use Rattle.std.proofs.lemmas.Grind.{common_steps}
-use Rattle.loop_station_core.specs.Laws.{Alternate, EndsWith, IsSo, frames_in, locked_lines, told_in}
+use Rattle.loop_station_core.specs.Laws.{Alternate, StaysLost, IsSo, frames_in, locked_lines, told_in}
 use Rattle.loop_station_core.specs.Telling.{is_missing, known_after, lines_of, same_source, source_line, told_behind, told_locked, told_lost, told_nearly, told_source, told_store, told_waited}
 use Rattle.loop_station_core.specs.declared.changes.SourceSeen.{SourceSeen}
 use Rattle.loop_station_core.specs.declared.changes.SourceSeen.TheVariants.{Missing, Silent, Other, Unusable, On}
@@ -103,11 +103,11 @@ not-more : (r : Reported) (s : Seen) → r.lost.frames ≤ s.lost → (known_aft
 not-more r s h = grind (arith, common_steps)
 
 -- what ends so after more frames are lost does after fewer
-ends-lower : (a b : ℕ) (s : Seen) (ss : List Seen) (last : ℕ) → b ≤ a → EndsWith a (s ∷ ss) last → EndsWith b (s ∷ ss) last
+ends-lower : (a b : ℕ) (s : Seen) (ss : List Seen) (last : ℕ) → b ≤ a → StaysLost a (s ∷ ss) last → StaysLost b (s ∷ ss) last
 ends-lower a b s [] last h e = let lost : a ≤ s.lost = e.0 in (omega arith, e.1)
 ends-lower a b s (t ∷ ss) last h e = let lost : a ≤ s.lost = e.0 in (omega arith, e.1)
 
-pub lost-told-once : (r : Reported) (seen : List Seen) (last : ℕ) → EndsWith r.lost.frames seen last
+pub lost-told-once : (r : Reported) (seen : List Seen) (last : ℕ) → StaysLost r.lost.frames seen last
     → r.lost.frames + told_in r seen ≡ last
 lost-told-once r [] last h = let e : last ≡ r.lost.frames = h in omega arith
 lost-told-once r (s ∷ []) last h =

@@ -3,22 +3,22 @@ use Rattle.std.specs.Prelude.{ℕ, ◌+◌, ◌-◌, ◌^◌, List, [], ◌∷�
 use Rattle.loop_station_core.specs.declared.tally.Tally.{Tally}
 
 -- how many of the frames that have come are on their way to the desk, wait at the desk, are stored, and are lost
-pub record Frames : Type 0 where
+pub record Flow : Type 0 where
   pub coming : ℕ
   pub waiting : ℕ
   pub stored : ℕ
   pub lost : ℕ
 
 -- as a tally says
-abbrev pub frames : Tally → Frames
+abbrev pub frames : Tally → Flow
 frames t = record { coming = t.come - t.brought; waiting = t.submitted - t.left; stored = t.left; lost = t.lost }
 
 -- how many have come in all
-abbrev pub all_of : Frames → ℕ
+abbrev pub all_of : Flow → ℕ
 all_of f = f.coming + f.waiting + f.stored + f.lost
 
 -- how many are no longer on their way
-abbrev pub brought_of : Frames → ℕ
+abbrev pub brought_of : Flow → ℕ
 brought_of f = f.waiting + f.stored + f.lost
 
 -- What happens to frames: one comes, the first that is on its way comes to the desk or is given up, so many at the desk
@@ -31,7 +31,7 @@ pub data Step : Type 0 where
   loses : ℕ → Step
 
 -- where frames are after that; no more come than a u64 counts
-abbrev pub moved : Frames → Step → Frames
+abbrev pub moved : Flow → Step → Flow
 moved f comes = if nat_lt (all_of f) (2 ^ 64 - 1) then record f { coming = f.coming + 1 } else f
 moved f brings = record f { coming = f.coming - 1; waiting = f.waiting + min 1 f.coming }
 moved f gives_up = record f { coming = f.coming - 1; lost = f.lost + min 1 f.coming }
@@ -41,11 +41,11 @@ moved f (loses taken) =
     record f { coming = f.coming - gone; waiting = 0; lost = f.lost + f.waiting + gone }
 
 -- no frame has come
-abbrev pub no_frames : Frames
+abbrev pub no_frames : Flow
 no_frames = record { coming = 0; waiting = 0; stored = 0; lost = 0 }
 
 -- where frames are after a list of steps
-abbrev pub after : Frames → List Step → Frames
+abbrev pub after : Flow → List Step → Flow
 after f [] = f
 after f (s ∷ ss) = after (moved f s) ss
 

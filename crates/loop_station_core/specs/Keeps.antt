@@ -70,20 +70,20 @@ AreInOrder now [] = Unit {0}
 AreInOrder now (l ∷ ls) = (now ≤ l.time) × AreInOrder l.time ls
 
 -- So many frames are at the desk or lost, or every block is locked, or no frame was seen to make progress for a minute.
-abbrev pub IsFree : ℕ → Keep → Look → Type 0
-IsFree needs k l = (needs ≤ l.tally.brought) ⊎ ((l.locked ≡ true) ⊎ (60000000 < l.time - k.moved))
+abbrev pub IsClear : ℕ → Keep → Look → Type 0
+IsClear needs k l = (needs ≤ l.tally.brought) ⊎ ((l.locked ≡ true) ⊎ (60000000 < l.time - k.moved))
 
--- Of this keep's time, it locks only what there is, and only once each frame that had come before its line is at the desk
--- or lost (or nothing moves); it is done only once its end has passed, or nothing further comes.
+-- Of this keep's time, it locks only what there is, and only once each frame that had come before its line is at the
+-- desk or lost (or nothing moves); it is done only once its end has passed, or nothing further comes.
 abbrev pub IsRight : Keep → Look → Keep → KeepTurn → Type 0
 IsRight k l k' Wait = Unit {0}
-IsRight k l k' (Part until) = (until ≡ min l.time k.until) × IsFree k.come k' l
-IsRight k l k' Whole = ((k.until ≤ l.time) ⊎ (l.stopping ≡ true)) × IsFree k.come k' l
+IsRight k l k' (Part until) = (until ≡ min l.time k.until) × IsClear k.come k' l
+IsRight k l k' Whole = ((k.until ≤ l.time) ⊎ (l.stopping ≡ true)) × IsClear k.come k' l
 
 -- its event, its times and its tag are those of its line
 abbrev pub HasTimesOf : Keep → Keep → Type 0
 HasTimesOf k k' = (k'.event ≡ k.event) × (k'.since ≡ k.since) × (k'.until ≡ k.until) × (k'.tag ≡ k.tag) × (k'.come ≡ k.come)
 
 -- once it is known how many frames had come by its end, that end has passed, and those before its line are among them
-abbrev pub IsSound : ℕ → Keep → Type 0
-IsSound now k = (n : ℕ) → k.all ≡ Some n → (k.until ≤ now) × (k.come ≤ n)
+abbrev pub IsTimely : ℕ → Keep → Type 0
+IsTimely now k = (n : ℕ) → k.all ≡ Some n → (k.until ≤ now) × (k.come ≤ n)

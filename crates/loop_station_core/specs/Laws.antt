@@ -3,7 +3,7 @@ use Rattle.std.specs.Prelude.{ℕ, ◌+◌, ◌-◌, ◌*◌, ◌^◌, ◌≡◌
 use Rattle.loop_station_core.specs.Cameras.{lived}
 use Rattle.loop_station_core.specs.Frames.{Step, after, all_of, come_in, no_frames}
 use Rattle.loop_station_core.specs.Gaps.{AreWithin, gaps, missing}
-use Rattle.loop_station_core.specs.Keeps.{AreInOrder, EachTurn, HasTimesOf, IsRight, IsSound}
+use Rattle.loop_station_core.specs.Keeps.{AreInOrder, EachTurn, HasTimesOf, IsRight, IsTimely}
 use Rattle.loop_station_core.specs.Saving.{Places, is_read, left_by, wanted}
 use Rattle.loop_station_core.specs.Telling.{known_after, lines_of, told_locked}
 use Rattle.loop_station_core.specs.declared.camera.Camera.{Camera}
@@ -27,7 +27,7 @@ FramesAddUp = (steps : List Step) → come_in steps < 2 ^ 64 → all_of (after n
 
 -- At each look a keep does what is right by its line, and keeps its times.
 abbrev pub KeepsAreRight : Type 0
-KeepsAreRight = (k : Keep) (now : ℕ) (looks : List Look) → IsSound now k → AreInOrder now looks
+KeepsAreRight = (k : Keep) (now : ℕ) (looks : List Look) → IsTimely now k → AreInOrder now looks
     → EachTurn (λ look after turn. IsRight k look after turn × HasTimesOf k after) k looks
 
 -- What is held of a time and its gaps are all of it.
@@ -76,14 +76,14 @@ told_in r [] = 0
 told_in r (s ∷ ss) = frames_in (lines_of r s).given_up + told_in (known_after r s) ss
 
 -- frames stay lost, and at the last look the program ends
-abbrev pub EndsWith : ℕ → List Seen → ℕ → Type 0
-EndsWith lost [] last = last ≡ lost
-EndsWith lost (s ∷ []) last = (lost ≤ s.lost) × ((s.stopping ≡ true) × (last ≡ s.lost))
-EndsWith lost (s ∷ ss) last = (lost ≤ s.lost) × EndsWith s.lost ss last
+abbrev pub StaysLost : ℕ → List Seen → ℕ → Type 0
+StaysLost lost [] last = last ≡ lost
+StaysLost lost (s ∷ []) last = (lost ≤ s.lost) × ((s.stopping ≡ true) × (last ≡ s.lost))
+StaysLost lost (s ∷ ss) last = (lost ≤ s.lost) × StaysLost s.lost ss last
 
 -- Each lost frame is told once: by the end all are, and none twice.
 abbrev pub LostAreToldOnce : Type 0
-LostAreToldOnce = (r : Reported) (seen : List Seen) (last : ℕ) → EndsWith r.lost.frames seen last
+LostAreToldOnce = (r : Reported) (seen : List Seen) (last : ℕ) → StaysLost r.lost.frames seen last
     → r.lost.frames + told_in r seen ≡ last
 
 -- the lines about locked blocks, of some looks

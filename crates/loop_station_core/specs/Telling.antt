@@ -75,8 +75,8 @@ told_nearly known room blocks = if blocks == 0 then (known, None)
     then (true, Some NearlyAllLocked)
     else (known && nat_le (room * 10) (blocks * 3), None))
 
--- How far behind the disk was told to be, 0 where it wasn't, and its line: from more than a second on, each time that it
--- has doubled, and once it is below half a second.
+-- How far behind the disk was told to be, 0 where it wasn't, and its line: from more than a second on, each time that
+-- it has doubled, and once it is below half a second.
 abbrev pub told_behind : ℕ → ℕ → ℕ × Option Change
 told_behind known behind = if known == 0
     then (if nat_lt 1000000 behind then (behind, Some (Behind behind)) else (0, None))

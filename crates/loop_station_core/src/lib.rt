@@ -1,18 +1,19 @@
-//! What a station decides, without a thread, a lock, a file or a clock: a caller says what it sees and at what time, and
-//! gets what to do. So the same code runs in the station and in a simulation of it.
+//! What a station decides, without a thread, a lock, a file or a clock: a caller says what it sees and at what time,
+//! and gets what to do. So the same code runs in the station and in a simulation of it.
 //!
 //! - `tally`: what is counted of a camera's frames; each that came is on its way, at the desk, stored, or lost;
+//! - `camera`: whether a camera is filmed, when a filming ends and what follows, and the state of its source;
 //! - `keep`: when a keep locks, of which times, and when it is done; the numbers of events;
 //! - `runs`: what of a keep's time is held, and the gaps in it; which clips lie within longer ones;
 //! - `saves`: places of saves: which begins, which waits, and which clips are read meanwhile;
 //! - `changes`: which lines about a camera follow from what is seen of it;
 //! - `laws`: what holds over any list of events, each law the contract of a function that does nothing.
 //!
-//! Each call is a step of the model in `specs`: `Frames` for tallies, `Keeps`, `Gaps` for runs, `Saving`, `Telling` for
-//! lines. `Laws` says what follows of it: frames add up; a keep locks only the times of its line, and only once each
-//! frame that had come before that line is at the desk or lost, or every block is locked, or no frame has made progress
-//! for a minute; what is held of a time and its gaps are all of it; a clip that a save reads isn't released; a line says
-//! what was so, and each lost frame is told once.
+//! Each call is a step of the model in `specs`: `Frames` for tallies, `Cameras`, `Keeps`, `Gaps` for runs,
+//! `Saving`, `Telling` for lines. `Laws` says what follows of it: frames add up; a keep locks only the times of its line, and only once
+//! each frame that had come before that line is at the desk or lost, or every block is locked, or no frame has made
+//! progress for a minute; what is held of a time and its gaps are all of it; a clip that a save reads isn't released;
+//! a line says what was so, and each lost frame is told once.
 #![tactic(auto)]
 
 mod camera;

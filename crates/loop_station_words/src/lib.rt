@@ -6,8 +6,8 @@
 //! - `ring` chooses how many segments and slots a store has, for so many frames or within so many bytes;
 //! - `config` reads the configuration file, which says which cameras there are. `fields` reads the value at a key
 //!   there, `shape` reads what the pattern's frames look like, and `fault` says what is wrong with that file;
-//! - `lines` has the lines of the program's output, as text and as JSON, each of parts (`part`); `answers` has the status
-//!   of a camera, what a line begins with, and what the file of a clip is called.
+//! - `lines` has the lines of the program's output, as text and as JSON, each of parts (`part`); `answers` has the
+//! status   of a camera, what a line begins with, and what the file of a clip is called.
 //!
 //! What a line asks for, which time a text means, which ring is chosen, and what a configuration says at each of its
 //! keys is proved (`specs/`). So is that its cameras have names and stores of their own. Why a file is refused, and

@@ -1,16 +1,20 @@
-// The lines that are printed, as text and as JSON. docs/station.md says what each is.
+//! The lines that are printed, as text and as JSON. docs/station.md says what each is. Here are the answers to orders;
+//! `told` has what happens without one, and `listed` what a store holds.
+
+mod listed;
+mod told;
 
 use crate::answers::{CameraStatus, print_head};
-use crate::part::Part::{Maybe, Millis, Number, Seconds, Text, Time, Words};
-use crate::part::{Part, UtcTime, ended, json_line, text_line};
+use crate::part::Part::{Maybe, Number, Seconds, Text, Time, Words};
+use crate::part::{Part, UtcTime, json_line, text_line};
 use json::Writer;
-use loop_record::Geometry;
-use loop_script::{Listing, run_length};
+use listed::camera_json;
+use loop_script::Listing;
 use loop_store::{Clip, StoreFault};
-use std::alloc::{AllocError, Allocator, Global};
+use std::alloc::{Allocator, Global};
 use std::fmt::Display;
+use std::io;
 use std::io::Write;
-use std::{io, str};
 
 // How many bytes of a line that is no order are printed at most.
 const MOST_OF_LINE: usize = 200;
@@ -33,8 +37,9 @@ const ORDERS: [&str; 11] = [
 /// Lines, each as text and, where that is wanted, as a JSON object without its opening brace, so that a head may still
 /// come before it. Each method adds a line, or nothing where memory is refused.
 ///
-/// The object has `kind`, the name of the method, and the members that the method names, in that order. A time is a text
-/// such as `2026-11-22T15:38:00.123Z`, in UTC; a duration is a number of microseconds, and its key ends in `micros`.
+/// The object has `kind`, the name of the method, and the members that the method names, in that order. A time is a
+/// text such as `2026-11-22T15:38:00.123Z`, in UTC; a duration is a number of microseconds, and its key ends in
+/// `micros`.
 #[derive(Drop)]
 pub struct Lines {
     alloc: Global,
@@ -670,301 +675,6 @@ impl Lines {
     pub fn stopped(&mut self) -> io::Result<()> {
         self.line("stopped", &[Words("stopped")])
     }
-
-    // ---- events
-
-    /// `source CAMERA on 640x480 YM12 25:1`: a camera's source gives frames that its store takes.
-    ///
-    /// JSON: `camera`, `width`, `height`, `format`, `rate_num`, `rate_den`.
-    pub fn source_on(&mut self, camera: &str, geometry: &Geometry) -> io::Result<()> {
-        self.frames_line("source_on", "source ", camera, " on ", geometry)
-    }
-
-    /// `other geometry CAMERA 640x480 YM12 25:1`: the frames of a camera's source aren't as its store has them.
-    ///
-    /// JSON: `camera`, `width`, `height`, `format`, `rate_num`, `rate_den`.
-    pub fn other_geometry(&mut self, camera: &str, geometry: &Geometry) -> io::Result<()> {
-        self.frames_line("other_geometry", "other geometry ", camera, " ", geometry)
-    }
-
-    // Adds a line of a camera and of what frames look like.
-    fn frames_line<'a>(
-        &mut self,
-        kind: &str,
-        words: &'a str,
-        camera: &'a str,
-        between: &'a str,
-        geometry: &Geometry,
-    ) -> io::Result<()> {
-        let letters = geometry.format.name();
-        let format = str::from_utf8(&letters).unwrap_or("");
-        self.line_of_frames(kind, (words, camera, between, format), geometry)
-    }
-
-    // The same, of the letters of the format.
-    fn line_of_frames<'a>(
-        &mut self,
-        kind: &str,
-        (words, camera, between, format): (&'a str, &'a str, &'a str, &'a str),
-        geometry: &Geometry,
-    ) -> io::Result<()> {
-        self.line(
-            kind,
-            &[
-                Words(words),
-                Text("camera", camera),
-                Words(between),
-                Number("width", u64::from(geometry.width)),
-                Words("x"),
-                Number("height", u64::from(geometry.height)),
-                Words(" "),
-                Text("format", format),
-                Words(" "),
-                Number("rate_num", u64::from(geometry.rate_num)),
-                Words(":"),
-                Number("rate_den", u64::from(geometry.rate_den)),
-            ],
-        )
-    }
-
-    /// `source CAMERA missing`: a camera's source can't be opened, or has ended.
-    ///
-    /// JSON: `camera`.
-    pub fn source_missing(&mut self, camera: &str) -> io::Result<()> {
-        self.camera_line("source_missing", "source ", camera, " missing")
-    }
-
-    /// `source CAMERA silent`: a camera's source is open, and no frame has come for two seconds.
-    ///
-    /// JSON: `camera`.
-    pub fn source_silent(&mut self, camera: &str) -> io::Result<()> {
-        self.camera_line("source_silent", "source ", camera, " silent")
-    }
-
-    /// `source CAMERA unusable WHY`: no store may have the frames of a camera's source.
-    ///
-    /// JSON: `camera`, `why`.
-    pub fn source_unusable<'a>(&mut self, camera: &'a str, why: &'a str) -> io::Result<()> {
-        self.line(
-            "source_unusable",
-            &[
-                Words("source "),
-                Text("camera", camera),
-                Words(" unusable "),
-                Text("why", why),
-            ],
-        )
-    }
-
-    /// `store CAMERA open`; `store CAMERA open holds 30.8 s of 300.0 s` where it holds less than the configuration asks
-    /// for. `less` has both durations, in microseconds.
-    ///
-    /// JSON: `camera`, and `held_micros` and `asked_micros` as above.
-    pub fn store_open(&mut self, camera: &str, less: Option<(u64, u64)>) -> io::Result<()> {
-        let Some((held, asked)) = less else {
-            return self.camera_line("store_open", "store ", camera, " open");
-        };
-        self.line(
-            "store_open",
-            &[
-                Words("store "),
-                Text("camera", camera),
-                Words(" open holds "),
-                Seconds("held_micros", held),
-                Words(" s of "),
-                Seconds("asked_micros", asked),
-                Words(" s"),
-            ],
-        )
-    }
-
-    /// `store CAMERA absent WHY`: a camera's store isn't there any more, or not yet.
-    ///
-    /// JSON: `camera`, `why`.
-    pub fn store_absent<Y: Display>(&mut self, camera: &str, why: &Y) -> io::Result<()> {
-        self.why_line("store_absent", "store ", camera, " absent ", why)
-    }
-
-    /// `not a store CAMERA PATH: ..`: the file where a camera's store belongs isn't a store, and what to do about it.
-    /// The path is given in two parts.
-    ///
-    /// JSON: `camera`, `path`.
-    pub fn not_a_store(&mut self, camera: &str, path: &str, end: &str) -> io::Result<()> {
-        let path = format!(in self.alloc; "{path}{end}")?;
-        self.line_of_store(camera, path.as_str())
-    }
-
-    // The same, of the whole path.
-    fn line_of_store<'a>(&mut self, camera: &'a str, path: &'a str) -> io::Result<()> {
-        self.line(
-            "not_a_store",
-            &[
-                Words("not a store "),
-                Text("camera", camera),
-                Words(" "),
-                Text("path", path),
-                Words(": move it away, and a store is made"),
-            ],
-        )
-    }
-
-    /// `making CAMERA PATH 40 %`: a camera's store is being made, and so much of it is.
-    ///
-    /// JSON: `camera`, `path`, `percent`.
-    pub fn making<'a>(&mut self, camera: &'a str, path: &'a str, percent: u64) -> io::Result<()> {
-        self.making_line("making", "making ", camera, " ", path, percent)
-    }
-
-    /// `given up CAMERA K since T`: K frames were lost since a time.
-    ///
-    /// JSON: `camera`, `frames`, `since`.
-    pub fn given_up(&mut self, camera: &str, frames: u64, since: u64) -> io::Result<()> {
-        self.line(
-            "given_up",
-            &[
-                Words("given up "),
-                Text("camera", camera),
-                Words(" "),
-                Number("frames", frames),
-                Words(" since "),
-                Time("since", since),
-            ],
-        )
-    }
-
-    /// `all locked CAMERA`: frames wait, because every block is locked.
-    ///
-    /// JSON: `camera`.
-    pub fn all_locked(&mut self, camera: &str) -> io::Result<()> {
-        self.camera_line("all_locked", "all locked ", camera, "")
-    }
-
-    /// `nearly all locked CAMERA`: four fifths of the blocks are locked.
-    ///
-    /// JSON: `camera`.
-    pub fn nearly_all_locked(&mut self, camera: &str) -> io::Result<()> {
-        self.camera_line("nearly_all_locked", "nearly all locked ", camera, "")
-    }
-
-    /// `room again CAMERA`: a block may be recorded into again.
-    ///
-    /// JSON: `camera`.
-    pub fn room_again(&mut self, camera: &str) -> io::Result<()> {
-        self.camera_line("room_again", "room again ", camera, "")
-    }
-
-    /// `behind CAMERA S`: frames that last so many microseconds wait.
-    ///
-    /// JSON: `camera`, `micros`.
-    pub fn behind(&mut self, camera: &str, micros: u64) -> io::Result<()> {
-        self.line(
-            "behind",
-            &[
-                Words("behind "),
-                Text("camera", camera),
-                Words(" "),
-                Seconds("micros", micros),
-            ],
-        )
-    }
-
-    /// `caught up CAMERA`: no more frames wait than usual.
-    ///
-    /// JSON: `camera`.
-    pub fn caught_up(&mut self, camera: &str) -> io::Result<()> {
-        self.camera_line("caught_up", "caught up ", camera, "")
-    }
-
-    /// `waited CAMERA 3.2 s since T`: memory was full, and a camera's source had to wait so many microseconds.
-    ///
-    /// JSON: `camera`, `micros`, `since`.
-    pub fn waited(&mut self, camera: &str, micros: u64, since: u64) -> io::Result<()> {
-        self.line(
-            "waited",
-            &[
-                Words("waited "),
-                Text("camera", camera),
-                Words(" "),
-                Seconds("micros", micros),
-                Words(" s since "),
-                Time("since", since),
-            ],
-        )
-    }
-
-    /// `stood still 3.2 s since T`: the program didn't run for so many microseconds.
-    ///
-    /// JSON: `micros`, `since`.
-    pub fn stood_still(&mut self, micros: u64, since: u64) -> io::Result<()> {
-        self.line(
-            "stood_still",
-            &[
-                Words("stood still "),
-                Seconds("micros", micros),
-                Words(" s since "),
-                Time("since", since),
-            ],
-        )
-    }
-
-    /// `disk CAMERA syncs in 12 ms`: how fast the disk of a camera's store syncs.
-    ///
-    /// JSON: `camera`, `micros`.
-    pub fn syncs(&mut self, camera: &str, micros: u64) -> io::Result<()> {
-        self.line(
-            "syncs",
-            &[
-                Words("disk "),
-                Text("camera", camera),
-                Words(" syncs in "),
-                Millis("micros", micros),
-                Words(" ms"),
-            ],
-        )
-    }
-
-    /// `disk CAMERA too slow: syncs in 250 ms, room for 16 frames a second`: the source's rate needs more than the disk
-    /// gives.
-    ///
-    /// JSON: `camera`, `micros`, `frames_a_second`.
-    pub fn too_slow(&mut self, camera: &str, micros: u64, frames_a_second: u64) -> io::Result<()> {
-        self.line(
-            "too_slow",
-            &[
-                Words("disk "),
-                Text("camera", camera),
-                Words(" too slow: syncs in "),
-                Millis("micros", micros),
-                Words(" ms, room for "),
-                Number("frames_a_second", frames_a_second),
-                Words(" frames a second"),
-            ],
-        )
-    }
-
-    /// `no answers PATH: ..`: the file for answers can't be written.
-    ///
-    /// JSON: `path`.
-    pub fn no_answers(&mut self, path: &str) -> io::Result<()> {
-        self.line(
-            "no_answers",
-            &[
-                Words("no answers "),
-                Text("path", path),
-                Words(": what is printed doesn't go there"),
-            ],
-        )
-    }
-
-    /// `dropped K lines`: nobody read so many lines in time.
-    ///
-    /// JSON: `lines`.
-    pub fn dropped_lines(&mut self, count: u64) -> io::Result<()> {
-        self.line(
-            "dropped_lines",
-            &[Words("dropped "), Number("lines", count), Words(" lines")],
-        )
-    }
 }
 
 // A byte as it is printed: `?` where it is none of ASCII's printed characters.
@@ -974,69 +684,4 @@ fn printable(byte: u8) -> u8 {
     } else {
         b'?'
     }
-}
-
-// What a camera's store holds, as the line of an object.
-fn camera_json<A: Allocator + Copy>(
-    alloc: Global,
-    camera: &str,
-    listing: &Listing<A>,
-) -> Result<Vec<u8>, AllocError> {
-    let mut out = Writer::new(Vec::new(alloc));
-    out.key("kind")?;
-    out.string("camera")?;
-    out.key("camera")?;
-    out.string(camera)?;
-    out.key("next")?;
-    out.u64(listing.next)?;
-    out.key("frames")?;
-    write_runs(&listing.numbers, &mut out)?;
-    out.key("clips")?;
-    write_clips(&listing.clips, &mut out)?;
-    ended(out)
-}
-
-// Writes each longest run of numbers that follow one another.
-fn write_runs(numbers: &[u64], out: &mut Writer) -> Result<(), AllocError> {
-    out.begin_array()?;
-    let mut rest = numbers;
-    for _ in 0..numbers.len() {
-        if rest.is_empty() {
-            break;
-        }
-        let (run, behind) = rest.split_at(run_length(rest));
-        if let (Some(first), Some(last)) = (run.first(), run.last()) {
-            write_run(*first, *last, out)?;
-        }
-        rest = behind;
-    }
-    out.end_array()
-}
-
-// Writes one run.
-fn write_run(first: u64, last: u64, out: &mut Writer) -> Result<(), AllocError> {
-    out.begin_object()?;
-    out.key("first")?;
-    out.u64(first)?;
-    out.key("last")?;
-    out.u64(last)?;
-    out.end_object()
-}
-
-// Writes each clip.
-fn write_clips(clips: &[Clip], out: &mut Writer) -> Result<(), AllocError> {
-    out.begin_array()?;
-    for clip in clips {
-        out.begin_object()?;
-        out.key("id")?;
-        out.u64(u64::from(clip.id))?;
-        out.key("first")?;
-        out.u64(clip.from)?;
-        out.key("last")?;
-        out.u64(clip.to)?;
-        out.key("tag")?;
-        out.u64(clip.tag)?;
-        out.end_object()?;
-    }
-    out.end_array()
 }

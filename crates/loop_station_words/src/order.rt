@@ -29,8 +29,8 @@ pub enum Order<'a> {
         until: u64,
         tag: Option<u64>,
     },
-    /// `release CAMERA ID [FIRST]`: the clip of that id is unlocked, where a FIRST is given only if the clip begins with
-    /// the frame of that number.
+    /// `release CAMERA ID [FIRST]`: the clip of that id is unlocked, where a FIRST is given only if the clip begins
+    /// with the frame of that number.
     Release {
         camera: Name<'a>,
         id: u32,

@@ -213,8 +213,8 @@ fn film_into<R: AllocGlobal + Places + Threads + Wait + Clock + Sync>(
     why_ended(rt, state, filmed)
 }
 
-// Tells the printer which clips a store has: those that aren't saved yet are saved by themselves, where the camera has a
-// folder for them. The clips of an event that goes on are left out, and so is a clip whose frames can't be read.
+// Tells the printer which clips a store has: those that aren't saved yet are saved by themselves, where the camera has
+// a folder for them. The clips of an event that goes on are left out, and so is a clip whose frames can't be read.
 fn tell_clips<R: AllocGlobal + Wait>(
     rt: &R,
     state: &CameraState,
@@ -273,8 +273,8 @@ fn go_on_with<R: AllocGlobal + Wait + Clock>(rt: &R, state: &CameraState, events
     }
 }
 
-// Counts what a filming says that it lost on the way to the desk; `before` frames were lost before it. What waits at the
-// desk and in the queue is counted by `lose_rest`.
+// Counts what a filming says that it lost on the way to the desk; `before` frames were lost before it. What waits at
+// the desk and in the queue is counted by `lose_rest`.
 fn count_lost<R: Wait>(rt: &R, state: &CameraState, before: u64, filmed: &Filmed) {
     let Ok(ended) = filmed else {
         return;

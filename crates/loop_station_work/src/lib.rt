@@ -1,9 +1,10 @@
 //! A station: it records from cameras without end, and does orders meanwhile.
 //!
 //! Each camera has a thread for its source (`source`), which puts frames into a `feed`, and two threads that film it
-//! (`filming`): the store is opened or made, and loop_pipeline's `film_camera` brings the frames to it. `state` is what
-//! the threads of a camera share, and guides them. `life` is what is known and counted of it under one lock, `asked` how large a store has to be, and `absent` why it isn't there. `input` has what a source's
-//! pipe brings, and finds the next header in it. `clock` has the time of frames, and `size` their bytes and how many wait.
+//! (`filming`): the store is opened or made, and loop_pipeline's `film_camera` brings the frames to it. `state` is
+//! what the threads of a camera share, and guides them. `life` is what is known and counted of it under one lock,
+//! `asked` how large a store has to be, and `absent` why it isn't there. `input` has what a source's pipe brings, and
+//! finds the next header in it. `clock` has the time of frames, and `size` their bytes and how many wait.
 //!
 //! `run` starts all that. `orders` reads orders and does them: it asks a camera through its `inbox`, and the thread of
 //! its desk answers (`clerk`). `save` writes clips meanwhile, `places` opens files and makes stores, and `replies`

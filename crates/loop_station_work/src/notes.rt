@@ -68,8 +68,8 @@ fn print_event<W: Write>(out: &mut W, event: &OpenEvent) -> std::io::Result<()> 
     out.write_all(b"\n")
 }
 
-/// The events that were open when the program ended last, as the file of a store's events has them. A line that can't be
-/// read is left out.
+/// The events that were open when the program ended last, as the file of a store's events has them. A line that can't
+/// be read is left out.
 pub(crate) fn read_events<R: AllocGlobal + Places>(
     rt: &R,
     alloc: Global,

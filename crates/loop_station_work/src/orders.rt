@@ -213,6 +213,23 @@ fn perform<R: AllocGlobal + Places + Wait + Clock, W: Write + Drop>(
             let period = KeepPeriod::Between(since, until);
             keep(rt, station, read, label, &camera, period, tag)
         }
+        Order::List => list(rt, station, label),
+        Order::Status | Order::Help | Order::Stop => {
+            tell_all(rt, station, label, matches!(order, Order::Help));
+            Ok(())
+        }
+        order => perform_on_clip(rt, station, label, order),
+    }
+}
+
+// Hands an order about a clip to the clip's camera, or answers it.
+fn perform_on_clip<R: Wait, W: Write + Drop>(
+    rt: &R,
+    station: &Station<W>,
+    label: Option<&str>,
+    order: Order<'_>,
+) -> Result<(), AllocError> {
+    match order {
         Order::Release { camera, id, first } => {
             ask_one(
                 rt,
@@ -233,11 +250,7 @@ fn perform<R: AllocGlobal + Places + Wait + Clock, W: Write + Drop>(
             ask_one(rt, station, label, camera.text(), request)
         }
         Order::Cancel { camera, id } => cancel(rt, station, label, camera.text(), id),
-        Order::List => list(rt, station, label),
-        Order::Status | Order::Help | Order::Stop => {
-            tell_all(rt, station, label, matches!(order, Order::Help));
-            Ok(())
-        }
+        _ => Ok(()),
     }
 }
 

@@ -140,8 +140,8 @@ pub struct Outlet<W: Write + Drop> {
 }
 
 impl<W: Write + Drop> Outlet<W> {
-    /// An outlet that prints to `out`, once a thread runs `run_outlet`. The further file or pipe gets lines as JSON, or as
-    /// text.
+    /// An outlet that prints to `out`, once a thread runs `run_outlet`. The further file or pipe gets lines as JSON,
+    /// or as text.
     pub fn new(
         alloc: Global,
         out: W,

@@ -86,8 +86,8 @@ pub trait Places {
 
     /// Makes a store where there is no file, and opens it. It is made as NAME.new in the same folder, and is renamed
     /// once it is complete. A NAME.new that an earlier run left is made anew, or just renamed where it is a store
-    /// already. It is made in steps: `step` gets how much of the file is on the disk, in percent, and says whether to go
-    /// on. If not, the file is removed, and the answer is `Stopped`.
+    /// already. It is made in steps: `step` gets how much of the file is on the disk, in percent, and says whether to
+    /// go on. If not, the file is removed, and the answer is `Stopped`.
     fn make_store<F: FnMut(u32) -> bool>(
         &self,
         path: &str,

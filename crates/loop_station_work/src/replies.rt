@@ -64,7 +64,8 @@ pub(crate) fn tell_clips(
     Ok(())
 }
 
-/// Tells how much of a keep's time is held, and where frames are missing, if some are. Returns whether all of it is held.
+/// Tells how much of a keep's time is held, and where frames are missing, if some are. Returns whether all of it is
+/// held.
 pub(crate) fn tell_shortfall(
     state: &CameraState,
     keep: &Keep,

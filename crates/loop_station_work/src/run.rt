@@ -82,8 +82,8 @@ pub fn run_station<
     Ok(!station.outlet.has_failed())
 }
 
-// What a station is by its configuration, before any of its threads runs: with the tap of its answers, and the path of its
-// orders.
+// What a station is by its configuration, before any of its threads runs: with the tap of its answers, and the path of
+// its orders.
 fn station_of<R: AllocGlobal + Places + Wait + Clock, W: Write + Drop>(
     rt: &R,
     path: &str,
@@ -230,7 +230,8 @@ fn check_answers<R: AllocGlobal + Places>(
     Ok(())
 }
 
-// Refuses a camera whose store would have to be made for more frames than any holds, where its frames are known already.
+// Refuses a camera whose store would have to be made for more frames than any holds, where its frames are known
+// already.
 fn check_minutes<R: AllocGlobal + Places>(rt: &R, config: &Config) -> Result<(), NotBegun> {
     for camera in config.cameras.as_slice() {
         let Source::Pattern(shape) = &camera.source else {

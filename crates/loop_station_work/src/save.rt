@@ -1,9 +1,9 @@
 //! Saves: clips are written as YUV4MPEG2 while their cameras record, by the proved writer of loop_y4m.
 //!
-//! There are places for so many saves at once, each with a thread of its own. Which save begins when, and which clip may
-//! be released meanwhile, is decided by loop_station_core. A save that an order asks for is refused where each place is
-//! taken; one that begins by itself waits. Whoever ends a save first tells its result: its own thread, or a stop of the
-//! program or a `cancel` where that thread waits for a pipe that nobody reads.
+//! There are places for so many saves at once, each with a thread of its own. Which save begins when, and which clip
+//! may be released meanwhile, is decided by loop_station_core. A save that an order asks for is refused where each
+//! place is taken; one that begins by itself waits. Whoever ends a save first tells its result: its own thread, or a
+//! stop of the program or a `cancel` where that thread waits for a pipe that nobody reads.
 
 ghost use Rattle.std.specs.Prelude.{IfOk, List, OnOk, ℕ};
 ghost use Rattle.std.specs.Io.KnownBytes.{Appends};
@@ -470,8 +470,8 @@ pub(crate) fn begin<R: Wait>(rt: &R, state: &CameraState, save: Arc<Save>) {
     }
 }
 
-/// The save of a clip into its camera's folder. Where the clip may have been saved by an earlier run, a file that has its
-/// name is that.
+/// The save of a clip into its camera's folder. Where the clip may have been saved by an earlier run, a file that has
+/// its name is that.
 pub(crate) fn automatic(
     alloc: Global,
     kept: KeptClip,

@@ -212,8 +212,8 @@ fn play_file<R: AllocGlobal + Places + Wait + Clock, W: Write + Drop>(
     state.life.on_source(rt, SourceEvent::Close);
 }
 
-// Waits until an input has more, in a pipe for its next writer. Returns whether it has: not where the camera is stopped,
-// where a read fails, at the end of what isn't a pipe, and where the path leads to another pipe by now.
+// Waits until an input has more, in a pipe for its next writer. Returns whether it has: not where the camera is
+// stopped, where a read fails, at the end of what isn't a pipe, and where the path leads to another pipe by now.
 fn waits_for_more<R: Places + Wait + Clock, I: Read + Drop>(
     rt: &R,
     state: &CameraState,

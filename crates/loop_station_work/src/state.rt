@@ -185,8 +185,8 @@ impl CameraState {
         Some(kept)
     }
 
-    /// The clip that an order saves was looked for: the save begins, and its clip is read from now on. Otherwise the order
-    /// is answered.
+    /// The clip that an order saves was looked for: the save begins, and its clip is read from now on. Otherwise the
+    /// order is answered.
     pub(crate) fn begin_save<R: Wait>(
         &self,
         rt: &R,
@@ -392,7 +392,8 @@ impl CameraState {
         self.posts.answer(rt, answering, place, lines, None);
     }
 
-    /// An order is done, unless it waits for frames. Where further ones wait, the thread of the desk looks again at once.
+    /// An order is done, unless it waits for frames. Where further ones wait, the thread of the desk looks again at
+    /// once.
     pub(crate) fn wake_for_more<R: Wait>(&self, rt: &R) {
         if !self.desk.has_waiting(rt) && self.jobs.done(rt) {
             self.threads.wake(rt);

@@ -1,8 +1,8 @@
 //! The copy of what is printed, for a file or a named pipe.
 //!
 //! A thread of its own writes there, because a pipe may keep it waiting: until a reader opens it, or for a reader that
-//! doesn't read. No other thread ever waits. The newest lines for a pipe that nobody reads are kept for its next reader.
-//! A file that takes no more is cut back to its last whole line, and tried again.
+//! doesn't read. No other thread ever waits. The newest lines for a pipe that nobody reads are kept for its next
+//! reader. A file that takes no more is cut back to its last whole line, and tried again.
 
 use crate::clock::Timeline;
 use crate::outlet::Outlet;
