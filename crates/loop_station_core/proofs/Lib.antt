@@ -1,3 +1,4 @@
+pub mod AnswerLaws
 pub mod CameraLaws
 pub mod FrameLaws
 pub mod GapLaws

@@ -1,5 +1,6 @@
 -- What holds over any list of events.
-use Rattle.std.specs.Prelude.{ℕ, ◌+◌, ◌-◌, ◌*◌, ◌^◌, ◌≡◌, ◌≤◌, ◌<◌, Bool, true, false, List, [], ◌∷◌, Option, Some, None, IfSome, is_some}
+use Rattle.std.specs.Prelude.{ℕ, ◌+◌, ◌-◌, ◌*◌, ◌^◌, ◌≡◌, ◌≤◌, ◌<◌, Bool, true, false, List, [], ◌∷◌, Option, Some, None, IfSome, is_some, if◌then◌else◌}
+use Rattle.loop_station_core.specs.Answers.{answers_of, given_by, is_whole}
 use Rattle.loop_station_core.specs.Cameras.{lived}
 use Rattle.loop_station_core.specs.Frames.{Step, after, all_of, come_in, no_frames}
 use Rattle.loop_station_core.specs.Gaps.{AreWithin, gaps, missing}
@@ -125,3 +126,8 @@ FilmingsGoOn = (c : Camera) (events : List Event) → NothingBreaks events
 abbrev pub SilentSourcesWait : Type 0
 SilentSourcesWait = (c : Camera) (events : List Event) → c.silent ≡ false
     → (lived c events).silent ≡ true → is_some (lived c events).waits ≡ true
+
+-- An order that isn't answered yet is answered once, when the last of its cameras answers, in whatever order they do.
+abbrev pub OrdersAreAnsweredOnce : Type 0
+OrdersAreAnsweredOnce = (given : List Bool) (places : List ℕ) → is_whole given ≡ false
+    → answers_of given places ≡ (if is_whole (given_by given places) then 1 else 0)

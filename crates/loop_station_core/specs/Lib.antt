@@ -1,3 +1,4 @@
+pub mod Answers
 pub mod Cameras
 pub mod Frames
 pub mod Gaps

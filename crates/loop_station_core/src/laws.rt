@@ -1,6 +1,6 @@
 //! What holds over any list of events. Each function does nothing: its contract is the law.
 
-ghost use Rattle.loop_station_core.specs.Laws.{FilmingsGoOn, FramesAddUp, GapsAddUp, KeepsAreRight, LinesAreSo, LockedLinesAlternate, LostAreToldOnce, ReadClipsWait, ReleasesAreFree, SilentSourcesWait, StopsAreForGood};
+ghost use Rattle.loop_station_core.specs.Laws.{FilmingsGoOn, FramesAddUp, GapsAddUp, KeepsAreRight, LinesAreSo, LockedLinesAlternate, LostAreToldOnce, OrdersAreAnsweredOnce, ReadClipsWait, ReleasesAreFree, SilentSourcesWait, StopsAreForGood};
 
 /// Each frame that came is stored, lost, at the desk, or on its way to it.
 pub fn frames_add_up()
@@ -57,4 +57,9 @@ pub fn filmings_go_on()
 /// A source that is told as silent waits for a byte.
 pub fn silent_sources_wait()
     ensures { SilentSourcesWait }
+{}
+
+/// An order is answered once: when the last of the cameras that it means answers.
+pub fn orders_are_answered_once()
+    ensures { OrdersAreAnsweredOnce }
 {}

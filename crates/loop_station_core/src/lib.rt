@@ -6,11 +6,12 @@
 //! - `keep`: when a keep locks, of which times, and when it is done; the numbers of events;
 //! - `runs`: what of a keep's time is held, and the gaps in it; which clips lie within longer ones;
 //! - `saves`: places of saves: which begins, which waits, and which clips are read meanwhile;
+//! - `replies`: when an order is answered, by as many cameras as it means;
 //! - `changes`: which lines about a camera follow from what is seen of it;
 //! - `laws`: what holds over any list of events, each law the contract of a function that does nothing.
 //!
 //! Each call is a step of the model in `specs`: `Frames` for tallies, `Cameras`, `Keeps`, `Gaps` for runs,
-//! `Saving`, `Telling` for lines. `Laws` says what follows of it: frames add up; a keep locks only the times of its line, and only once
+//! `Saving`, `Answers` for replies, `Telling` for lines. `Laws` says what follows of it: frames add up; a keep locks only the times of its line, and only once
 //! each frame that had come before that line is at the desk or lost, or every block is locked, or no frame has made
 //! progress for a minute; what is held of a time and its gaps are all of it; a clip that a save reads isn't released;
 //! a line says what was so, and each lost frame is told once.
@@ -20,6 +21,7 @@ mod camera;
 mod changes;
 mod keep;
 pub mod laws;
+mod replies;
 mod runs;
 mod saves;
 mod tally;
@@ -27,6 +29,7 @@ mod tally;
 pub use camera::{Act, Camera, Event, FilmingEvent, SourceEvent};
 pub use changes::{Change, Changes, KINDS, NOT_THERE_YET, Reported, Seen, SourceSeen, StoreSeen};
 pub use keep::{Keep, KeepTurn, Numbers, bounds, is_too_far, next_turn};
+pub use replies::Replies;
 pub use runs::{ClipSpan, Gap, Run, Shortfall, is_covered, shortfall_of};
 pub use saves::{Asked, Cancelled, Ended, SaveKey, Saves, StoppedSave};
 pub use tally::Tally;

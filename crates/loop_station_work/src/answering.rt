@@ -3,6 +3,7 @@
 use crate::absent::Absent;
 use crate::clerk::FoundClip;
 use crate::post::Post;
+use loop_station_core::Replies;
 use loop_station_words::Lines;
 use std::alloc::{AllocError, Global};
 use std::sync::{Arc, Mutex, Wait};
@@ -19,8 +20,8 @@ pub(crate) struct KeptClip {
 struct Answers {
     // The lines of each camera that is meant, in the order of the configuration.
     lines: Vec<Lines>,
-    // How many cameras haven't answered.
-    left: usize,
+    // Which cameras have answered.
+    replies: Replies,
     // The clips that were made.
     kept: Vec<KeptClip>,
 }
@@ -54,13 +55,13 @@ impl Answering {
             event,
             answers: Mutex::new(Answers {
                 lines,
-                left: cameras,
+                replies: Replies::new(alloc, cameras)?,
                 kept: Vec::new(alloc),
             }),
         })
     }
 
-    /// The camera at a place among those that are meant has answered. Returns whether it was the last one.
+    /// The camera at a place among those that are meant has answered. Returns whether the order is answered by that.
     pub fn fill<R: Wait>(
         &self,
         rt: &R,
@@ -76,8 +77,7 @@ impl Answering {
             // Where memory is refused, these clips aren't saved by themselves until the next start.
             let _saved_later = answers.kept.extend_from_slice(&kept);
         }
-        answers.left = answers.left.saturating_sub(1);
-        answers.left == 0
+        answers.replies.give(place)
     }
 
     /// All lines, and the clips that were made. Nothing is left of them.
