@@ -142,8 +142,17 @@ impl Visits for Post {
 }
 
 impl Guide for Post {
+    ghost use Rattle.loop_commands.specs.Recorded.{IsPeriod, MayEnd};
+
+    ghost due = { λ post n now. IsPeriod post.geometry n now };
+
+    ghost ends = { λ post n. MayEnd post.frames n };
+
     fn next_tick<R: Wait + Clock>(&self, rt: &R, n: u64) -> Option<u64> {
-        if n == 0 && !self.barrier.wait(rt) || n >= u64::from(self.frames) {
+        if n == 0 && !self.barrier.wait(rt) {
+            return None;
+        }
+        if n >= u64::from(self.frames) {
             return None;
         }
         Some(tick_time(n, &self.geometry))

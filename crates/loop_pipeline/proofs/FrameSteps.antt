@@ -99,7 +99,7 @@ module _ {S P A : Type 0} (gives : S → Next → List ℕ → S → Type 0) (m 
   -- the ring was looked at
   pub look-adds : (p q : Lined P) (h : Hand P A) (to up : Producer (Frame A) A AnyItems) (f : Front)
       → q.body.shape ≡ p.body.shape → hand_frame f.hand ≡ [] → StandsFront m q table h f → ProducerLooked to up
-      → Adds gives m table f.queue.queue d d p q h to up 0 0
+      → Adds gives m table f.queue.queue d d p q h to up []
   look-adds p q h to up f formed free stands looked = record {
     events = [];
     legal = tt;
@@ -111,10 +111,7 @@ module _ {S P A : Type 0} (gives : S → Next → List ℕ → S → Type 0) (m 
     free = free;
     ring = looked.0;
     went = ap (map picture) looked.1 ∙ sym (append-nil (map picture (sent to)));
-    given = [];
     source = refl;
-    lost_is = refl;
-    spoilt_is = refl;
     shows = refl;
   }
 
@@ -122,7 +119,7 @@ module _ {S P A : Type 0} (gives : S → Next → List ℕ → S → Type 0) (m 
   pub refused-adds : (q r : Lined P) (h k : Hand P A) (to up : Producer (Frame A) A AnyItems) (f : Front)
       (fault : LaneFault) → r.body.shape ≡ q.body.shape → hand_frame f.hand ≡ [] → StandsFront m q table h f
       → ProducerLooked to up
-      → TurnsBeside m q h (dequeued (Err fault)) r k → Adds gives m table f.queue.queue d d q r k to up 0 0
+      → TurnsBeside m q h (dequeued (Err fault)) r k → Adds gives m table f.queue.queue d d q r k to up []
   refused-adds q r h k to up f (Store fault) formed free stands looked turn =
       let t = turn table f stands in look-adds q r k to up f formed free t.1 looked
   refused-adds q r h k to up f (Queue e) formed free stands looked turn =
@@ -137,10 +134,7 @@ module _ {S P A : Type 0} (gives : S → Next → List ℕ → S → Type 0) (m 
         free = free;
         ring = looked.0;
         went = ap (map picture) looked.1 ∙ sym (append-nil (map picture (sent to)));
-        given = [];
         source = refl;
-        lost_is = refl;
-        spoilt_is = refl;
         shows = refl;
       }
     where
@@ -154,7 +148,7 @@ module _ {S P A : Type 0} (gives : S → Next → List ℕ → S → Type 0) (m 
   pub take-adds : (q r : Lined P) (h k l : Hand P A) (to look up : Producer (Frame A) A AnyItems) (f : Front) (index : ℕ)
       → r.body.shape ≡ q.body.shape → StandsFront m q table h f → ProducerLooked to look → TurnsBeside m q h (dequeued (Ok index)) r k
       → hand_state m l ≡ emptied (hand_state m k) → SameProducer look up → sent up ≡ sent look ++ frame_of k
-      → Adds gives m table f.queue.queue d d q r l to up 0 0
+      → Adds gives m table f.queue.queue d d q r l to up []
   take-adds q r h k l to look up f index formed stands looked turn hand ring sends =
       let t = turn table f stands in
       let s = f.queue.queue in
@@ -174,10 +168,7 @@ module _ {S P A : Type 0} (gives : S → Next → List ℕ → S → Type 0) (m 
             ∙ (map-append picture (sent to) (frame_of k)
             ∙ ap (λ x. map picture (sent to) ++ x) (frame-read k ∙ (ap hand_frame t.1.hand
             ∙ sym (event-frames s (kind_of f.queue) index b refl one))));
-        given = [];
         source = refl;
-        lost_is = refl;
-        spoilt_is = refl;
         shows = ap (map shown) (event-completes (kind_of f.queue) index b);
       }
     where
@@ -193,7 +184,7 @@ module _ {S P A : Type 0} (gives : S → Next → List ℕ → S → Type 0) (m 
   -- the hand's buffer was queued again, or that was refused
   pub put-adds : (q r : Lined P) (h k : Hand P A) (to : Producer (Frame A) A AnyItems) (f : Front)
       (result : Result ℕ LaneFault) → r.body.shape ≡ q.body.shape → hand_frame f.hand ≡ [] → StandsFront m q table h f
-      → TurnsBeside m q h (requeued result) r k → Adds gives m table f.queue.queue d d q r k to to 0 0
+      → TurnsBeside m q h (requeued result) r k → Adds gives m table f.queue.queue d d q r k to to []
   put-adds q r h k to f result formed free stands turn =
       let t = turn table f stands in by f.queue f.hand result free t.0 t.1
     where
@@ -201,7 +192,7 @@ module _ {S P A : Type 0} (gives : S → Next → List ℕ → S → Type 0) (m 
       same = sym (append-nil (map picture (sent to)))
 
       plain : (j : IoctlState) (x : HandState) → hand_frame x ≡ []
-          → StandsFront m r table k (record { queue = j; hand = x }) → Adds gives m table j.queue d d q r k to to 0 0
+          → StandsFront m r table k (record { queue = j; hand = x }) → Adds gives m table j.queue d d q r k to to []
       plain j x free stands = record {
         events = [];
         legal = tt;
@@ -213,16 +204,13 @@ module _ {S P A : Type 0} (gives : S → Next → List ℕ → S → Type 0) (m 
         free = free;
         ring = ((refl, refl, refl, refl), refl);
         went = same;
-        given = [];
         source = refl;
-        lost_is = refl;
-        spoilt_is = refl;
         shows = refl;
       }
 
       by : (j : IoctlState) (x : HandState) (result : Result ℕ LaneFault) → hand_frame x ≡ [] → IsRequeue j x result
           → StandsFront m r table k (front_after {P = P} {A = A} m (record { queue = j; hand = x }) (requeued result))
-          → Adds gives m table j.queue d d q r k to to 0 0
+          → Adds gives m table j.queue d d q r k to to []
       by j empty (Ok index) free said stands = absurd (cc)
       by j (full i p planes) result free said stands = absurd (cc)
       by j (spent i planes) (Ok index) free said stands = record {
@@ -236,10 +224,7 @@ module _ {S P A : Type 0} (gives : S → Next → List ℕ → S → Type 0) (m 
         free = refl;
         ring = ((refl, refl, refl, refl), refl);
         went = same;
-        given = [];
         source = refl;
-        lost_is = refl;
-        spoilt_is = refl;
         shows = refl;
       }
       by j (spent i planes) (Err (Queue e)) free said stands = record {
@@ -253,10 +238,7 @@ module _ {S P A : Type 0} (gives : S → Next → List ℕ → S → Type 0) (m 
         free = refl;
         ring = ((refl, refl, refl, refl), refl);
         went = same;
-        given = [];
         source = refl;
-        lost_is = refl;
-        spoilt_is = refl;
         shows = refl;
       }
       by j (spent i planes) (Err (Store fault)) free said stands = absurd said.0

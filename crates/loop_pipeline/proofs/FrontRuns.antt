@@ -1,7 +1,7 @@
 -- What a front has done, and a step more.
-use Rattle.std.proofs.Common.{◌≡◌, ◌||◌, ◌+◌, ℕ, false, List, [], ◌∷◌, ◌++◌, map, refl, sym, ap, ◌∙◌, subst, option_to_list, arith}
+use Rattle.std.proofs.Common.{◌≡◌, inl, inr, ◌||◌, ◌+◌, ◌≤◌, ℕ, Bool, true, false, List, [], ◌∷◌, ◌++◌, length, map, refl, sym, ap, ◌∙◌, subst, option_to_list, arith}
 use Rattle.std.proofs.lemmas.Grind.{flat_map-append}
-use Rattle.std.proofs.lemmas.List.{map-append}
+use Rattle.std.proofs.lemmas.List.{append-nil, length-append, map-append}
 use Rattle.std.proofs.lemmas.List.Folds.{list_any-append}
 use Rattle.std.specs.List.{flat_map, list_any}
 use Rattle.rtrb.specs.declared.AnyItems.{AnyItems}
@@ -25,7 +25,9 @@ use Rattle.loop_desk.specs.declared.hand.Hand.TheVariants as hand
 use Rattle.loop_desk.specs.Front.{Front, StandsFront, empty, hand_state, kind_of, planes_held}
 use Rattle.loop_desk.specs.Lane.{completed_frame, hand_frame, without_flags}
 use Rattle.loop_desk.specs.Waiting.{FramesAreKept, IsCounted, IsSoundQueue, QueuesStaySound, dequeued_frame, frames_dequeued, frames_waiting}
-use Rattle.loop_pipeline.specs.Fronts.{FrontKeeps, TickRecord, GoesOn, HasMoved, IsOpen, SeenFront, count_failed, count_missed, fails, misses, shown, shown_given}
+use Rattle.loop_capture.specs.declared.device.Tick.{Tick}
+use Rattle.loop_capture.specs.declared.device.Tick.TheVariants.{Idle, Completed, Failed, Missed, Ended, WrongSize}
+use Rattle.loop_pipeline.specs.Fronts.{AreDue, AreTold, FrontKeeps, GoesOn, HasMoved, IsOpen, SeenFront, TickRecord, count_failed, count_missed, fails, is_last, misses, shown, shown_given}
 
 add-assoc : (a b c : ℕ) → (a + b) + c ≡ a + (b + c)
 add-assoc a b c = omega arith
@@ -55,10 +57,48 @@ failed-behind (x ∷ xs) ys = let n = fails x.tick in let h = failed-behind xs y
 pub plus-none : (n : ℕ) → n + 0 ≡ n
 plus-none n = omega arith
 
+-- ---- counts of ticks
+
+pub or-true : (b : Bool) → (b || true) ≡ true
+or-true true = refl
+or-true false = refl
+
+length-cons : (g : TickRecord) (gs : List TickRecord) → length (g ∷ gs) ≡ 1 + length gs
+length-cons g gs = omega arith
+
+sum-few : (n k l : ℕ) → n ≤ 1 → k ≤ l → n + k ≤ 1 + l
+sum-few n k l one few = omega arith
+
+misses-few : (t : Tick) → misses t ≤ 1
+misses-few (Completed i) = omega arith
+misses-few (Failed i) = omega arith
+misses-few Missed = omega arith
+misses-few Idle = omega arith
+misses-few Ended = omega arith
+misses-few WrongSize = omega arith
+
+fails-few : (t : Tick) → fails t ≤ 1
+fails-few (Completed i) = omega arith
+fails-few (Failed i) = omega arith
+fails-few Missed = omega arith
+fails-few Idle = omega arith
+fails-few Ended = omega arith
+fails-few WrongSize = omega arith
+
+few-missed : (gs : List TickRecord) → count_missed gs ≤ length gs
+few-missed [] = omega arith
+few-missed (g ∷ gs) = let h = few-missed gs in let one = misses-few g.tick in
+    subst (λ n. count_missed (g ∷ gs) ≤ n) (sym (length-cons g gs)) (sum-few (misses g.tick) (count_missed gs) (length gs) one h)
+
+few-failed : (gs : List TickRecord) → count_failed gs ≤ length gs
+few-failed [] = omega arith
+few-failed (g ∷ gs) = let h = few-failed gs in let one = fails-few g.tick in
+    subst (λ n. count_failed (g ∷ gs) ≤ n) (sym (length-cons g gs)) (sum-few (fails g.tick) (count_failed gs) (length gs) one h)
+
 -- What a step adds: its events, what the queue and the hand stand for after them, the frames that it pushed, its ticks.
 pub record Adds {S P A : Type 0} (gives : S → Next → List ℕ → S → Type 0) (meaning : P → Plane) (table : Fds P)
     (s : QueueState) (d e : SeenDevice S) (old queue : Lined P) (hand : Hand P A) (to up : Producer (Frame A) A AnyItems)
-    (lost spoilt : ℕ) : Type 0 where
+    (given : List TickRecord) : Type 0 where
   pub events : List Event
   pub legal : EachIn after_event IsCounted s events
   pub flows : list_any stops events ≡ false
@@ -69,11 +109,15 @@ pub record Adds {S P A : Type 0} (gives : S → Next → List ℕ → S → Type
   pub free : hand_frame now.hand ≡ []
   pub ring : SameProducer to up
   pub went : map picture (sent up) ≡ map picture (sent to) ++ frames_dequeued s events
-  pub given : List TickRecord
   pub source : GoesOn gives d given e
-  pub lost_is : count_missed given ≡ lost
-  pub spoilt_is : count_failed given ≡ spoilt
   pub shows : map shown (flat_map completed_frame events) ≡ flat_map shown_given given
+
+-- what a tick adds: itself, at this time
+abbrev pub TickAdds : {S P A : Type 0} → (S → Next → List ℕ → S → Type 0) → (P → Plane) → Fds P → QueueState
+    → SeenDevice S → SeenDevice S → Lined P → Lined P → Hand P A → Producer (Frame A) A AnyItems
+    → Producer (Frame A) A AnyItems → ℕ → Tick → Type 0
+TickAdds gives m table s d e old queue hand to up now tick =
+    (g : TickRecord) × (g.now ≡ now) × (g.tick ≡ tick) × Adds gives m table s d e old queue hand to up (g ∷ [])
 
 each-may : (s : QueueState) (events : List Event) → EachIn after_event IsCounted s events
     → EachIn after_event MayHappen s events
@@ -85,12 +129,14 @@ none-by-fd Mmap = refl
 none-by-fd UserPtr = refl
 none-by-fd DmaBuf = refl
 
-module _ {S P A : Type 0} (gives : S → Next → List ℕ → S → Type 0) (m : P → Plane) where
+module _ {S P G A : Type 0} (gives : S → Next → List ℕ → S → Type 0) (m : P → Plane) (due : ℕ → ℕ → Type 0)
+    (ends : ℕ → Type 0) where
   -- a new front has done nothing
-  pub begun : (queue : Lined P) (table : Fds P) (device : SeenDevice S) (to : Producer (Frame A) A AnyItems)
+  pub begun : (queue : Lined P) (table : Fds P) (device : SeenDevice S) (to : Producer (Frame A) A AnyItems) (guide : G)
       → IsOpen m queue table → sent to ≡ []
-      → HasMoved gives m (record { queue = queue; device = device; to = to }) device queue table hand.Empty to 0 0
-  begun queue table device to is none = record {
+      → HasMoved gives m due ends (record { queue = queue; device = device; to = to; guide = guide }) device queue table
+      hand.Empty to 0 0 0 false
+  begun queue table device to guide is none = record {
     first = is.state.queue;
     stood = is.stands.queue;
     sound = is.sound;
@@ -107,17 +153,17 @@ module _ {S P A : Type 0} (gives : S → Next → List ℕ → S → Type 0) (m 
     went = ap (map picture) none;
     given = [];
     source = refl;
-    missing = refl;
-    failing = refl;
+    counted = refl;
+    told = record { timed = tt; missing = refl; failing = refl; ended = λ e. absurd (cc) };
     shows = refl;
   }
 
   -- what a front has done, in the words of what it keeps
-  pub kept : (seen : SeenFront S P A) (device : SeenDevice S) (queue : Lined P) (table : Fds P) (h : Hand P A)
-      (to : Producer (Frame A) A AnyItems) (missed failed : ℕ) → FramesAreKept m
-      → HasMoved gives m seen device queue table h to missed failed
-      → FrontKeeps gives m seen device queue to missed failed
-  kept seen device queue table h to missed failed law has =
+  pub kept : (seen : SeenFront S P G A) (device : SeenDevice S) (queue : Lined P) (table : Fds P) (h : Hand P A)
+      (to : Producer (Frame A) A AnyItems) (ticks missed failed : ℕ) (over : Bool) → FramesAreKept m
+      → HasMoved gives m due ends seen device queue table h to ticks missed failed over
+      → FrontKeeps gives m due ends seen device queue to missed failed over
+  kept seen device queue table h to ticks missed failed over law has =
       let last = after_all after_event has.first has.events in
       record {
         ring = has.ring;
@@ -127,8 +173,7 @@ module _ {S P A : Type 0} (gives : S → Next → List ℕ → S → Type 0) (m 
         stands = subst (StandsQueue m queue) has.reached has.stands.queue.queue;
         given = has.given;
         source = has.source;
-        missing = has.missing;
-        failing = has.failing;
+        told = has.told;
         completed = flat_map completed_frame has.events;
         shows = has.shows;
         whole = law.from_start seen.queue queue has.first has.events has.shaped.0 has.shaped.1 has.shaped.2 has.stood
@@ -141,11 +186,11 @@ module _ {S P A : Type 0} (gives : S → Next → List ℕ → S → Type 0) (m 
       shape-of q s stands = sym (ap (λ b. b.shape) stands.shown.body)
 
   -- a front whose hand is empty leaves what another one may begin with
-  pub again : (seen : SeenFront S P A) (device : SeenDevice S) (queue : Lined P) (table : Fds P) (h : Hand P A)
-      (to : Producer (Frame A) A AnyItems) (missed failed : ℕ) → QueuesStaySound m
-      → HasMoved gives m seen device queue table h to missed failed
+  pub again : (seen : SeenFront S P G A) (device : SeenDevice S) (queue : Lined P) (table : Fds P) (h : Hand P A)
+      (to : Producer (Frame A) A AnyItems) (ticks missed failed : ℕ) (over : Bool) → QueuesStaySound m
+      → HasMoved gives m due ends seen device queue table h to ticks missed failed over
       → h ≡ hand.Empty → IsOpen m queue table
-  again seen device queue table h to missed failed law has none =
+  again seen device queue table h to ticks missed failed over law has none =
       let last = after_all after_event has.first has.events in
       let sound = law.after seen.queue queue has.first has.events has.stood has.sound
       (each-may has.first has.events has.legal) (subst (StandsQueue m queue) has.reached has.stands.queue.queue) in
@@ -159,17 +204,49 @@ module _ {S P A : Type 0} (gives : S → Next → List ℕ → S → Type 0) (m 
         shaped = (has.shaped.0, has.shaped.1, has.shaped.2, has.formed ∙ has.shaped.3);
       }
 
-module _ {S P A : Type 0} (gives : S → Next → List ℕ → S → Type 0) (m : P → Plane) (seen : SeenFront S P A)
-    (table : Fds P) where
+-- ---- what a front has done, and a step more
+
+module _ (due : ℕ → ℕ → Type 0) (ends : ℕ → Type 0) where
+  due-behind : (n : ℕ) (xs ys : List TickRecord) → AreDue due n xs → AreDue due (n + length xs) ys
+      → AreDue due n (xs ++ ys)
+  due-behind n [] ys first second = subst (λ k. AreDue due k ys) (plus-none n) second
+  due-behind n (x ∷ xs) ys first second = (
+    first.0,
+    due-behind (n + 1) xs ys first.1
+        (subst (λ k. AreDue due k ys) (ap (λ k. n + k) (length-cons x xs) ∙ sym (add-assoc n 1 (length xs))) second),
+  )
+
+  last-behind : (xs : List TickRecord) (y : TickRecord) → is_last y.tick ≡ true
+      → list_any (λ g. is_last g.tick) (xs ++ y ∷ []) ≡ true
+  last-behind xs y is = list_any-append (λ (g : TickRecord). is_last g.tick) xs (y ∷ [])
+      ∙ (ap (λ b. list_any (λ (g : TickRecord). is_last g.tick) xs || (b || false)) is
+      ∙ or-true (list_any (λ (g : TickRecord). is_last g.tick) xs))
+
+  -- one tick more: it was at a time that is due for its number
+  told-more : (missed failed : ℕ) (over : Bool) (xs : List TickRecord) (y : TickRecord)
+      → AreTold due ends missed failed over xs → due (length xs) y.now
+      → AreTold due ends (missed + misses y.tick) (failed + fails y.tick) (is_last y.tick) (xs ++ y ∷ [])
+  told-more missed failed over xs y told is = record {
+    timed = due-behind 0 xs (y ∷ []) told.timed (subst (λ k. AreDue due k (y ∷ [])) (sym (none-plus (length xs))) (is, tt));
+    missing = missed-behind xs (y ∷ []) ∙ (λ i. told.missing i + plus-none (misses y.tick) i);
+    failing = failed-behind xs (y ∷ []) ∙ (λ i. told.failing i + plus-none (fails y.tick) i);
+    ended = λ last. inr (inl (last-behind xs y last));
+  }
+
+module _ {S P G A : Type 0} (gives : S → Next → List ℕ → S → Type 0) (m : P → Plane) (due : ℕ → ℕ → Type 0)
+    (ends : ℕ → Type 0) (seen : SeenFront S P G A) (table : Fds P) where
   same-ring : (a b c : Producer (Frame A) A AnyItems) → SameProducer a b → SameProducer b c → SameProducer a c
   same-ring a b c first second =
       ((second.0.0 ∙ first.0.0, second.0.1 ∙ first.0.1, second.0.2 ∙ first.0.2, second.0.3 ∙ first.0.3), second.1 ∙ first.1)
 
-  pub moved : (d e : SeenDevice S) (q r : Lined P) (h k : Hand P A) (to up : Producer (Frame A) A AnyItems)
-      (missed failed lost spoilt : ℕ) (before : HasMoved gives m seen d q table h to missed failed)
-      → Adds gives m table before.now.queue.queue d e q r k to up lost spoilt
-      → HasMoved gives m seen e r table k up (missed + lost) (failed + spoilt)
-  moved d e q r h k to up missed failed lost spoilt before adds =
+  moved : (d e : SeenDevice S) (q r : Lined P) (h k : Hand P A) (to up : Producer (Frame A) A AnyItems)
+      (ticks missed failed : ℕ) (over : Bool) (new_ticks new_missed new_failed : ℕ) (new_over : Bool)
+      (given : List TickRecord) (before : HasMoved gives m due ends seen d q table h to ticks missed failed over)
+      → Adds gives m table before.now.queue.queue d e q r k to up given
+      → length (before.given ++ given) ≡ new_ticks
+      → AreTold due ends new_missed new_failed new_over (before.given ++ given)
+      → HasMoved gives m due ends seen e r table k up new_ticks new_missed new_failed new_over
+  moved d e q r h k to up ticks missed failed over new_ticks new_missed new_failed new_over given before adds counted told =
       let s = before.first in
       let old = before.events in
       let new = adds.events in
@@ -192,23 +269,48 @@ module _ {S P A : Type 0} (gives : S → Next → List ℕ → S → Type 0) (m 
         went = adds.went ∙ (ap (λ l. l ++ frames_dequeued before.now.queue.queue new) before.went
             ∙ (ap (λ t. frames_dequeued s old ++ frames_dequeued t new) here
             ∙ sym (told-behind after_event dequeued_frame s old new)));
-        given = before.given ++ adds.given;
-        source = goes-behind gives seen.device d e before.given adds.given before.source adds.source;
-        missing = missed-behind before.given adds.given ∙ (λ i. before.missing i + adds.lost_is i);
-        failing = failed-behind before.given adds.given ∙ (λ i. before.failing i + adds.spoilt_is i);
+        given = before.given ++ given;
+        source = goes-behind gives seen.device d e before.given given before.source adds.source;
+        counted = counted;
+        told = told;
         shows = ap (map shown) (flat_map-append completed_frame old new)
             ∙ (map-append shown (flat_map completed_frame old) (flat_map completed_frame new)
             ∙ (ap (λ l. l ++ map shown (flat_map completed_frame new)) before.shows
             ∙ (ap (λ l. flat_map shown_given before.given ++ l) adds.shows
-            ∙ sym (flat_map-append shown_given before.given adds.given))));
+            ∙ sym (flat_map-append shown_given before.given given))));
       }
 
   -- a step without a tick
   pub stirred : (d e : SeenDevice S) (q r : Lined P) (h k : Hand P A) (to up : Producer (Frame A) A AnyItems)
-      (missed failed : ℕ) (before : HasMoved gives m seen d q table h to missed failed)
-      → Adds gives m table before.now.queue.queue d e q r k to up 0 0
-      → HasMoved gives m seen e r table k up missed failed
-  stirred d e q r h k to up missed failed before adds =
-      subst (λ n. HasMoved gives m seen e r table k up n failed) (plus-none missed)
-      (subst (λ n. HasMoved gives m seen e r table k up (missed + 0) n) (plus-none failed)
-      (moved d e q r h k to up missed failed 0 0 before adds))
+      (ticks missed failed : ℕ) (over : Bool)
+      (before : HasMoved gives m due ends seen d q table h to ticks missed failed over)
+      → Adds gives m table before.now.queue.queue d e q r k to up []
+      → HasMoved gives m due ends seen e r table k up ticks missed failed over
+  stirred d e q r h k to up ticks missed failed over before adds =
+      let none : before.given ++ [] ≡ before.given = append-nil before.given in
+      moved d e q r h k to up ticks missed failed over ticks missed failed over [] before adds
+      (ap length none ∙ before.counted) (subst (AreTold due ends missed failed over) (sym none) before.told)
+
+  -- a tick, at a time that is due
+  pub ticked : (d e : SeenDevice S) (q r : Lined P) (h k : Hand P A) (to up : Producer (Frame A) A AnyItems)
+      (ticks missed failed : ℕ) (over : Bool) (now : ℕ) (tick : Tick)
+      (before : HasMoved gives m due ends seen d q table h to ticks missed failed over) → due ticks now
+      → TickAdds gives m table before.now.queue.queue d e q r k to up now tick
+      → HasMoved gives m due ends seen e r table k up (ticks + 1) (missed + misses tick) (failed + fails tick) (is_last tick)
+  ticked d e q r h k to up ticks missed failed over now tick before is adds =
+      let g = adds.0 in
+      let told = told-more due ends missed failed over before.given g before.told
+      (subst (λ n. due n g.now) (sym before.counted) (subst (due ticks) (sym adds.1) is)) in
+      moved d e q r h k to up ticks missed failed over (ticks + 1) (missed + misses tick) (failed + fails tick) (is_last tick)
+      (g ∷ []) before adds.3
+      (length-append before.given (g ∷ []) ∙ ap (λ n. n + 1) before.counted)
+      (subst (λ t. AreTold due ends (missed + misses t) (failed + fails t) (is_last t) (before.given ++ g ∷ [])) adds.2 told)
+
+  -- no count is above that of the ticks
+  pub few : (d : SeenDevice S) (q : Lined P) (h : Hand P A) (to : Producer (Frame A) A AnyItems)
+      (ticks missed failed : ℕ) (over : Bool)
+      → HasMoved gives m due ends seen d q table h to ticks missed failed over → (missed ≤ ticks) × (failed ≤ ticks)
+  few d q h to ticks missed failed over has = (
+    subst (λ n. n ≤ ticks) has.told.missing (subst (λ n. count_missed has.given ≤ n) has.counted (few-missed has.given)),
+    subst (λ n. n ≤ ticks) has.told.failing (subst (λ n. count_failed has.given ≤ n) has.counted (few-failed has.given)),
+  )

@@ -59,16 +59,16 @@ fed-all got calls given_up came left fed = record {
       ∙ (λ i. fed.lost i + length (left-lost left i)));
 }
 
-module _ {S D P A : Type 0} (medium : D → Medium) (gives : S → Next → List ℕ → S → Type 0) (m : P → Plane)
-    (asks : DeskCall → Type 0) where
-  pub ends : (seen : SeenFront S P A) (back : SeenBack D A) (device : SeenDevice S) (queue : Lined P)
-      (to up : Producer (Frame A) A AnyItems) (from down : Consumer (Frame A) A AnyItems) (given_up left missed failed : ℕ) (refused : Bool)
-      → FrontKeeps gives m seen device queue to missed failed → BackKeeps medium asks back from given_up refused
+module _ {S D P G A : Type 0} (medium : D → Medium) (gives : S → Next → List ℕ → S → Type 0) (m : P → Plane)
+    (asks : DeskCall → Type 0) (due : ℕ → ℕ → Type 0) (ends : ℕ → Type 0) where
+  pub both : (seen : SeenFront S P G A) (back : SeenBack D A) (device : SeenDevice S) (queue : Lined P)
+      (to up : Producer (Frame A) A AnyItems) (from down : Consumer (Frame A) A AnyItems) (given_up left missed failed : ℕ) (over refused : Bool)
+      → FrontKeeps gives m due ends seen device queue to missed failed over → BackKeeps medium asks back from given_up refused
       → ProducerLooked to up → ConsumerLooked from down → received down ++ known_items down ≡ sent up
       → left ≡ length (known_items down)
-      → CameraKeeps medium gives m asks (record { device = seen.device; queue = seen.queue; desk = back.began })
-      (record { device = device; queue = queue; desk = back.desk }) given_up left missed failed
-  ends seen back device queue to up from down given_up left missed failed refused front keeps up_looked down_looked fifo count =
+      → CameraKeeps medium gives m asks due ends (record { device = seen.device; queue = seen.queue; desk = back.began })
+      (record { device = device; queue = queue; desk = back.desk }) given_up left missed failed over
+  both seen back device queue to up from down given_up left missed failed over refused front keeps up_looked down_looked fifo count =
       let items = map picture (known_items down) in
       let fed = fed-all (map picture (received from)) keeps.calls given_up keeps.came items keeps.fed in
       let all : map picture (received from) ++ items ≡ map picture (sent to) =
@@ -77,8 +77,7 @@ module _ {S D P A : Type 0} (medium : D → Medium) (gives : S → Next → List
       record {
         given = front.given;
         source = front.source;
-        missing = front.missing;
-        failing = front.failing;
+        told = front.told;
         completed = front.completed;
         shows = front.shows;
         first = front.first;

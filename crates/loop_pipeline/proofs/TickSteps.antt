@@ -29,8 +29,8 @@ use Rattle.loop_desk.specs.declared.hand.Hand.{Hand}
 use Rattle.loop_desk.specs.Front.{Front, StandsFront, planes_held}
 use Rattle.loop_desk.specs.Lane.{completed_frame, hand_frame}
 use Rattle.loop_desk.specs.Waiting.{IsCounted, frames_dequeued}
-use Rattle.loop_pipeline.specs.Fronts.{GaveBy, TickRecord, IsToldBy, fails, misses, shown, shown_given}
-use Rattle.loop_pipeline.proofs.FrontRuns.{Adds, plus-none}
+use Rattle.loop_pipeline.specs.Fronts.{GaveBy, TickRecord, IsToldBy, shown, shown_given}
+use Rattle.loop_pipeline.proofs.FrontRuns.{TickAdds}
 
 -- for such a tick the source was asked
 abbrev Asks : Tick → Type 0
@@ -132,24 +132,26 @@ module _ {S P A : Type 0} (gives : S → Next → List ℕ → S → Type 0) (m 
   -- a tick that changes nothing
   nothing-adds : (tick : Tick) (f : Front) → GaveBy gives tick 0 [] d e → flat_map shown_given (given-at tick 0 [] ∷ []) ≡ []
       → after ≡ before → hand_frame f.hand ≡ [] → StandsFront m before table h f
-      → Adds gives m table f.queue.queue d e before after h to to (misses tick) (fails tick)
-  nothing-adds tick f gave none same free stands = record {
-    events = [];
-    legal = tt;
-    flows = refl;
-    now = f;
-    stands = subst (λ q. StandsFront m q table h f) (sym same) stands;
-    reached = refl;
-    formed = ap (λ q. q.body.shape) same;
-    free = free;
-    ring = ((refl, refl, refl, refl), refl);
-    went = sym (append-nil (map picture (sent to)));
-    given = given-at tick 0 [] ∷ [];
-    source = (e, gave, refl);
-    lost_is = plus-none (misses tick);
-    spoilt_is = plus-none (fails tick);
-    shows = sym none;
-  }
+      → TickAdds gives m table f.queue.queue d e before after h to to now tick
+  nothing-adds tick f gave none same free stands = (
+    given-at tick 0 [],
+    refl,
+    refl,
+    record {
+      events = [];
+      legal = tt;
+      flows = refl;
+      now = f;
+      stands = subst (λ q. StandsFront m q table h f) (sym same) stands;
+      reached = refl;
+      formed = ap (λ q. q.body.shape) same;
+      free = free;
+      ring = ((refl, refl, refl, refl), refl);
+      went = sym (append-nil (map picture (sent to)));
+      source = (e, gave, refl);
+      shows = sym none;
+    },
+  )
 
   -- the front after a tick for which the source was asked: the queue's events have happened, the rest is as it was
   abbrev after-tick : Tick → List ℕ → Front → Front
@@ -177,32 +179,34 @@ module _ {S P A : Type 0} (gives : S → Next → List ℕ → S → Type 0) (m 
   took-adds : (tick : Tick) (f : Front) → after.body.shape ≡ before.body.shape → Asks tick
       → hand_frame f.hand ≡ [] → StandsFront m before table h f
       → (took : Took gives m now tick d e before after f.queue.queue) → GaveBy gives tick (sequence_of d.next f.queue.queue) took.bytes d e
-      → Adds gives m table f.queue.queue d e before after h to to (misses tick) (fails tick)
+      → TickAdds gives m table f.queue.queue d e before after h to to now tick
   took-adds tick f formed asks free stands took gave =
       let s = f.queue.queue in
       let bytes = took.bytes in
       let told = told-by tick took.answer (longest_active s) took.tick_is asks in
-      let stamp = stamp-at f in record {
-        events = tick_events now d.next tick bytes s;
-        legal = (
-          (took.happen.0, tt),
-          end-counted tick stamp bytes (on_body body_seen s) took.happen.1
-              (λ i is. took.whole (subst (λ (t : Tick). IsToldBy t took.answer) is told) ∙ took.fits),
-        );
-        flows = end-flows tick stamp bytes;
-        now = after-tick tick bytes f;
-        stands = ticked-stands tick f stands took;
-        reached = refl;
-        formed = formed;
-        free = free;
-        ring = ((refl, refl, refl, refl), refl);
-        went = sym (append-nil (map picture (sent to))) ∙ ap (λ l. map picture (sent to) ++ l) (sym (end-frames tick stamp bytes (on_body body_seen s)));
-        given = given-at tick stamp.sequence bytes ∷ [];
-        source = (e, gave, refl);
-        lost_is = plus-none (misses tick);
-        spoilt_is = plus-none (fails tick);
-        shows = end-shown tick stamp.sequence now bytes;
-      }
+      let stamp = stamp-at f in (
+        given-at tick stamp.sequence bytes,
+        refl,
+        refl,
+        record {
+          events = tick_events now d.next tick bytes s;
+          legal = (
+            (took.happen.0, tt),
+            end-counted tick stamp bytes (on_body body_seen s) took.happen.1
+                (λ i is. took.whole (subst (λ (t : Tick). IsToldBy t took.answer) is told) ∙ took.fits),
+          );
+          flows = end-flows tick stamp bytes;
+          now = after-tick tick bytes f;
+          stands = ticked-stands tick f stands took;
+          reached = refl;
+          formed = formed;
+          free = free;
+          ring = ((refl, refl, refl, refl), refl);
+          went = sym (append-nil (map picture (sent to))) ∙ ap (λ l. map picture (sent to) ++ l) (sym (end-frames tick stamp bytes (on_body body_seen s)));
+          source = (e, gave, refl);
+          shows = end-shown tick stamp.sequence now bytes;
+        },
+      )
 
   gave-of : (tick : Tick) (s : QueueState) → Asks tick → (took : Took gives m now tick d e before after s)
       → (answer : Next) × IsToldBy tick answer × gives d.source answer took.bytes e.source × (e.size ≡ d.size)
@@ -219,7 +223,7 @@ module _ {S P A : Type 0} (gives : S → Next → List ℕ → S → Type 0) (m 
 
   pub tick-adds : (tick : Tick) (f : Front) → after.body.shape ≡ before.body.shape → hand_frame f.hand ≡ []
       → StandsFront m before table h f → Ticks gives m now tick d e before after
-      → Adds gives m table f.queue.queue d e before after h to to (misses tick) (fails tick)
+      → TickAdds gives m table f.queue.queue d e before after h to to now tick
   tick-adds WrongSize f formed free stands ticks =
       let t = ticks f.queue.queue stands.queue.queue in nothing-adds WrongSize f t.1 refl t.2 free stands
   tick-adds Idle f formed free stands ticks =

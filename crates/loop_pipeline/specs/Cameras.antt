@@ -1,5 +1,5 @@
 -- What one camera keeps of its frames, from its device to its disk.
-use Rattle.std.specs.Prelude.{◌≡◌, ℕ, ◌+◌, false, List, ◌++◌, All, length, map}
+use Rattle.std.specs.Prelude.{◌≡◌, ℕ, ◌+◌, Bool, false, List, ◌++◌, All, length, map}
 use Rattle.std.specs.List.{filter, flat_map, list_any}
 use Rattle.loop_disk.specs.Medium.{Medium}
 use Rattle.loop_plane.specs.Plane.{Plane}
@@ -15,7 +15,7 @@ use Rattle.loop_desk.specs.Lane.{without_flags}
 use Rattle.loop_desk.specs.Waiting.{frames_waiting}
 use Rattle.loop_desk.specs.Seen.{DeskGoes, SeenDesk}
 use Rattle.loop_pipeline.specs.Backs.{Came, GoesBy, IsRightful, Part, calls_by, calls_of, is_refused_flush, is_submit, lost_by, picture_of, unasked_by}
-use Rattle.loop_pipeline.specs.Fronts.{TickRecord, GoesOn, count_failed, count_missed, shown, shown_given}
+use Rattle.loop_pipeline.specs.Fronts.{AreTold, GoesOn, TickRecord, shown, shown_given}
 
 -- a camera: its device, its queue and its desk
 pub record SeenCamera (S D P : Type 0) : Type 0 where
@@ -26,15 +26,15 @@ pub record SeenCamera (S D P : Type 0) : Type 0 where
 -- From one moment of a camera to another: the frames that waited in its queue, and those that its source gave at ticks
 -- that completed a buffer, are, in order and with all bytes, those that came to the desk and those that still wait.
 -- Each that came was accepted, or is counted: as given up, or as left where nobody brought it. Of the other ticks those
--- that lost a frame are counted. The footage of the frames that were accepted is kept, whenever the power fails.
+-- that lost a frame are counted; each was when the guide said, and they are over where guide or source said so. The
+-- footage of the frames that were accepted is kept, whenever the power fails.
 pub record CameraKeeps {S D P : Type 0} (medium : D → Medium) (gives : S → Next → List ℕ → S → Type 0)
-    (meaning : P → Plane) (asks : DeskCall → Type 0) (old new : SeenCamera S D P) (given_up left missed failed : ℕ)
-    : Type 0 where
+    (meaning : P → Plane) (asks : DeskCall → Type 0) (due : ℕ → ℕ → Type 0) (ends : ℕ → Type 0)
+    (old new : SeenCamera S D P) (given_up left missed failed : ℕ) (over : Bool) : Type 0 where
   -- the device, by its ticks
   pub given : List TickRecord
   pub source : GoesOn gives old.device given new.device
-  pub missing : count_missed given ≡ missed
-  pub failing : count_failed given ≡ failed
+  pub told : AreTold due ends missed failed over given
   pub completed : List Picture
   pub shows : map shown completed ≡ flat_map shown_given given
   -- the way of the frames

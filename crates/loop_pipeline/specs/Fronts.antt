@@ -1,5 +1,5 @@
 -- What one thread keeps that has a camera's device, its queue and the end of a ring.
-use Rattle.std.specs.Prelude.{◌≡◌, ◌≢◌, ◌⊎◌, ℕ, ◌+◌, false, List, [], ◌∷◌, ◌++◌, map}
+use Rattle.std.specs.Prelude.{◌≡◌, ◌≢◌, ◌⊎◌, ℕ, ◌+◌, ◌^◌, ◌≤◌, Bool, true, false, List, [], ◌∷◌, ◌++◌, length, map}
 use Rattle.std.specs.Global.{Global}
 use Rattle.std.specs.List.{flat_map, list_any}
 use Rattle.rtrb.specs.declared.AnyItems.{AnyItems}
@@ -90,13 +90,38 @@ abbrev pub count_failed : List TickRecord → ℕ
 count_failed [] = 0
 count_failed (g ∷ gs) = fails g.tick + count_failed gs
 
+-- tick by tick, each was at a time that is due for its number
+abbrev pub AreDue : (ℕ → ℕ → Type 0) → ℕ → List TickRecord → Type 0
+AreDue due n [] = Unit {0}
+AreDue due n (g ∷ gs) = due n g.now × AreDue due (n + 1) gs
+
+-- the source has ended
+abbrev pub is_last : Tick → Bool
+is_last Ended = true
+is_last tick = false
+
+-- Why no tick comes any more: the guide ends the device here, its source has ended, or no more ticks are counted.
+abbrev pub IsOver : (ℕ → Type 0) → List TickRecord → Type 0
+IsOver ends given =
+    ends (length given) ⊎ (list_any (λ g. is_last g.tick) given ≡ true) ⊎ (2 ^ 64 ≤ length given + 1)
+
+-- What the guide said of ticks, and what is told of them: when each was, how many lost a frame, and why they are over.
+pub record AreTold (due : ℕ → ℕ → Type 0) (ends : ℕ → Type 0) (missed failed : ℕ) (over : Bool)
+    (given : List TickRecord) : Type 0 where
+  pub timed : AreDue due 0 given
+  pub missing : count_missed given ≡ missed
+  pub failing : count_failed given ≡ failed
+  pub ended : over ≡ true → IsOver ends given
+
 -- ---- what a front keeps
 
--- a front as its callers see it: its queue, its device and the end of its ring as they were when it was made
-pub record SeenFront (S P A : Type 0) : Type 0 where
+-- a front as its callers see it: its queue, its device and the end of its ring as they were when it was made, and its
+-- guide
+pub record SeenFront (S P G A : Type 0) : Type 0 where
   pub queue : Lined P
   pub device : SeenDevice S
   pub to : Producer (Frame A) A AnyItems
+  pub guide : G
 
 -- the frames of a queue have the planes of a format
 abbrev pub IsShaped : {P : Type 0} → Lined P → Type 0
@@ -113,10 +138,10 @@ pub record IsOpen {P : Type 0} (meaning : P → Plane) (queue : Lined P) (table 
   pub shaped : IsShaped queue
 
 -- What waited and then what the device completed is what was pushed into the ring, in order and with all bytes, and
--- then what waits now. What the device completed is what its source gave.
-pub record FrontKeeps {S P A : Type 0} (gives : S → Next → List ℕ → S → Type 0) (meaning : P → Plane)
-    (seen : SeenFront S P A) (device : SeenDevice S) (queue : Lined P) (to : Producer (Frame A) A AnyItems)
-    (missed failed : ℕ) : Type 0 where
+-- then what waits now. What the device completed is what its source gave, at the times that are due.
+pub record FrontKeeps {S P G A : Type 0} (gives : S → Next → List ℕ → S → Type 0) (meaning : P → Plane)
+    (due : ℕ → ℕ → Type 0) (ends : ℕ → Type 0) (seen : SeenFront S P G A) (device : SeenDevice S) (queue : Lined P)
+    (to : Producer (Frame A) A AnyItems) (missed failed : ℕ) (over : Bool) : Type 0 where
   pub ring : SameProducer seen.to to
   pub first : QueueState
   pub last : QueueState
@@ -124,28 +149,34 @@ pub record FrontKeeps {S P A : Type 0} (gives : S → Next → List ℕ → S �
   pub stands : StandsQueue meaning queue last
   pub given : List TickRecord
   pub source : GoesOn gives seen.device given device
-  pub missing : count_missed given ≡ missed
-  pub failing : count_failed given ≡ failed
+  pub told : AreTold due ends missed failed over given
   pub completed : List Picture
   pub shows : map shown completed ≡ flat_map shown_given given
   pub whole : map without_flags (frames_waiting seen.queue first) ++ completed
       ≡ map without_flags (map picture (sent to)) ++ map without_flags (frames_waiting queue last)
 
-abbrev pub made_of : {S P A : Type 0} → Begun S P A → SeenFront S P A
-made_of begun = record { queue = begun.queue.value; device = begun.device.value; to = begun.to.value }
+abbrev pub made_of : {S P G A : Type 0} → Begun S P G A → SeenFront S P G A
+made_of begun = record {
+  queue = begun.queue.value;
+  device = begun.device.value;
+  to = begun.to.value;
+  guide = begun.guide.value;
+}
 
 -- So it is of the parts that a front leaves; and if no buffer is in its hand, another front may begin with them.
-pub record Leaves {S P A : Type 0} (gives : S → Next → List ℕ → S → Type 0) (meaning : P → Plane)
-    (seen : SeenFront S P A) (parts : FrontParts S P A) : Type 0 where
-  pub keeps : FrontKeeps gives meaning seen parts.device parts.queue parts.to parts.missed parts.failed
+pub record Leaves {S P G A : Type 0} (gives : S → Next → List ℕ → S → Type 0) (meaning : P → Plane)
+    (due : ℕ → ℕ → Type 0) (ends : ℕ → Type 0) (seen : SeenFront S P G A) (parts : FrontParts S P A) : Type 0 where
+  pub keeps : FrontKeeps gives meaning due ends seen parts.device parts.queue parts.to parts.missed parts.failed
+      parts.over
   pub again : parts.hand ≡ hand.Empty → IsOpen meaning parts.queue parts.table
 
 -- ---- to another thread and back (private contracts alone)
 
 -- what came back is what a front leaves, with the end of the ring that is inside the carrier
-abbrev pub LeavesCarried : {S P W : Type 0} → (W → Producer (Frame Global) Global AnyItems)
-    → (S → Next → List ℕ → S → Type 0) → (P → Plane) → SeenFront S P Global → Left S P W → Type 0
-LeavesCarried inside gives meaning seen left = Leaves gives meaning seen (record {
+abbrev pub LeavesCarried : {S P G W : Type 0} → (W → Producer (Frame Global) Global AnyItems)
+    → (S → Next → List ℕ → S → Type 0) → (P → Plane) → (ℕ → ℕ → Type 0) → (ℕ → Type 0) → SeenFront S P G Global
+    → Left S P W → Type 0
+LeavesCarried inside gives meaning due ends seen left = Leaves gives meaning due ends seen (record {
   device = left.device;
   queue = left.queue;
   table = left.table;
@@ -153,6 +184,7 @@ LeavesCarried inside gives meaning seen left = Leaves gives meaning seen (record
   to = inside left.to;
   missed = left.missed;
   failed = left.failed;
+  over = left.over;
 })
 
 -- ---- its events (private contracts alone)
@@ -171,9 +203,10 @@ emptied empty = empty
 
 -- The queue's events since the front was made: each may happen at its point, none stops the stream, the frames that
 -- they dequeued are in the ring, and those that they completed are the ticks'.
-pub record HasMoved {S P A : Type 0} (gives : S → Next → List ℕ → S → Type 0) (meaning : P → Plane)
-    (seen : SeenFront S P A) (device : SeenDevice S) (queue : Lined P) (table : Fds P) (hand : Hand P A)
-    (to : Producer (Frame A) A AnyItems) (missed failed : ℕ) : Type 0 where
+pub record HasMoved {S P G A : Type 0} (gives : S → Next → List ℕ → S → Type 0) (meaning : P → Plane)
+    (due : ℕ → ℕ → Type 0) (ends : ℕ → Type 0) (seen : SeenFront S P G A) (device : SeenDevice S) (queue : Lined P)
+    (table : Fds P) (hand : Hand P A) (to : Producer (Frame A) A AnyItems) (ticks missed failed : ℕ) (over : Bool)
+    : Type 0 where
   pub first : QueueState
   pub stood : StandsQueue meaning seen.queue first
   pub sound : IsSoundQueue seen.queue first
@@ -190,6 +223,6 @@ pub record HasMoved {S P A : Type 0} (gives : S → Next → List ℕ → S → 
   pub went : map picture (sent to) ≡ frames_dequeued first events
   pub given : List TickRecord
   pub source : GoesOn gives seen.device given device
-  pub missing : count_missed given ≡ missed
-  pub failing : count_failed given ≡ failed
+  pub counted : length given ≡ ticks
+  pub told : AreTold due ends missed failed over given
   pub shows : map shown (flat_map completed_frame events) ≡ flat_map shown_given given

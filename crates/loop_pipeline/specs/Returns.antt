@@ -10,7 +10,8 @@ use Rattle.loop_pipeline.specs.Cameras.{CameraKeeps, SeenCamera}
 
 -- what comes back where a camera wasn't filmed: the camera, or what is left of it, which kept the same of its frames
 abbrev pub GivesBack : {S D P : Type 0} → (D → Medium) → (S → Next → List ℕ → S → Type 0) → (P → Plane)
-    → (DeskCall → Type 0) → SeenCamera S D P → Unfilmed S D P → Type 0
-GivesBack medium gives meaning asks camera (NoMemory c) = c ≡ camera
-GivesBack medium gives meaning asks camera (NoThread e) = CameraKeeps medium gives meaning asks camera
-    (record { device = e.device; queue = e.queue; desk = e.desk }) e.given_up e.left e.missed e.failed
+    → (DeskCall → Type 0) → (ℕ → ℕ → Type 0) → (ℕ → Type 0) → SeenCamera S D P → Unfilmed S D P → Type 0
+GivesBack medium gives meaning asks due ends camera (NoMemory c) = c ≡ camera
+GivesBack medium gives meaning asks due ends camera (NoThread e) =
+    CameraKeeps medium gives meaning asks due ends camera
+    (record { device = e.device; queue = e.queue; desk = e.desk }) e.given_up e.left e.missed e.failed e.over

@@ -6,7 +6,7 @@ ghost use Rattle.loop_desk.specs.declared.hand.Hand.TheVariants.{Empty};
 ghost use Rattle.loop_pipeline.specs.Cameras.{CameraKeeps};
 ghost use Rattle.loop_pipeline.specs.Fronts.{IsOpen, Leaves, made_of};
 
-use crate::{Back, BackParts, Begun, FrontParts, Visits};
+use crate::{Back, BackParts, Begun, FrontParts, Guide};
 use loop_capture::{Device, FrameSource};
 use loop_desk::{Desk, Hand};
 use loop_disk::Disk;
@@ -40,28 +40,34 @@ pub struct Ended<
     pub missed: u64,
     /// How many ticks lost a frame because it couldn't be got.
     pub failed: u64,
+    /// Whether its guide or its source has ended it.
+    pub over: bool,
 }
 
 /// Ends a camera, after both its threads have ended. `begun` is what its front was made of; front and back were made on
 /// the two ends of one ring. The contract says what the camera kept since then.
-pub fn end<S: FrameSource + Drop, D: Disk + Drop, P: PlaneMemory, K: Visits, A: Allocator + Copy>(
-    begun: Begun<S, P, A>,
+pub fn end<S: FrameSource + Drop, D: Disk + Drop, P: PlaneMemory, G: Guide, A: Allocator + Copy>(
+    begun: Begun<S, P, G, A>,
     front: FrontParts<S, P, A>,
-    back: Back<D, K, A>,
+    back: Back<D, G, A>,
 ) -> Ended<S, D, P, A>
-    requires front { Leaves S.next_gives P.plane (made_of begun) front }
+    requires front { Leaves S.next_gives P.plane (G.due begun.guide.value) (G.ends begun.guide.value)
+        (made_of begun) front }
     requires pair { IsPair begun.to.value back.from }
-    ensures keeps { CameraKeeps D.medium S.next_gives P.plane K.asks
+    ensures keeps { CameraKeeps D.medium S.next_gives P.plane G.asks
+        (G.due begun.guide.value) (G.ends begun.guide.value)
         (record { device = begun.device.value; queue = begun.queue.value; desk = back.began })
         (record { device = result.device; queue = result.queue; desk = result.desk })
-        result.given_up result.left result.missed result.failed }
+        result.given_up result.left result.missed result.failed result.over }
     ensures again { result.hand ≡ Empty → IsOpen P.plane result.queue result.table }
     ensures desk { result.desk ≡ back.desk }
+    ensures over { result.over ≡ front.over }
 {
     let Begun {
         queue: _,
         device: _,
         to: _,
+        guide: _,
     } = begun;
     let FrontParts {
         device,
@@ -71,6 +77,7 @@ pub fn end<S: FrameSource + Drop, D: Disk + Drop, P: PlaneMemory, K: Visits, A: 
         mut to,
         missed,
         failed,
+        over,
     } = front;
     let BackParts {
         desk,
@@ -89,5 +96,6 @@ pub fn end<S: FrameSource + Drop, D: Disk + Drop, P: PlaneMemory, K: Visits, A: 
         left,
         missed,
         failed,
+        over,
     }
 }

@@ -1,17 +1,17 @@
 //! What the two threads of a camera do: one has its front, the other its back. docs/threads.md says why it is so.
 
-ghost use Rattle.std.specs.Prelude.{◌≡◌, [], IfErr, IfOk};
+ghost use Rattle.std.specs.Prelude.{◌≡◌, [], IfErr, IfOk, true};
 ghost use Rattle.loop_desk.specs.declared.hand.Hand.TheVariants.{Empty};
 ghost use Rattle.loop_pipeline.specs.Cameras.{CameraKeeps};
 ghost use Rattle.loop_pipeline.specs.Returns.{GivesBack};
-ghost use Rattle.rtrb.specs.Ring.{sent};
+ghost use Rattle.rtrb.specs.Ring.{IsPair, sent};
 ghost use Rattle.loop_pipeline.specs.Fronts.{IsOpen, Leaves, LeavesCarried, made_of};
 
 use crate::bell::Bell;
 use crate::{
     Back, Begun, Brought, Camera, Ended, Front, FrontParts, Guide, TakeOutcome, Visits, end,
 };
-use loop_capture::{Device, FrameSource, Tick};
+use loop_capture::{Device, FrameSource};
 use loop_desk::Hand;
 use loop_disk::Disk;
 use loop_plane::{FdTable, PlaneMemory};
@@ -100,7 +100,7 @@ fn take_all<R: Wait, S: FrameSource + Drop, P: PlaneMemory, G: Guide>(
     alloc: Global,
     link: &Link,
     guide: &G,
-    front: &mut Front<S, P>,
+    front: &mut Front<S, P, G>,
 )
     ensures { front.new ≡ front.old }
 {
@@ -134,21 +134,21 @@ fn run_front<R: Wait + Clock, S: FrameSource + Drop, P: PlaneMemory, G: Guide>(
     alloc: Global,
     link: &Link,
     guide: &G,
-    mut front: Front<S, P>,
-) -> Front<S, P>
+    mut front: Front<S, P, G>,
+) -> Front<S, P, G>
+    requires { guide.now ≡ front.guide }
     ensures { result ≡ front }
 {
-    'ticks: for n in 0..u64::MAX {
+    'ticks: for _ in rt.forever() {
         if link.closed.load(Ordering::SeqCst) {
             break;
         }
-        let Some(now) = guide.next_tick(rt, n) else {
+        let Some(tick) = front.tick(rt, guide) else {
             break;
         };
-        let tick = front.tick(now);
         take_all(rt, alloc, link, guide, &mut front);
         guide.ticked(rt, tick);
-        if matches!(tick, Tick::Ended | Tick::Idle | Tick::WrongSize) {
+        if front.is_over() {
             break;
         }
     }
@@ -261,9 +261,10 @@ pub fn film_front<R: Wait + Clock, S: FrameSource + Drop, P: PlaneMemory, G: Gui
 ) -> FrontParts<S, P>
     requires ready { IsOpen P.plane queue table }
     requires ring { sent to ≡ [] }
-    ensures { Leaves S.next_gives P.plane (record { queue = queue; device = device; to = to }) result }
+    ensures { Leaves S.next_gives P.plane (G.due guide.now) (G.ends guide.now)
+        (record { queue = queue; device = device; to = to; guide = guide.now }) result }
 {
-    let front = Front::new(device, queue, table, to);
+    let front = Front::new(device, queue, table, to, guide);
     run_front(rt, alloc, link, guide, front).into_parts()
 }
 
@@ -313,13 +314,16 @@ struct Left<S: FrameSource + Drop, P: PlaneMemory, W: Carrier> {
     to: W,
     missed: u64,
     failed: u64,
+    over: bool,
 }
 
 // The thread returns what a front leaves that was made of these.
-impl<S: FrameSource + Drop, P: PlaneMemory, W: Carrier> Promise<Left<S, P, W>> for Begun<S, P> {
+impl<S: FrameSource + Drop, P: PlaneMemory, G: Guide, W: Carrier> Promise<Left<S, P, W>>
+    for Begun<S, P, G> {
     ghost use Rattle.loop_pipeline.specs.Fronts.{LeavesCarried, made_of};
 
-    ghost kept_by = { λ begun left. LeavesCarried W.inside S.next_gives P.plane (made_of begun) left };
+    ghost kept_by = { λ begun left. LeavesCarried W.inside S.next_gives P.plane
+        (G.due begun.guide.value) (G.ends begun.guide.value) (made_of begun) left };
 }
 
 // The whole work of a front's thread, with the end of the ring carried there and back.
@@ -335,8 +339,8 @@ fn film_carried<R: Wait + Clock, S: FrameSource + Drop, P: PlaneMemory, G: Guide
 ) -> Left<S, P, W>
     requires ready { IsOpen P.plane queue table }
     requires ring { sent (W.inside to) ≡ [] }
-    ensures { LeavesCarried W.inside S.next_gives P.plane
-        (record { queue = queue; device = device; to = W.inside to }) result }
+    ensures { LeavesCarried W.inside S.next_gives P.plane (G.due guide.now) (G.ends guide.now)
+        (record { queue = queue; device = device; to = W.inside to; guide = guide.now }) result }
 {
     let FrontParts {
         device,
@@ -346,6 +350,7 @@ fn film_carried<R: Wait + Clock, S: FrameSource + Drop, P: PlaneMemory, G: Guide
         to,
         missed,
         failed,
+        over,
     } = film_front(rt, alloc, link, guide, device, queue, table, to.open());
     Left {
         device,
@@ -355,6 +360,7 @@ fn film_carried<R: Wait + Clock, S: FrameSource + Drop, P: PlaneMemory, G: Guide
         to: W::close(to),
         missed,
         failed,
+        over,
     }
 }
 
@@ -382,17 +388,19 @@ fn run_in<
     scope: &Scope<'s, E>,
     link: &'s Link,
     guide: &'s G,
-    begun: Begun<S, P>,
+    begun: Begun<S, P, G>,
     device: Device<S>,
     queue: Queue<P>,
     table: FdTable<P>,
     to: W,
     back: Back<D, G>,
 ) -> Both<S, D, P, G, W>
-    requires begun { made_of begun ≡ record { queue = queue; device = device; to = W.inside to } }
+    requires begun { made_of begun
+        ≡ record { queue = queue; device = device; to = W.inside to; guide = guide.now } }
     requires ready { IsOpen P.plane queue table }
     requires ring { sent (W.inside to) ≡ [] }
-    ensures front { LeavesCarried W.inside S.next_gives P.plane (made_of begun) result.front }
+    ensures front { LeavesCarried W.inside S.next_gives P.plane
+        (G.due begun.guide.value) (G.ends begun.guide.value) (made_of begun) result.front }
     ensures back { result.back ≡ record back { desk = result.back.desk } }
 {
     let work = move || -> Left<S, P, W> {
@@ -416,6 +424,45 @@ fn run_in<
             }
         }
     }
+}
+
+// Ends a camera, from what its threads left.
+fn end_both<S: FrameSource + Drop, D: Disk + Drop, P: PlaneMemory, G: Guide, W: Carrier>(
+    begun: Begun<S, P, G>,
+    front: Left<S, P, W>,
+    back: Back<D, G>,
+) -> Ended<S, D, P>
+    requires front { LeavesCarried W.inside S.next_gives P.plane
+        (G.due begun.guide.value) (G.ends begun.guide.value) (made_of begun) front }
+    requires pair { IsPair begun.to.value back.from }
+    ensures keeps { CameraKeeps D.medium S.next_gives P.plane G.asks
+        (G.due begun.guide.value) (G.ends begun.guide.value)
+        (record { device = begun.device.value; queue = begun.queue.value; desk = back.began })
+        (record { device = result.device; queue = result.queue; desk = result.desk })
+        result.given_up result.left result.missed result.failed result.over }
+    ensures again { result.hand ≡ Empty → IsOpen P.plane result.queue result.table }
+{
+    let Left {
+        device,
+        queue,
+        table,
+        hand,
+        to,
+        missed,
+        failed,
+        over,
+    } = front;
+    let parts = FrontParts {
+        device,
+        queue,
+        table,
+        hand,
+        to: to.open(),
+        missed,
+        failed,
+        over,
+    };
+    end(begun, parts, back)
 }
 
 /// Why a camera wasn't filmed.
@@ -445,10 +492,14 @@ pub fn film_camera<
     guide: &'s G,
     camera: Camera<S, D, P>,
 ) -> Result<Ended<S, D, P>, Unfilmed<S, D, P>>
-    ensures keeps { IfOk result (λ e. CameraKeeps D.medium S.next_gives P.plane G.asks camera
-        (record { device = e.device; queue = e.queue; desk = e.desk }) e.given_up e.left e.missed e.failed) }
+    ensures keeps { IfOk result (λ e. CameraKeeps D.medium S.next_gives P.plane G.asks
+        (G.due guide.now) (G.ends guide.now) camera
+        (record { device = e.device; queue = e.queue; desk = e.desk })
+        e.given_up e.left e.missed e.failed e.over) }
+    ensures ended { IfOk result (λ e. e.over ≡ true) }
     ensures again { IfOk result (λ e. e.hand ≡ Empty → IsOpen P.plane e.queue e.table) }
-    ensures refused { IfErr result (GivesBack D.medium S.next_gives P.plane G.asks camera) }
+    ensures refused { IfErr result (GivesBack D.medium S.next_gives P.plane G.asks
+        (G.due guide.now) (G.ends guide.now) camera) }
 {
     link.begin();
     let Ok((to, from)) = RingBuffer::new(alloc, RING) else {
@@ -460,33 +511,15 @@ pub fn film_camera<
         table,
         desk,
     } = camera;
-    let begun = Begun::of(&queue, &device, &to);
-    let again = Begun::of(&queue, &device, &to);
+    let begun = Begun::of(&queue, &device, &to, guide);
+    let again = Begun::of(&queue, &device, &to, guide);
     let back = Back::new(desk, from);
     let to = Carried { to };
     let Both { front, back, began } = run_in(
         rt, alloc, scope, link, guide, begun, device, queue, table, to, back,
     );
-    let Left {
-        device,
-        queue,
-        table,
-        hand,
-        to,
-        missed,
-        failed,
-    } = front;
-    let parts = FrontParts {
-        device,
-        queue,
-        table,
-        hand,
-        to: to.open(),
-        missed,
-        failed,
-    };
-    let ended = end(again, parts, back);
-    if began {
+    let ended = end_both(again, front, back);
+    if began && ended.over {
         Ok(ended)
     } else {
         Err(Unfilmed::NoThread(ended))

@@ -3,8 +3,9 @@
 ghost use Rattle.std.specs.Prelude.{◌≡◌, ◌<◌, ◌≤◌, ◌++◌, []};
 ghost use Rattle.rtrb.specs.Ring.{SameProducer, known_free, sent};
 ghost use Rattle.loop_desk.specs.Front.{hand_state};
-ghost use Rattle.loop_pipeline.specs.Fronts.{IsOpen, Leaves, emptied, fails, frame_of, made_of, misses};
+ghost use Rattle.loop_pipeline.specs.Fronts.{IsOpen, Leaves, emptied, fails, frame_of, is_last, made_of, misses};
 
+use crate::Guide;
 use loop_capture::{Device, FrameSource, Tick};
 use loop_desk::front::{dequeue, requeue};
 use loop_desk::laws::{frames_are_kept, queues_stay_sound};
@@ -17,6 +18,8 @@ use std::alloc::{Allocator, Global};
 use std::marker::Model;
 use std::mem;
 use std::snapshot::Snapshot;
+use std::sync::Wait;
+use std::time::Clock;
 
 /// What came of taking the frame that waits first.
 #[derive(Drop)]
@@ -32,16 +35,20 @@ pub enum TakeOutcome {
 }
 
 /// A camera's device, its queue with the table of fds, the hand that takes buffers out of the queue, and the end of the
-/// ring to which their frames go. Contracts see queue, device and ring as they were when it was made.
+/// ring to which their frames go. Contracts see queue, device and ring as they were when it was made, and the guide.
 #[derive(Drop)]
-pub struct Front<S: FrameSource + Drop, P: PlaneMemory, A: Allocator + Copy = Global> {
+pub struct Front<S: FrameSource + Drop, P: PlaneMemory, G: Guide, A: Allocator + Copy = Global> {
     device: Device<S, A>,
     queue: Queue<P, A>,
     table: FdTable<P, A>,
     hand: Hand<P, A>,
     to: Producer<Frame<A>, A>,
+    ticks: u64,
     missed: u64,
     failed: u64,
+    /// Its guide or its source has ended it.
+    over: bool,
+    guide: Snapshot<G>,
     queue_before: Snapshot<Queue<P, A>>,
     device_before: Snapshot<Device<S, A>>,
     to_before: Snapshot<Producer<Frame<A>, A>>,
@@ -49,24 +56,33 @@ pub struct Front<S: FrameSource + Drop, P: PlaneMemory, A: Allocator + Copy = Gl
 
 /// What a front was made of, as it was then.
 #[derive(Drop)]
-pub struct Begun<S: FrameSource + Drop, P: PlaneMemory, A: Allocator + Copy = Global> {
+pub struct Begun<S: FrameSource + Drop, P: PlaneMemory, G: Guide, A: Allocator + Copy = Global> {
     /// Its queue.
     pub queue: Snapshot<Queue<P, A>>,
     /// Its device.
     pub device: Snapshot<Device<S, A>>,
     /// The end of its ring.
     pub to: Snapshot<Producer<Frame<A>, A>>,
+    /// Its guide.
+    pub guide: Snapshot<G>,
 }
 
-impl<S: FrameSource + Drop, P: PlaneMemory, A: Allocator + Copy> Begun<S, P, A> {
+impl<S: FrameSource + Drop, P: PlaneMemory, G: Guide, A: Allocator + Copy> Begun<S, P, G, A> {
     /// The record of these, as they are now.
-    pub fn of(queue: &Queue<P, A>, device: &Device<S, A>, to: &Producer<Frame<A>, A>) -> Self
-        ensures { made_of result ≡ record { queue = queue.now; device = device.now; to = to.now } }
+    pub fn of(
+        queue: &Queue<P, A>,
+        device: &Device<S, A>,
+        to: &Producer<Frame<A>, A>,
+        guide: &G,
+    ) -> Self
+        ensures { made_of result
+            ≡ record { queue = queue.now; device = device.now; to = to.now; guide = guide.now } }
     {
         Begun {
             queue: Snapshot::of(queue),
             device: Snapshot::of(device),
             to: Snapshot::of(to),
+            guide: Snapshot::of(guide),
         }
     }
 }
@@ -88,19 +104,31 @@ pub struct FrontParts<S: FrameSource + Drop, P: PlaneMemory, A: Allocator + Copy
     pub missed: u64,
     /// How many ticks lost a frame because it couldn't be got.
     pub failed: u64,
+    /// Whether its guide or its source has ended it.
+    pub over: bool,
 }
 
-impl<S: FrameSource + Drop, P: PlaneMemory, A: Allocator + Copy> Model for Front<S, P, A> {
+impl<S: FrameSource + Drop, P: PlaneMemory, G: Guide, A: Allocator + Copy> Model
+    for Front<S, P, G, A> {
     ghost use Rattle.loop_pipeline.specs.Fronts.{HasMoved, SeenFront};
 
-    ghost Value = { SeenFront S P A };
+    ghost Value = { SeenFront S P G A };
 
-    ghost view = { λ f.
-        record { queue = f.queue_before.value; device = f.device_before.value; to = f.to_before.value } };
+    ghost view = { λ f. record {
+      queue = f.queue_before.value;
+      device = f.device_before.value;
+      to = f.to_before.value;
+      guide = f.guide.value;
+    } };
 
-    ghost invariant = { λ f. HasMoved S.next_gives P.plane
-        (record { queue = f.queue_before.value; device = f.device_before.value; to = f.to_before.value })
-        f.device f.queue f.table f.hand f.to f.missed f.failed };
+    ghost invariant = { λ f. HasMoved S.next_gives P.plane (G.due f.guide.value) (G.ends f.guide.value)
+        (record {
+          queue = f.queue_before.value;
+          device = f.device_before.value;
+          to = f.to_before.value;
+          guide = f.guide.value;
+        })
+        f.device f.queue f.table f.hand f.to f.ticks f.missed f.failed f.over };
 }
 
 // Pushes the hand's frame into a ring that has room; returns what came of it.
@@ -152,18 +180,32 @@ fn failed_by(tick: Tick) -> u64
     }
 }
 
-impl<S: FrameSource + Drop, P: PlaneMemory, A: Allocator + Copy> Front<S, P, A> {
-    /// A front with this device, this queue with its table, and the end of a ring into which nothing was pushed yet.
+// Whether no tick comes after this one: the source has ended.
+fn is_last(tick: Tick) -> bool
+    ensures { result ≡ is_last tick }
+{
+    match tick {
+        Tick::Ended => true,
+        Tick::Completed(_) | Tick::Failed(_) | Tick::Missed => false,
+        Tick::Idle | Tick::WrongSize => false,
+    }
+}
+
+impl<S: FrameSource + Drop, P: PlaneMemory, G: Guide, A: Allocator + Copy> Front<S, P, G, A> {
+    /// A front with this device, this queue with its table, and the end of a ring into which nothing was pushed yet. It
+    /// ticks when this guide says so.
     pub fn new(
         device: Device<S, A>,
         queue: Queue<P, A>,
         table: FdTable<P, A>,
         to: Producer<Frame<A>, A>,
+        guide: &G,
     ) -> Self
         requires ready { IsOpen P.plane queue table }
         requires ring { sent to ≡ [] }
-        ensures { result ≡ record { queue = queue; device = device; to = to } }
+        ensures { result ≡ record { queue = queue; device = device; to = to; guide = guide.now } }
     {
+        let guide = Snapshot::of(guide);
         let queue_before = Snapshot::of(&queue);
         let device_before = Snapshot::of(&device);
         let to_before = Snapshot::of(&to);
@@ -173,8 +215,11 @@ impl<S: FrameSource + Drop, P: PlaneMemory, A: Allocator + Copy> Front<S, P, A> 
             table,
             hand: Hand::Empty,
             to,
+            ticks: 0,
             missed: 0,
             failed: 0,
+            over: false,
+            guide,
             queue_before,
             device_before,
             to_before,
@@ -186,18 +231,31 @@ impl<S: FrameSource + Drop, P: PlaneMemory, A: Allocator + Copy> Front<S, P, A> 
         self.queue.next_active().is_some()
     }
 
-    /// A tick of the device, as `Device::tick`; frames that it lost are counted. Once a count is full, the device is
-    /// idle.
-    pub fn tick(&mut self, now: u64) -> Tick
+    /// The next tick of the device, as `Device::tick`, when its guide says so; frames that it lost are counted. None:
+    /// the guide ends the device, or no more ticks can be counted.
+    pub fn tick<R: Wait + Clock>(&mut self, rt: &R, guide: &G) -> Option<Tick>
+        requires { guide.now ≡ self.old.guide }
         ensures { self.new ≡ self.old }
     {
-        if self.missed == u64::MAX || self.failed == u64::MAX {
-            return Tick::Idle;
+        if self.ticks == u64::MAX {
+            self.over = true;
+            return None;
         }
+        let Some(now) = guide.next_tick(rt, self.ticks) else {
+            self.over = true;
+            return None;
+        };
         let tick = self.device.tick(&mut self.queue, now);
+        self.ticks += 1;
         self.missed += missed_by(tick);
         self.failed += failed_by(tick);
-        tick
+        self.over = is_last(tick);
+        Some(tick)
+    }
+
+    /// Whether its guide or its source has ended it. It promises nothing.
+    pub fn is_over(&self) -> bool {
+        self.over
     }
 
     /// Moves the frame that waits first into the ring. Its memory is `spare`, or new. The buffer stays in the hand
@@ -223,7 +281,7 @@ impl<S: FrameSource + Drop, P: PlaneMemory, A: Allocator + Copy> Front<S, P, A> 
 
     /// What is left of it.
     pub fn into_parts(self) -> FrontParts<S, P, A>
-        ensures { Leaves S.next_gives P.plane self result }
+        ensures { Leaves S.next_gives P.plane (G.due self.guide) (G.ends self.guide) self result }
     {
         frames_are_kept::<P>();
         queues_stay_sound::<P>();
@@ -233,8 +291,11 @@ impl<S: FrameSource + Drop, P: PlaneMemory, A: Allocator + Copy> Front<S, P, A> 
             table,
             hand,
             to,
+            ticks: _,
             missed,
             failed,
+            over,
+            guide: _,
             queue_before: _,
             device_before: _,
             to_before: _,
@@ -247,6 +308,7 @@ impl<S: FrameSource + Drop, P: PlaneMemory, A: Allocator + Copy> Front<S, P, A> 
             to,
             missed,
             failed,
+            over,
         }
     }
 }

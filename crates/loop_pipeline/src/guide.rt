@@ -1,6 +1,6 @@
 //! What a camera's threads ask and report.
 
-ghost use Rattle.std.specs.Prelude.{◌≡◌, Ok};
+ghost use Rattle.std.specs.Prelude.{◌≡◌, IfSome, None, Ok};
 ghost use Rattle.loop_desk.specs.Desk.{flushed};
 ghost use Rattle.loop_pipeline.specs.Backs.{IsAccepted, IsGivenUp, IsLast};
 
@@ -16,8 +16,18 @@ use std::time::Clock;
 /// What the two threads of a camera ask and report. Each call may wait. The calls that only report do nothing by
 /// default. What is reported of the desk is so: the contract asks the caller for the desk's own answer.
 pub trait Guide: Visits {
+    ghost use Rattle.std.specs.Prelude.{ℕ, ⊤};
+
+    /// Holds of the number of a tick and of each time, in microseconds, at which it may be.
+    ghost due: { Self → ℕ → ℕ → Type 0 } = { λ guide n now. ⊤ };
+
+    /// Holds of each number of ticks after which the device may be ended.
+    ghost ends: { Self → ℕ → Type 0 } = { λ guide n. ⊤ };
+
     /// When tick `n` of the camera's device is, in microseconds; None if the device is to end.
-    fn next_tick<R: Wait + Clock>(&self, rt: &R, n: u64) -> Option<u64>;
+    fn next_tick<R: Wait + Clock>(&self, rt: &R, n: u64) -> Option<u64>
+        ensures due { IfSome result (due self.now n) }
+        ensures ends { result ≡ None → ends self.now n };
 
     /// What a tick did.
     fn ticked<R: Wait>(&self, rt: &R, tick: Tick) {}

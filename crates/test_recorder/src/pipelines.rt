@@ -252,7 +252,7 @@ fn frames_that_a_broken_disk_does_not_take_are_counted(rt: HostRuntime) {
     holds!(rt; broken);
 }
 
-type TestFront = Front<Pattern, HeapPlane>;
+type TestFront = Front<Pattern, HeapPlane, Guided>;
 
 type TestBack = Back<MemDisk, Guided>;
 
@@ -270,12 +270,13 @@ fn take(alloc: Global, front: &mut TestFront) -> &'static str
     }
 }
 
-// Which buffer a tick completes.
-fn tick(front: &mut TestFront, now: u64) -> Option<u32>
+// Which buffer the next tick completes.
+fn tick<R: Wait + Clock>(rt: &R, front: &mut TestFront, told: &Guided) -> Option<u32>
+    requires { told.now ≡ front.old.guide }
     ensures { front.new ≡ front.old }
 {
-    match front.tick(now) {
-        Tick::Completed(index) => Some(index),
+    match front.tick(rt, told) {
+        Some(Tick::Completed(index)) => Some(index),
         _ => None,
     }
 }
@@ -293,13 +294,14 @@ fn bring(back: &mut TestBack) -> &'static str
 }
 
 // Three frames are completed, and two fill the ring.
-fn fill_ring(rt: &impl Abort, alloc: Global, front: &mut TestFront)
+fn fill_ring<R: Abort + Wait + Clock>(rt: &R, alloc: Global, front: &mut TestFront, told: &Guided)
+    requires { told.now ≡ front.old.guide }
     ensures { front.new ≡ front.old }
 {
     same!(rt; take(alloc, front), "queue");
-    same!(rt; tick(front, 0), Some(0));
-    same!(rt; tick(front, 1), Some(1));
-    same!(rt; tick(front, 2), Some(2));
+    same!(rt; tick(rt, front, told), Some(0));
+    same!(rt; tick(rt, front, told), Some(1));
+    same!(rt; tick(rt, front, told), Some(2));
     same!(rt; take(alloc, front), "frame");
     same!(rt; take(alloc, front), "HandFull");
     holds!(rt; front.put_back().is_ok());
@@ -331,11 +333,12 @@ fn store_and_bring(rt: &impl Abort, back: &mut TestBack)
 }
 
 // The third frame is taken, and then a fourth, whose buffer stays in the hand.
-fn take_last(rt: &impl Abort, alloc: Global, front: &mut TestFront)
+fn take_last<R: Abort + Wait + Clock>(rt: &R, alloc: Global, front: &mut TestFront, told: &Guided)
+    requires { told.now ≡ front.old.guide }
     ensures { front.new ≡ front.old }
 {
     holds!(rt; front.put_back().is_ok());
-    same!(rt; tick(front, 3), Some(3));
+    same!(rt; tick(rt, front, told), Some(3));
     same!(rt; take(alloc, front), "frame");
 }
 
@@ -349,14 +352,15 @@ fn a_front_and_a_back_work_by_turns(rt: HostRuntime) {
     let Ok((to, from)) = RingBuffer::new(alloc, 2) else {
         panic!(rt; "memory for a ring")
     };
-    let begun = Begun::of(&queue, &device, &to);
-    let mut front = Front::new(device, queue, table, to);
+    let told = guide(20, 0);
+    let begun = Begun::of(&queue, &device, &to, &told);
+    let mut front = Front::new(device, queue, table, to, &told);
     let mut back = Back::new(desk, from);
-    fill_ring(&rt, alloc, &mut front);
+    fill_ring(&rt, alloc, &mut front, &told);
     fill_desk(&rt, &mut back);
     same!(rt; take(alloc, &mut front), "frame");
     store_and_bring(&rt, &mut back);
-    take_last(&rt, alloc, &mut front);
+    take_last(&rt, alloc, &mut front, &told);
     let ended = end(begun, front.into_parts(), back);
     same!(rt; (ended.given_up, ended.left), (0, 1));
     same!(rt; (ended.missed, ended.failed), (0, 0));

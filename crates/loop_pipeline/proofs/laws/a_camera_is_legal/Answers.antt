@@ -6,7 +6,7 @@ use Rattle.loop_desk.proofs.DiskFailures.{failures-are}
 use Rattle.loop_pipeline.proofs.laws.a_camera_is_legal.Goals as goal
 
 pub returns : goal.returns
-returns g c = λ given_up left missed failed kept. record {
+returns g c = λ given_up left missed failed over kept. record {
   replays = λ s stands now.
       let told = answers-are g.D.Disk.medium _ _ kept.calls s kept.goes stands now in
       let same = blind (rules_of c.args.before.now.desk) s kept.calls in
