@@ -1,5 +1,5 @@
 -- A frame taken into the ring, and a buffer queued again, as what each adds to what a front has done.
-use Rattle.std.proofs.Common.{◌≡◌, ◌++◌, ℕ, Bool, true, false, cond, List, [], ◌∷◌, map, Option, Some, None, Result, Ok, Err, refl, sym, ap, ◌∙◌, option_to_list}
+use Rattle.std.proofs.Common.{◌≡◌, ◌<◌, ◌++◌, ℕ, Bool, true, false, cond, List, [], ◌∷◌, map, Option, Some, None, Result, Ok, Err, refl, sym, ap, ◌∙◌, subst, option_to_list}
 use Rattle.std.specs.Prelude.{slice_get}
 use Rattle.std.proofs.lemmas.List.{append-nil, map-append}
 use Rattle.std.specs.List.{flat_map, list_any}
@@ -11,12 +11,17 @@ use Rattle.loop_plane.specs.Plane.{Plane}
 use Rattle.loop_plane.specs.declared.memory.Memory.{Memory}
 use Rattle.loop_record.specs.declared.frame.Frame.{Frame}
 use Rattle.loop_record.specs.Recording.{Picture, picture}
-use Rattle.loop_record.specs.Turns.{EachIn}
+use Rattle.loop_record.specs.Turns.{EachIn, after_all}
 use Rattle.loop_vb2.specs.declared.buffer.Buffer.{Buffer}
 use Rattle.loop_vb2.specs.declared.planes.PlaneSet.{PlaneSet}
-use Rattle.loop_vb2.specs.Buffers.{handed_over}
-use Rattle.loop_vb2.specs.Events.{Event, after_event, dqbuf, stops}
-use Rattle.loop_vb2.specs.State.{Lined, QueueState}
+use Rattle.loop_vb2.specs.declared.state.BufferState.TheVariants.{Dequeued}
+use Rattle.loop_vb2.specs.Buffers.{dequeued_from, handed_over, queued_with, state_at}
+use Rattle.loop_vb2.specs.Effects.{awake, device_runs, settle_device, with_buffer}
+use Rattle.loop_vb2.proofs.Lines.{tested}
+use Rattle.loop_vb2.proofs.Owners.{first_is_ended}
+use Rattle.loop_vb2.proofs.States.{length-changed, state_at-changed}
+use Rattle.loop_vb2.specs.Events.{Event, MayHappen, after_event, dqbuf, stops}
+use Rattle.loop_vb2.specs.State.{Body, Lined, QueueState}
 use Rattle.loop_ioctl.specs.Attached.{values_by_fd}
 use Rattle.loop_ioctl.specs.Calls.{IoctlState}
 use Rattle.loop_capture.specs.declared.source.Next.{Next}
@@ -30,7 +35,7 @@ use Rattle.loop_desk.specs.Front.{Front, HandState, IsDequeue, IsOneEvent, IsReq
 use Rattle.loop_desk.proofs.Short.{hand_with}
 use Rattle.loop_desk.specs.Lane.{completed_frame, hand_frame}
 use Rattle.loop_desk.specs.Waiting.{IsCounted, frames_dequeued, shot}
-use Rattle.loop_pipeline.specs.Fronts.{emptied, frame_of, shown}
+use Rattle.loop_pipeline.specs.Fronts.{IsApart, IsOut, emptied, frame_of, shown}
 use Rattle.loop_pipeline.proofs.FrontRuns.{Adds}
 
 -- ---- a buffer that is dequeued
@@ -67,6 +72,45 @@ event-frames s kind index (Some b) is said =
     ap (λ x. shot s.body.shape x ++ []) is
     ∙ frame-if (was_given_up b.state) index (taken_frame s.body.shape b) (handed_over s.body.kind b.planes) (handed_over s.body.kind b.planes)
 
+-- it is out of the queue then
+changed-out : (s : QueueState) (kind : Memory) (index : ℕ) (b : Buffer Plane) → MayHappen s (dqbuf (Ok (buffer_answer kind index b)))
+    → IsOut (after_event s (dqbuf (Ok (buffer_answer kind index b)))).body index
+changed-out s kind index b said =
+    let bs = s.body.buffers in
+    let f = dequeued_from s.body.kind in
+    let within = (first_is_ended s index said.1).1 in (
+      subst (λ n. index < n) (sym (length-changed f bs index)) within,
+      state_at-changed f Dequeued bs index index (λ x. refl) within
+          ∙ ap (λ t. cond t Dequeued (state_at bs index)) (tested index index refl),
+    )
+
+emptied-apart : (body : Body Plane) (index : ℕ) (gone : Bool) (p : Picture) (planes others : Option (PlaneSet Plane))
+    → IsOut body index → IsApart body (emptied (cond gone (spent index planes) (full index p others)))
+emptied-apart body index true p planes others out = out
+emptied-apart body index false p planes others out = out
+
+taken-apart : (s : QueueState) (kind : Memory) (index : ℕ) (b : Option (Buffer Plane))
+    → slice_get s.body.buffers index ≡ b → IsOneEvent s (event-of kind index b)
+    → IsApart (after_all after_event s (event-of kind index b)).body (emptied (hand_with s.body index b))
+taken-apart s kind index None is said = absurd said
+taken-apart s kind index (Some b) is said =
+    emptied-apart (after_event s (dqbuf (Ok (buffer_answer kind index b)))).body index (was_given_up b.state)
+    (taken_frame s.body.shape b) (handed_over s.body.kind b.planes) (handed_over s.body.kind b.planes)
+    (changed-out s kind index b said)
+
+taken-streams : (s : QueueState) (kind : Memory) (index : ℕ) (b : Option (Buffer Plane))
+    → (after_all after_event s (event-of kind index b)).body.streaming ≡ s.body.streaming
+taken-streams s kind index None = refl
+taken-streams s kind index (Some b) = refl
+
+-- that a device starts leaves the stream on
+settled-streams : (b : Body Plane) → (settle_device b).streaming ≡ b.streaming
+settled-streams b = by (device_runs b)
+  where
+    by : (t : Bool) → (cond t (awake b) b).streaming ≡ b.streaming
+    by true = refl
+    by false = refl
+
 -- ---- a hand without its frame
 
 emptied-planes : (h : HandState) → planes_held (emptied h) ≡ planes_held h
@@ -98,9 +142,10 @@ module _ {S P A : Type 0} (gives : S → Next → List ℕ → S → Type 0) (m 
 
   -- the ring was looked at
   pub look-adds : (p q : Lined P) (h : Hand P A) (to up : Producer (Frame A) A AnyItems) (f : Front)
-      → q.body.shape ≡ p.body.shape → hand_frame f.hand ≡ [] → StandsFront m q table h f → ProducerLooked to up
+      → q.body.shape ≡ p.body.shape → hand_frame f.hand ≡ [] → IsApart f.queue.queue.body f.hand
+      → StandsFront m q table h f → ProducerLooked to up
       → Adds gives m table f.queue.queue d d p q h to up []
-  look-adds p q h to up f formed free stands looked = record {
+  look-adds p q h to up f formed free apart stands looked = record {
     events = [];
     legal = tt;
     flows = refl;
@@ -109,6 +154,8 @@ module _ {S P A : Type 0} (gives : S → Next → List ℕ → S → Type 0) (m 
     reached = refl;
     formed = formed;
     free = free;
+    apart = apart;
+    streams = refl;
     ring = looked.0;
     went = ap (map picture) looked.1 ∙ sym (append-nil (map picture (sent to)));
     source = refl;
@@ -117,12 +164,12 @@ module _ {S P A : Type 0} (gives : S → Next → List ℕ → S → Type 0) (m 
 
   -- a DQBUF was refused
   pub refused-adds : (q r : Lined P) (h k : Hand P A) (to up : Producer (Frame A) A AnyItems) (f : Front)
-      (fault : LaneFault) → r.body.shape ≡ q.body.shape → hand_frame f.hand ≡ [] → StandsFront m q table h f
-      → ProducerLooked to up
+      (fault : LaneFault) → r.body.shape ≡ q.body.shape → hand_frame f.hand ≡ [] → IsApart f.queue.queue.body f.hand
+      → StandsFront m q table h f → ProducerLooked to up
       → TurnsBeside m q h (dequeued (Err fault)) r k → Adds gives m table f.queue.queue d d q r k to up []
-  refused-adds q r h k to up f (Store fault) formed free stands looked turn =
-      let t = turn table f stands in look-adds q r k to up f formed free t.1 looked
-  refused-adds q r h k to up f (Queue e) formed free stands looked turn =
+  refused-adds q r h k to up f (Store fault) formed free apart stands looked turn =
+      let t = turn table f stands in look-adds q r k to up f formed free apart t.1 looked
+  refused-adds q r h k to up f (Queue e) formed free apart stands looked turn =
       let t = turn table f stands in record {
         events = dqbuf (Err e) ∷ [];
         legal = refused f.queue f.hand t.0;
@@ -132,6 +179,8 @@ module _ {S P A : Type 0} (gives : S → Next → List ℕ → S → Type 0) (m 
         reached = refl;
         formed = formed;
         free = free;
+        apart = apart;
+        streams = refl;
         ring = looked.0;
         went = ap (map picture) looked.1 ∙ sym (append-nil (map picture (sent to)));
         source = refl;
@@ -163,6 +212,8 @@ module _ {S P A : Type 0} (gives : S → Next → List ℕ → S → Type 0) (m 
         reached = refl;
         formed = formed;
         free = emptied-frame g.hand;
+        apart = taken-apart s (kind_of f.queue) index b refl one;
+        streams = taken-streams s (kind_of f.queue) index b;
         ring = joined looked.0 ring;
         went = ap (map picture) (sends ∙ ap (λ x. x ++ frame_of k) looked.1)
             ∙ (map-append picture (sent to) (frame_of k)
@@ -183,17 +234,17 @@ module _ {S P A : Type 0} (gives : S → Next → List ℕ → S → Type 0) (m 
 
   -- the hand's buffer was queued again, or that was refused
   pub put-adds : (q r : Lined P) (h k : Hand P A) (to : Producer (Frame A) A AnyItems) (f : Front)
-      (result : Result ℕ LaneFault) → r.body.shape ≡ q.body.shape → hand_frame f.hand ≡ [] → StandsFront m q table h f
-      → TurnsBeside m q h (requeued result) r k → Adds gives m table f.queue.queue d d q r k to to []
-  put-adds q r h k to f result formed free stands turn =
-      let t = turn table f stands in by f.queue f.hand result free t.0 t.1
+      (result : Result ℕ LaneFault) → r.body.shape ≡ q.body.shape → hand_frame f.hand ≡ [] → IsApart f.queue.queue.body f.hand
+      → StandsFront m q table h f → TurnsBeside m q h (requeued result) r k → Adds gives m table f.queue.queue d d q r k to to []
+  put-adds q r h k to f result formed free apart stands turn =
+      let t = turn table f stands in by f.queue f.hand result free apart t.0 t.1
     where
       same : map picture (sent to) ≡ map picture (sent to) ++ []
       same = sym (append-nil (map picture (sent to)))
 
-      plain : (j : IoctlState) (x : HandState) → hand_frame x ≡ []
+      plain : (j : IoctlState) (x : HandState) → hand_frame x ≡ [] → IsApart j.queue.body x
           → StandsFront m r table k (record { queue = j; hand = x }) → Adds gives m table j.queue d d q r k to to []
-      plain j x free stands = record {
+      plain j x free apart stands = record {
         events = [];
         legal = tt;
         flows = refl;
@@ -202,18 +253,21 @@ module _ {S P A : Type 0} (gives : S → Next → List ℕ → S → Type 0) (m 
         reached = refl;
         formed = formed;
         free = free;
+        apart = apart;
+        streams = refl;
         ring = ((refl, refl, refl, refl), refl);
         went = same;
         source = refl;
         shows = refl;
       }
 
-      by : (j : IoctlState) (x : HandState) (result : Result ℕ LaneFault) → hand_frame x ≡ [] → IsRequeue j x result
+      by : (j : IoctlState) (x : HandState) (result : Result ℕ LaneFault) → hand_frame x ≡ [] → IsApart j.queue.body x
+          → IsRequeue j x result
           → StandsFront m r table k (front_after {P = P} {A = A} m (record { queue = j; hand = x }) (requeued result))
           → Adds gives m table j.queue d d q r k to to []
-      by j empty (Ok index) free said stands = absurd (cc)
-      by j (full i p planes) result free said stands = absurd (cc)
-      by j (spent i planes) (Ok index) free said stands = record {
+      by j empty (Ok index) free apart said stands = absurd (cc)
+      by j (full i p planes) result free apart said stands = absurd (cc)
+      by j (spent i planes) (Ok index) free apart said stands = record {
         events = requeue_event (kind_of j) (spent i planes) (Ok index);
         legal = ((said.0, tt), tt);
         flows = refl;
@@ -222,12 +276,14 @@ module _ {S P A : Type 0} (gives : S → Next → List ℕ → S → Type 0) (m 
         reached = refl;
         formed = formed;
         free = refl;
+        apart = tt;
+        streams = settled-streams (with_buffer (queued_with planes) i j.queue.body);
         ring = ((refl, refl, refl, refl), refl);
         went = same;
         source = refl;
         shows = refl;
       }
-      by j (spent i planes) (Err (Queue e)) free said stands = record {
+      by j (spent i planes) (Err (Queue e)) free apart said stands = record {
         events = requeue_event (kind_of j) (spent i planes) (Err (Queue e));
         legal = ((said.0, tt), tt);
         flows = refl;
@@ -236,10 +292,12 @@ module _ {S P A : Type 0} (gives : S → Next → List ℕ → S → Type 0) (m 
         reached = refl;
         formed = formed;
         free = refl;
+        apart = apart;
+        streams = refl;
         ring = ((refl, refl, refl, refl), refl);
         went = same;
         source = refl;
         shows = refl;
       }
-      by j (spent i planes) (Err (Store fault)) free said stands = absurd said.0
-      by j empty (Err fault) free said stands = plain j empty free stands
+      by j (spent i planes) (Err (Store fault)) free apart said stands = absurd said.0
+      by j empty (Err fault) free apart said stands = plain j empty free apart stands

@@ -1,5 +1,5 @@
 -- What a front has done, and a step more.
-use Rattle.std.proofs.Common.{◌≡◌, inl, inr, ◌||◌, ◌+◌, ◌≤◌, ℕ, Bool, true, false, List, [], ◌∷◌, ◌++◌, length, map, refl, sym, ap, ◌∙◌, subst, option_to_list, arith}
+use Rattle.std.proofs.Common.{◌≡◌, inl, inr, ◌||◌, ◌+◌, ◌<◌, ◌≤◌, ℕ, Bool, true, false, List, [], ◌∷◌, ◌++◌, length, map, refl, sym, ap, ◌∙◌, subst, option_to_list, arith}
 use Rattle.std.proofs.lemmas.Grind.{flat_map-append}
 use Rattle.std.proofs.lemmas.List.{append-nil, length-append, map-append}
 use Rattle.std.proofs.lemmas.List.Folds.{list_any-append}
@@ -16,7 +16,8 @@ use Rattle.loop_record.specs.Recording.{picture}
 use Rattle.loop_record.specs.Turns.{EachIn, after_all}
 use Rattle.loop_record.proofs.TurnRuns.{after-behind, each-behind, told-behind}
 use Rattle.loop_vb2.specs.Events.{Event, MayHappen, after_event, stops}
-use Rattle.loop_vb2.specs.State.{Lined, QueueState, StandsQueue}
+use Rattle.loop_vb2.specs.State.{Body, Lined, QueueState, StandsQueue}
+use Rattle.loop_vb2.proofs.PlaneMeanings.{length_read, state_read}
 use Rattle.loop_ioctl.specs.Attached.{values_by_fd}
 use Rattle.loop_capture.specs.declared.source.Next.{Next}
 use Rattle.loop_capture.specs.Ticks.{SeenDevice}
@@ -27,7 +28,7 @@ use Rattle.loop_desk.specs.Lane.{completed_frame, hand_frame, without_flags}
 use Rattle.loop_desk.specs.Waiting.{FramesAreKept, IsCounted, IsSoundQueue, QueuesStaySound, dequeued_frame, frames_dequeued, frames_waiting}
 use Rattle.loop_capture.specs.declared.device.Tick.{Tick}
 use Rattle.loop_capture.specs.declared.device.Tick.TheVariants.{Idle, Completed, Failed, Missed, Ended, WrongSize}
-use Rattle.loop_pipeline.specs.Fronts.{AreDue, AreTold, FrontKeeps, GoesOn, HasMoved, IsOpen, SeenFront, TickRecord, count_failed, count_missed, fails, is_last, misses, shown, shown_given}
+use Rattle.loop_pipeline.specs.Fronts.{AreDue, AreTold, FrontKeeps, GoesOn, HasMoved, IsApart, IsHeld, IsOpen, IsOut, SeenFront, TickRecord, count_failed, count_missed, fails, is_last, misses, shown, shown_given}
 
 add-assoc : (a b c : ℕ) → (a + b) + c ≡ a + (b + c)
 add-assoc a b c = omega arith
@@ -107,6 +108,8 @@ pub record Adds {S P A : Type 0} (gives : S → Next → List ℕ → S → Type
   pub reached : now.queue.queue ≡ after_all after_event s events
   pub formed : queue.body.shape ≡ old.body.shape
   pub free : hand_frame now.hand ≡ []
+  pub apart : IsApart now.queue.queue.body now.hand
+  pub streams : now.queue.queue.body.streaming ≡ s.body.streaming
   pub ring : SameProducer to up
   pub went : map picture (sent up) ≡ map picture (sent to) ++ frames_dequeued s events
   pub source : GoesOn gives d given e
@@ -150,6 +153,8 @@ module _ {S P G A : Type 0} (gives : S → Next → List ℕ → S → Type 0) (
     stands = record { queue = is.stands; hand = refl; out = is.inside ∙ sym (none-by-fd is.state.queue.body.kind) };
     reached = refl;
     free = refl;
+    apart = tt;
+    streams = refl;
     went = ap (map picture) none;
     given = [];
     source = refl;
@@ -171,6 +176,8 @@ module _ {S P G A : Type 0} (gives : S → Next → List ℕ → S → Type 0) (
         last = last;
         stood = has.stood;
         stands = subst (StandsQueue m queue) has.reached has.stands.queue.queue;
+        streams = streaming-of queue has.now.queue.queue has.stands.queue.queue
+            ∙ (has.streams ∙ sym (streaming-of seen.queue has.first has.stood));
         given = has.given;
         source = has.source;
         told = has.told;
@@ -184,6 +191,28 @@ module _ {S P G A : Type 0} (gives : S → Next → List ℕ → S → Type 0) (
     where
       shape-of : (q : Lined P) (s : QueueState) → StandsQueue m q s → s.body.shape ≡ q.body.shape
       shape-of q s stands = sym (ap (λ b. b.shape) stands.shown.body)
+
+      streaming-of : (q : Lined P) (s : QueueState) → StandsQueue m q s → q.body.streaming ≡ s.body.streaming
+      streaming-of q s stands = ap (λ b. b.streaming) stands.shown.body
+
+  -- a buffer that isn't in the queue is in the hand, without its frame
+  pub held : (seen : SeenFront S P G A) (device : SeenDevice S) (queue : Lined P) (table : Fds P) (h : Hand P A)
+      (to : Producer (Frame A) A AnyItems) (ticks missed failed : ℕ) (over : Bool)
+      → HasMoved gives m due ends seen device queue table h to ticks missed failed over
+      → IsHeld queue h
+  held seen device queue table h to ticks missed failed over has =
+      by h has.stands.hand
+    where
+      out : (i : ℕ) → IsOut has.now.queue.queue.body i → IsOut queue.body i
+      out i is =
+          let read = subst (λ (b : Body Plane). IsOut b i) (sym has.stands.queue.queue.shown.body) is in
+          (subst (λ n. i < n) (length_read m queue.body.buffers) read.0, sym (state_read m queue.body.buffers i) ∙ read.1)
+
+      by : (k : Hand P A) → hand_state m k ≡ has.now.hand → IsHeld queue k
+      by hand.Empty is = tt
+      by (hand.Frame i frame planes) is =
+          absurd (let none : hand_frame (hand_state m (hand.Frame i frame planes)) ≡ [] = ap hand_frame is ∙ has.free in cc)
+      by (hand.Spent i planes) is = out i (subst (IsApart has.now.queue.queue.body) (sym is) has.apart)
 
   -- a front whose hand is empty leaves what another one may begin with
   pub again : (seen : SeenFront S P G A) (device : SeenDevice S) (queue : Lined P) (table : Fds P) (h : Hand P A)
@@ -266,6 +295,8 @@ module _ {S P G A : Type 0} (gives : S → Next → List ℕ → S → Type 0) (
         stands = adds.stands;
         reached = adds.reached ∙ (ap (λ t. after_all after_event t new) here ∙ sym (after-behind after_event s old new));
         free = adds.free;
+        apart = adds.apart;
+        streams = adds.streams ∙ before.streams;
         went = adds.went ∙ (ap (λ l. l ++ frames_dequeued before.now.queue.queue new) before.went
             ∙ (ap (λ t. frames_dequeued s old ++ frames_dequeued t new) here
             ∙ sym (told-behind after_event dequeued_frame s old new)));

@@ -84,6 +84,7 @@ module _ {S D P G A : Type 0} (medium : D → Medium) (gives : S → Next → Li
         last = front.last;
         stood = front.stood;
         stands = front.stands;
+        streams = front.streams;
         came = keeps.came ++ map unasked items;
         whole = front.whole ∙ ap (λ l. map without_flags l ++ map without_flags (frames_waiting queue front.last))
             (sym (fed.whole ∙ all));

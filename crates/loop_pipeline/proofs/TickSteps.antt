@@ -1,5 +1,5 @@
 -- A tick, as what it adds to what a front has done.
-use Rattle.std.proofs.Common.{◌≡◌, ◌⊎◌, inl, inr, ◌++◌, ℕ, Bool, true, false, cond, List, [], ◌∷◌, length, map, Option, Some, None, refl, sym, ap, ◌∙◌, subst, option_to_list}
+use Rattle.std.proofs.Common.{◌≡◌, ◌⊎◌, inl, inr, ◌++◌, ℕ, ◌<◌, ◌==◌, Bool, true, false, cond, List, [], ◌∷◌, length, map, Option, Some, None, refl, sym, ap, ◌∙◌, subst, option_to_list}
 use Rattle.std.proofs.lemmas.List.{append-nil}
 use Rattle.std.specs.List.{flat_map, list_any}
 use Rattle.rtrb.specs.declared.AnyItems.{AnyItems}
@@ -10,12 +10,20 @@ use Rattle.loop_plane.specs.Plane.{Plane}
 use Rattle.loop_record.specs.declared.frame.Frame.{Frame}
 use Rattle.loop_record.specs.Recording.{picture}
 use Rattle.loop_record.specs.Turns.{EachIn, after_all}
+use Rattle.loop_vb2.specs.declared.buffer.Buffer.{Buffer}
 use Rattle.loop_vb2.specs.declared.buffer.Stamp.{Stamp}
+use Rattle.loop_vb2.specs.declared.state.BufferState.{BufferState}
+use Rattle.loop_vb2.specs.declared.state.BufferState.TheVariants.{Dequeued, Done, Error}
+use Rattle.loop_vb2.specs.Buffers.{completed_by, failed_with, state_at}
 use Rattle.loop_vb2.specs.Effects.{longest_active, on_body}
 use Rattle.loop_vb2.proofs.Short.{body_seen}
-use Rattle.loop_vb2.specs.Events.{MayHappen, after_event, stops}
-use Rattle.loop_vb2.specs.Planes.{frame_size}
-use Rattle.loop_vb2.specs.State.{Lined, QueueState}
+use Rattle.loop_vb2.specs.Events.{MayHappen, after_event, complete, fail, stops}
+use Rattle.loop_vb2.specs.Owner.{Device, owner}
+use Rattle.loop_vb2.specs.Planes.{frame_size, slot_filled}
+use Rattle.loop_vb2.specs.State.{InStep, Lined, QueueState}
+use Rattle.loop_vb2.proofs.Lines.{same}
+use Rattle.loop_vb2.proofs.Owners.{handed_over_by_owners}
+use Rattle.loop_vb2.proofs.States.{length-changed}
 use Rattle.loop_ioctl.specs.Attached.{IsLinked, values_by_fd}
 use Rattle.loop_ioctl.specs.Names.{Names}
 use Rattle.loop_ioctl.proofs.Device.{completed_linked, failed_linked}
@@ -26,10 +34,10 @@ use Rattle.loop_capture.specs.declared.source.Next.{Next}
 use Rattle.loop_capture.specs.declared.source.Next.TheVariants.{More, End, Bad}
 use Rattle.loop_capture.specs.Ticks.{SeenDevice, Ticks, Took, end_of, sequence_after, sequence_of, tick_events, tick_of}
 use Rattle.loop_desk.specs.declared.hand.Hand.{Hand}
-use Rattle.loop_desk.specs.Front.{Front, StandsFront, planes_held}
+use Rattle.loop_desk.specs.Front.{Front, HandState, StandsFront, empty, full, planes_held, spent}
 use Rattle.loop_desk.specs.Lane.{completed_frame, hand_frame}
 use Rattle.loop_desk.specs.Waiting.{IsCounted, frames_dequeued}
-use Rattle.loop_pipeline.specs.Fronts.{GaveBy, TickRecord, IsToldBy, shown, shown_given}
+use Rattle.loop_pipeline.specs.Fronts.{GaveBy, IsApart, IsOut, TickRecord, IsToldBy, shown, shown_given}
 use Rattle.loop_pipeline.proofs.FrontRuns.{TickAdds}
 
 -- for such a tick the source was asked
@@ -124,6 +132,57 @@ end-kind Missed stamp bytes s = refl
 end-kind Ended stamp bytes s = refl
 end-kind WrongSize stamp bytes s = refl
 
+end-streams : (tick : Tick) (stamp : Stamp) (bytes : List ℕ) (s : QueueState)
+    → (after_all after_event s (end_of tick stamp bytes)).body.streaming ≡ s.body.streaming
+end-streams (Completed i) stamp bytes s = refl
+end-streams (Failed i) stamp bytes s = refl
+end-streams Idle stamp bytes s = refl
+end-streams Missed stamp bytes s = refl
+end-streams Ended stamp bytes s = refl
+end-streams WrongSize stamp bytes s = refl
+
+-- ---- a buffer that is out of the queue stays so
+
+-- it isn't the one that the device ends
+kept-out : (bs : List (Buffer Plane)) (k i : ℕ) (state : BufferState) → state_at bs k ≡ Dequeued
+    → owner (state_at bs i) ≡ Device → cond (k == i) state (state_at bs k) ≡ Dequeued
+kept-out bs k i state out device = by (k == i) refl
+  where
+    by : (t : Bool) → (k == i) ≡ t → cond t state (state_at bs k) ≡ Dequeued
+    by false e = out
+    by true e = absurd (let it : state_at bs i ≡ Dequeued = subst (λ n. state_at bs n ≡ Dequeued) (same k i e) out in
+        let both : owner Dequeued ≡ Device = ap owner (sym it) ∙ device in cc)
+
+stays-out : (tick : Tick) (stamp : Stamp) (bytes : List ℕ) (s : QueueState) → InStep s.body
+    → EachIn after_event MayHappen s (end_of tick stamp bytes) → (k : ℕ) → IsOut s.body k
+    → IsOut (after_all after_event s (end_of tick stamp bytes)).body k
+stays-out (Completed i) stamp bytes s step may k out =
+    let law = handed_over_by_owners s (complete i stamp bytes None) step may.0 in
+    let bs = s.body.buffers in (
+      subst (λ n. k < n) (sym (length-changed (completed_by slot_filled s.body.shape stamp bytes) bs i)) out.0,
+      law.1 k ∙ kept-out bs k i Done out.1 law.0,
+    )
+stays-out (Failed i) stamp bytes s step may k out =
+    let law = handed_over_by_owners s (fail i stamp None) step may.0 in
+    let bs = s.body.buffers in (
+      subst (λ n. k < n) (sym (length-changed (failed_with stamp) bs i)) out.0,
+      law.1 k ∙ kept-out bs k i Error out.1 law.0,
+    )
+stays-out Idle stamp bytes s step may k out = out
+stays-out Missed stamp bytes s step may k out = out
+stays-out Ended stamp bytes s step may k out = out
+stays-out WrongSize stamp bytes s step may k out = out
+
+stays-apart : (tick : Tick) (stamp : Stamp) (bytes : List ℕ) (s : QueueState) → InStep s.body
+    → EachIn after_event MayHappen s (end_of tick stamp bytes) → (h : HandState) → IsApart s.body h
+    → IsApart (after_all after_event s (end_of tick stamp bytes)).body h
+stays-apart tick stamp bytes s step may empty is = tt
+stays-apart tick stamp bytes s step may (full k p planes) is = stays-out tick stamp bytes s step may k is
+stays-apart tick stamp bytes s step may (spent k planes) is = stays-out tick stamp bytes s step may k is
+
+seen-in-step : (s : QueueState) → InStep s.body → InStep (on_body body_seen s).body
+seen-in-step s step = record { only_streaming = step.only_streaming; each = step.each }
+
 module _ {S P A : Type 0} (gives : S → Next → List ℕ → S → Type 0) (m : P → Plane) (table : Fds P) (now : ℕ)
     (d e : SeenDevice S) (before after : Lined P) (h : Hand P A) (to : Producer (Frame A) A AnyItems) where
   abbrev given-at : Tick → ℕ → List ℕ → TickRecord
@@ -131,9 +190,9 @@ module _ {S P A : Type 0} (gives : S → Next → List ℕ → S → Type 0) (m 
 
   -- a tick that changes nothing
   nothing-adds : (tick : Tick) (f : Front) → GaveBy gives tick 0 [] d e → flat_map shown_given (given-at tick 0 [] ∷ []) ≡ []
-      → after ≡ before → hand_frame f.hand ≡ [] → StandsFront m before table h f
+      → after ≡ before → hand_frame f.hand ≡ [] → IsApart f.queue.queue.body f.hand → StandsFront m before table h f
       → TickAdds gives m table f.queue.queue d e before after h to to now tick
-  nothing-adds tick f gave none same free stands = (
+  nothing-adds tick f gave none still free apart stands = (
     given-at tick 0 [],
     refl,
     refl,
@@ -142,10 +201,12 @@ module _ {S P A : Type 0} (gives : S → Next → List ℕ → S → Type 0) (m 
       legal = tt;
       flows = refl;
       now = f;
-      stands = subst (λ q. StandsFront m q table h f) (sym same) stands;
+      stands = subst (λ q. StandsFront m q table h f) (sym still) stands;
       reached = refl;
-      formed = ap (λ q. q.body.shape) same;
+      formed = ap (λ q. q.body.shape) still;
       free = free;
+      apart = apart;
+      streams = refl;
       ring = ((refl, refl, refl, refl), refl);
       went = sym (append-nil (map picture (sent to)));
       source = (e, gave, refl);
@@ -177,10 +238,10 @@ module _ {S P A : Type 0} (gives : S → Next → List ℕ → S → Type 0) (m 
 
   -- a tick for which the source was asked
   took-adds : (tick : Tick) (f : Front) → after.body.shape ≡ before.body.shape → Asks tick
-      → hand_frame f.hand ≡ [] → StandsFront m before table h f
+      → hand_frame f.hand ≡ [] → IsApart f.queue.queue.body f.hand → StandsFront m before table h f
       → (took : Took gives m now tick d e before after f.queue.queue) → GaveBy gives tick (sequence_of d.next f.queue.queue) took.bytes d e
       → TickAdds gives m table f.queue.queue d e before after h to to now tick
-  took-adds tick f formed asks free stands took gave =
+  took-adds tick f formed asks free apart stands took gave =
       let s = f.queue.queue in
       let bytes = took.bytes in
       let told = told-by tick took.answer (longest_active s) took.tick_is asks in
@@ -201,6 +262,9 @@ module _ {S P A : Type 0} (gives : S → Next → List ℕ → S → Type 0) (m 
           reached = refl;
           formed = formed;
           free = free;
+          apart = stays-apart tick stamp bytes (on_body body_seen s) (seen-in-step s stands.queue.queue.shown.in_step)
+              took.happen.1 f.hand apart;
+          streams = end-streams tick stamp bytes (on_body body_seen s);
           ring = ((refl, refl, refl, refl), refl);
           went = sym (append-nil (map picture (sent to))) ∙ ap (λ l. map picture (sent to) ++ l) (sym (end-frames tick stamp bytes (on_body body_seen s)));
           source = (e, gave, refl);
@@ -222,21 +286,21 @@ module _ {S P A : Type 0} (gives : S → Next → List ℕ → S → Type 0) (m 
   )
 
   pub tick-adds : (tick : Tick) (f : Front) → after.body.shape ≡ before.body.shape → hand_frame f.hand ≡ []
-      → StandsFront m before table h f → Ticks gives m now tick d e before after
+      → IsApart f.queue.queue.body f.hand → StandsFront m before table h f → Ticks gives m now tick d e before after
       → TickAdds gives m table f.queue.queue d e before after h to to now tick
-  tick-adds WrongSize f formed free stands ticks =
-      let t = ticks f.queue.queue stands.queue.queue in nothing-adds WrongSize f t.1 refl t.2 free stands
-  tick-adds Idle f formed free stands ticks =
-      let t = ticks f.queue.queue stands.queue.queue in nothing-adds Idle f t.2 refl t.3 free stands
-  tick-adds (Completed i) f formed free stands ticks =
+  tick-adds WrongSize f formed free apart stands ticks =
+      let t = ticks f.queue.queue stands.queue.queue in nothing-adds WrongSize f t.1 refl t.2 free apart stands
+  tick-adds Idle f formed free apart stands ticks =
+      let t = ticks f.queue.queue stands.queue.queue in nothing-adds Idle f t.2 refl t.3 free apart stands
+  tick-adds (Completed i) f formed free apart stands ticks =
       let t = ticks f.queue.queue stands.queue.queue in
-      took-adds (Completed i) f formed tt free stands t (gave-of (Completed i) f.queue.queue tt t)
-  tick-adds (Failed i) f formed free stands ticks =
+      took-adds (Completed i) f formed tt free apart stands t (gave-of (Completed i) f.queue.queue tt t)
+  tick-adds (Failed i) f formed free apart stands ticks =
       let t = ticks f.queue.queue stands.queue.queue in
-      took-adds (Failed i) f formed tt free stands t (gave-of (Failed i) f.queue.queue tt t)
-  tick-adds Missed f formed free stands ticks =
+      took-adds (Failed i) f formed tt free apart stands t (gave-of (Failed i) f.queue.queue tt t)
+  tick-adds Missed f formed free apart stands ticks =
       let t = ticks f.queue.queue stands.queue.queue in
-      took-adds Missed f formed tt free stands t (gave-of Missed f.queue.queue tt t)
-  tick-adds Ended f formed free stands ticks =
+      took-adds Missed f formed tt free apart stands t (gave-of Missed f.queue.queue tt t)
+  tick-adds Ended f formed free apart stands ticks =
       let t = ticks f.queue.queue stands.queue.queue in
-      took-adds Ended f formed tt free stands t (gave-of Ended f.queue.queue tt t)
+      took-adds Ended f formed tt free apart stands t (gave-of Ended f.queue.queue tt t)

@@ -42,6 +42,7 @@ pub record CameraKeeps {S D P : Type 0} (medium : D → Medium) (gives : S → N
   pub last : QueueState
   pub stood : StandsQueue meaning old.queue first
   pub stands : StandsQueue meaning new.queue last
+  pub streams : new.queue.body.streaming ≡ old.queue.body.streaming
   pub came : List Came
   pub whole : map without_flags (frames_waiting old.queue first) ++ completed
       ≡ map without_flags (map picture_of came) ++ map without_flags (frames_waiting new.queue last)

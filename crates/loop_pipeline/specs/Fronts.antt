@@ -1,5 +1,5 @@
 -- What one thread keeps that has a camera's device, its queue and the end of a ring.
-use Rattle.std.specs.Prelude.{◌≡◌, ◌≢◌, ◌⊎◌, ℕ, ◌+◌, ◌^◌, ◌≤◌, Bool, true, false, List, [], ◌∷◌, ◌++◌, length, map}
+use Rattle.std.specs.Prelude.{◌≡◌, ◌≢◌, ◌⊎◌, ℕ, ◌+◌, ◌^◌, ◌<◌, ◌≤◌, Bool, true, false, List, [], ◌∷◌, ◌++◌, length, map}
 use Rattle.std.specs.Global.{Global}
 use Rattle.std.specs.List.{flat_map, list_any}
 use Rattle.rtrb.specs.declared.AnyItems.{AnyItems}
@@ -11,9 +11,11 @@ use Rattle.loop_record.specs.declared.frame.Frame.{Frame}
 use Rattle.loop_record.specs.declared.geometry.PixelFormat.{PixelFormat}
 use Rattle.loop_record.specs.Recording.{Picture, picture}
 use Rattle.loop_record.specs.Turns.{EachIn, after_all}
+use Rattle.loop_vb2.specs.declared.state.BufferState.TheVariants.{Dequeued}
+use Rattle.loop_vb2.specs.Buffers.{state_at}
 use Rattle.loop_vb2.specs.Events.{Event, after_event, stops}
 use Rattle.loop_vb2.specs.First.{shape_of}
-use Rattle.loop_vb2.specs.State.{Lined, QueueState, StandsQueue}
+use Rattle.loop_vb2.specs.State.{Body, Lined, QueueState, StandsQueue}
 use Rattle.loop_ioctl.specs.Calls.{IoctlState, StandsIoctl}
 use Rattle.loop_capture.specs.declared.device.Tick.{Tick}
 use Rattle.loop_capture.specs.declared.device.Tick.TheVariants.{Idle, Completed, Failed, Missed, Ended, WrongSize}
@@ -137,6 +139,16 @@ pub record IsOpen {P : Type 0} (meaning : P → Plane) (queue : Lined P) (table 
   pub inside : state.out ≡ []
   pub shaped : IsShaped queue
 
+-- the application has dequeued the buffer of this index
+abbrev pub IsOut : {P : Type 0} → Body P → ℕ → Type 0
+IsOut body index = (index < length body.buffers) × (state_at body.buffers index ≡ Dequeued)
+
+-- a buffer in the hand is out of the queue, and its frame is gone
+abbrev pub IsHeld : {P A : Type 0} → Lined P → Hand P A → Type 0
+IsHeld queue hand.Empty = Unit {0}
+IsHeld queue (hand.Frame index frame planes) = ⊥
+IsHeld queue (hand.Spent index planes) = IsOut queue.body index
+
 -- What waited and then what the device completed is what was pushed into the ring, in order and with all bytes, and
 -- then what waits now. What the device completed is what its source gave, at the times that are due.
 pub record FrontKeeps {S P G A : Type 0} (gives : S → Next → List ℕ → S → Type 0) (meaning : P → Plane)
@@ -147,6 +159,7 @@ pub record FrontKeeps {S P G A : Type 0} (gives : S → Next → List ℕ → S 
   pub last : QueueState
   pub stood : StandsQueue meaning seen.queue first
   pub stands : StandsQueue meaning queue last
+  pub streams : queue.body.streaming ≡ seen.queue.body.streaming
   pub given : List TickRecord
   pub source : GoesOn gives seen.device given device
   pub told : AreTold due ends missed failed over given
@@ -163,12 +176,13 @@ made_of begun = record {
   guide = begun.guide.value;
 }
 
--- So it is of the parts that a front leaves; and if no buffer is in its hand, another front may begin with them.
+-- So it is of the parts that a front leaves; and another front may begin with them, unless a buffer is in its hand.
 pub record Leaves {S P G A : Type 0} (gives : S → Next → List ℕ → S → Type 0) (meaning : P → Plane)
     (due : ℕ → ℕ → Type 0) (ends : ℕ → Type 0) (seen : SeenFront S P G A) (parts : FrontParts S P A) : Type 0 where
   pub keeps : FrontKeeps gives meaning due ends seen parts.device parts.queue parts.to parts.missed parts.failed
       parts.over
   pub again : parts.hand ≡ hand.Empty → IsOpen meaning parts.queue parts.table
+  pub held : IsHeld parts.queue parts.hand
 
 -- ---- to another thread and back (private contracts alone)
 
@@ -201,6 +215,12 @@ emptied (full index p planes) = spent index planes
 emptied (spent index planes) = spent index planes
 emptied empty = empty
 
+-- a buffer in the hand is out of the queue
+abbrev pub IsApart : Body Plane → HandState → Type 0
+IsApart body empty = Unit {0}
+IsApart body (full index p planes) = IsOut body index
+IsApart body (spent index planes) = IsOut body index
+
 -- The queue's events since the front was made: each may happen at its point, none stops the stream, the frames that
 -- they dequeued are in the ring, and those that they completed are the ticks'.
 pub record HasMoved {S P G A : Type 0} (gives : S → Next → List ℕ → S → Type 0) (meaning : P → Plane)
@@ -220,6 +240,8 @@ pub record HasMoved {S P G A : Type 0} (gives : S → Next → List ℕ → S �
   pub stands : StandsFront meaning queue table hand now
   pub reached : now.queue.queue ≡ after_all after_event first events
   pub free : hand_frame now.hand ≡ []
+  pub apart : IsApart now.queue.queue.body now.hand
+  pub streams : now.queue.queue.body.streaming ≡ first.body.streaming
   pub went : map picture (sent to) ≡ frames_dequeued first events
   pub given : List TickRecord
   pub source : GoesOn gives seen.device given device

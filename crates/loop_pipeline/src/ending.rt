@@ -4,7 +4,7 @@ ghost use Rattle.std.specs.Prelude.{◌≡◌};
 ghost use Rattle.rtrb.specs.Ring.{IsPair};
 ghost use Rattle.loop_desk.specs.declared.hand.Hand.TheVariants.{Empty};
 ghost use Rattle.loop_pipeline.specs.Cameras.{CameraKeeps};
-ghost use Rattle.loop_pipeline.specs.Fronts.{IsOpen, Leaves, made_of};
+ghost use Rattle.loop_pipeline.specs.Fronts.{IsHeld, IsOpen, Leaves, made_of};
 
 use crate::{Back, BackParts, Begun, FrontParts, Guide};
 use loop_capture::{Device, FrameSource};
@@ -60,6 +60,7 @@ pub fn end<S: FrameSource + Drop, D: Disk + Drop, P: PlaneMemory, G: Guide, A: A
         (record { device = result.device; queue = result.queue; desk = result.desk })
         result.given_up result.left result.missed result.failed result.over }
     ensures again { result.hand ≡ Empty → IsOpen P.plane result.queue result.table }
+    ensures held { IsHeld result.queue result.hand }
     ensures desk { result.desk ≡ back.desk }
     ensures over { result.over ≡ front.over }
 {

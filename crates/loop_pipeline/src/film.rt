@@ -5,7 +5,7 @@ ghost use Rattle.loop_desk.specs.declared.hand.Hand.TheVariants.{Empty};
 ghost use Rattle.loop_pipeline.specs.Cameras.{CameraKeeps};
 ghost use Rattle.loop_pipeline.specs.Returns.{GivesBack};
 ghost use Rattle.rtrb.specs.Ring.{IsPair, sent};
-ghost use Rattle.loop_pipeline.specs.Fronts.{IsOpen, Leaves, LeavesCarried, made_of};
+ghost use Rattle.loop_pipeline.specs.Fronts.{IsHeld, IsOpen, Leaves, LeavesCarried, made_of};
 
 use crate::bell::Bell;
 use crate::{
@@ -441,6 +441,7 @@ fn end_both<S: FrameSource + Drop, D: Disk + Drop, P: PlaneMemory, G: Guide, W: 
         (record { device = result.device; queue = result.queue; desk = result.desk })
         result.given_up result.left result.missed result.failed result.over }
     ensures again { result.hand ≡ Empty → IsOpen P.plane result.queue result.table }
+    ensures held { IsHeld result.queue result.hand }
 {
     let Left {
         device,
@@ -498,6 +499,7 @@ pub fn film_camera<
         e.given_up e.left e.missed e.failed e.over) }
     ensures ended { IfOk result (λ e. e.over ≡ true) }
     ensures again { IfOk result (λ e. e.hand ≡ Empty → IsOpen P.plane e.queue e.table) }
+    ensures held { IfOk result (λ e. IsHeld e.queue e.hand) }
     ensures refused { IfErr result (GivesBack D.medium S.next_gives P.plane G.asks
         (G.due guide.now) (G.ends guide.now) camera) }
 {

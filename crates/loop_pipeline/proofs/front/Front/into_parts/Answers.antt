@@ -1,6 +1,6 @@
 use Rattle.std.proofs.Common.{subst}
 use Rattle.loop_pipeline.specs.Fronts.{FrontKeeps}
-use Rattle.loop_pipeline.proofs.FrontRuns.{again, kept}
+use Rattle.loop_pipeline.proofs.FrontRuns.{again, held, kept}
 use Rattle.loop_pipeline.proofs.front.Front.into_parts.Goals as goal
 
 pub returns : goal.returns
@@ -9,4 +9,5 @@ returns g c = record {
       c.self.inside.missed c.self.inside.failed c.self.inside.over) c.self.view_is
       (kept g.S.FrameSource.next_gives g.P.PlaneMemory.plane _ _ _ _ _ _ _ _ _ _ _ _ c.frames_are_kept.ensures c.self.invariant);
   again = again g.S.FrameSource.next_gives g.P.PlaneMemory.plane _ _ _ _ _ _ _ _ _ _ _ _ c.queues_stay_sound.ensures c.self.invariant;
+  held = held g.S.FrameSource.next_gives g.P.PlaneMemory.plane _ _ _ _ _ _ _ _ _ _ _ _ c.self.invariant;
 }

@@ -7,4 +7,4 @@ invariant_of-self g c =
     let before = c.self.invariant in
     stirred g.S.FrameSource.next_gives g.P.PlaneMemory.plane _ _ _ _ _ _ _ _ _ _ _ _ _ _ _ _ before
     (put-adds g.S.FrameSource.next_gives g.P.PlaneMemory.plane _ _ _ _ _ _ _ before.now c.requeue.result
-    c.requeue.ensures.shape before.free before.stands c.requeue.ensures.turn)
+    c.requeue.ensures.shape before.free before.apart before.stands c.requeue.ensures.turn)

@@ -6,7 +6,7 @@ pub invariant_of-self-in-Err : goal.invariant_of-self-in-Err
 invariant_of-self-in-Err g c =
     let before = c.self.invariant in
     stirred g.S.FrameSource.next_gives g.P.PlaneMemory.plane _ _ _ _ _ _ _ _ _ _ _ _ _ _ _ _ before
-    (refused-adds g.S.FrameSource.next_gives g.P.PlaneMemory.plane _ _ _ _ _ _ _ _ before.now c.in-Err.fault c.in-Err.ensures.shape before.free before.stands
+    (refused-adds g.S.FrameSource.next_gives g.P.PlaneMemory.plane _ _ _ _ _ _ _ _ before.now c.in-Err.fault c.in-Err.ensures.shape before.free before.apart before.stands
     c.is_full.ensures.looked c.in-Err.ensures.turn)
 
 pub invariant_of-self-in-Ok : goal.invariant_of-self-in-Ok

@@ -25,4 +25,4 @@ invariant_of-self-2 g c =
     (ticked g.S.FrameSource.next_gives g.P.PlaneMemory.plane _ _ _ _ _ _ _ _ _ _ _ _ _ _ _ _ _ _ before
     (subst (λ (x : g.row.G.Denot). g.G.Guide.due x c.self.inside.ticks c.in-Some.now) its c.in-Some.ensures.due)
     (tick-adds g.S.FrameSource.next_gives g.P.PlaneMemory.plane _ c.in-Some.now _ _ _ _ _ _ c.tick-tick.result before.now
-    c.tick-tick.ensures.shape before.free before.stands c.tick-tick.ensures.tick))
+    c.tick-tick.ensures.shape before.free before.apart before.stands c.tick-tick.ensures.tick))
