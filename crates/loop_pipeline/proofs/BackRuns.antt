@@ -1,10 +1,9 @@
 -- What a back has done, and a call or a frame more.
-use Rattle.std.proofs.Common.{◌≡◌, ◌++◌, ◌||◌, ℕ, ◌+◌, Bool, true, false, List, [], ◌∷◌, All, length, map, Result, Ok, Err, refl, sym, ap, ◌∙◌, subst, arith}
+use Rattle.std.proofs.Common.{◌≡◌, ◌++◌, ℕ, ◌+◌, Bool, true, false, List, [], ◌∷◌, All, length, map, Result, Ok, Err, refl, sym, ap, ◌∙◌, subst, arith}
 use Rattle.std.proofs.lemmas.Grind.{flat_map-append}
 use Rattle.std.proofs.lemmas.List.{append-nil, length-append, map-append}
-use Rattle.std.proofs.lemmas.List.Elements.{All-append, All-cons, All-nil, filter-append}
-use Rattle.std.proofs.lemmas.List.Folds.{list_any-append}
-use Rattle.std.specs.List.{filter, flat_map, list_any}
+use Rattle.std.proofs.lemmas.List.Elements.{All-append, All-cons, All-nil, Contains-append_left, Contains-push, filter-append}
+use Rattle.std.specs.List.{filter, flat_map}
 use Rattle.rtrb.specs.declared.AnyItems.{AnyItems}
 use Rattle.rtrb.specs.declared.consumer.Consumer.{Consumer}
 use Rattle.rtrb.specs.Ring.{SameConsumer, received}
@@ -17,7 +16,7 @@ use Rattle.loop_desk.specs.declared.limits.Flushed.{Flushed}
 use Rattle.loop_desk.specs.Desk.{DeskCall, flushed, submitted}
 use Rattle.loop_desk.specs.Seen.{DeskGoes, SeenDesk}
 use Rattle.loop_desk.proofs.CallRuns.{desk-joined, desk-none}
-use Rattle.loop_pipeline.specs.Backs.{BackKeeps, Came, GoesBy, IsFed, IsLast, IsRightful, Part, WasRefused, asked, calls_by, calls_of, is_refused_flush, is_submit, lost_by, own, picture_of, unasked, unasked_by, visited}
+use Rattle.loop_pipeline.specs.Backs.{BackKeeps, Came, GoesBy, IsFed, IsLast, IsRightful, MayGiveUp, Part, WasRefused, asked, calls_by, calls_of, is_submit, lost_by, own, picture_of, unasked, unasked_by, visited}
 
 plus-none : (n : ℕ) → n + 0 ≡ n
 plus-none n = omega arith
@@ -69,15 +68,11 @@ rightful-more asks parts part all is =
     All-append (IsRightful asks) parts (part ∷ []) all
     (All-cons (IsRightful asks) part [] is (All-nil (IsRightful asks)))
 
-or-true : (b : Bool) → (b || true) ≡ true
-or-true true = refl
-or-true false = refl
-
-module _ {D A : Type 0} (medium : D → Medium) (asks : DeskCall → Type 0) where
+module _ {D A : Type 0} (medium : D → Medium) (asks : DeskCall → Type 0) (gives_up : StoreFault → Type 0) where
   -- a new back has done nothing
   pub begun : (desk : SeenDesk D) (from : Consumer (Frame A) A AnyItems) → TellsOne desk.store
       → ((medium desk.store.disk).honest → IsSound (medium desk.store.disk)) → received from ≡ []
-      → BackKeeps medium asks (record { began = desk; from = from; desk = desk }) from 0 false
+      → BackKeeps medium asks gives_up (record { began = desk; from = from; desk = desk }) from 0 false
   begun desk from one sound none = record {
     ring = ((refl, refl, refl, refl), refl);
     calls = [];
@@ -97,15 +92,17 @@ module _ {D A : Type 0} (medium : D → Medium) (asks : DeskCall → Type 0) whe
       ((second.0.0 ∙ first.0.0, second.0.1 ∙ first.0.1, second.0.2 ∙ first.0.2, second.0.3 ∙ first.0.3), second.1 ∙ first.1)
 
   module _ (began old new : SeenDesk D) (before from up : Consumer (Frame A) A AnyItems) (given_up : ℕ) (refused : Bool)
-      (keeps : BackKeeps medium asks (record { began = began; from = before; desk = old }) from given_up refused) where
+      (keeps : BackKeeps medium asks gives_up (record { began = began; from = before; desk = old }) from given_up refused) where
     -- a refused flush stays one of the calls
-    still-tried : (more : List DeskCall) → refused ≡ true → list_any is_refused_flush (keeps.calls ++ more) ≡ true
-    still-tried more is = list_any-append is_refused_flush keeps.calls more ∙ ap (λ b. b || list_any is_refused_flush more) (keeps.tried is)
+    still-tried : (more : List DeskCall) → refused ≡ true → MayGiveUp gives_up (keeps.calls ++ more)
+    still-tried more is =
+        let why = keeps.tried is in
+        (why.0, why.1, Contains-append_left keeps.calls more (flushed (Err why.0)) why.2)
 
     -- a part that submits nothing
     pub called : (part : Part) → IsRightful asks part → filter is_submit (calls_of part) ≡ []
         → DeskGoes medium old new (calls_of part)
-        → BackKeeps medium asks (record { began = began; from = before; desk = new }) from given_up refused
+        → BackKeeps medium asks gives_up (record { began = began; from = before; desk = new }) from given_up refused
     called part is none goes = record {
       ring = keeps.ring;
       calls = keeps.calls ++ calls_of part;
@@ -122,18 +119,18 @@ module _ {D A : Type 0} (medium : D → Medium) (asks : DeskCall → Type 0) whe
 
     -- a flush that was answered
     pub flushed-on : (answer : Result Flushed StoreFault) → DeskGoes medium old new (flushed answer ∷ [])
-        → BackKeeps medium asks (record { began = began; from = before; desk = new }) from given_up refused
+        → BackKeeps medium asks gives_up (record { began = began; from = before; desk = new }) from given_up refused
     flushed-on answer goes = called (own (flushed answer)) refl refl goes
 
     -- calls of a visitor
     pub visits : (more : List DeskCall) → All asks more → filter is_submit more ≡ [] → DeskGoes medium old new more
-        → BackKeeps medium asks (record { began = began; from = before; desk = new }) from given_up refused
+        → BackKeeps medium asks gives_up (record { began = began; from = before; desk = new }) from given_up refused
     visits more all none goes = called (visited more) all none goes
 
     -- one call of a visitor
     pub visits-once : (call : DeskCall) → asks call → filter is_submit (call ∷ []) ≡ []
         → DeskGoes medium old new (call ∷ [])
-        → BackKeeps medium asks (record { began = began; from = before; desk = new }) from given_up refused
+        → BackKeeps medium asks gives_up (record { began = began; from = before; desk = new }) from given_up refused
     visits-once call is none goes = visits (call ∷ []) (All-cons asks call [] is (All-nil asks)) none goes
 
     -- the call that was answered last
@@ -142,17 +139,17 @@ module _ {D A : Type 0} (medium : D → Medium) (asks : DeskCall → Type 0) whe
     last call goes = record { before = old; parts = keeps.parts; went = keeps.went; goes = goes }
 
     -- a flush was refused
-    pub was-refused : refused ≡ true → WasRefused medium (record { began = began; from = before; desk = old })
+    pub was-refused : refused ≡ true → WasRefused medium gives_up (record { began = began; from = before; desk = old })
     was-refused is = record {
       parts = keeps.parts;
       went = keeps.went;
-      refused = ap (list_any is_refused_flush) (sym keeps.are) ∙ keeps.tried is;
+      refused = subst (MayGiveUp gives_up) keeps.are (keeps.tried is);
     }
 
-    -- a flush that was refused
-    pub refused-flush : (fault : StoreFault) → DeskGoes medium old new (flushed (Err fault) ∷ [])
-        → BackKeeps medium asks (record { began = began; from = before; desk = new }) from given_up true
-    refused-flush fault goes =
+    -- a flush that was refused, and isn't tried again
+    pub refused-flush : (fault : StoreFault) → gives_up fault → DeskGoes medium old new (flushed (Err fault) ∷ [])
+        → BackKeeps medium asks gives_up (record { began = began; from = before; desk = new }) from given_up true
+    refused-flush fault gives goes =
         let more = flushed (Err fault) ∷ [] in record {
           ring = keeps.ring;
           calls = keeps.calls ++ more;
@@ -163,7 +160,7 @@ module _ {D A : Type 0} (medium : D → Medium) (asks : DeskCall → Type 0) whe
           rightful = rightful-more asks keeps.parts (own (flushed (Err fault))) keeps.rightful refl;
           came = keeps.came;
           fed = fed-beside (map picture (received from)) keeps.calls given_up keeps.came more keeps.fed refl;
-          tried = λ e. list_any-append is_refused_flush keeps.calls more ∙ or-true (list_any is_refused_flush keeps.calls);
+          tried = λ e. (fault, gives, Contains-push keeps.calls (flushed (Err fault)));
           excused = λ e. absurd (cc);
         }
 
@@ -176,7 +173,7 @@ module _ {D A : Type 0} (medium : D → Medium) (asks : DeskCall → Type 0) whe
     pub brought : (frame : Frame A) (answer : Result ℕ StoreFault) → SameConsumer from up
         → received up ≡ received from ++ frame ∷ []
         → DeskGoes medium old new (submitted (picture frame) (length frame.bytes.items) answer ∷ [])
-        → BackKeeps medium asks (record { began = began; from = before; desk = new }) up
+        → BackKeeps medium asks gives_up (record { began = began; from = before; desk = new }) up
         (given_up + length (lost_by (asked (picture frame) answer))) refused
     brought frame answer same got goes =
         let call = submitted (picture frame) (length frame.bytes.items) answer in
@@ -200,14 +197,14 @@ module _ {D A : Type 0} (medium : D → Medium) (asks : DeskCall → Type 0) whe
     -- and accepted it
     pub accepted : (frame : Frame A) (number : ℕ) → SameConsumer from up → received up ≡ received from ++ frame ∷ []
         → DeskGoes medium old new (submitted (picture frame) (length frame.bytes.items) (Ok number) ∷ [])
-        → BackKeeps medium asks (record { began = began; from = before; desk = new }) up given_up refused
+        → BackKeeps medium asks gives_up (record { began = began; from = before; desk = new }) up given_up refused
     accepted frame number same got goes =
-        subst (λ n. BackKeeps medium asks (record { began = began; from = before; desk = new }) up n refused) (plus-none given_up)
+        subst (λ n. BackKeeps medium asks gives_up (record { began = began; from = before; desk = new }) up n refused) (plus-none given_up)
         (brought frame (Ok number) same got goes)
 
     -- or it was given up unasked
     pub dropped : (frame : Frame A) → refused ≡ true → SameConsumer from up → received up ≡ received from ++ frame ∷ []
-        → BackKeeps medium asks (record { began = began; from = before; desk = old }) up (given_up + 1) refused
+        → BackKeeps medium asks gives_up (record { began = began; from = before; desk = old }) up (given_up + 1) refused
     dropped frame is same got =
         let x = unasked (picture frame) in record {
           ring = same-ring before from up keeps.ring same;

@@ -1,8 +1,8 @@
 -- A camera's front and back, on the two ends of one ring.
-use Rattle.std.proofs.Common.{◌≡◌, ◌++◌, ◌+◌, ℕ, Bool, true, false, List, [], ◌∷◌, length, map, refl, sym, ap, ◌∙◌}
+use Rattle.std.proofs.Common.{◌≡◌, ◌⊎◌, inl, inr, ◌++◌, ◌+◌, ℕ, Bool, true, false, List, [], ◌∷◌, length, map, refl, sym, ap, ◌∙◌}
 use Rattle.std.proofs.lemmas.Grind.{flat_map-append}
 use Rattle.std.proofs.lemmas.List.{append-nil, length-append, length-map, map-append}
-use Rattle.std.specs.List.{flat_map, list_any}
+use Rattle.std.specs.List.{flat_map}
 use Rattle.rtrb.specs.declared.AnyItems.{AnyItems}
 use Rattle.rtrb.specs.declared.consumer.Consumer.{Consumer}
 use Rattle.rtrb.specs.declared.producer.Producer.{Producer}
@@ -14,11 +14,12 @@ use Rattle.loop_record.specs.Recording.{Picture, picture}
 use Rattle.loop_vb2.specs.State.{Lined}
 use Rattle.loop_capture.specs.declared.source.Next.{Next}
 use Rattle.loop_capture.specs.Ticks.{SeenDevice}
+use Rattle.loop_store.specs.declared.fault.StoreFault.{StoreFault}
 use Rattle.loop_desk.specs.Desk.{DeskCall}
 use Rattle.loop_desk.specs.Lane.{without_flags}
 use Rattle.loop_desk.specs.Waiting.{frames_waiting}
 use Rattle.loop_desk.proofs.FootageRuns.{keeps-footage}
-use Rattle.loop_pipeline.specs.Backs.{BackKeeps, Came, IsFed, SeenBack, calls_by, is_refused_flush, lost_by, picture_of, unasked, unasked_by}
+use Rattle.loop_pipeline.specs.Backs.{BackKeeps, Came, IsFed, MayGiveUp, SeenBack, calls_by, lost_by, picture_of, unasked, unasked_by}
 use Rattle.loop_pipeline.specs.Cameras.{CameraKeeps}
 use Rattle.loop_pipeline.specs.Fronts.{FrontKeeps, SeenFront}
 
@@ -39,12 +40,6 @@ left-unasked : (ps : List Picture) → flat_map unasked_by (map unasked ps) ≡ 
 left-unasked [] = refl
 left-unasked (p ∷ ps) = ap (λ l. p ∷ l) (left-unasked ps)
 
--- no flush was refused
-not-refused : (refused : Bool) (calls : List DeskCall) → (refused ≡ true → list_any is_refused_flush calls ≡ true)
-    → list_any is_refused_flush calls ≡ false → refused ≡ false
-not-refused true calls tried quiet = absurd (let is : true ≡ false = sym (tried refl) ∙ quiet in cc)
-not-refused false calls tried quiet = refl
-
 -- with these, all that came is what was sent
 fed-all : (got : List Picture) (calls : List DeskCall) (given_up : ℕ) (came : List Came) (left : List Picture)
     → IsFed got calls given_up came → IsFed (got ++ left) calls (given_up + length left) (came ++ map unasked left)
@@ -60,13 +55,13 @@ fed-all got calls given_up came left fed = record {
 }
 
 module _ {S D P G A : Type 0} (medium : D → Medium) (gives : S → Next → List ℕ → S → Type 0) (m : P → Plane)
-    (asks : DeskCall → Type 0) (due : ℕ → ℕ → Type 0) (ends : ℕ → Type 0) where
+    (asks : DeskCall → Type 0) (gives_up : StoreFault → Type 0) (due : ℕ → ℕ → Type 0) (ends : ℕ → Type 0) where
   pub both : (seen : SeenFront S P G A) (back : SeenBack D A) (device : SeenDevice S) (queue : Lined P)
       (to up : Producer (Frame A) A AnyItems) (from down : Consumer (Frame A) A AnyItems) (given_up left missed failed : ℕ) (over refused : Bool)
-      → FrontKeeps gives m due ends seen device queue to missed failed over → BackKeeps medium asks back from given_up refused
+      → FrontKeeps gives m due ends seen device queue to missed failed over → BackKeeps medium asks gives_up back from given_up refused
       → ProducerLooked to up → ConsumerLooked from down → received down ++ known_items down ≡ sent up
       → left ≡ length (known_items down)
-      → CameraKeeps medium gives m asks due ends (record { device = seen.device; queue = seen.queue; desk = back.began })
+      → CameraKeeps medium gives m asks gives_up due ends (record { device = seen.device; queue = seen.queue; desk = back.began })
       (record { device = device; queue = queue; desk = back.desk }) given_up left missed failed over
   both seen back device queue to up from down given_up left missed failed over refused front keeps up_looked down_looked fifo count =
       let items = map picture (known_items down) in
@@ -96,8 +91,19 @@ module _ {S D P G A : Type 0} (medium : D → Medium) (gives : S → Next → Li
         are = keeps.are;
         went = keeps.went;
         rightful = keeps.rightful;
-        excused = λ quiet. ap length (flat_map-append unasked_by keeps.came (map unasked items)
-            ∙ (ap (λ l. l ++ flat_map unasked_by (map unasked items)) (keeps.excused (not-refused refused keeps.calls keeps.tried quiet))
-            ∙ left-unasked items)) ∙ (length-map (known_items down) picture ∙ sym count);
+        excused = excuse refused refl;
         footage = λ s stands now. keeps-footage medium back.began back.desk keeps.calls s keeps.goes stands now;
       }
+    where
+      none-asked : refused ≡ false → length (flat_map unasked_by (keeps.came ++ map unasked (map picture (known_items down)))) ≡ left
+      none-asked on =
+          let items = map picture (known_items down) in
+          ap length (flat_map-append unasked_by keeps.came (map unasked items)
+          ∙ (ap (λ l. l ++ flat_map unasked_by (map unasked items)) (keeps.excused on) ∙ left-unasked items))
+          ∙ (length-map (known_items down) picture ∙ sym count)
+
+      excuse : (b : Bool) → refused ≡ b
+          → (length (flat_map unasked_by (keeps.came ++ map unasked (map picture (known_items down)))) ≡ left)
+          ⊎ MayGiveUp gives_up keeps.calls
+      excuse true is = inr (keeps.tried is)
+      excuse false is = inl (none-asked is)

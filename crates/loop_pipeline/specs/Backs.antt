@@ -1,6 +1,6 @@
 -- What one thread keeps that has a camera's desk and the end of a ring.
-use Rattle.std.specs.Prelude.{◌≡◌, ◌⊎◌, ℕ, Bool, true, false, List, [], ◌∷◌, All, length, map, Option, Result, Ok, Err}
-use Rattle.std.specs.List.{filter, flat_map, list_any}
+use Rattle.std.specs.Prelude.{◌≡◌, ◌⊎◌, ℕ, Bool, true, false, List, [], ◌∷◌, All, Contains, length, map, Option, Result, Ok, Err}
+use Rattle.std.specs.List.{filter, flat_map}
 use Rattle.rtrb.specs.declared.AnyItems.{AnyItems}
 use Rattle.rtrb.specs.declared.consumer.Consumer.{Consumer}
 use Rattle.rtrb.specs.Ring.{SameConsumer, received}
@@ -41,10 +41,9 @@ abbrev pub unasked_by : Came → List Picture
 unasked_by (asked p result) = []
 unasked_by (unasked p) = p ∷ []
 
--- a flush that was refused
-abbrev pub is_refused_flush : DeskCall → Bool
-is_refused_flush (flushed (Err fault)) = true
-is_refused_flush call = false
+-- a flush was refused by a fault for which frames are given up
+abbrev pub MayGiveUp : (StoreFault → Type 0) → List DeskCall → Type 0
+MayGiveUp gives_up calls = (fault : StoreFault) × gives_up fault × Contains calls (flushed (Err fault))
 
 abbrev pub is_submit : DeskCall → Bool
 is_submit (submitted p size result) = true
@@ -111,11 +110,12 @@ pub record IsLast {D A : Type 0} (medium : D → Medium) (seen : SeenBack D A) (
 abbrev pub IsAccepted : {D A : Type 0} → (D → Medium) → SeenBack D A → ℕ → Type 0
 IsAccepted medium seen number = (p : Picture) × IsLast medium seen (submitted p (length p.bytes) (Ok number))
 
--- a flush of the back's desk was refused
-pub record WasRefused {D A : Type 0} (medium : D → Medium) (seen : SeenBack D A) : Type 0 where
+-- a flush of the back's desk was refused, by a fault for which frames are given up
+pub record WasRefused {D A : Type 0} (medium : D → Medium) (gives_up : StoreFault → Type 0) (seen : SeenBack D A)
+    : Type 0 where
   pub parts : List Part
   pub went : GoesBy medium seen.began parts seen.desk
-  pub refused : list_any is_refused_flush (flat_map calls_of parts) ≡ true
+  pub refused : MayGiveUp gives_up (flat_map calls_of parts)
 
 -- the desk has just refused this frame
 abbrev pub IsTurnedDown : {D A : Type 0} → (D → Medium) → SeenBack D A → LostFrame → Type 0
@@ -124,8 +124,8 @@ IsTurnedDown medium seen lost =
     × IsLast medium seen (submitted p (length p.bytes) (Err fault))
 
 -- a frame was given up for a reason: the desk has just refused it, or a flush was refused
-abbrev pub IsGivenUp : {D A : Type 0} → (D → Medium) → SeenBack D A → LostFrame → Type 0
-IsGivenUp medium seen lost = IsTurnedDown medium seen lost ⊎ WasRefused medium seen
+abbrev pub IsGivenUp : {D A : Type 0} → (D → Medium) → (StoreFault → Type 0) → SeenBack D A → LostFrame → Type 0
+IsGivenUp medium gives_up seen lost = IsTurnedDown medium seen lost ⊎ WasRefused medium gives_up seen
 
 -- what is said of a frame that was brought to the desk is so
 abbrev pub IsBrought : {D A : Type 0} → (D → Medium) → SeenBack D A → Brought → Type 0
@@ -137,8 +137,8 @@ IsBrought medium seen _ = Unit {0}
 
 -- From the desk that the back was made with to the desk as it is, whatever its disk, there were just these calls; their
 -- submits are of the frames that came out of the ring, and `asks` says which calls visits may make.
-pub record BackKeeps {D A : Type 0} (medium : D → Medium) (asks : DeskCall → Type 0) (seen : SeenBack D A)
-    (from : Consumer (Frame A) A AnyItems) (given_up : ℕ) (refused : Bool) : Type 0 where
+pub record BackKeeps {D A : Type 0} (medium : D → Medium) (asks : DeskCall → Type 0) (gives_up : StoreFault → Type 0)
+    (seen : SeenBack D A) (from : Consumer (Frame A) A AnyItems) (given_up : ℕ) (refused : Bool) : Type 0 where
   pub ring : SameConsumer seen.from from
   pub calls : List DeskCall
   pub goes : DeskGoes medium seen.began seen.desk calls
@@ -149,6 +149,6 @@ pub record BackKeeps {D A : Type 0} (medium : D → Medium) (asks : DeskCall →
   pub rightful : All (IsRightful asks) parts
   pub came : List Came
   pub fed : IsFed (map picture (received from)) calls given_up came
-  -- no frame is given up without asking the desk, unless a flush was refused
-  pub tried : refused ≡ true → list_any is_refused_flush calls ≡ true
+  -- no frame is given up without asking the desk, unless a flush was refused by such a fault
+  pub tried : refused ≡ true → MayGiveUp gives_up calls
   pub excused : refused ≡ false → flat_map unasked_by came ≡ []

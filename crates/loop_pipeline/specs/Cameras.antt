@@ -1,9 +1,10 @@
 -- What one camera keeps of its frames, from its device to its disk.
-use Rattle.std.specs.Prelude.{◌≡◌, ℕ, ◌+◌, Bool, false, List, ◌++◌, All, length, map}
-use Rattle.std.specs.List.{filter, flat_map, list_any}
+use Rattle.std.specs.Prelude.{◌≡◌, ◌⊎◌, ℕ, ◌+◌, Bool, List, ◌++◌, All, length, map}
+use Rattle.std.specs.List.{filter, flat_map}
 use Rattle.loop_disk.specs.Medium.{Medium}
 use Rattle.loop_plane.specs.Plane.{Plane}
 use Rattle.loop_record.specs.Recording.{Picture}
+use Rattle.loop_store.specs.declared.fault.StoreFault.{StoreFault}
 use Rattle.loop_store.specs.Calls.{StoreState}
 use Rattle.loop_store.specs.Goes.{Stands}
 use Rattle.loop_vb2.specs.State.{Lined, QueueState, StandsQueue}
@@ -14,7 +15,7 @@ use Rattle.loop_desk.specs.Footage.{KeepsFootage}
 use Rattle.loop_desk.specs.Lane.{without_flags}
 use Rattle.loop_desk.specs.Waiting.{frames_waiting}
 use Rattle.loop_desk.specs.Seen.{DeskGoes, SeenDesk}
-use Rattle.loop_pipeline.specs.Backs.{Came, GoesBy, IsRightful, Part, calls_by, calls_of, is_refused_flush, is_submit, lost_by, picture_of, unasked_by}
+use Rattle.loop_pipeline.specs.Backs.{Came, GoesBy, IsRightful, MayGiveUp, Part, calls_by, calls_of, is_submit, lost_by, picture_of, unasked_by}
 use Rattle.loop_pipeline.specs.Fronts.{AreTold, GoesOn, TickRecord, shown, shown_given}
 
 -- a camera: its device, its queue and its desk
@@ -29,8 +30,8 @@ pub record SeenCamera (S D P : Type 0) : Type 0 where
 -- that lost a frame are counted; each was when the guide said, and they are over where guide or source said so. The
 -- footage of the frames that were accepted is kept, whenever the power fails.
 pub record CameraKeeps {S D P : Type 0} (medium : D → Medium) (gives : S → Next → List ℕ → S → Type 0)
-    (meaning : P → Plane) (asks : DeskCall → Type 0) (due : ℕ → ℕ → Type 0) (ends : ℕ → Type 0)
-    (old new : SeenCamera S D P) (given_up left missed failed : ℕ) (over : Bool) : Type 0 where
+    (meaning : P → Plane) (asks : DeskCall → Type 0) (gives_up : StoreFault → Type 0) (due : ℕ → ℕ → Type 0)
+    (ends : ℕ → Type 0) (old new : SeenCamera S D P) (given_up left missed failed : ℕ) (over : Bool) : Type 0 where
   -- the device, by its ticks
   pub given : List TickRecord
   pub source : GoesOn gives old.device given new.device
@@ -56,7 +57,8 @@ pub record CameraKeeps {S D P : Type 0} (medium : D → Medium) (gives : S → N
   pub are : calls ≡ flat_map calls_of parts
   pub went : GoesBy medium old.desk parts new.desk
   pub rightful : All (IsRightful asks) parts
-  -- unless a flush was refused, the desk was asked for each frame but those that were left at the end
-  pub excused : list_any is_refused_flush calls ≡ false → length (flat_map unasked_by came) ≡ left
+  -- the desk was asked for each frame but those that were left at the end, unless a flush was refused by a fault for
+  -- which the guide gives frames up
+  pub excused : (length (flat_map unasked_by came) ≡ left) ⊎ MayGiveUp gives_up calls
   pub footage : (s : StoreState) → Stands medium old.desk.store s → (medium old.desk.store.disk).honest
       → KeepsFootage medium old.desk new.desk calls s

@@ -3,6 +3,7 @@ use Rattle.std.specs.Prelude.{◌≡◌, ℕ, List}
 use Rattle.loop_disk.specs.Medium.{Medium}
 use Rattle.loop_plane.specs.Plane.{Plane}
 use Rattle.loop_capture.specs.declared.source.Next.{Next}
+use Rattle.loop_store.specs.declared.fault.StoreFault.{StoreFault}
 use Rattle.loop_desk.specs.Desk.{DeskCall}
 use Rattle.loop_pipeline.specs.declared.film.Unfilmed.{Unfilmed}
 use Rattle.loop_pipeline.specs.declared.film.Unfilmed.TheVariants.{NoMemory, NoThread}
@@ -10,8 +11,9 @@ use Rattle.loop_pipeline.specs.Cameras.{CameraKeeps, SeenCamera}
 
 -- what comes back where a camera wasn't filmed: the camera, or what is left of it, which kept the same of its frames
 abbrev pub GivesBack : {S D P : Type 0} → (D → Medium) → (S → Next → List ℕ → S → Type 0) → (P → Plane)
-    → (DeskCall → Type 0) → (ℕ → ℕ → Type 0) → (ℕ → Type 0) → SeenCamera S D P → Unfilmed S D P → Type 0
-GivesBack medium gives meaning asks due ends camera (NoMemory c) = c ≡ camera
-GivesBack medium gives meaning asks due ends camera (NoThread e) =
-    CameraKeeps medium gives meaning asks due ends camera
+    → (DeskCall → Type 0) → (StoreFault → Type 0) → (ℕ → ℕ → Type 0) → (ℕ → Type 0) → SeenCamera S D P
+    → Unfilmed S D P → Type 0
+GivesBack medium gives meaning asks gives_up due ends camera (NoMemory c) = c ≡ camera
+GivesBack medium gives meaning asks gives_up due ends camera (NoThread e) =
+    CameraKeeps medium gives meaning asks gives_up due ends camera
     (record { device = e.device; queue = e.queue; desk = e.desk }) e.given_up e.left e.missed e.failed e.over

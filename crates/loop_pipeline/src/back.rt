@@ -11,7 +11,7 @@ ghost use Rattle.loop_store.specs.declared.fault.StoreFault.{StoreFault};
 ghost use Rattle.loop_store.specs.Calls.{read_with};
 ghost use Rattle.loop_store.specs.Runs.{read_of};
 
-use crate::Visits;
+use crate::{Guide, Visits};
 use loop_desk::{Desk, Flushed, Kept, Outline, Status};
 use loop_disk::Disk;
 use loop_record::{Frame, FrameHead, Times};
@@ -20,6 +20,7 @@ use rtrb::Consumer;
 use std::alloc::{Allocator, Global};
 use std::marker::{Model, PhantomData};
 use std::snapshot::Snapshot;
+use std::sync::Wait;
 
 /// What came of bringing the next frame of the ring to the desk.
 #[derive(Drop)]
@@ -50,7 +51,7 @@ pub struct Back<D: Disk + Drop, K: Visits, A: Allocator + Copy = Global> {
     desk: Desk<D, A>,
     from: Consumer<Frame<A>, A>,
     given_up: u64,
-    /// A flush was refused.
+    /// A flush was refused, and isn't tried again.
     refused: bool,
     desk_before: Snapshot<Desk<D, A>>,
     from_before: Snapshot<Consumer<Frame<A>, A>>,
@@ -66,7 +67,7 @@ pub struct BackParts<D: Disk + Drop, A: Allocator + Copy = Global> {
     pub from: Consumer<Frame<A>, A>,
     /// How many frames came out of the ring and weren't accepted by the desk.
     pub given_up: u64,
-    /// Whether a flush was refused.
+    /// Whether a flush was refused, and wasn't tried again.
     pub refused: bool,
 }
 
@@ -77,7 +78,7 @@ impl<D: Disk + Drop, K: Visits, A: Allocator + Copy> Model for Back<D, K, A> {
 
     ghost view = { λ b. record { began = b.desk_before.value; from = b.from_before.value; desk = b.desk } };
 
-    ghost invariant = { λ b. BackKeeps D.medium K.asks
+    ghost invariant = { λ b. BackKeeps D.medium K.asks K.gives_up
         (record { began = b.desk_before.value; from = b.from_before.value; desk = b.desk })
         b.from b.given_up b.refused };
 }
@@ -131,9 +132,9 @@ impl<D: Disk + Drop, K: Visits, A: Allocator + Copy> Back<D, K, A> {
     }
 
     /// Gives up the next frame of the ring, and counts it; returns which frame it was. None: no frame is in the ring,
-    /// or no flush was refused.
+    /// or flushes go on.
     pub fn give_up(&mut self) -> Option<LostFrame>
-        ensures refused { IfSome result (λ lost. WasRefused D.medium self.new) }
+        ensures refused { IfSome result (λ lost. WasRefused D.medium K.gives_up self.new) }
         ensures same { self.new ≡ self.old }
     {
         if !self.refused {
@@ -160,13 +161,12 @@ impl<D: Disk + Drop, K: Visits, A: Allocator + Copy> Back<D, K, A> {
         ensures last { IsLast D.medium self.new (flushed result) }
         ensures same { self.new ≡ record self.old { desk = self.new.desk } }
     {
-        match self.desk.flush() {
-            Ok(flushed) => Ok(flushed),
-            Err(fault) => {
-                self.refused = true;
-                Err(fault)
-            }
-        }
+        self.desk.flush()
+    }
+
+    /// Whether a flush was refused, and isn't tried again. It promises nothing.
+    pub fn is_refused(&self) -> bool {
+        self.refused
     }
 
     /// The counts of the desk, as `Desk::status`.
@@ -238,7 +238,7 @@ impl<D: Disk + Drop, K: Visits, A: Allocator + Copy> Back<D, K, A> {
     /// What is left of it.
     pub fn into_parts(self) -> BackParts<D, A>
         ensures desk { result.desk ≡ self.desk }
-        ensures keeps { BackKeeps D.medium K.asks self result.from result.given_up result.refused }
+        ensures keeps { BackKeeps D.medium K.asks K.gives_up self result.from result.given_up result.refused }
     {
         let Back {
             desk,
@@ -254,6 +254,25 @@ impl<D: Disk + Drop, K: Visits, A: Allocator + Copy> Back<D, K, A> {
             from,
             given_up,
             refused,
+        }
+    }
+}
+
+impl<D: Disk + Drop, G: Guide, A: Allocator + Copy> Back<D, G, A> {
+    /// Stores the first frames that wait, as `flush`. Where that is refused and the guide doesn't try it again, frames
+    /// may be given up from then on.
+    pub fn flush_for<R: Wait>(&mut self, rt: &R, guide: &G) -> Result<Flushed, StoreFault>
+        ensures last { IsLast D.medium self.new (flushed result) }
+        ensures same { self.new ≡ record self.old { desk = self.new.desk } }
+    {
+        match self.desk.flush() {
+            Ok(flushed) => Ok(flushed),
+            Err(fault) => {
+                if !guide.flushes_again(rt, fault) {
+                    self.refused = true;
+                }
+                Err(fault)
+            }
         }
     }
 }

@@ -54,7 +54,7 @@ pub fn end<S: FrameSource + Drop, D: Disk + Drop, P: PlaneMemory, G: Guide, A: A
     requires front { Leaves S.next_gives P.plane (G.due begun.guide.value) (G.ends begun.guide.value)
         (made_of begun) front }
     requires pair { IsPair begun.to.value back.from }
-    ensures keeps { CameraKeeps D.medium S.next_gives P.plane G.asks
+    ensures keeps { CameraKeeps D.medium S.next_gives P.plane G.asks G.gives_up
         (G.due begun.guide.value) (G.ends begun.guide.value)
         (record { device = begun.device.value; queue = begun.queue.value; desk = back.began })
         (record { device = result.device; queue = result.queue; desk = result.desk })

@@ -157,14 +157,13 @@ fn run_front<R: Wait + Clock, S: FrameSource + Drop, P: PlaneMemory, G: Guide>(
     front
 }
 
-// Brings the frames in the ring to the desk; returns whether one came out of it. If the desk is full and a flush was
-// refused for good, frames are given up.
+// Brings the frames in the ring to the desk; returns whether one came out of it. If the desk is full and no flush is
+// tried any more, frames are given up.
 fn bring_all<R: Wait, D: Disk + Drop, G: Guide>(
     rt: &R,
     link: &Link,
     guide: &G,
     back: &mut Back<D, G>,
-    refused: bool,
 ) -> bool
     ensures { back.new ≡ record back.old { desk = back.new.desk } }
 {
@@ -173,13 +172,13 @@ fn bring_all<R: Wait, D: Disk + Drop, G: Guide>(
         match back.bring() {
             Brought::Submitted(number) => guide.brought(rt, back, number),
             Brought::GivenUp(_, frame) => guide.gave_up(rt, back, frame),
-            Brought::DeskFull if refused => {
+            Brought::DeskFull => {
                 let Some(frame) = back.give_up() else {
                     break;
                 };
                 guide.gave_up(rt, back, frame);
             }
-            Brought::DeskFull | Brought::Nothing => break,
+            Brought::Nothing => break,
         }
         some = true;
     }
@@ -212,25 +211,22 @@ pub fn film_back<R: Wait + Clock, D: Disk + Drop, G: Guide>(
 ) -> Back<D, G>
     ensures { result ≡ record back { desk = result.desk } }
 {
-    let mut refused = false;
     'turns: for _ in rt.forever() {
         let seen = link.given.count(rt);
         let over = link.over.load(Ordering::SeqCst);
-        let some = bring_all(rt, link, guide, &mut back, refused);
+        let some = bring_all(rt, link, guide, &mut back);
         if G::VISITED {
             guide.visit(rt, alloc, &mut back);
         }
         give_memory(rt, link, &mut back);
-        let rest = if !refused && back.status().pending > 0 {
-            match back.flush() {
+        let rest = if !back.is_refused() && back.status().pending > 0 {
+            match back.flush_for(rt, guide) {
                 Ok(flushed) => {
                     guide.stored(rt, &back, flushed);
                     0
                 }
-                Err(fault) => {
-                    refused = !guide.flushes_again(rt, fault);
-                    if refused { 0 } else { FLUSH_AGAIN }
-                }
+                Err(_) if back.is_refused() => 0,
+                Err(_) => FLUSH_AGAIN,
             }
         } else if some {
             0
@@ -435,7 +431,7 @@ fn end_both<S: FrameSource + Drop, D: Disk + Drop, P: PlaneMemory, G: Guide, W: 
     requires front { LeavesCarried W.inside S.next_gives P.plane
         (G.due begun.guide.value) (G.ends begun.guide.value) (made_of begun) front }
     requires pair { IsPair begun.to.value back.from }
-    ensures keeps { CameraKeeps D.medium S.next_gives P.plane G.asks
+    ensures keeps { CameraKeeps D.medium S.next_gives P.plane G.asks G.gives_up
         (G.due begun.guide.value) (G.ends begun.guide.value)
         (record { device = begun.device.value; queue = begun.queue.value; desk = back.began })
         (record { device = result.device; queue = result.queue; desk = result.desk })
@@ -493,14 +489,14 @@ pub fn film_camera<
     guide: &'s G,
     camera: Camera<S, D, P>,
 ) -> Result<Ended<S, D, P>, Unfilmed<S, D, P>>
-    ensures keeps { IfOk result (λ e. CameraKeeps D.medium S.next_gives P.plane G.asks
+    ensures keeps { IfOk result (λ e. CameraKeeps D.medium S.next_gives P.plane G.asks G.gives_up
         (G.due guide.now) (G.ends guide.now) camera
         (record { device = e.device; queue = e.queue; desk = e.desk })
         e.given_up e.left e.missed e.failed e.over) }
     ensures ended { IfOk result (λ e. e.over ≡ true) }
     ensures again { IfOk result (λ e. e.hand ≡ Empty → IsOpen P.plane e.queue e.table) }
     ensures held { IfOk result (λ e. IsHeld e.queue e.hand) }
-    ensures refused { IfErr result (GivesBack D.medium S.next_gives P.plane G.asks
+    ensures refused { IfErr result (GivesBack D.medium S.next_gives P.plane G.asks G.gives_up
         (G.due guide.now) (G.ends guide.now) camera) }
 {
     link.begin();

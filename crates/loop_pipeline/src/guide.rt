@@ -1,6 +1,6 @@
 //! What a camera's threads ask and report.
 
-ghost use Rattle.std.specs.Prelude.{◌≡◌, IfSome, None, Ok};
+ghost use Rattle.std.specs.Prelude.{◌≡◌, IfSome, None, Ok, false};
 ghost use Rattle.loop_desk.specs.Desk.{flushed};
 ghost use Rattle.loop_pipeline.specs.Backs.{IsAccepted, IsGivenUp, IsLast};
 
@@ -42,7 +42,7 @@ pub trait Guide: Visits {
 
     /// This frame was given up: the desk refused it, or a flush was refused.
     fn gave_up<R: Wait, D: Disk + Drop>(&self, rt: &R, back: &Back<D, Self>, frame: LostFrame)
-        requires { IsGivenUp D.medium back.now frame }
+        requires { IsGivenUp D.medium Self.gives_up back.now frame }
     {}
 
     /// A flush stored frames.
@@ -52,7 +52,8 @@ pub trait Guide: Visits {
 
     /// Whether a flush that was refused with this fault is tried again, after a while or once the desk's thread is
     /// woken. If not, frames for which the desk has no room are given up.
-    fn flushes_again<R: Wait>(&self, rt: &R, fault: StoreFault) -> bool;
+    fn flushes_again<R: Wait>(&self, rt: &R, fault: StoreFault) -> bool
+        ensures { result ≡ false → Self.gives_up fault };
 
     /// Serves what others ask of the desk. It is called between flushes, by the desk's own thread.
     fn visit<R: Wait + Clock, D: Disk + Drop>(

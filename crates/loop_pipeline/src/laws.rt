@@ -18,7 +18,7 @@ pub fn a_camera_is_legal<S: FrameSource + Drop, D: Disk + Drop, P: PlaneMemory, 
     guide: &G,
 )
     ensures { (given_up left missed failed : ℕ) (over : Bool)
-        (kept : CameraKeeps D.medium S.next_gives P.plane G.asks (G.due guide.now) (G.ends guide.now)
-        before.now after.now given_up left missed failed over)
+        (kept : CameraKeeps D.medium S.next_gives P.plane G.asks G.gives_up
+        (G.due guide.now) (G.ends guide.now) before.now after.now given_up left missed failed over)
         → IsLegalRun D.medium before.now.desk kept.calls after.now.desk }
 {}

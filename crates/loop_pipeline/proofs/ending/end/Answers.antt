@@ -6,12 +6,12 @@ use Rattle.loop_pipeline.proofs.ending.end.Goals as goal
 
 pub returns-clause-keeps : goal.returns-clause-keeps
 returns-clause-keeps g c =
-    subst (λ d. CameraKeeps g.D.Disk.medium g.S.FrameSource.next_gives g.P.PlaneMemory.plane g.G.Visits.asks
+    subst (λ d. CameraKeeps g.D.Disk.medium g.S.FrameSource.next_gives g.P.PlaneMemory.plane g.G.Visits.asks g.G.Visits.gives_up
     (g.G.Guide.due c.args.begun.guide.value) (g.G.Guide.ends c.args.begun.guide.value)
     (record { device = c.args.begun.device.value; queue = c.args.begun.queue.value; desk = c.args.back.began })
     (record { device = c.args.front.device; queue = c.args.front.queue; desk = d })
     c.into_parts-desk.result.given_up c.slots_beside-left.result c.args.front.missed c.args.front.failed c.args.front.over) (sym c.into_parts-desk.ensures.desk)
-    (both g.D.Disk.medium g.S.FrameSource.next_gives g.P.PlaneMemory.plane g.G.Visits.asks
+    (both g.D.Disk.medium g.S.FrameSource.next_gives g.P.PlaneMemory.plane g.G.Visits.asks g.G.Visits.gives_up
     (g.G.Guide.due c.args.begun.guide.value) (g.G.Guide.ends c.args.begun.guide.value) (made_of c.args.begun) c.args.back _ _
     c.args.front.to c.slots_beside-left.new.producer
     c.into_parts-desk.result.from c.slots_beside-left.new.self _ _ _ _ _ c.into_parts-desk.result.refused c.requires.front.keeps

@@ -9,7 +9,7 @@ use Rattle.loop_pipeline.proofs.back.Back.keep.Goals as goal
 pub invariant_of-self : goal.invariant_of-self
 invariant_of-self g c =
     let k = c.keep_time.ensures.goes in
-    visits g.D.Disk.medium g.K.Visits.asks _ _ _ _ _ c.self.inside.from _ _ c.self.invariant k.calls
+    visits g.D.Disk.medium g.K.Visits.asks g.K.Visits.gives_up _ _ _ _ _ c.self.inside.from _ _ c.self.invariant k.calls
     (all-asked g.K.Visits.asks c.requires _ _ _ _ _ k.keeps) (none-submitted _ _ _ _ _ k.keeps) k.goes
 
 pub returns-clause-whole : goal.returns-clause-whole

@@ -4,5 +4,5 @@ use Rattle.loop_pipeline.proofs.back.Back.read_frame.Goals as goal
 
 pub invariant_of-self : goal.invariant_of-self
 invariant_of-self g c =
-    visits-once g.D.Disk.medium g.K.Visits.asks _ _ _ _ _ c.self.inside.from _ _ c.self.invariant _ (c.requires _) refl
+    visits-once g.D.Disk.medium g.K.Visits.asks g.K.Visits.gives_up _ _ _ _ _ c.self.inside.from _ _ c.self.invariant _ (c.requires _) refl
     c.read_frame.ensures.goes
