@@ -2,7 +2,8 @@
 use Rattle.std.specs.Prelude.{◌≡◌, ◌≤◌, ◌⊎◌, ℕ, ◌+◌, ◌-◌, ◌*◌}
 use Rattle.loop_station_words.specs.declared.ring.RingSize.{RingSize}
 
--- how many of the newest frames a ring always holds while nothing is locked: all segments but one, and one frame
+-- how many of the newest frames a ring holds after each answered append while nothing is locked: all segments but one,
+-- and one frame. A stop within an append may leave one less: a segment is emptied before the frame is stored.
 abbrev pub held : RingSize → ℕ
 held ring = (ring.segments - 1) * ring.slots + 1
 

@@ -30,8 +30,9 @@ pub struct RingSize {
     pub slots: u32,
 }
 
-/// The least ring that always holds so many of the newest frames while nothing is locked. It has 64 slots a segment
-/// while 64 segments are enough, and otherwise 64 segments. `None` where no ring holds so many: more than 16,129.
+/// The least ring that holds so many of the newest frames after each answered append while nothing is locked; a stop
+/// within an append may leave one less. It has 64 slots a segment while 64 segments are enough, and otherwise 64
+/// segments. `None` where no ring holds so many: more than 16,129.
 pub fn ring_for(frames: u64) -> Option<RingSize>
     ensures least { IfSome result (IsLeastFor frames) }
     ensures none { IsNone result ↔ (16129 < frames) }
