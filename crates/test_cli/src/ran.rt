@@ -1,17 +1,11 @@
-//! Runs of scripts and of words, and what came of them.
+//! Runs of scripts, and what came of them.
 
 use crate::asserts::same;
-use crate::ends::Broken;
-use loop_commands::{run_words, simulate};
-use std::alloc::{AllocGlobal, Allocator, Global};
+use loop_commands::simulate;
+use std::alloc::{Allocator, Global};
 use std::fmt::Debug;
-use std::fs::File;
 use std::process::Abort;
-use std::rt::Files;
 use std::str;
-use std::sync::Wait;
-use std::thread::Threads;
-use std::time::Clock;
 
 /// What a run printed, what it printed on standard error, and its status.
 #[derive(Drop)]
@@ -27,26 +21,6 @@ pub(crate) fn run_script<A: Allocator + Copy>(alloc: A, home: Global, script: &[
     let mut err = Vec::new(home);
     let status = simulate(alloc, script, &mut out, &mut err);
     Ran { out, err, status }
-}
-
-/// Runs the words after the program's name, with a script on its input.
-pub(crate) fn run(
-    rt: &(impl AllocGlobal + Files<File = File> + Threads + Wait + Clock + Sync),
-    words: &[&str],
-    script: &[u8],
-) -> Ran {
-    let mut out = Vec::new(rt.alloc());
-    let mut err = Vec::new(rt.alloc());
-    let status = run_words(rt, words, script, &mut out, &mut err);
-    Ran { out, err, status }
-}
-
-/// The status of a run of words where neither output can be printed on.
-pub(crate) fn run_unprinted(
-    rt: &(impl AllocGlobal + Files<File = File> + Threads + Wait + Clock + Sync),
-    words: &[&str],
-) -> u8 {
-    run_words(rt, words, b"".as_slice(), &mut Broken, &mut Broken)
 }
 
 /// Bytes that were printed, as text.

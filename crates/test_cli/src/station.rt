@@ -1,6 +1,6 @@
-//! Tests of loop_station_words: lines and configurations are read as they should be, and what is printed.
-//! - `orders`: lines and the orders that they are; `configs`: configurations, and why they are refused; `lines`: what
-//! is printed.
+//! Tests of loop_station_words: what is read of lines and configurations, and what is printed. Those that are refused stand in
+//! `rows/BadOrder.rows` and `rows/BadConfig.rows`.
+//! - `orders`: lines and the orders that they are; `configs`: configurations; `lines`: what is printed.
 
 mod configs;
 mod lines;

@@ -1,7 +1,6 @@
 //! Exports into a target whose calls fail, and exports and lists where memory is refused.
 
 use crate::asserts::same;
-use crate::files::ring;
 use crate::ran::text;
 use loop_commands::{
     Beneath, ExportTarget, NotExported, export_along, export_apart, export_text, list,
@@ -92,6 +91,48 @@ static ROWS: [((u64, u64), Fails, Option<ExportFault>, &str, usize); 7] = [
     ((2, 3), Fails::Flush, Some(ExportFault::Write), "", 75),
     ((2, 3), Fails::Settle, Some(ExportFault::Write), "", 75),
 ];
+
+// Writes bytes into an image, at a place.
+fn put(image: &mut [u8], at: usize, bytes: &[u8]) {
+    if let Some(places) = image.get_mut(at..) {
+        for (place, byte) in places.iter_mut().zip(bytes) {
+            *place = *byte;
+        }
+    }
+}
+
+// The bytes before the clip table in the image.
+const HEADER: &[u8] =
+    b"\xA5LOOPREC\x01\0\0\0\x04\0\0\0\x02\0\0\0YM12\x19\0\0\0\x01\0\0\0\x03\0\0\0\x02\0\0\0\x0C";
+
+// Writes a segment into an image: its header, and the heads of its frames.
+fn put_segment(image: &mut [u8], segment: usize, block: u8, frames: usize) {
+    let at = segment.min(2) * 600 + 2560;
+    put(image, at, &[0xA5]);
+    put(image, at + 8, &[block]);
+    for slot in 0..frames.min(2) {
+        put(image, at + 256 + slot, &[0xA5]);
+        let number = block.wrapping_mul(2).wrapping_add(slot as u8);
+        let slot = at + 512 + 44 * slot;
+        put(image, slot, &[number]);
+        put(image, slot + 24, &[12]);
+    }
+}
+
+// The image whose segments hold these blocks, each with this many frames.
+fn image_of(segments: &[(usize, u8, usize)]) -> [u8; 4360] {
+    let mut image = [0; 4360];
+    put(&mut image, 0, HEADER);
+    for (segment, block, frames) in segments {
+        put_segment(&mut image, *segment, *block, *frames);
+    }
+    image
+}
+
+// Frames of 4x2 YM12 at 25 a second, 3 segments of 2: the image after the frames 0 to 6, by the layout.
+fn ring() -> [u8; 4360] {
+    image_of(&[(0, 3, 1), (1, 1, 2), (2, 2, 2)])
+}
 
 // A store on a disk in memory that has the ring.
 fn store_of<A: Allocator + Copy>(rt: &impl Abort, home: Global, alloc: A) -> Store<MemDisk, A> {

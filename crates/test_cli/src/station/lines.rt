@@ -136,32 +136,6 @@ const HEADS: &str = "1970-01-01T00:00:00.000Z @a-1 @b 2026-11-22T15:38:00.123Z \
 {\"time\":\"1970-01-01T00:00:00.000Z\",\"label\":\"a-1\",{\"label\":\"b\",{\"time\":\"2026-11-22T15:38:00.123Z\",{\
 out/left_2026-11-22T15-38-00Z_7.y4m out/left_2026-11-22T15-38-00Z_7-2.y4m";
 
-// The orders, as `help` lists them.
-const HELP: &str = "keep [CAMERA] [SECONDS] [+AFTER] [TAG]\n\
-keep [CAMERA] from T to T [TAG]\n\
-release CAMERA ID [FIRST]\n\
-list\n\
-save CAMERA ID OUT\n\
-save! CAMERA ID OUT\n\
-cancel CAMERA ID\n\
-status\n\
-help\n\
-stop\n\
-@LABEL ORDER\n";
-
-// The same as JSON.
-const HELP_JSON: &str = "\"kind\":\"help\",\"order\":\"keep [CAMERA] [SECONDS] [+AFTER] [TAG]\"}\n\
-\"kind\":\"help\",\"order\":\"keep [CAMERA] from T to T [TAG]\"}\n\
-\"kind\":\"help\",\"order\":\"release CAMERA ID [FIRST]\"}\n\
-\"kind\":\"help\",\"order\":\"list\"}\n\
-\"kind\":\"help\",\"order\":\"save CAMERA ID OUT\"}\n\
-\"kind\":\"help\",\"order\":\"save! CAMERA ID OUT\"}\n\
-\"kind\":\"help\",\"order\":\"cancel CAMERA ID\"}\n\
-\"kind\":\"help\",\"order\":\"status\"}\n\
-\"kind\":\"help\",\"order\":\"help\"}\n\
-\"kind\":\"help\",\"order\":\"stop\"}\n\
-\"kind\":\"help\",\"order\":\"@LABEL ORDER\"}\n";
-
 const fn clip(id: u32, to: u64, tag: u64) -> Clip {
     Clip {
         id,
@@ -343,15 +317,6 @@ fn text_alone_is_printed(rt: HostRuntime) {
     holds!(rt; lines.json().is_empty());
     let listing = listing(&rt, rt.alloc());
     holds!(rt; lines.camera("left", &listing).is_ok() && lines.json().is_empty());
-}
-
-// Each line that `help` lists has the shape of an order, or of an order with a label.
-#[test]
-fn help_lists_each_order(rt: HostRuntime) {
-    let mut lines = Lines::new(rt.alloc(), true);
-    holds!(rt; lines.help().is_ok());
-    same!(rt; lines.text(), HELP.as_bytes());
-    same!(rt; lines.json(), HELP_JSON.as_bytes());
 }
 
 // Prints what lines begin with, and the names of a clip's file.
