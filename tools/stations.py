@@ -141,7 +141,8 @@ class Told(Station):
     a label of its own."""
 
     def __init__(self, program, folder, env=None, orders=None, before=None, **outputs):
-        self.told, self.labels, self.news = [], 0, threading.Condition()
+        self.told, self.labelled, self.labels = [], {}, 0
+        self.news = threading.Condition()
         path = Path(folder, ANSWERS)
         # Those of a station before this one are no part of it.
         self.place = path.stat().st_size if path.exists() else 0
@@ -163,13 +164,19 @@ class Told(Station):
             self.place += len(piece)
             *lines, rest = (rest + piece).split(b"\n")
             if lines:
-                with self.news:
-                    self.told += map(json.loads, lines)
-                    self.news.notify_all()
+                self.hear(lines)
             elif is_over:
                 return
             else:
                 time.sleep(0.002)
+
+    def hear(self, lines):
+        """Takes lines of JSON."""
+        with self.news:
+            for it in map(json.loads, lines):
+                self.told.append(it)
+                self.labelled.setdefault(it.get("label"), []).append(it)
+            self.news.notify_all()
 
     def expect(self, found, seconds=20, what="what was waited for"):
         """Waits until the objects are as they have to be, and answers what `found` makes of
@@ -186,7 +193,7 @@ class Told(Station):
 
     def of(self, label):
         """What was told with a label, once that is all: the objects before its `done`."""
-        mine = [it for it in self.told if it.get("label") == label]
+        mine = self.labelled.get(label)
         return mine if mine and mine[-1]["kind"] == "done" else None
 
     def orders_of(self, *lines, seconds=20):
