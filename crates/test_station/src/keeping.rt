@@ -1,0 +1,296 @@
+//! Keeps: what the core decides of one, and whether that was right by the plain list of frames.
+
+use crate::camera::Camera;
+use crate::judge::Judge;
+use crate::saving::Saving;
+use crate::store::{Clip, MOST_CLIPS, Pieces};
+use loop_station_core::{ClipSpan, Keep, KeepTurn, Run, is_covered, next_turn, shortfall_of};
+use std::alloc::Global;
+
+// How many microseconds a keep waits at most while no frame makes progress.
+const STUCK: u64 = 60_000_000;
+
+/// A keep that waits, and what the judge knows of it.
+#[derive(Drop)]
+pub struct Waiting {
+    pub camera: usize,
+    pub event: u64,
+    pub since: u64,
+    pub until: u64,
+    keep: Keep,
+    // How many frames of the list had come when its line was read, and when it had ended.
+    came: usize,
+    ended: Option<usize>,
+    // The newest block when it last locked.
+    block: Option<u64>,
+    // How often a frame had made progress when it was last looked at, and when one was last seen to.
+    moves: u64,
+    moved: u64,
+}
+
+impl Waiting {
+    /// The keep of an event whose line was read now.
+    pub fn new(
+        place: usize,
+        camera: &Camera,
+        event: u64,
+        since: u64,
+        until: u64,
+        now: u64,
+    ) -> Waiting {
+        let come = camera.come(until.min(now));
+        let came = camera.frames.len();
+        Waiting {
+            camera: place,
+            event,
+            since,
+            until,
+            keep: Keep::new(event, since, until, event, now, come, &camera.tally),
+            came,
+            ended: if until <= now { Some(came) } else { None },
+            block: None,
+            moves: camera.moves,
+            moved: now,
+        }
+    }
+
+    /// The program has begun again.
+    pub fn begins(&mut self, camera: &Camera, now: u64) {
+        *self = Waiting::new(self.camera, camera, self.event, self.since, self.until, now);
+    }
+
+    /// Lets the core decide what it does now, and judges that.
+    pub fn turn(
+        &mut self,
+        judge: &mut Judge,
+        camera: &Camera,
+        now: u64,
+        stopping: bool,
+    ) -> KeepTurn {
+        let come = camera.come(self.until.min(now));
+        let block = camera.store.newest();
+        let (keep, turn) = next_turn(
+            self.keep,
+            &camera.tally,
+            now,
+            come,
+            block,
+            camera.locked,
+            stopping,
+        );
+        self.keep = keep;
+        judge.holds(
+            keep.event == self.event && keep.since == self.since && keep.until == self.until,
+            "a keep's times are those of its line",
+        );
+        self.sees(camera, now);
+        match turn {
+            KeepTurn::Wait => self.judge_wait(judge, camera, now, stopping),
+            KeepTurn::Part { until } => self.judge_part(judge, camera, now, until),
+            KeepTurn::Whole => self.judge_whole(judge, camera, now, stopping),
+        }
+        turn
+    }
+
+    // Notes whether a frame made progress, and how many had come when its end was over.
+    fn sees(&mut self, camera: &Camera, now: u64) {
+        if self.moves != camera.moves {
+            self.moves = camera.moves;
+            self.moved = now;
+        }
+        if self.ended.is_none() && self.until <= now {
+            self.ended = Some(camera.frames.len());
+        }
+    }
+
+    // It locks only once each frame that had come before its line is at the desk.
+    fn judge_lock(&self, judge: &mut Judge, camera: &Camera, now: u64) {
+        let is_stuck = camera.locked || now.saturating_sub(camera.progress) > STUCK;
+        judge.holds(
+            is_stuck || camera.is_brought(self.came, self.until),
+            "a keep locks only once each frame that had come before its line is at the desk",
+        );
+    }
+
+    // It locks what is there, and goes on.
+    fn judge_part(&mut self, judge: &mut Judge, camera: &Camera, now: u64, until: u64) {
+        let block = camera.store.newest();
+        judge.holds(
+            until == now.min(self.until),
+            "a part ends now, or where the keep does",
+        );
+        judge.holds(
+            self.block != Some(block),
+            "a part is locked again only once there is a new block",
+        );
+        self.block = Some(block);
+        self.judge_lock(judge, camera, now);
+    }
+
+    // It locks all that there will be, and is done.
+    fn judge_whole(&self, judge: &mut Judge, camera: &Camera, now: u64, stopping: bool) {
+        judge.holds(
+            self.until <= now || stopping,
+            "a keep is whole only once its end has passed",
+        );
+        self.judge_lock(judge, camera, now);
+        let is_stuck = camera.locked || now.saturating_sub(camera.progress) > STUCK;
+        judge.holds(
+            is_stuck || camera.is_brought(usize::MAX, self.until),
+            "a keep is whole only once each frame up to its end is at the desk",
+        );
+    }
+
+    // It waits only as long as it has to.
+    fn judge_wait(&self, judge: &mut Judge, camera: &Camera, now: u64, stopping: bool) {
+        let is_stuck = camera.locked || now.saturating_sub(self.moved) > STUCK;
+        let is_due = is_stuck || camera.brought >= self.came;
+        judge.holds(
+            !is_due || self.block == Some(camera.store.newest()),
+            "a keep locks as soon as it may",
+        );
+        let all = match self.ended {
+            Some(ended) => ended,
+            None if stopping => camera.frames.len(),
+            None => usize::MAX,
+        };
+        judge.holds(
+            !(camera.brought >= all || is_stuck && all < usize::MAX),
+            "a keep is whole as soon as it may be",
+        );
+    }
+
+    /// Locks what is held of its time up to a time, and releases the event's clips that lie within the new ones.
+    pub fn lock(
+        &self,
+        alloc: Global,
+        judge: &mut Judge,
+        camera: &mut Camera,
+        saving: &Saving,
+        until: u64,
+    ) -> Pieces {
+        let pieces = camera.store.pieces(alloc, judge, self.since, until);
+        let mut locked = Vec::new(alloc);
+        for span in pieces.spans.as_slice() {
+            if camera.store.holds_span(judge, self.event, *span) {
+                judge.put(&mut locked, *span);
+            }
+        }
+        for id in 0..MOST_CLIPS {
+            if let Some(clip) = camera.store.clip(id) {
+                self.release_old(judge, camera, saving, &clip, locked.as_slice());
+            }
+        }
+        pieces
+    }
+
+    // A clip, judged: one of the event is released where it lies within a new one.
+    fn release_old(
+        &self,
+        judge: &mut Judge,
+        camera: &mut Camera,
+        saving: &Saving,
+        clip: &Clip,
+        locked: &[ClipSpan],
+    ) {
+        let span = ClipSpan {
+            from: clip.from,
+            to: clip.to,
+        };
+        let covered = is_covered(&span, locked);
+        judge.holds(
+            covered == lies_within(span, locked),
+            "a clip is covered where it lies within a new one",
+        );
+        if clip.event == self.event
+            && covered
+            && !is_among(span, locked)
+            && !saving.is_read(judge, self.camera, clip.id)
+        {
+            camera.store.unlock(clip.id);
+        }
+    }
+}
+
+// Whether a span lies within one of others.
+fn lies_within(span: ClipSpan, others: &[ClipSpan]) -> bool {
+    for other in others {
+        if other.from <= span.from && span.to <= other.to {
+            return true;
+        }
+    }
+    false
+}
+
+// Whether a span is one of others.
+fn is_among(span: ClipSpan, others: &[ClipSpan]) -> bool {
+    for other in others {
+        if other.from == span.from && other.to == span.to {
+            return true;
+        }
+    }
+    false
+}
+
+/// What is missing of a keep's time, judged: each gap is one, and what is held and missing is all. How many gaps.
+pub fn judge_shortfall(
+    alloc: Global,
+    judge: &mut Judge,
+    keep: &Waiting,
+    runs: &[Run],
+    period: u64,
+) -> u64 {
+    let (since, until) = (keep.since, keep.until);
+    let Ok(short) = shortfall_of(alloc, runs, since, until, period) else {
+        judge.holds(false, "there is memory");
+        return 0;
+    };
+    judge.holds(
+        short.asked == until.saturating_sub(since),
+        "what was asked for is the time",
+    );
+    let mut missing = 0u64;
+    for gap in short.gaps.as_slice() {
+        missing = missing.saturating_add(gap.micros);
+        judge_gap(judge, runs, gap.at, gap.micros, period);
+    }
+    judge.holds(
+        short.held.saturating_add(missing) == short.asked,
+        "what is held and what is missing is all",
+    );
+    let count = count_gaps(runs, since, until, period);
+    judge.holds(short.gaps.len() as u64 == count, "each gap is told");
+    count
+}
+
+// Nothing is held within a gap, and it is long.
+fn judge_gap(judge: &mut Judge, runs: &[Run], at: u64, micros: u64, period: u64) {
+    judge.holds(
+        micros > period.saturating_add(period / 2),
+        "a gap is longer than a period and a half",
+    );
+    let end = at.saturating_add(micros);
+    for run in runs {
+        judge.holds(
+            run.last <= at || end <= run.first,
+            "nothing is held within a gap",
+        );
+    }
+}
+
+// How many places there are where nothing is held for long.
+fn count_gaps(runs: &[Run], since: u64, until: u64, period: u64) -> u64 {
+    let most = period.saturating_add(period / 2);
+    let mut at = since;
+    let mut gaps = 0u64;
+    for run in runs {
+        if run.first.saturating_sub(at) > most {
+            gaps = gaps.saturating_add(1);
+        }
+        at = run.last;
+    }
+    if until.saturating_sub(at) > most {
+        gaps = gaps.saturating_add(1);
+    }
+    gaps
+}

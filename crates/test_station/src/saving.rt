@@ -1,0 +1,307 @@
+//! The saves, beside a plain list of them that judges each answer.
+
+use crate::judge::Judge;
+use crate::store::Clip;
+use loop_station_core::{Asked, Cancelled, SaveKey, Saves, StoppedSave};
+use std::alloc::{AllocError, Global};
+
+/// A save that was asked for and hasn't ended.
+#[derive(Clone, Copy)]
+pub struct Asking {
+    pub key: SaveKey,
+    /// The place in which it runs; none while it waits.
+    pub place: Option<usize>,
+    pub automatic: bool,
+    wanted: bool,
+    cancelled: bool,
+}
+
+/// The saves of the station.
+#[derive(Drop)]
+pub struct Saving {
+    core: Saves,
+    list: Vec<Asking>,
+    places: usize,
+}
+
+// Whether a save reads a clip.
+fn reads(asking: &Asking, camera: usize, id: u32) -> bool {
+    asking.key.camera == camera && asking.key.id == id
+}
+
+// Whether two clips are the same.
+fn is_same(a: &SaveKey, b: &SaveKey) -> bool {
+    a.camera == b.camera && a.id == b.id && a.first == b.first
+}
+
+impl Saving {
+    /// No saves.
+    pub fn new(alloc: Global, places: usize) -> Result<Saving, AllocError> {
+        Ok(Saving {
+            core: Saves::new(alloc, places)?,
+            list: Vec::new(alloc),
+            places,
+        })
+    }
+
+    /// How many saves run or wait.
+    pub fn len(&self) -> usize {
+        self.list.len()
+    }
+
+    // Where the save of a place is.
+    fn at(&self, place: usize) -> Option<usize> {
+        self.list
+            .iter()
+            .position(|asking| asking.place == Some(place))
+    }
+
+    // The first place without a save.
+    fn free(&self) -> Option<usize> {
+        for place in 0..self.places {
+            if self.at(place).is_none() {
+                return Some(place);
+            }
+        }
+        None
+    }
+
+    // Where the first save that waits is.
+    fn first_waiting(&self) -> Option<usize> {
+        self.list.iter().position(|asking| asking.place.is_none())
+    }
+
+    // Whether a save reads a clip, as the list has it.
+    fn has_reader(&self, camera: usize, id: u32) -> bool {
+        self.list.iter().any(|asking| reads(asking, camera, id))
+    }
+
+    // Whether a clip is to be released once no save reads it.
+    fn is_wanted(&self, camera: usize, id: u32) -> bool {
+        self.list
+            .iter()
+            .any(|asking| reads(asking, camera, id) && asking.wanted)
+    }
+
+    // A save goes from the list.
+    fn removed(&mut self, at: usize) -> Option<Asking> {
+        if at < self.list.len() {
+            return Some(self.list.remove(at));
+        }
+        None
+    }
+
+    /// Whether a save reads a clip.
+    pub fn is_read(&self, judge: &mut Judge, camera: usize, id: u32) -> bool {
+        let is_read = self.core.is_read(camera, id);
+        judge.holds(
+            is_read == self.has_reader(camera, id),
+            "is_read is as the list says",
+        );
+        is_read
+    }
+
+    /// A save is asked for. Whether it is taken.
+    pub fn ask(&mut self, judge: &mut Judge, key: SaveKey, automatic: bool) -> bool {
+        let free = self.free();
+        let answer = self.core.ask(key, automatic);
+        judge.holds(
+            is_right(answer, free, automatic),
+            "a save begins in the first free place, or waits if it is automatic, or is refused",
+        );
+        if free.is_none() && !automatic {
+            return false;
+        }
+        let wanted = self.is_wanted(key.camera, key.id);
+        let asking = Asking {
+            key,
+            place: free,
+            automatic,
+            wanted,
+            cancelled: false,
+        };
+        judge.put(&mut self.list, asking);
+        true
+    }
+
+    /// Asks for a save of each clip that is to be saved, and isn't being saved. How many.
+    pub fn ask_all(&mut self, judge: &mut Judge, camera: usize, clips: &[Clip]) -> u64 {
+        let mut count = 0u64;
+        for clip in clips {
+            if clip.unsaved && !self.is_read(judge, camera, clip.id) {
+                let is_taken = self.ask(judge, key_of(camera, clip), true);
+                judge.holds(is_taken, "an automatic save is never refused");
+                count = count.saturating_add(1);
+            }
+        }
+        count
+    }
+
+    /// The save that runs in a place, and whether it is to end.
+    pub fn running(&self, place: usize) -> Option<(Asking, bool)> {
+        let asking = self.list.get(self.at(place)?)?;
+        Some((*asking, self.core.is_cancelled(place)))
+    }
+
+    /// The save of a place has ended. Whether its clip is to be released.
+    pub fn ended(&mut self, judge: &mut Judge, place: usize) -> bool {
+        let Some(at) = self.at(place) else {
+            return false;
+        };
+        let Some(asking) = self.removed(at) else {
+            return false;
+        };
+        let release = asking.wanted && !self.has_reader(asking.key.camera, asking.key.id);
+        let ended = self.core.ended(place);
+        judge.holds(
+            ended.release == release,
+            "the last save that reads a clip releases it, if that is wanted",
+        );
+        self.begins(judge, place, ended.begun);
+        release
+    }
+
+    // The save that begins where another has ended is the first that waits.
+    fn begins(&mut self, judge: &mut Judge, place: usize, begun: Option<SaveKey>) {
+        let Some(at) = self.first_waiting() else {
+            judge.holds(begun.is_none(), "only a save that waits begins");
+            return;
+        };
+        let Some(asking) = self.list.get_mut(at) else {
+            return;
+        };
+        let is_first = match begun {
+            Some(key) => is_same(&asking.key, &key),
+            None => false,
+        };
+        judge.holds(
+            is_first,
+            "the first save that waits begins in a place that is free",
+        );
+        asking.place = Some(place);
+    }
+
+    /// A clip is to be released. Whether that waits for saves.
+    pub fn wants_release(&mut self, judge: &mut Judge, camera: usize, id: u32) -> bool {
+        let mut waits = false;
+        for asking in self.list.iter_mut() {
+            if reads(asking, camera, id) {
+                asking.wanted = true;
+                waits = true;
+            }
+        }
+        judge.holds(
+            self.core.wants_release(camera, id) == waits,
+            "a release waits for the saves that read the clip",
+        );
+        waits
+    }
+
+    // The save of a clip that a cancel ends: the first place, or else the first that waits.
+    fn to_cancel(&self, camera: usize, id: u32) -> Option<usize> {
+        for place in 0..self.places {
+            if let Some((asking, _)) = self.running(place) {
+                if reads(&asking, camera, id) && !asking.cancelled {
+                    return self.at(place);
+                }
+            }
+        }
+        self.list.iter().position(|asking| asking.place.is_none() && reads(asking, camera, id))
+    }
+
+    /// A save of a clip is to end. Whether one that waited has ended by that, and whether its clip is to be released.
+    pub fn cancel(&mut self, judge: &mut Judge, camera: usize, id: u32) -> Option<bool> {
+        let expected = self.to_cancel(camera, id);
+        let answer = self.core.cancel(camera, id);
+        let Some(at) = expected else {
+            judge.holds(
+                matches!(answer, Cancelled::No),
+                "only a save that is there is cancelled",
+            );
+            return None;
+        };
+        match answer {
+            Cancelled::No => judge.holds(false, "a save that can be cancelled is"),
+            Cancelled::Running(place) => self.judge_cancelled(judge, at, place),
+            Cancelled::Waiting { release } => return self.judge_gone(judge, at, release),
+        }
+        None
+    }
+
+    // The save that runs in a place is cancelled.
+    fn judge_cancelled(&mut self, judge: &mut Judge, at: usize, place: usize) {
+        judge.holds(
+            self.at(place) == Some(at),
+            "the first save that runs is cancelled",
+        );
+        judge.holds(
+            self.core.is_cancelled(place),
+            "a cancelled save is known as such",
+        );
+        if let Some(asking) = self.list.get_mut(at) {
+            asking.cancelled = true;
+        }
+    }
+
+    // A save that waited has ended.
+    fn judge_gone(&mut self, judge: &mut Judge, at: usize, release: bool) -> Option<bool> {
+        let asking = self.removed(at)?;
+        judge.holds(
+            asking.place.is_none(),
+            "a save that runs is cancelled before one that waits",
+        );
+        let due = asking.wanted && !self.has_reader(asking.key.camera, asking.key.id);
+        judge.holds(
+            release == due,
+            "a cancelled save that was the last releases its clip, if that is wanted",
+        );
+        Some(release)
+    }
+
+    /// The program ends: each save is ended once.
+    pub fn stop(&mut self, judge: &mut Judge) {
+        for _ in 0..self.list.len().saturating_add(1) {
+            let Some(stopped) = self.core.stop() else {
+                break;
+            };
+            self.judge_stopped(judge, &stopped);
+        }
+        judge.holds(self.list.is_empty(), "a stop ends each save");
+    }
+
+    // A save is ended by a stop.
+    fn judge_stopped(&mut self, judge: &mut Judge, stopped: &StoppedSave) {
+        let at = match stopped.place {
+            Some(place) => self.at(place),
+            None => self.first_waiting(),
+        };
+        let is_there = match self.removed(at.unwrap_or(usize::MAX)) {
+            Some(asking) => is_same(&asking.key, &stopped.key),
+            None => false,
+        };
+        judge.holds(is_there, "a stop ends the first save that runs or waits");
+        if let Some(place) = stopped.place {
+            let ended = self.core.ended(place);
+            judge.holds(ended.begun.is_none() && !ended.release, "a save ends once");
+        }
+    }
+}
+
+// Whether this is the answer to a save that is asked for, where a place is free or none is.
+fn is_right(answer: Asked, free: Option<usize>, automatic: bool) -> bool {
+    match answer {
+        Asked::Begins(place) => free == Some(place),
+        Asked::Waits => free.is_none() && automatic,
+        Asked::TooMany => free.is_none() && !automatic,
+        Asked::NoMemory | Asked::Stopped => false,
+    }
+}
+
+/// The save of a clip.
+pub fn key_of(camera: usize, clip: &Clip) -> SaveKey {
+    SaveKey {
+        camera,
+        id: clip.id,
+        first: clip.from,
+    }
+}
