@@ -42,6 +42,8 @@ pub enum Disk {
 /// A camera.
 #[derive(Drop)]
 pub struct Camera {
+    /// Its place among the cameras.
+    pub place: usize,
     /// How many microseconds pass from frame to frame.
     pub period: u64,
     /// How many frames may wait in memory.
@@ -74,11 +76,12 @@ pub struct Camera {
 
 impl Camera {
     /// A camera by chance.
-    pub fn new(alloc: Global, random: &mut Random, now: u64) -> Camera {
+    pub fn new(alloc: Global, random: &mut Random, place: usize, now: u64) -> Camera {
         let period = random.between(5_000, 200_000);
         let segments = random.between(3, 12);
         let slots = random.between(1, 8);
         Camera {
+            place,
             period,
             memory: random.between(2, 40) as usize,
             saves: random.one_in(2),
@@ -184,6 +187,13 @@ impl Camera {
             self.tally = self.tally.store(count);
             self.locked = false;
             self.moves_on(now);
+        }
+    }
+
+    /// What waits at the desk is stored, however much it is, as far as the disk does.
+    pub fn flush_all(&mut self, random: &mut Random, judge: &mut Judge, now: u64) {
+        for _ in 0..8 {
+            self.flush(random, judge, now);
         }
     }
 

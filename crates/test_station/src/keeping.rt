@@ -30,18 +30,11 @@ pub struct Waiting {
 
 impl Waiting {
     /// The keep of an event whose line was read now.
-    pub fn new(
-        place: usize,
-        camera: &Camera,
-        event: u64,
-        since: u64,
-        until: u64,
-        now: u64,
-    ) -> Waiting {
+    pub fn new(camera: &Camera, event: u64, since: u64, until: u64, now: u64) -> Waiting {
         let come = camera.come(until.min(now));
         let came = camera.frames.len();
         Waiting {
-            camera: place,
+            camera: camera.place,
             event,
             since,
             until,
@@ -56,7 +49,7 @@ impl Waiting {
 
     /// The program has begun again.
     pub fn begins(&mut self, camera: &Camera, now: u64) {
-        *self = Waiting::new(self.camera, camera, self.event, self.since, self.until, now);
+        *self = Waiting::new(camera, self.event, self.since, self.until, now);
     }
 
     /// Lets the core decide what it does now, and judges that.

@@ -73,14 +73,22 @@ impl Saving {
 
     // Whether a save reads a clip, as the list has it.
     fn has_reader(&self, camera: usize, id: u32) -> bool {
-        self.list.iter().any(|asking| reads(asking, camera, id))
+        for asking in self.list.as_slice() {
+            if reads(asking, camera, id) {
+                return true;
+            }
+        }
+        false
     }
 
     // Whether a clip is to be released once no save reads it.
     fn is_wanted(&self, camera: usize, id: u32) -> bool {
-        self.list
-            .iter()
-            .any(|asking| reads(asking, camera, id) && asking.wanted)
+        for asking in self.list.as_slice() {
+            if reads(asking, camera, id) && asking.wanted {
+                return true;
+            }
+        }
+        false
     }
 
     // A save goes from the list.
@@ -137,10 +145,14 @@ impl Saving {
         count
     }
 
-    /// The save that runs in a place, and whether it is to end.
-    pub fn running(&self, place: usize) -> Option<(Asking, bool)> {
-        let asking = self.list.get(self.at(place)?)?;
-        Some((*asking, self.core.is_cancelled(place)))
+    /// The save that runs in a place.
+    pub fn running(&self, place: usize) -> Option<Asking> {
+        Some(*self.list.get(self.at(place)?)?)
+    }
+
+    /// Whether the save that runs in a place is to end.
+    pub fn is_cancelled(&self, place: usize) -> bool {
+        self.core.is_cancelled(place)
     }
 
     /// The save of a place has ended. Whether its clip is to be released.
@@ -200,7 +212,7 @@ impl Saving {
     // The save of a clip that a cancel ends: the first place, or else the first that waits.
     fn to_cancel(&self, camera: usize, id: u32) -> Option<usize> {
         for place in 0..self.places {
-            if let Some((asking, _)) = self.running(place) {
+            if let Some(asking) = self.running(place) {
                 if reads(&asking, camera, id) && !asking.cancelled {
                     return self.at(place);
                 }

@@ -237,7 +237,20 @@ impl Store {
 
     /// Whether a clip is to be saved and isn't.
     pub fn has_unsaved(&self) -> bool {
-        self.clips.iter().any(|clip| clip.unsaved)
+        for clip in self.clips.as_slice() {
+            if clip.unsaved {
+                return true;
+            }
+        }
+        false
+    }
+
+    /// Whether the clip of an id is there, and begins with this frame.
+    pub fn begins_with(&self, id: u32, first: u64) -> bool {
+        match self.clip(id) {
+            Some(clip) => clip.from == first,
+            None => false,
+        }
     }
 
     /// The clips of an event are to be saved.

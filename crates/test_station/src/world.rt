@@ -1,4 +1,4 @@
-//! The whole station in simulation.
+//! The whole station in simulation, step by step.
 
 use crate::camera::{Camera, Disk};
 use crate::judge::Judge;
@@ -28,14 +28,27 @@ pub struct Counts {
     pub kills: u64,
 }
 
-/// A station.
+impl Counts {
+    // Nothing.
+    fn new() -> Counts {
+        Counts {
+            keeps: 0,
+            answered: 0,
+            saves: 0,
+            saved: 0,
+            lines: 0,
+            kills: 0,
+        }
+    }
+}
+
+/// The program: its orders, its keeps and its saves.
 #[derive(Drop)]
-pub struct World {
+pub struct Station {
     alloc: Global,
     random: Random,
     pub judge: Judge,
     now: u64,
-    cameras: Vec<Camera>,
     keeps: Vec<Waiting>,
     saving: Saving,
     places: usize,
@@ -47,62 +60,29 @@ pub struct World {
     pub counts: Counts,
 }
 
-impl World {
-    /// The station of a seed.
-    pub fn new(alloc: Global, seed: u64) -> Result<World, AllocError> {
+impl Station {
+    // A program that has just begun.
+    fn new(alloc: Global, seed: u64) -> Result<Station, AllocError> {
         let mut random = Random::new(seed);
-        let mut judge = Judge::new();
-        let mut cameras = Vec::new(alloc);
-        for _ in 0..random.between(1, 4) {
-            judge.put(&mut cameras, Camera::new(alloc, &mut random, BEGIN));
-        }
         let places = if random.one_in(2) {
             16
         } else {
             random.place(3).saturating_add(1)
         };
-        Ok(World {
+        Ok(Station {
             alloc,
             slowness: random.between(1, 6),
             random,
-            judge,
+            judge: Judge::new(),
             now: BEGIN,
-            cameras,
             keeps: Vec::new(alloc),
             saving: Saving::new(alloc, places)?,
             places,
             folder: true,
             numbers: Numbers::after(0),
             last: 0,
-            counts: Counts {
-                keeps: 0,
-                answered: 0,
-                saves: 0,
-                saved: 0,
-                lines: 0,
-                kills: 0,
-            },
+            counts: Counts::new(),
         })
-    }
-
-    /// One step, by chance.
-    pub fn step(&mut self) {
-        self.pass();
-        let place = self.random.place(self.cameras.len());
-        match self.random.below(100) {
-            0..=31 => self.source_gives(place),
-            32..=44 => self.queue_takes(place),
-            45..=69 => self.desk_turns(place, false),
-            70..=79 => self.look(place, false),
-            80..=84 => self.save_goes_on(),
-            85..=88 => self.weather(place),
-            89..=90 => self.keeps_ordered(),
-            91 => self.clip_ordered(place),
-            92 => self.save_unsaved(place),
-            93 => self.check(place),
-            94 => self.kill(),
-            _ => self.desk_turns(place, false),
-        }
     }
 
     // Time passes: mostly little, now and then much.
@@ -117,55 +97,67 @@ impl World {
         self.now = self.now.saturating_add(passed);
     }
 
+    // A step of a camera.
+    fn step(&mut self, camera: &mut Camera, throw: u64) {
+        match throw {
+            0..=31 => self.source_gives(camera),
+            32..=44 => self.queue_takes(camera),
+            45..=75 => self.desk_turns(camera, false),
+            76..=85 => self.look(camera, false),
+            86..=89 => self.weather(camera),
+            90 => self.clip_ordered(camera),
+            91 => self.save_unsaved(camera),
+            _ => self.check(camera),
+        }
+    }
+
+    // A turn of each thread of a camera, at the end. No frame comes once the program ends.
+    fn turn(&mut self, camera: &mut Camera, stopping: bool) {
+        if !stopping {
+            self.source_gives(camera);
+        }
+        self.queue_takes(camera);
+        self.desk_turns(camera, stopping);
+        self.look(camera, stopping);
+    }
+
     // Frames come: one, or a burst.
-    fn source_gives(&mut self, place: usize) {
+    fn source_gives(&mut self, camera: &mut Camera) {
         let count = if self.random.one_in(20) {
             self.random.below(12)
         } else {
             1
         };
-        let now = self.now;
-        if let Some(camera) = self.cameras.get_mut(place) {
-            if camera.source == SourceSeen::On {
-                for _ in 0..count {
-                    camera.gives(&mut self.judge, now);
-                }
+        if camera.source == SourceSeen::On {
+            for _ in 0..count {
+                camera.gives(&mut self.judge, self.now);
             }
         }
     }
 
     // The queue takes frames from memory.
-    fn queue_takes(&mut self, place: usize) {
-        let count = self.random.below(9);
-        if let Some(camera) = self.cameras.get_mut(place) {
-            for _ in 0..count {
-                camera.takes();
-            }
+    fn queue_takes(&mut self, camera: &mut Camera) {
+        for _ in 0..self.random.below(9) {
+            camera.takes();
         }
     }
 
     // A turn of a desk's thread: frames come to the desk, the keeps have their turns, and the desk is flushed.
-    fn desk_turns(&mut self, place: usize, stopping: bool) {
-        let now = self.now;
-        if let Some(camera) = self.cameras.get_mut(place) {
-            if !camera.is_there(now) {
-                return;
-            }
-            camera.brings(&mut self.random, &mut self.judge, now);
-        }
-        self.keeps_turn(place, stopping);
-        if let Some(camera) = self.cameras.get_mut(place) {
-            camera.flush(&mut self.random, &mut self.judge, now);
+    fn desk_turns(&mut self, camera: &mut Camera, stopping: bool) {
+        if camera.is_there(self.now) {
+            camera.brings(&mut self.random, &mut self.judge, self.now);
+            self.keeps_turn(camera, stopping);
+            camera.flush(&mut self.random, &mut self.judge, self.now);
         }
     }
 
     // Each keep of a camera has its turn.
-    fn keeps_turn(&mut self, place: usize, stopping: bool) {
+    fn keeps_turn(&mut self, camera: &mut Camera, stopping: bool) {
         let mut at = 0usize;
         for _ in 0..self.keeps.len() {
-            if self.keep_turns(at, place, stopping) && at < self.keeps.len() {
+            if self.keep_turns(at, camera, stopping) && at < self.keeps.len() {
                 let keep = self.keeps.remove(at);
-                self.save_event(place, keep.event);
+                self.keep_ends(camera, &keep);
             } else {
                 at = at.saturating_add(1);
             }
@@ -173,140 +165,97 @@ impl World {
     }
 
     // A keep has its turn, if it is one of this camera. Whether it is done.
-    fn keep_turns(&mut self, at: usize, place: usize, stopping: bool) -> bool {
-        let now = self.now;
-        let (Some(keep), Some(camera)) = (self.keeps.get_mut(at), self.cameras.get_mut(place))
-        else {
+    fn keep_turns(&mut self, at: usize, camera: &mut Camera, stopping: bool) -> bool {
+        let Some(keep) = self.keeps.get_mut(at) else {
             return false;
         };
-        if keep.camera != place {
+        if keep.camera != camera.place {
             return false;
         }
-        let (until, is_whole) = match keep.turn(&mut self.judge, camera, now, stopping) {
+        let until = match keep.turn(&mut self.judge, camera, self.now, stopping) {
+            KeepTurn::Part { until } => until,
             KeepTurn::Wait => return false,
-            KeepTurn::Part { until } => (until, false),
-            KeepTurn::Whole => (keep.until.min(now), true),
+            KeepTurn::Whole => return true,
         };
-        for _ in 0..8 {
-            camera.flush(&mut self.random, &mut self.judge, now);
-        }
-        let pieces = keep.lock(self.alloc, &mut self.judge, camera, &self.saving, until);
-        if is_whole {
-            let runs = pieces.runs.as_slice();
-            let gaps = judge_shortfall(self.alloc, &mut self.judge, keep, runs, camera.period);
-            self.counts.lines = self.counts.lines.saturating_add(1).saturating_add(gaps);
-            self.counts.answered = self.counts.answered.saturating_add(1);
-        }
-        is_whole
+        camera.flush_all(&mut self.random, &mut self.judge, self.now);
+        let _pieces = keep.lock(self.alloc, &mut self.judge, camera, &self.saving, until);
+        false
     }
 
-    // The clips of an event are saved by themselves, where their camera is so.
-    fn save_event(&mut self, place: usize, event: u64) {
-        if let Some(camera) = self.cameras.get_mut(place) {
-            if camera.saves {
-                camera.store.mark_event(event);
-            }
+    // A keep is done: what is there is locked and answered, and saved by itself where its camera is so.
+    fn keep_ends(&mut self, camera: &mut Camera, keep: &Waiting) {
+        camera.flush_all(&mut self.random, &mut self.judge, self.now);
+        let until = keep.until.min(self.now);
+        let pieces = keep.lock(self.alloc, &mut self.judge, camera, &self.saving, until);
+        let runs = pieces.runs.as_slice();
+        let gaps = judge_shortfall(self.alloc, &mut self.judge, keep, runs, camera.period);
+        self.counts.lines = self.counts.lines.saturating_add(1).saturating_add(gaps);
+        self.counts.answered = self.counts.answered.saturating_add(1);
+        if camera.saves {
+            camera.store.mark_event(keep.event);
         }
-        self.save_unsaved(place);
+        self.save_unsaved(camera);
     }
 
     // Clips that are to be saved, and aren't being saved, are asked for.
-    fn save_unsaved(&mut self, place: usize) {
-        if let Some(camera) = self.cameras.get(place) {
-            if camera.saves {
-                let clips = camera.store.clips.as_slice();
-                let count = self.saving.ask_all(&mut self.judge, place, clips);
-                self.counts.saves = self.counts.saves.saturating_add(count);
-            }
+    fn save_unsaved(&mut self, camera: &Camera) {
+        if camera.saves {
+            let clips = camera.store.clips.as_slice();
+            let count = self.saving.ask_all(&mut self.judge, camera.place, clips);
+            self.counts.saves = self.counts.saves.saturating_add(count);
         }
     }
 
-    // A save reads on, and may end.
-    fn save_goes_on(&mut self) {
-        let place = self.random.place(self.places);
-        let Some((asking, cancelled)) = self.saving.running(place) else {
-            return;
-        };
-        self.judge_read(&asking);
-        if cancelled {
-            self.mark_saved(&asking);
+    // The save of a place reads on, and may end.
+    fn save_goes_on(&mut self, camera: &mut Camera, place: usize, asking: &Asking) {
+        let id = asking.key.id;
+        self.judge.holds(
+            camera.store.begins_with(id, asking.key.first),
+            "a clip that a save reads is there, and the one that was asked for",
+        );
+        if self.saving.is_cancelled(place) {
+            camera.store.mark_saved(id);
         } else if self.folder && self.random.one_in(3) {
-            self.mark_saved(&asking);
+            camera.store.mark_saved(id);
             self.counts.saved = self.counts.saved.saturating_add(1);
             self.counts.lines = self.counts.lines.saturating_add(1);
-            self.release_saved(&asking);
+            if camera.releases && asking.automatic {
+                self.release_later(camera, id);
+            }
         } else if !self.random.one_in(9) {
             return;
         }
         if self.saving.ended(&mut self.judge, place) {
-            self.release(asking.key.camera, asking.key.id);
-        }
-    }
-
-    // The clip that a save reads is there.
-    fn judge_read(&mut self, asking: &Asking) {
-        if let Some(camera) = self.cameras.get(asking.key.camera) {
-            let is_there = match camera.store.clip(asking.key.id) {
-                Some(clip) => clip.from == asking.key.first,
-                None => false,
-            };
-            self.judge.holds(
-                is_there,
-                "a clip that a save reads is there, and the one that was asked for",
-            );
-        }
-    }
-
-    // A clip is saved, or isn't to be any more.
-    fn mark_saved(&mut self, asking: &Asking) {
-        if let Some(camera) = self.cameras.get_mut(asking.key.camera) {
-            camera.store.mark_saved(asking.key.id);
-        }
-    }
-
-    // A clip is released once it is saved, where its camera is so.
-    fn release_saved(&mut self, asking: &Asking) {
-        if let Some(camera) = self.cameras.get(asking.key.camera) {
-            if camera.releases && asking.automatic {
-                let key = asking.key;
-                let waits = self
-                    .saving
-                    .wants_release(&mut self.judge, key.camera, key.id);
-                self.judge
-                    .holds(waits, "a clip waits for the save that reads it");
-            }
+            self.release(camera, id);
         }
     }
 
     // A clip is released, since no save reads it.
-    fn release(&mut self, place: usize, id: u32) {
-        let is_read = self.saving.is_read(&mut self.judge, place, id);
+    fn release(&mut self, camera: &mut Camera, id: u32) {
+        let is_read = self.saving.is_read(&mut self.judge, camera.place, id);
         self.judge
             .holds(!is_read, "a clip that is read isn't released");
-        if let Some(camera) = self.cameras.get_mut(place) {
+        camera.store.unlock(id);
+    }
+
+    // A clip is released once no save reads it.
+    fn release_later(&mut self, camera: &mut Camera, id: u32) {
+        if !self.saving.wants_release(&mut self.judge, camera.place, id) {
             camera.store.unlock(id);
         }
     }
 
     // What happens to sources, disks and the folder.
-    fn weather(&mut self, place: usize) {
-        let throw = self.random.below(12);
-        if throw == 6 && self.random.one_in(4) {
-            self.folder = false;
-        }
-        if throw == 9 {
-            self.folder = true;
-        }
-        let (now, slowness) = (self.now, self.slowness);
-        if let Some(camera) = self.cameras.get_mut(place) {
-            match throw {
-                0 => camera.disk = Disk::Slow,
-                1 if self.random.one_in(3) => camera.disk = Disk::Stalls,
-                2 if self.random.one_in(4) => camera.fails(&mut self.random, now),
-                3..=5 if self.random.one_in(3) => camera.source_goes(&mut self.random),
-                7 | 8 if self.random.one_in(slowness) => camera.disk = Disk::Works,
-                _ => camera.source = SourceSeen::On,
-            }
+    fn weather(&mut self, camera: &mut Camera) {
+        match self.random.below(12) {
+            0 => camera.disk = Disk::Slow,
+            1 if self.random.one_in(3) => camera.disk = Disk::Stalls,
+            2 if self.random.one_in(4) => camera.fails(&mut self.random, self.now),
+            3..=5 if self.random.one_in(3) => camera.source_goes(&mut self.random),
+            6 => self.folder = !self.random.one_in(4),
+            7 | 8 if self.random.one_in(self.slowness) => camera.disk = Disk::Works,
+            9 => self.folder = true,
+            _ => camera.source = SourceSeen::On,
         }
     }
 
@@ -329,7 +278,8 @@ impl World {
         match self.random.below(24) {
             0..=5 => {
                 let since = now.saturating_sub(self.random.below(8_000_000));
-                (since, since.saturating_add(self.random.below(16_000_000)))
+                let until = since.saturating_add(self.random.below(16_000_000));
+                (since, until)
             }
             6 => (now, now.saturating_add(self.random.below(2 * HOUR))),
             7 => (
@@ -358,19 +308,19 @@ impl World {
     }
 
     // Writers order keeps at the same time: one, or several.
-    fn keeps_ordered(&mut self) {
+    fn keeps_ordered(&mut self, cameras: &[Camera]) {
         let writers = if self.random.one_in(6) {
             self.random.between(2, 4)
         } else {
             1
         };
         for _ in 0..writers {
-            self.keep_ordered();
+            self.keep_ordered(cameras);
         }
     }
 
     // A writer orders a keep of one camera or of all.
-    fn keep_ordered(&mut self) {
+    fn keep_ordered(&mut self, cameras: &[Camera]) {
         let (since, until) = self.time();
         let is_far = until.saturating_sub(self.now) > HOUR;
         self.judge.holds(
@@ -382,183 +332,206 @@ impl World {
         }
         let event = self.number();
         let all = self.random.one_in(3);
-        let only = self.random.place(self.cameras.len());
-        for place in 0..self.cameras.len() {
-            if all || place == only {
-                self.keep_begins(place, event, since, until);
+        let only = self.random.place(cameras.len());
+        for camera in cameras {
+            if all || camera.place == only {
+                let keep = Waiting::new(camera, event, since, until, self.now);
+                self.judge.put(&mut self.keeps, keep);
+                self.counts.keeps = self.counts.keeps.saturating_add(1);
             }
-        }
-    }
-
-    // The keep of a camera begins.
-    fn keep_begins(&mut self, place: usize, event: u64, since: u64, until: u64) {
-        if let Some(camera) = self.cameras.get(place) {
-            let keep = Waiting::new(place, camera, event, since, until, self.now);
-            self.judge.put(&mut self.keeps, keep);
-            self.counts.keeps = self.counts.keeps.saturating_add(1);
         }
     }
 
     // A writer orders something of a clip.
-    fn clip_ordered(&mut self, place: usize) {
-        let throw = self.random.below(8);
-        let which = self.random.next();
-        let Some(camera) = self.cameras.get(place) else {
+    fn clip_ordered(&mut self, camera: &mut Camera) {
+        let Some(clip) = camera.store.any_clip(self.random.next()) else {
             return;
         };
-        let Some(clip) = camera.store.any_clip(which) else {
-            return;
-        };
-        match throw {
-            0..=2 => self.release_ordered(place, clip.id),
+        match self.random.below(8) {
+            0..=2 => {
+                if !self.saving.is_read(&mut self.judge, camera.place, clip.id) {
+                    camera.store.unlock(clip.id);
+                }
+            }
             3..=5 => {
-                let is_taken = self
-                    .saving
-                    .ask(&mut self.judge, key_of(place, &clip), false);
+                let key = key_of(camera.place, &clip);
+                let is_taken = self.saving.ask(&mut self.judge, key, false);
                 self.counts.saves = self.counts.saves.saturating_add(u64::from(is_taken));
             }
-            6 => self.release_later(place, clip.id),
-            _ => self.cancel_ordered(place, clip.id),
-        }
-    }
-
-    // A clip is released, unless a save reads it.
-    fn release_ordered(&mut self, place: usize, id: u32) {
-        if !self.saving.is_read(&mut self.judge, place, id) {
-            self.release(place, id);
-        }
-    }
-
-    // A clip is released once no save reads it.
-    fn release_later(&mut self, place: usize, id: u32) {
-        if !self.saving.wants_release(&mut self.judge, place, id) {
-            self.release(place, id);
+            6 => self.release_later(camera, clip.id),
+            _ => self.cancel_ordered(camera, clip.id),
         }
     }
 
     // A save of a clip is cancelled.
-    fn cancel_ordered(&mut self, place: usize, id: u32) {
-        let Some(release) = self.saving.cancel(&mut self.judge, place, id) else {
-            return;
-        };
-        if let Some(camera) = self.cameras.get_mut(place) {
+    fn cancel_ordered(&mut self, camera: &mut Camera, id: u32) {
+        let gone = self.saving.cancel(&mut self.judge, camera.place, id);
+        if gone.is_some() {
             camera.store.mark_saved(id);
         }
-        if release {
-            self.release(place, id);
+        if gone == Some(true) {
+            self.release(camera, id);
         }
     }
 
     // Somebody looks at a camera.
-    fn look(&mut self, place: usize, stopping: bool) {
-        if let Some(camera) = self.cameras.get_mut(place) {
-            let lines = camera.look(&mut self.judge, self.now, stopping);
-            self.counts.lines = self.counts.lines.saturating_add(lines);
-        }
+    fn look(&mut self, camera: &mut Camera, stopping: bool) {
+        let lines = camera.look(&mut self.judge, self.now, stopping);
+        self.counts.lines = self.counts.lines.saturating_add(lines);
     }
 
-    // The lists of a camera agree.
-    fn check(&mut self, place: usize) {
-        if !self.random.one_in(8) {
-            return;
-        }
-        if let Some(camera) = self.cameras.get(place) {
+    // The lists of a camera may be compared.
+    fn check(&mut self, camera: &Camera) {
+        if self.random.one_in(64) {
             camera.check(&mut self.judge);
         }
     }
 
-    // The program may be killed, and begins again: its stores and the lines of its events are there.
+    // The program is killed, and begins again.
     fn kill(&mut self) {
-        if !self.random.one_in(80) {
-            return;
-        }
         self.counts.kills = self.counts.kills.saturating_add(1);
         self.now = self.now.saturating_add(self.random.below(3_000_000));
+        self.numbers = Numbers::after(self.last);
         match Saving::new(self.alloc, self.places) {
             Ok(saving) => self.saving = saving,
             Err(_) => self.judge.holds(false, "there is memory"),
         }
-        self.numbers = Numbers::after(self.last);
-        let now = self.now;
-        for camera in self.cameras.iter_mut() {
-            camera.begins(&mut self.random, now);
-        }
-        for keep in self.keeps.iter_mut() {
-            if let Some(camera) = self.cameras.get(keep.camera) {
-                keep.begins(camera, now);
-            }
-        }
-        for place in 0..self.cameras.len() {
-            self.save_unsaved(place);
-        }
     }
 
-    /// The program ends in order: each keep is answered, each line told, each save ended.
-    pub fn end(&mut self) {
-        self.folder = true;
-        for camera in self.cameras.iter_mut() {
-            camera.disk = Disk::Works;
-        }
-        self.turns(300, false);
-        self.turns(100, true);
+    // Each keep is answered once, and each save has ended.
+    fn judge_end(&mut self) {
         self.judge
             .holds(self.keeps.is_empty(), "each keep is answered");
         self.judge.holds(
             self.counts.answered == self.counts.keeps,
             "each keep is answered once",
         );
-        self.last_saves();
-        for place in 0..self.cameras.len() {
-            self.look(place, true);
-            self.judge_end(place);
-        }
+        self.judge.holds(self.saving.len() == 0, "each save ends");
         self.saving.stop(&mut self.judge);
     }
 
-    // Some turns of each thread. No frame comes once the program ends.
-    fn turns(&mut self, count: u64, stopping: bool) {
-        for _ in 0..count {
-            self.now = self.now.saturating_add(20_000);
-            for place in 0..self.cameras.len() {
-                if !stopping {
-                    self.source_gives(place);
-                }
-                self.queue_takes(place);
-                self.desk_turns(place, stopping);
-                self.look(place, stopping);
-            }
-            self.save_goes_on();
+    // Nothing of a camera is left untold or unsaved.
+    fn judge_camera(&mut self, camera: &mut Camera) {
+        self.look(camera, true);
+        camera.check(&mut self.judge);
+        self.judge.holds(
+            camera.told.lost == camera.tally.lost(),
+            "by the end each lost frame is told",
+        );
+        self.judge.holds(
+            !(camera.saves && camera.store.has_unsaved()),
+            "by the end each clip is saved that was to be",
+        );
+    }
+}
+
+/// A station and its cameras.
+#[derive(Drop)]
+pub struct World {
+    pub station: Station,
+    cameras: Vec<Camera>,
+}
+
+impl World {
+    /// The world of a seed.
+    pub fn new(alloc: Global, seed: u64) -> Result<World, AllocError> {
+        let mut station = Station::new(alloc, seed)?;
+        let mut cameras = Vec::new(alloc);
+        for place in 0..station.random.place(4).saturating_add(1) {
+            let camera = Camera::new(alloc, &mut station.random, place, BEGIN);
+            station.judge.put(&mut cameras, camera);
         }
+        Ok(World { station, cameras })
+    }
+
+    /// One step, by chance.
+    pub fn step(&mut self) {
+        self.station.pass();
+        match self.station.random.below(1_000) {
+            0..=49 => self.save_goes_on(),
+            50..=69 => self.station.keeps_ordered(self.cameras.as_slice()),
+            70 if self.station.random.one_in(8) => self.kill(),
+            _ => self.camera_step(),
+        }
+    }
+
+    // A step of any camera.
+    fn camera_step(&mut self) {
+        let throw = self.station.random.below(100);
+        let place = self.station.random.place(self.cameras.len());
+        if let Some(camera) = self.cameras.get_mut(place) {
+            self.station.step(camera, throw);
+        }
+    }
+
+    // Any save goes on, if one runs in the place.
+    fn save_goes_on(&mut self) {
+        let count = self.station.places;
+        let place = self.station.random.place(count);
+        if let Some(asking) = self.station.saving.running(place) {
+            if let Some(camera) = self.cameras.get_mut(asking.key.camera) {
+                self.station.save_goes_on(camera, place, &asking);
+            }
+        }
+    }
+
+    // The program is killed, and begins again: its stores and the lines of its events are there.
+    fn kill(&mut self) {
+        self.station.kill();
+        let now = self.station.now;
+        for camera in self.cameras.iter_mut() {
+            camera.begins(&mut self.station.random, now);
+        }
+        for keep in self.station.keeps.iter_mut() {
+            if let Some(camera) = self.cameras.get(keep.camera) {
+                keep.begins(camera, now);
+            }
+        }
+        self.save_unsaved();
+    }
+
+    // Clips that are to be saved, and aren't being saved, are asked for.
+    fn save_unsaved(&mut self) {
+        for camera in self.cameras.as_slice() {
+            self.station.save_unsaved(camera);
+        }
+    }
+
+    /// The program ends in order: each keep is answered, each line told, each save ended.
+    pub fn end(&mut self) {
+        self.station.folder = true;
+        for camera in self.cameras.iter_mut() {
+            camera.disk = Disk::Works;
+        }
+        for turn in 0..400u64 {
+            self.turn(turn >= 300);
+        }
+        self.last_saves();
+        for camera in self.cameras.iter_mut() {
+            self.station.judge_camera(camera);
+        }
+        self.station.judge_end();
+    }
+
+    // A turn of each thread.
+    fn turn(&mut self, stopping: bool) {
+        self.station.now = self.station.now.saturating_add(20_000);
+        for camera in self.cameras.iter_mut() {
+            self.station.turn(camera, stopping);
+        }
+        self.save_goes_on();
     }
 
     // All saves go on until each clip is saved that was to be.
     fn last_saves(&mut self) {
         for _ in 0..200_000u64 {
-            if self.saving.len() < 2 {
-                for place in 0..self.cameras.len() {
-                    self.save_unsaved(place);
-                }
+            if self.station.saving.len() < 2 {
+                self.save_unsaved();
             }
-            if self.saving.len() == 0 {
-                break;
+            if self.station.saving.len() == 0 {
+                return;
             }
             self.save_goes_on();
-        }
-        self.judge.holds(self.saving.len() == 0, "each save ends");
-    }
-
-    // Nothing is left untold or unsaved.
-    fn judge_end(&mut self, place: usize) {
-        if let Some(camera) = self.cameras.get(place) {
-            camera.check(&mut self.judge);
-            self.judge.holds(
-                camera.told.lost == camera.tally.lost(),
-                "by the end each lost frame is told",
-            );
-            self.judge.holds(
-                !(camera.saves && camera.store.has_unsaved()),
-                "by the end each clip is saved that was to be",
-            );
         }
     }
 }
