@@ -17,6 +17,9 @@ const HOUR: u64 = 3_600_000_000;
 // How many keeps wait at most.
 const MOST_KEEPS: usize = 12;
 
+// Below so many keeps one may end in an hour.
+const FEW_KEEPS: usize = 4;
+
 /// What was counted.
 #[derive(Drop)]
 pub struct Counts {
@@ -281,11 +284,13 @@ impl Station {
                 let until = since.saturating_add(self.random.below(16_000_000));
                 (since, until)
             }
-            6 => (now, now.saturating_add(self.random.below(2 * HOUR))),
-            7 => (
-                now,
-                now.saturating_add(self.random.between(HOUR - 1, HOUR + 1)),
-            ),
+            6 if self.keeps.len() < FEW_KEEPS => {
+                (now, now.saturating_add(self.random.below(2 * HOUR)))
+            }
+            7 if self.keeps.len() < FEW_KEEPS => {
+                let after = self.random.between(HOUR - 1, HOUR + 1);
+                (now, now.saturating_add(after))
+            }
             _ => self.time_of_seconds(),
         }
     }
