@@ -4,7 +4,10 @@ use crate::judge::Judge;
 use crate::random::Random;
 use crate::store::Store;
 use crate::told::Told;
-use loop_station_core::{NOT_THERE_YET, Seen, SourceSeen, StoreSeen, Tally};
+use loop_station_core::{
+    Act, Camera as Life, Event, FilmingEvent, NOT_THERE_YET, Seen, SourceEvent, SourceSeen,
+    StoreSeen, Tally,
+};
 use std::alloc::Global;
 
 // How many frames may be on their way from the queue to the desk, and how many may wait there.
@@ -71,6 +74,9 @@ pub struct Camera {
     pub moves: u64,
     pub source: SourceSeen,
     pub tally: Tally,
+    /// What the station decides of it, and whether each act was right.
+    life: Life,
+    acts: bool,
     pub told: Told,
 }
 
@@ -101,8 +107,23 @@ impl Camera {
             moves: 0,
             source: SourceSeen::Missing,
             tally: Tally::new(),
+            life: Life::new(),
+            acts: true,
             told: Told::new(now),
         }
+    }
+
+    // Something happens to its filming, and this has to follow.
+    fn happens(&mut self, event: FilmingEvent, wanted: Act) {
+        let (life, act) = self.life.on(Event::Filming(event));
+        self.life = life;
+        self.acts = self.acts && act == wanted;
+    }
+
+    // Something happens to its source.
+    fn source_happens(&mut self, event: SourceEvent) {
+        let (life, _) = self.life.on(Event::Source(event));
+        self.life = life;
     }
 
     // What becomes of a frame.
@@ -139,7 +160,10 @@ impl Camera {
 
     /// The store is opened again, if it is time. Whether it is open.
     pub fn is_there(&mut self, now: u64) -> bool {
-        self.open = self.open || self.again <= now;
+        if !self.open && self.again <= now {
+            self.open = true;
+            self.happens(FilmingEvent::Begin, Act::GoOn);
+        }
         self.open
     }
 
@@ -186,6 +210,7 @@ impl Camera {
         if count > 0 {
             self.tally = self.tally.store(count);
             self.locked = false;
+            self.happens(FilmingEvent::Store(count), Act::GoOn);
             self.moves_on(now);
         }
     }
@@ -215,6 +240,7 @@ impl Camera {
             self.set(at, Fate::Stored);
         } else {
             self.locked = true;
+            self.happens(FilmingEvent::AllLocked, Act::FlushAgain);
             let is_back = self.desk.insert(0, at).is_ok();
             judge.holds(is_back, "there is memory");
         }
@@ -260,6 +286,9 @@ impl Camera {
         self.desk.clear();
         self.open = false;
         self.locked = false;
+        self.happens(FilmingEvent::Break, Act::GiveUp);
+        self.happens(FilmingEvent::End(true), Act::OpenAgain);
+        self.happens(FilmingEvent::Leave, Act::OpenAgain);
         self.again = now.saturating_add(random.below(5_000_000));
     }
 
@@ -280,6 +309,7 @@ impl Camera {
         self.locked = false;
         self.progress = now;
         self.tally = Tally::new();
+        self.life = Life::new();
         self.told = Told::new(now);
     }
 
@@ -348,9 +378,44 @@ impl Camera {
     /// Somebody looks at it. How many lines are told.
     pub fn look(&mut self, judge: &mut Judge, now: u64, stopping: bool) -> u64 {
         let before = self.told.lines;
+        self.show_source(now);
+        self.judge_life(judge);
         let seen = self.seen(now, stopping);
         self.told.look(judge, &seen);
         self.told.lines.saturating_sub(before)
+    }
+
+    // Its source shows itself as it is: a silent one is open, and has brought nothing for a second more than it may.
+    fn show_source(&mut self, now: u64) {
+        self.source_happens(SourceEvent::Read);
+        match self.source {
+            SourceSeen::Missing => self.source_happens(SourceEvent::Missing),
+            SourceSeen::Other => self.source_happens(SourceEvent::Offer(false)),
+            SourceSeen::Unusable => self.source_happens(SourceEvent::Unusable),
+            SourceSeen::On => self.source_happens(SourceEvent::Offer(true)),
+            SourceSeen::Silent => {
+                self.source_happens(SourceEvent::Offer(true));
+                self.source_happens(SourceEvent::Wait(now.saturating_sub(3_000_000)));
+                self.source_happens(SourceEvent::Look(now, self.period));
+            }
+        }
+    }
+
+    // Its life is what has happened to it.
+    fn judge_life(&self, judge: &mut Judge) {
+        judge.holds(
+            self.life.source_seen() == self.source,
+            "a source is as it has shown itself",
+        );
+        judge.holds(
+            !self.open || self.life.locked == self.locked,
+            "all is locked from such a refusal on until a frame is stored",
+        );
+        judge.holds(
+            !self.open || self.life.films(1, 0),
+            "a filming goes on until something breaks",
+        );
+        judge.holds(self.acts, "what follows is right");
     }
 
     // What is seen of it now.
@@ -359,7 +424,7 @@ impl Camera {
         let blocks = self.store.segments.saturating_sub(1);
         Seen {
             now,
-            source: self.source,
+            source: self.life.source_seen(),
             store: match (self.open, self.before) {
                 (true, _) => StoreSeen::Open,
                 (false, _) if stopping => StoreSeen::Stopped,
@@ -367,7 +432,7 @@ impl Camera {
                 (false, _) => StoreSeen::Absent(3),
             },
             lost: self.tally.lost(),
-            locked: self.locked,
+            locked: self.open && self.life.locked,
             behind: self.tally.behind().saturating_mul(self.period),
             waited: self.coming,
             room: blocks.saturating_sub(locked),
