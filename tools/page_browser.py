@@ -386,8 +386,8 @@ def warn(browser, lab, shots):
     browser.dress("1440x900", "dark")
     browser.open()
     windows = browser.driver.window_handles
-    lab.order(f"!print given up left 12 since {NASTY.replace(' ', '')}")
-    lab.order("!print not saved right xyz Exists")
+    lab.say("given_up", camera="left", frames=12, since="2026-11-22T15:38:00.123Z")
+    lab.say("not_saved", camera="right", id=3, path=NASTY, why=NASTY)
     for window in windows:
         browser.driver.switch_to.window(window)
         browser.until(

@@ -450,7 +450,7 @@ def look_at_calls():
                 lab.filmed(60).keep(1, note="x")
                 for kind in ("mp4", "y4m", "zip", "csv", "jpg"):
                     expect(lab.ask(f"/api/clips/left/0.{kind}", timeout=60).status == 200, f"no {kind} under strace")
-                lab.order("!print all locked left")
+                lab.say("all_locked", camera="left")
                 lab.until(lambda: '["logger"' in Path(folder, "calls").read_text(errors="replace"), "command of on_alert", 20)
                 lab.post("/api/release", {"camera": "left", "id": 0})
         finally:

@@ -7,6 +7,7 @@ are recorded, and gives orders as anybody may, so the recorder never waits for i
     eye         what a camera shows: its newest frame, that of a moment, pictures of both
     push        what an open page is sent, over one answer that doesn't end
     films       clips as MP4, YUV4MPEG2, PNGs and CSV
+    heard       what the station said of its events
     events      clips of one press as one event
     bundle      an event as one zip
     words       the lines that the station prints, and sentences with what to do

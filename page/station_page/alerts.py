@@ -99,7 +99,8 @@ class Alerts:
                     self.told += 1
                 except Exception as fault:
                     self.not_told += 1
-                    self.journal.add("not told", f"{name} failed: {why(fault)}. It wasn't told: {alert.text}")
+                    text = f"{name} failed: {why(fault)}. It wasn't told: {alert.text}"
+                    self.journal.add("not told", text, is_bad=True)
 
     async def run_command(self, alert: Alert) -> None:
         """Runs the command, without a shell; the sentence is its input. It ends, with all that it began, where it needs too long."""

@@ -35,7 +35,7 @@ class Console:
         self.push = Push(self.laboratory, self.state, page.gate.is_known)
         self.progress: collections.OrderedDict[str, Progress] = collections.OrderedDict()
         self.told: tuple[int, list] = (-1, [])
-        self.clips: list[dict] = []
+        self.clips: tuple[list[dict], int] = ([], 0)
         self.found = b"[]"
 
     def add_to(self, app: web.Application) -> None:
@@ -60,10 +60,11 @@ class Console:
         all pages, where something has been seen anew."""
         laboratory = self.laboratory
         if self.told[0] != laboratory.version:
-            clips = laboratory.clips()
+            clips = laboratory.clips(), laboratory.heard.version
             if clips != self.clips:
                 self.clips = clips
-                self.found = json.dumps(events_of(clips), separators=(",", ":")).encode()
+                found = events_of(clips[0], laboratory.heard)
+                self.found = json.dumps(found, separators=(",", ":")).encode()
             events = self.found
             more = json.dumps(self.more(), separators=(",", ":")).encode()
             found = [
@@ -182,7 +183,8 @@ class Console:
     async def events(self, request: web.Request) -> web.Response:
         """All events."""
         await self.laboratory.fresh()
-        return web.json_response({"events": events_of(self.laboratory.clips())})
+        found = events_of(self.laboratory.clips(), self.laboratory.heard)
+        return web.json_response({"events": found})
 
     def clips_in(self, found: object) -> list[tuple[str, int, int]]:
         """The clips that a request names, each by camera, id and first number."""

@@ -1,6 +1,8 @@
-"""Clips as events: one press keeps a time of several cameras, and that is one event. The station has no
-numbers for events yet, so `events_of` goes by the times of clips; where it has, this is the function to
-change."""
+"""Clips as events: one press keeps a time of several cameras, and that is one event. Clips of one event
+have the station's number of it. Of clips with a tag of yours it isn't on the disk: where the page didn't
+hear it, it goes by their times."""
+from .heard import Heard, Told
+
 # By how much the ends of clips of one press may differ, in microseconds, beside two periods of the
 # slower camera: the newest frame of one may not have been stored when the press came.
 NEAR_END = 400_000
@@ -11,7 +13,7 @@ class Group:
     """Clips of one press, as dicts of `Laboratory.clips`, and the time that they have together."""
 
     def __init__(self, clip: dict) -> None:
-        self.clips, self.tag = [clip], clip["tag"]
+        self.clips, self.tag = [clip], clip["order_tag"]
         self.since, self.until, self.period = clip["from_us"], clip["to_us"], period_of(clip)
 
     def add(self, clip: dict) -> None:
@@ -32,7 +34,9 @@ class Group:
     def meets(self, clip: dict) -> bool:
         """Whether a clip is of the same press, by its times: both ends are near; or it is a part
         beside a hole, within the time of the press, that reaches an end or stands beside others."""
-        if clip["to_us"] < self.since or self.until < clip["from_us"] or clip["tag"] != self.tag:
+        if clip["to_us"] < self.since or self.until < clip["from_us"]:
+            return False
+        if clip["order_tag"] != self.tag:
             return False
         slack = 2 * max(self.period, period_of(clip))
         starts = abs(clip["from_us"] - self.since) <= NEAR_START + slack
@@ -51,7 +55,21 @@ def period_of(clip: dict) -> float:
 
 
 def groups_of(clips: list[dict]) -> list[Group]:
-    """The clips of each press together. Long ones come first: what a hole cut short joins them."""
+    """The clips of each press together: those of one number, and the others by their times."""
+    numbered: dict[int, Group] = {}
+    for clip in clips:
+        if clip["event"] is None:
+            continue
+        if clip["event"] in numbered:
+            numbered[clip["event"]].add(clip)
+        else:
+            numbered[clip["event"]] = Group(clip)
+    return [*numbered.values(), *by_times([it for it in clips if it["event"] is None])]
+
+
+def by_times(clips: list[dict]) -> list[Group]:
+    """The clips of each press together, by their times. Long ones come first: what a hole cut short joins
+    them."""
     groups: list[Group] = []
     for clip in sorted(
         clips, key=lambda it: (it["from_us"] - it["to_us"], it["to_us"], it["camera"])
@@ -64,37 +82,49 @@ def groups_of(clips: list[dict]) -> list[Group]:
     return groups
 
 
-def events_of(clips: list[dict]) -> list[dict]:
+def events_of(clips: list[dict], heard: Heard | None = None) -> list[dict]:
     """The events of all clips, the newest first, as objects for JSON: `key` names an event as long as
-    its clips stay; times are in microseconds since 1970."""
-    found = []
-    for group in groups_of(clips):
-        ordered = sorted(group.clips, key=lambda it: (it["camera"], it["first"]))
-        notes = list(dict.fromkeys(it["note"] for it in ordered if it["note"]))
-        since, until = group.since, group.until
-        found.append(
-            {
-                "key": "~".join(f"{it['camera']}.{it['id']}.{it['first']}" for it in ordered),
-                "from_us": since,
-                "to_us": until,
-                "seconds": max(it["seconds"] for it in ordered)
-                if len(ordered) == 1
-                else span(group),
-                "cameras": list(dict.fromkeys(it["camera"] for it in ordered)),
-                "bytes": sum(it["bytes"] for it in ordered),
-                "note": "; ".join(notes),
-                "tag": ordered[0]["tag"],
-                "fetched": any(it["fetched"] for it in ordered),
-                "clips": [
-                    {
-                        key: it[key]
-                        for key in ("camera", "id", "first", "last", "from_us", "to_us", "frames")
-                    }
-                    for it in ordered
-                ],
-            }
-        )
+    its clips stay, and `number` is the station's, where it is known; times are in microseconds since
+    1970."""
+    found = [event_of(group, heard or Heard()) for group in groups_of(clips)]
     return sorted(found, key=lambda it: (it["to_us"], it["from_us"], it["key"]), reverse=True)
+
+
+def event_of(group: Group, heard: Heard) -> dict:
+    """An event as an object."""
+    ordered = sorted(group.clips, key=lambda it: (it["camera"], it["first"], it["last"]))
+    notes = list(dict.fromkeys(it["note"] for it in ordered if it["note"]))
+    told = heard.told(ordered[0]["event"])
+    return {
+        "key": "~".join(f"{it['camera']}.{it['id']}.{it['first']}" for it in ordered),
+        "number": ordered[0]["event"],
+        "from_us": group.since,
+        "to_us": group.until,
+        "seconds": ordered[0]["seconds"] if len(ordered) == 1 else span(group),
+        "cameras": list(dict.fromkeys(it["camera"] for it in ordered)),
+        "bytes": sum(it["bytes"] for it in ordered),
+        "note": "; ".join(notes),
+        "tag": ordered[0]["tag"],
+        "fetched": any(it["fetched"] for it in ordered),
+        "until_us": told.until if told.goes_on() else None,
+        "lacks": lacks_of(told),
+        "clips": [
+            {
+                key: it[key]
+                for key in ("camera", "id", "first", "last", "from_us", "to_us", "frames")
+            }
+            for it in ordered
+        ],
+    }
+
+
+def lacks_of(told: Told) -> list[dict]:
+    """Of which cameras an event has less than was asked for, in microseconds, and why it isn't whole."""
+    return [
+        {"camera": name, "held_us": part.held, "asked_us": part.asked, "why": part.why or ""}
+        for name, part in sorted(told.parts.items())
+        if part.held is not None or part.why
+    ]
 
 
 def span(group: Group) -> float:

@@ -13,7 +13,8 @@ log = logging.getLogger("loop_page")
 @dataclass(frozen=True)
 class Entry:
     """Something that somebody did, or that went wrong: when (seconds since 1970), what it is, whose
-    address and session, and in a sentence."""
+    address and session, and in a sentence. Where something was asked for, `order` says what, and stands
+    at the beginning of the sentence too."""
 
     id: int
     time: float
@@ -21,6 +22,8 @@ class Entry:
     address: str
     session: str
     text: str
+    order: str = ""
+    is_bad: bool = False
 
 
 class Journal:
@@ -30,11 +33,19 @@ class Journal:
         self.entries: collections.deque[Entry] = collections.deque(maxlen=limits.JOURNAL)
         self.count = 0
 
-    def add(self, kind: str, text: str, who: tuple[str, str] | None = None) -> None:
+    def add(
+        self,
+        kind: str,
+        text: str,
+        who: tuple[str, str] | None = None,
+        order: str = "",
+        is_bad: bool = False,
+    ) -> None:
         """Writes a line. `who` is an address and a session; none where nobody asked for it."""
         self.count += 1
         address, session = (words.plain(it) for it in who or ("", ""))
-        entry = Entry(self.count, time.time(), kind, address, session, words.plain(text))
+        text, order = words.plain(f"{order}: {text}" if order else text), words.plain(order)
+        entry = Entry(self.count, time.time(), kind, address, session, text, order, is_bad)
         self.entries.append(entry)
         log.info("%s%s: %s", kind, f" by {address}, {session}" if who else "", entry.text)
 

@@ -3,6 +3,7 @@ from dataclasses import dataclass
 
 from . import words
 from .reader import Clip
+from .words import Line
 
 # How a keep is told of which nothing became, or a part.
 NOTHING, PART = "nothing was kept", "a part was kept, and no more"
@@ -18,6 +19,19 @@ class Kept:
     clips: list[Clip]
     # What is missing of the time that was asked for, in a sentence; nothing where all is there.
     lack: str = ""
+    # What else is to be said, as of a note that can't be written.
+    remark: str = ""
+    # The event's number; until when it goes on, where its end lies ahead; and how much is held of how much, where less is.
+    event: int | None = None
+    until: int | None = None
+    held: int | None = None
+    asked: int | None = None
+
+    def sentence(self) -> str:
+        """All of it, with the camera's name."""
+        front = f"{self.camera}: {self.text}" if self.camera else self.text
+        ahead = f"It goes on until {words.iso(self.until)}." if self.until else ""
+        return " ".join(it for it in (front, ahead, self.lack, self.remark) if it)
 
     def as_object(self) -> dict:
         """For JSON."""
@@ -33,34 +47,24 @@ class Kept:
             }
             for clip in self.clips
         ]
-        return {"camera": self.camera, "kept": self.is_kept, "text": self.text, "clips": clips, "lack": self.lack}
+        found = {"camera": self.camera, "kept": self.is_kept, "text": self.sentence(), "why": "" if self.is_kept else self.text}
+        found |= {"clips": clips, "lack": self.lack, "remark": self.remark, "event": self.event}
+        return found | {"until_us": self.until, "held_us": self.held, "asked_us": self.asked}
 
 
-def told(name: str, clips: list[Clip]) -> Kept:
+def told(name: str, clips: list[Clip], event: int | None = None) -> Kept:
     """That clips were kept, in a sentence."""
     spans = " and ".join(
-        f"clip {clip.id} from {words.iso(clip.since)} to {words.iso(clip.until)}, {clip.count()} frames"
-        if clip.is_seen()
-        else f"clip {clip.id}, frames {clip.first} to {clip.last}"
-        for clip in clips
+        f"clip {clip.id} from {words.iso(clip.since)} to {words.iso(clip.until)}, {clip.count()} frames" for clip in clips
     )
-    return Kept(name, True, f"{name}: kept {spans}.", clips)
+    return Kept(name, True, f"kept {spans}.", clips, event=event)
 
 
-def not_kept(line: str) -> Kept:
-    """Why nothing was kept, by the station's line, in a sentence with what to do."""
-    verb, *rest = line.split(" ", 2)
-    if verb == "kept" and rest[1:] and rest[1].split()[0] == "none":
-        return Kept(
-            rest[0], False, f"{rest[0]}: {NOTHING}, since no stored frame is of that time. Is the camera recording?", []
-        )
-    if verb in ("refused", "absent") and len(rest) == 2:
-        return Kept(rest[0], False, f"{rest[0]}: {NOTHING}, since {words.meaning(rest[1])}.", [])
-    if line.startswith("no camera"):
-        return Kept(
-            None,
-            False,
-            "The station has no camera of that name. Was its configuration changed? Start the page again.",
-            [],
-        )
-    return Kept(None, False, f"The station answers: {line}. Is it older than the page?", [])
+def not_kept(line: Line, is_part: bool) -> Kept:
+    """Why nothing was kept, or no more than a part, by the station's line, in a sentence with what to do."""
+    why = words.refusal_of(line)
+    if why is None:
+        said = f": {line['line']}" if line.kind == "bad_order" else ""
+        return Kept(None, False, f"The station answers `{line.kind}`{said}. Is it as old as the page?", [])
+    camera = None if line.kind == "no_camera" else line.camera
+    return Kept(camera, False, f"{PART if is_part else NOTHING}, since {why.rstrip('.?')}{'?' if why.endswith('?') else '.'}", [])

@@ -13,14 +13,15 @@ import layout
 from . import limits, spans, words
 from .alerts import Alerts
 from .films import Fetch, Films, fetch_of
+from .heard import Heard, is_number
 from .journal import Journal
-from .kept import NOTHING, PART, Kept, not_kept, told
+from .kept import Kept, not_kept, told
 from .notes import Notes, NotesFault, key_of
 from .orders import NoStation, Orders
 from .reader import Clip, Gone, Reader, Reading, Source
 from .settings import Settings
 from .watched import Watched, refusal, settle
-from .words import Event, Status, Unfit
+from .words import Event, Line, Status, Unfit
 from .workers import NO_ANSWER, looks_of, reads_of
 
 log = logging.getLogger("loop_page")
@@ -30,19 +31,27 @@ PIECES = 300
 PASSING = ("missing", "absent")
 # Which warnings are over once there is good news of a kind; and all that the station says of a camera.
 ENDS = {
-    "source": ("missing", "other"),
-    "open": ("absent", "not a store"),
-    "room": ("locked",),
+    "source": ("missing", "other", "unusable"),
+    "open": ("absent", "not a store", "small"),
+    "room": ("locked", "nearly locked"),
     "caught up": ("behind",),
+    "saved": ("save waits",),
 }
-OF_STATION = ("missing", "other", "absent", "not a store", "locked", "behind")
+OF_STATION = ("missing", "other", "unusable", "absent", "not a store", "small", "locked", "nearly locked", "behind", "save waits")
 # What is the cause where no frames come, so that it isn't warned of twice.
-NO_FRAMES = ("missing", "other", "absent", "not a store", "locked", "lost", "hangs")
-# The words with which a line begins that says what became of a keep.
-ANSWERS = ("kept", "refused", "absent")
+NO_FRAMES = ("missing", "other", "unusable", "absent", "not a store", "locked", "lost", "hangs")
+# The kinds of lines that say what became of a keep.
+ANSWERS = ("kept", "kept_none", "refused", "absent", "too_many_orders")
+# Which part of its room is locked where the station says that it nearly is.
+NEARLY = 0.8
 # Why there is no note beside a clip that isn't seen in its store yet: it would be found by the clip's times.
 UNSEEN = "The note isn't written, since the page can't read the store at the moment. Write it beside the clip."
 OTHER_SIZE = "its source gives frames of another size, format or rate than its store, so nothing is stored."
+UNUSABLE = "no store may have the frames of its source, so nothing is stored."
+AS_TEXT = (
+    'The station\'s answers are text, which the page doesn\'t read. Write `answers_form = "json"` into its configuration, and start station and page again.'
+)
+UNREAD = 'The station\'s answers can\'t be read. Its configuration needs `answers_form = "json"`; start the station again, and then the page.'
 ALL_LOCKED = "all of its room is locked, and recording has stopped. Release a clip that you don't need."
 # A camera that gives less of its rate is shown as one to look at.
 LEAST_RATE = 0.8
@@ -59,14 +68,15 @@ class Laboratory:
         }
         self.journal = Journal()
         self.alerts = Alerts(settings.on_alert, settings.webhook, self.journal)
-        self.orders = Orders(settings.orders, settings.answers, self.on_event)
+        self.orders, self.heard = Orders(settings.orders, settings.answers, self), Heard()
+        # Notes of clips that still grow, by camera and event.
+        self.growing: dict[tuple[str, int], str] = {}
+        self.grown: set[tuple[str, int]] = set()
         self.notes, self.films = Notes(settings.notes), Films()
         self.fetching: collections.Counter[tuple[str, int]] = collections.Counter()
         self.releasing: set[tuple[str, int]] = set()
         # Held from a look at a clip until its release is given, so that no other order of this page comes between.
         self.ordering = asyncio.Lock()
-        # Whether the station takes `release CAMERA ID FIRST`.
-        self.takes_first = False
         self.begun = time.monotonic()
         self.is_running, self.was_running, self.said = self.orders.pipe.is_read(), False, 0.0
         self.streams, self.wanted, self.version, self.looked = 0, time.monotonic(), 0, 0.0
@@ -77,14 +87,29 @@ class Laboratory:
 
     # ------------------------------------------------------------------------------------------- what happens by itself
 
-    def on_event(self, text: str) -> None:
+    def on_line(self, line: Line) -> None:
+        """A line of the station, whoever has asked for it."""
+        if self.alerts.stands("answers", camera=None):
+            self.over("answers", None)
+        self.heard.take(line)
+        watched = self.cameras.get(line.camera or "")
+        if watched and line.kind in ("making", "status_making"):
+            watched.making = line["percent"]
+        elif watched and line.kind in ("status", "store_open", "kept"):
+            watched.making = None
+
+    def on_unread(self) -> None:
+        """Lines of the station can't be read."""
+        self.set("answers", None, UNREAD)
+
+    def on_event(self, line: Line) -> None:
         """A line of the station that nobody asked for."""
-        event = words.read_event(text)
+        event = words.event_of(line)
         if not event:
             return
         watched = self.cameras.get(event.camera or "")
-        if watched and event.kind in ("absent", "open"):
-            watched.absent = text.split(" ", 3)[3] if event.kind == "absent" else ""
+        if watched and line.kind in ("store_absent", "store_open"):
+            watched.absent = line.members.get("why", "")
         for kind in ENDS.get(event.kind, ()):
             self.over(kind, event.camera)
         if event.kind in PASSING:
@@ -162,23 +187,22 @@ class Laboratory:
                     break
 
     async def ask_status(self) -> None:
-        """Asks once; and first, of each station, which orders it takes."""
-        if not self.said:
-            self.takes_first = any(words.TAKES_FIRST.search(line) for line in await self.orders.ask("help"))
+        """Asks once."""
         await self.orders.ask("status", each=self.on_status)
         self.said = time.monotonic()
 
-    def on_status(self, line: str) -> None:
+    def on_status(self, line: Line) -> None:
         """A line of the station's `status`. What it says is so now: what was said before the page began, nobody has heard, and an event may
         have been lost."""
-        found = words.read_status(line)
-        if found and found[0] in self.cameras:
-            self.on_stands(self.cameras[found[0]], found[1])
-        elif line.startswith("absent ") and len(parts := line.split(" ", 2)) == 3 and parts[1] in self.cameras:
-            watched = self.cameras[parts[1]]
-            watched.status, is_same = None, watched.absent == parts[2]
-            if not (is_same and self.is_known("absent", parts[1])):
-                self.on_event(f"store {parts[1]} absent {parts[2]}")
+        watched = self.cameras.get(line.camera or "")
+        if not watched:
+            return
+        if line.kind == "status":
+            self.on_stands(watched, words.status_of(line))
+        elif line.kind == "absent":
+            watched.status, is_same = None, watched.absent == line["why"]
+            if not (is_same and self.is_known("absent", line["camera"])):
+                self.on_event(Line(None, "store_absent", line.members))
 
     def is_known(self, kind: str, camera: str) -> bool:
         """Whether something is warned of, or will be soon."""
@@ -189,18 +213,15 @@ class Laboratory:
         name, watched.status, watched.absent = watched.camera.name, status, ""
         self.over("absent", name)
         self.over("not a store", name)
-        if status.source == "missing":
-            if not self.is_known("missing", name):
-                self.on_event(f"source {name} missing")
-        else:
+        if status.source != "missing":
             self.over("missing", name)
-        if status.source == "other geometry":
-            self.set("other", name, f"{name}: {OTHER_SIZE}")
-        else:
-            self.over("other", name)
+        elif not self.is_known("missing", name):
+            self.on_event(Line(None, "source_missing", {"camera": name}))
+        self.set("other", name, f"{name}: {OTHER_SIZE}" if status.source == "other geometry" else "")
+        self.set("unusable", name, f"{name}: {UNUSABLE}" if status.source == "unusable" else "")
         if status.room:
             self.over("locked", name)
-        if status.behind is not None and status.behind <= 1:
+        if status.behind <= 1:
             self.over("behind", name)
 
     async def look(self) -> None:
@@ -209,6 +230,7 @@ class Laboratory:
         self.judge_station()
         for watched in self.cameras.values():
             self.judge(watched)
+        await self.carry_notes()
         self.looked = time.monotonic()
         state = json.dumps(self.standing(), separators=(",", ":")).encode()
         async with self.changed:
@@ -233,7 +255,7 @@ class Laboratory:
         """What a station said that has ended isn't so any more, nor not so."""
         self.said = 0.0
         for name, watched in self.cameras.items():
-            watched.status, watched.absent = None, ""
+            watched.status, watched.absent, watched.making = None, "", None
             for kind in OF_STATION:
                 self.over(kind, name, is_told=False)
 
@@ -259,6 +281,8 @@ class Laboratory:
             self.set("locked", name, f"{name}: {ALL_LOCKED}")
         elif reading is not None and not is_locked and not is_silent:
             self.set("locked", name, "")
+        if reading is not None and reading.locked() < NEARLY:
+            self.over("nearly locked", name)
         has_cause = self.alerts.stands(*NO_FRAMES, camera=name) or self.alerts.stands("station", camera=None)
         if reading is None or not is_silent:
             self.set("silent", name, "")
@@ -287,6 +311,8 @@ class Laboratory:
             station = ["unknown", "The station's configuration has no `orders`: the page shows, and can't keep."]
         elif not self.is_running:
             station = ["bad", f"The station doesn't run: nobody reads orders at {self.settings.orders}. Start it."]
+        elif self.settings.is_text:
+            station = ["warn", AS_TEXT]
         elif not self.orders.has_answers:
             station = [
                 "warn",
@@ -314,6 +340,7 @@ class Laboratory:
         found = {
             "name": watched.camera.name,
             "keep": watched.camera.keep,
+            "after": watched.camera.after,
             "level": level,
             "state": text,
             "kind": kind,
@@ -321,6 +348,7 @@ class Laboratory:
             "given_up": status and status.given_up,
             "behind": status and status.behind,
             "room": status and status.room,
+            "keeps": status and status.keeps,
         }
         reading = watched.reading
         if not reading:
@@ -349,6 +377,8 @@ class Laboratory:
         if waited := watched.hangs():
             return "bad", f"Its disk hasn't answered for {words.seconds_words(waited)}. Look at the disk.", "hangs", "disk hangs"
         reading, source = watched.reading, self.source_of(watched)
+        if watched.making is not None and self.orders.has_answers:
+            return "warn", f"Its store is being made: {watched.making} % of it is.", "making", "making store"
         if watched.absent and self.orders.has_answers:
             return "bad", f"It isn't recorded: {words.meaning(watched.absent)}.", "absent", "not recorded"
         if reading is None:
@@ -356,6 +386,8 @@ class Laboratory:
         if source == "other geometry":
             text = "Its source gives frames of another size, format or rate than its store. Nothing is stored."
             return "bad", text, "other", "other frames"
+        if source == "unusable":
+            return "bad", "No store may have the frames of its source. Nothing is stored.", "unusable", "other frames"
         is_silent = watched.is_silent(limits.STILL_SECONDS)
         if reading.is_all_locked():
             when = "has stopped" if is_silent else "stops when the newest block is full"
@@ -379,6 +411,8 @@ class Laboratory:
             why = "the station doesn't run. Start it"
         elif source == "missing":
             why = "its source is missing. See that the camera is plugged in and its program runs"
+        elif source == "silent":
+            why = "its source is there, and nothing comes of it. Look at the camera"
         else:
             why = "the camera may be away, or its program. Look at both"
         if watched.newest is None:
@@ -430,7 +464,10 @@ class Laboratory:
                         "id": clip.id,
                         "first": clip.first,
                         "last": clip.last,
-                        "tag": clip.tag,
+                        "event": self.heard.number_of(name, clip),
+                        # A tag of yours; and what of it is the order's, and not the configuration's.
+                        "tag": (tag := 0 if is_number(clip.tag) else clip.tag),
+                        "order_tag": 0 if tag == watched.camera.tag else tag,
                         "frames": clip.count(),
                         "from_us": clip.since,
                         "to_us": clip.until,
@@ -458,8 +495,8 @@ class Laboratory:
             kept = await self.keep_heard(order, names)
         else:
             kept = await self.keep_unheard(order, names)
+            kept = [self.with_lack(one, seconds, span) for one in kept]
         self.hurry.set()
-        kept = [self.with_lack(one, seconds, span) for one in kept]
         return await self.noted(kept, note)
 
     async def keep_heard(self, order: str, names: list[str]) -> list[Kept]:
@@ -475,9 +512,9 @@ class Laboratory:
             lines = waiting.lines
         is_whole = waiting.done.done() and waiting.done.exception() is None
         late = [] if is_whole else [name for name in names if name not in answered(lines)]
-        return await self.find(lines) + [Kept(name, False, f"{name}: {self.late_text(name)}", []) for name in late]
+        return await self.find(lines) + [Kept(name, False, self.late_text(name), []) for name in late]
 
-    def is_enough(self, lines: list[str], names: list[str]) -> bool:
+    def is_enough(self, lines: list[Line], names: list[str]) -> bool:
         """Whether only cameras haven't answered yet whose disks don't."""
         late = set(names) - answered(lines)
         return len(late) < len(names) and all(self.cameras[name].hangs() for name in late)
@@ -488,27 +525,26 @@ class Laboratory:
         why = f"its disk hasn't answered for {words.seconds_words(hanging)}" if hanging else "it hasn't answered in time"
         return f"no answer, since {why}. It may still be kept: look at its clips."
 
-    async def find(self, lines: list[str]) -> list[Kept]:
+    async def find(self, lines: list[Line]) -> list[Kept]:
         """What the lines of an answer say, with the times of its clips, for which their stores are looked at until they show them."""
         end = time.monotonic() + limits.FIND_SECONDS
+        told_of = sorted({line["camera"] for line in lines if line.kind == "kept"} & set(self.cameras))
         while True:
-            told_of = sorted({match[1] for line in lines if (match := words.KEPT.fullmatch(line))} & set(self.cameras))
             await self.look_at(told_of, is_new=True)
             kept = self.kept_of(lines)
-            unseen = {one.camera for one in kept if not all(clip.is_seen() for clip in one.clips)}
+            unseen = {one.camera for one in kept if not all(clip.is_seen for clip in one.clips)}
             if all(self.cameras[name].hangs() for name in unseen if name in self.cameras) or time.monotonic() > end:
                 return kept
             await asyncio.sleep(0.1)
 
     def with_lack(self, kept: Kept, seconds: int | None, span: tuple[int, int] | None) -> Kept:
-        """What became of a keep, with what it didn't get of the time that was asked for."""
+        """What became of a keep, with what it didn't get of the time that was asked for, where the station isn't heard."""
         watched = self.cameras.get(kept.camera or "")
-        if not kept.clips or not watched or not watched.reading or not all(clip.is_seen() for clip in kept.clips):
+        if not kept.clips or not watched or not watched.reading:
             return kept
         until = span[1] if span else max(watched.now(), max(clip.until for clip in kept.clips))
         since = span[0] if span else until - (seconds or 0) * 1_000_000
-        lack = spans.lack(watched.reading, kept.clips, since, min(until, watched.now()) if span else until)
-        return replace(kept, text=f"{kept.text} {lack}", lack=lack) if lack else kept
+        return replace(kept, lack=spans.lack(watched.reading, kept.clips, since, min(until, watched.now()) if span else until))
 
     async def look_at(self, names: list[str], is_new: bool = False) -> None:
         """Looks at some cameras together, and waits for a while until that is done. A look that is to be new begins after this call."""
@@ -519,23 +555,40 @@ class Laboratory:
             watched.begin()
         await settle(chosen)
 
-    def kept_of(self, lines: list[str]) -> list[Kept]:
+    def kept_of(self, lines: list[Line]) -> list[Kept]:
         """What the lines of an answer say."""
-        clips, found = collections.defaultdict(list), []
+        clips, refused, camera = collections.defaultdict(list), [], None
+        ends: dict[str | None, int] = {}
         for line in lines:
-            if match := words.KEPT.fullmatch(line):
-                watched, (id_, first, last) = self.cameras.get(match[1]), map(int, match.group(2, 3, 4))
-                # By its frames too: a look that is late may have an earlier clip of that id.
-                clip = watched and watched.reading and watched.reading.clip(id_)
-                if not clip or (clip.first, clip.last) != (first, last):
-                    clip = Clip(id_, first, last, int(match["tag"] or match["event"] or 0), 0, 0)
-                clips[match[1]].append(clip)
-            elif not line.startswith(words.BESIDE_KEPT):
-                refused = not_kept(line)
-                found.append(
-                    replace(refused, text=refused.text.replace(NOTHING, PART)) if refused.camera in clips else refused
-                )
-        return [told(name, of_one) for name, of_one in clips.items()] + found
+            # The line of an event that goes on doesn't name its camera: it comes after the other ones of it.
+            camera = line.camera or camera
+            if line.kind == "kept":
+                clips[camera].append(line)
+            elif line.kind == "event_begun":
+                ends[camera] = line["to"]
+            elif line.kind not in ("held", "gap"):
+                refused.append(line)
+        found = []
+        for name, of_one in clips.items():
+            number = of_one[0]["event"]
+            part = self.heard.told(number).part(name)
+            lack = "" if part.held is None else spans.told(part.held, part.asked or 0, part.gaps)
+            one = told(name, [self.clip_told(name, line) for line in of_one], number)
+            found.append(replace(one, lack=lack, until=ends.get(name), held=part.held, asked=part.asked))
+        return found + [not_kept(line, line.camera in clips) for line in refused]
+
+    def clip_told(self, name: str, line: Line) -> Clip:
+        """The clip of which a line says that it was kept: as its store has it, or, where it isn't seen there, as the station tells it."""
+        id_, first, last = line["id"], line["first"], line["last"]
+        watched = self.cameras.get(name)
+        reading = watched.reading if watched else None
+        # By its frames too: a look that is late may have an earlier clip of that id.
+        found = reading.clip_of(id_, first, last) if reading else None
+        # One that grows is soon a longer one, with another id.
+        longer = [
+            it for it in (reading.clips if reading else []) if it.first == first and it.last > last and self.heard.number_of(name, it) == line["event"]
+        ]
+        return found or (longer or [Clip(id_, first, last, line["tag"] or line["event"], line["from"], line["to"], is_seen=False)])[0]
 
     async def keep_unheard(self, order: str, names: list[str]) -> list[Kept]:
         """Gives an order to a station whose answers can't be read, and looks in the stores what it has done."""
@@ -556,7 +609,7 @@ class Laboratory:
             "no new clip is seen in its store. The station's configuration has no `answers`, so the page can't say why"
         )
         return [
-            told(name, clips) if clips else Kept(name, False, f"{name}: {nothing}.", []) for name, clips in new.items()
+            told(name, clips) if clips else Kept(name, False, f"{nothing}.", []) for name, clips in new.items()
         ]
 
     def clips_of(self, name: str) -> list[Clip]:
@@ -570,15 +623,15 @@ class Laboratory:
             return kept
         found = []
         for one in kept:
-            text = one.text
+            remark = ""
             try:
                 for clip in one.clips:
-                    if not clip.is_seen():
+                    if not clip.is_seen:
                         raise NotesFault(UNSEEN)
                     await asyncio.to_thread(self.put_note, one.camera or "", clip, note)
             except NotesFault as fault:
-                text = f"{text} {fault}"
-            found.append(replace(one, text=text))
+                remark = str(fault)
+            found.append(replace(one, remark=remark))
         return found
 
     def put_note(self, camera: str, clip: Clip, text: str) -> None:
@@ -589,6 +642,24 @@ class Laboratory:
             for it in self.clips_of(name)
         }
         self.notes.put(self.watched(camera).camera.store, clip, text, keys.__contains__)
+        number = self.heard.number_of(camera, clip)
+        if number is not None and not is_number(clip.tag) and self.heard.told(number).goes_on(camera):
+            self.growing[camera, number] = text
+
+    async def carry_notes(self) -> None:
+        """Writes the notes of events that go on to their longer clips. Of most they are found by the event's number, which is the clip's tag; those
+        with a tag of yours are found by the clip's ends."""
+        for (name, number), text in list(self.growing.items()):
+            store, is_open = self.cameras[name].camera.store, self.heard.told(number).goes_on(name)
+            clips = [clip for clip in self.clips_of(name) if self.heard.number_of(name, clip) == number]
+            for clip in [clip for clip in clips if text and not self.notes.of(store, clip)]:
+                with contextlib.suppress(NotesFault):
+                    await asyncio.to_thread(self.put_note, name, clip, text)
+            # The last one may not have been seen yet when the station says that it is.
+            if not is_open and (name, number) in self.grown:
+                del self.growing[name, number]
+            (self.grown.discard if is_open else self.grown.add)((name, number))
+            self.grown &= set(self.growing)
 
     def clip(self, camera: object, id_: int, first: int | None = None) -> tuple[Watched, Reading, Source, Clip]:
         """A clip by its id, and by its first number where that is given: ids are used again."""
@@ -608,7 +679,8 @@ class Laboratory:
             async with self.ordering:
                 await self.look_at([self.watched(camera).camera.name], is_new=True)
                 *_, clip = self.clip(camera, id_, first)
-                order = self.release_order(camera, clip)
+                # By its first frame too, so that no other clip is released that has its id by then.
+                order = f"release {camera} {clip.id} {clip.first}"
                 waiting = self.orders.begin(order) if self.orders.has_answers else None
                 if waiting is None:
                     self.orders.give(order)
@@ -618,10 +690,11 @@ class Laboratory:
         finally:
             self.releasing.discard(key)
             self.hurry.set()
-        if f"released {camera} {id_}" in lines:
+        if any(line.kind == "released" and (line["camera"], line["id"]) == (camera, id_) for line in lines):
             return f"{camera}: clip {id_} is released. Its room is used again."
         if waiting:
-            raise Unfit(409, f"{camera}: clip {id_} isn't released: {words.meaning(' '.join(lines) or 'no answer')}.")
+            said = [words.refusal_of(line) or f"the station answers `{line.kind}`" for line in lines]
+            raise Unfit(409, f"{camera}: clip {id_} isn't released: {'; '.join(said) or 'no answer'}.")
         reading = self.cameras[camera].reading
         if reading is None or reading.clip_of(id_, clip.first, clip.last):
             raise Unfit(
@@ -629,10 +702,6 @@ class Laboratory:
                 f"{camera}: clip {id_} still stands. The configuration has no `answers`, so the page can't say why.",
             )
         return f"{camera}: clip {id_} is released, as its store shows."
-
-    def release_order(self, camera: str, clip: Clip) -> str:
-        """The order that releases a clip. A station that takes the clip's first frame releases no other one that has its id by then."""
-        return f"release {camera} {clip.id}" + (f" {clip.first}" if self.takes_first else "")
 
     @contextlib.contextmanager
     def busy(self, camera: str, id_: int) -> Iterator[None]:
@@ -662,6 +731,6 @@ class Laboratory:
         self.orders.reader.close()
 
 
-def answered(lines: list[str]) -> set[str]:
+def answered(lines: list[Line]) -> set[str | None]:
     """The cameras of which lines say what became of an order."""
-    return {parts[1] for line in lines if len(parts := line.split(" ")) > 2 and parts[0] in ANSWERS}
+    return {line.camera for line in lines if line.kind in ANSWERS}

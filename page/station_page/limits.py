@@ -16,7 +16,11 @@ REQUEST_SECONDS = 15
 READ_SECONDS = 20
 # The bytes of a request's body, and of a line of the station.
 BODY_BYTES = 16 * 1024
-LINE_BYTES = 4096
+LINE_BYTES = 32 * 1024
+# After so many lines of the station in a row that aren't JSON it is told that its answers can't be read.
+UNREAD_LINES = 3
+# The events, and the clips of them, of which is remembered what the station said.
+EVENTS_HEARD = 4096
 # How often cameras are looked at while a page is open, and while none is, and how long a request waits for a look; how often the station is asked how
 # it stands.
 LOOK_SECONDS = 0.5

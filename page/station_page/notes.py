@@ -1,5 +1,6 @@
-"""What people write beside clips, in a file of the page's own: by the store's path, the clip's id and the times of its first and last frame, so
-that a note never comes to stand beside other frames. The file is written anew, synced, and put in the old one's place."""
+"""What people write beside clips, in a file of the page's own: by the store's path and by the clip, so that a note never comes to stand beside other
+frames. A clip is known by its event's number and the time of its first frame, since it grows while its event goes on; where it has a tag of yours, by
+its id and the times of its first and last frame. The file is written anew, synced, and put in the old one's place."""
 import contextlib
 import json
 import os
@@ -7,6 +8,7 @@ import threading
 from pathlib import Path
 
 from . import limits
+from .heard import is_number
 from .reader import Clip
 
 VERSION = 1
@@ -26,6 +28,11 @@ def tidy(text: str) -> str:
 
 def key_of(store: str, clip: Clip) -> str:
     """By what a note is found: ids are used again, also for a clip that begins where an earlier one did."""
+    return f"event {clip.tag} {clip.since} {store}" if is_number(clip.tag) else by_ends(store, clip)
+
+
+def by_ends(store: str, clip: Clip) -> str:
+    """By what a note of a clip with a tag of yours is found; an older page has written all notes so."""
     return f"{clip.id} {clip.since} {clip.until} {store}"
 
 
@@ -66,7 +73,7 @@ class Notes:
 
     def of(self, store: str, clip: Clip) -> str:
         """The note of a clip."""
-        return self.notes.get(key_of(store, clip), "")
+        return self.notes.get(key_of(store, clip)) or self.notes.get(by_ends(store, clip), "")
 
     def put(self, store: str, clip: Clip, text: str, is_held) -> None:
         """Writes a note, or takes it away where it is empty. `is_held` says of a key whether its clip still stands: notes of others make room."""
@@ -74,7 +81,8 @@ class Notes:
         with self.lock:
             if self.fault:
                 raise NotesFault(self.fault)
-            changed = {key: value for key, value in self.notes.items() if key != key_of(store, clip)}
+            own = {key_of(store, clip), by_ends(store, clip)}
+            changed = {key: value for key, value in self.notes.items() if key not in own}
             if line and len(changed) >= limits.NOTES:
                 changed = {key: value for key, value in changed.items() if is_held(key)}
             if line:

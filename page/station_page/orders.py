@@ -134,16 +134,16 @@ class AnswerReader:
 class Waiting:
     """An order that waits for its last line. `each` is told each line when it comes, among the events that come beside it."""
 
-    def __init__(self, label: str, each: Callable[[str], None] | None = None) -> None:
+    def __init__(self, label: str, each: Callable[[Line], None] | None = None) -> None:
         self.label, self.each = label, each
-        self.lines: list[str] = []
+        self.lines: list[Line] = []
         self.done: asyncio.Future[None] = asyncio.get_running_loop().create_future()
 
-    def take(self, text: str) -> None:
+    def take(self, line: Line) -> None:
         """A line of its answer."""
-        self.lines.append(text)
+        self.lines.append(line)
         if self.each:
-            self.each(text)
+            self.each(line)
 
 
 def label_of(prefix: str, order: str, count: int) -> str:
@@ -152,17 +152,20 @@ def label_of(prefix: str, order: str, count: int) -> str:
 
 
 class Orders:
-    """Gives orders with labels, and hands each its answer. Lines without a label are events."""
+    """Gives orders with labels, and hands each its answer. Lines without a label are events. `told` has on_line(line), for each line that comes,
+    on_event(line), and on_unread(), for lines that aren't JSON."""
 
-    def __init__(self, orders: str | None, answers: str | None, on_event: Callable[[str], None]) -> None:
-        self.pipe, self.reader, self.on_event = OrderPipe(orders), AnswerReader(answers), on_event
+    def __init__(self, orders: str | None, answers: str | None, told) -> None:
+        self.pipe, self.reader, self.told = OrderPipe(orders), AnswerReader(answers), told
+        # So many lines in a row weren't JSON.
+        self.unread = 0
         self.waiting: dict[str, Waiting] = {}
         self.prefix, self.counts = f"page-{secrets.token_hex(4)}", {True: 0, False: 0}
         self.has_answers = answers is not None
         self.wake = asyncio.Event()
         self.reader.open(at_end=True)
 
-    def begin(self, order: str, each: Callable[[str], None] | None = None) -> Waiting:
+    def begin(self, order: str, each: Callable[[Line], None] | None = None) -> Waiting:
         """Gives an order whose answer is to be heard. It is written before this returns."""
         if len(self.waiting) >= limits.ORDERS:
             raise NoStation("Too many orders wait for an answer. Try again in a moment.")
@@ -175,8 +178,8 @@ class Orders:
         return waiting
 
     async def answer(
-        self, waiting: Waiting, seconds: float, is_enough: Callable[[list[str]], bool] | None = None
-    ) -> list[str]:
+        self, waiting: Waiting, seconds: float, is_enough: Callable[[list[Line]], bool] | None = None
+    ) -> list[Line]:
         """The lines that answer an order, once they are there: all of them, or, where `is_enough` says so of those that came, these."""
         end = time.monotonic() + seconds
         try:
@@ -198,8 +201,8 @@ class Orders:
         return waiting.lines
 
     async def ask(
-        self, order: str, seconds: float = limits.ANSWER_SECONDS, each: Callable[[str], None] | None = None
-    ) -> list[str]:
+        self, order: str, seconds: float = limits.ANSWER_SECONDS, each: Callable[[Line], None] | None = None
+    ) -> list[Line]:
         """Gives an order, and waits for its answer."""
         return await self.answer(self.begin(order, each), seconds)
 
@@ -207,16 +210,28 @@ class Orders:
         """Gives an order without a label, to a station whose answers nobody can read."""
         self.pipe.write(order)
 
+    def hear(self, raw: str) -> None:
+        """A line that was read. What is no JSON is left out; where several such lines come, that is told."""
+        line = read_line(raw)
+        if line is None:
+            self.unread += bool(raw)
+            if self.unread >= limits.UNREAD_LINES:
+                self.told.on_unread()
+            return
+        self.unread = 0
+        self.take(line)
+
     def take(self, line: Line) -> None:
         """A line of the station."""
+        self.told.on_line(line)
         if line.label is None:
-            self.on_event(line.text)
+            self.told.on_event(line)
             return
         waiting = self.waiting.get(line.label)
-        if waiting and line.text == "done" and not waiting.done.done():
+        if waiting and line.kind == "done" and not waiting.done.done():
             waiting.done.set_result(None)
         elif waiting:
-            waiting.take(line.text)
+            waiting.take(line)
 
     def give_up(self) -> None:
         """Tells those who wait that the station has ended."""
@@ -230,7 +245,7 @@ class Orders:
         while True:
             while lines := self.reader.lines():
                 for line in lines:
-                    self.take(read_line(line))
+                    self.hear(line)
                 await asyncio.sleep(0)
             self.wake.clear()
             if self.waiting and not self.pipe.is_read():

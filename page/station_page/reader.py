@@ -27,14 +27,12 @@ class Clip:
     tag: int
     since: int
     until: int
+    # Whether it was seen in its store: the station tells times in milliseconds.
+    is_seen: bool = True
 
     def count(self) -> int:
         """How many frames it has."""
         return self.last - self.first + 1
-
-    def is_seen(self) -> bool:
-        """Whether it was seen in its store: the station tells its numbers alone, and then it has no times."""
-        return self.until > 0
 
 
 @dataclass(frozen=True)

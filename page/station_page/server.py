@@ -202,7 +202,7 @@ class Page:
         """Writes down, once a minute, that too many wrong tokens came from an address."""
         if given and self.gate.has_guessed(request):
             text = f"{limits.WRONG_TOKENS} wrong tokens came within a minute. More of them have to wait."
-            self.laboratory.journal.add("wrong tokens", text, self.gate.who(request))
+            self.laboratory.journal.add("wrong tokens", text, self.gate.who(request), is_bad=True)
 
     # ------------------------------------------------------------------------------------------- the page itself
 
@@ -326,7 +326,10 @@ class Page:
     async def clips(self, request: web.Request) -> web.Response:
         """All clips."""
         await self.laboratory.fresh()
-        return web.json_response({"clips": self.laboratory.clips()})
+        clips = self.laboratory.clips()
+        for clip in clips:
+            del clip["order_tag"]
+        return web.json_response({"clips": clips})
 
     async def journal(self, request: web.Request) -> web.Response:
         """Who changed what, and what couldn't be told."""
@@ -438,13 +441,13 @@ class Page:
         try:
             found = await work
         except (Unfit, NoStation, NotesFault) as fault:
-            self.laboratory.journal.add(kind, f"{order}: refused: {fault}", who)
+            self.laboratory.journal.add(kind, f"refused: {fault}", who, order, is_bad=True)
             raise
         except Exception as fault:
-            self.laboratory.journal.add(kind, f"{order}: failed: {fault!r}", who)
+            self.laboratory.journal.add(kind, f"failed: {fault!r}", who, order, is_bad=True)
             raise
-        told = " ".join(one.text for one in found) if isinstance(found, list) else found or "written."
-        self.laboratory.journal.add(kind, f"{order}: {told}", who)
+        told = " ".join(one.sentence() for one in found) if isinstance(found, list) else found or "written."
+        self.laboratory.journal.add(kind, told, who, order)
         self.laboratory.hurry.set()
         return found
 

@@ -24,12 +24,15 @@ class BadSettings(Exception):
 
 @dataclass(frozen=True)
 class Camera:
-    """A camera of the station: its name, the path of its store, the seconds of its button and its source in words."""
+    """A camera of the station: its name, the path of its store, the seconds of its button, its source in words, and what the order `keep` takes
+    where it doesn't say it: the seconds that are still to come, and the tag."""
 
     name: str
     store: str
     keep: int
     source: str
+    after: int = 0
+    tag: int = 0
 
 
 @dataclass(frozen=True)
@@ -43,6 +46,8 @@ class Settings:
     port: int
     token: str | None
     notes: str
+    # There are answers, but as text, which the page doesn't read.
+    is_text: bool = False
     on_alert: list[str] = field(default_factory=list)
     webhook: str | None = None
 
@@ -87,10 +92,16 @@ def camera_of(table: object, folder: str, path: str) -> Camera:
     name, store = text_at(table, "name", path), text_at(table, "store", path)
     if not name or not NAME.fullmatch(name) or name.isdigit() or not store:
         raise BadSettings(f"{path}: a camera needs a name, of letters, digits, - or _, and a store")
-    keep = table.get("keep", 60)
-    if not isinstance(keep, int) or isinstance(keep, bool) or keep < 0:
-        raise BadSettings(f"{path}: keep of {name} isn't a number of seconds")
-    return Camera(name, os.path.join(folder, store), keep, str(table.get("source", "")))
+    keep, after, tag = (number_at(table, word, left_out, path) for word, left_out in (("keep", 60), ("after", 0), ("tag", 0)))
+    return Camera(name, os.path.join(folder, store), keep, str(table.get("source", "")), after, tag)
+
+
+def number_at(table: dict, word: str, left_out: int, path: str) -> int:
+    """A word of a camera's table that is a number from 0 on; what it is where it is left out."""
+    value = table.get(word, left_out)
+    if not isinstance(value, int) or isinstance(value, bool) or value < 0:
+        raise BadSettings(f"{path}: {word} of {table.get('name')} isn't a number")
+    return value
 
 
 def cameras_of(config: dict, folder: str, path: str) -> list[Camera]:
@@ -226,15 +237,17 @@ def read_settings(given: argparse.Namespace) -> Settings:
         raise BadSettings(f"listen: {host} can be reached from elsewhere, so the page wants a token: --token FILE")
     place = {word: text_at(config, word, given.config) for word in ("orders", "answers")}
     orders, answers = (path and os.path.join(folder, path) for path in place.values())
+    is_text = answers is not None and config.get("answers_form") != "json"
     notes = os.path.join(folder, named["notes"] or "loop_page.notes")
     return Settings(
         cameras_of(config, folder, given.config),
         orders,
-        answers,
+        None if is_text else answers,
         host,
         port,
         token,
         notes,
+        is_text,
         list(own.get("on_alert", [])),
         own.get("webhook"),
     )

@@ -1,5 +1,6 @@
-"""What a keep didn't get of the time that was asked for: because the ring held no more, because no
-frames came for a while, or because they came no more."""
+"""What a keep didn't get of the time that was asked for. The station says it; where nobody hears the
+station, the page reckons it by the store: because the ring held no more, because no frames came for a
+while, or because they came no more."""
 from collections.abc import Iterable
 
 from . import words
@@ -9,6 +10,20 @@ from .reader import Clip, Reading
 HOLES_NAMED = 3
 # What is shorter than this is no hole: a second, in microseconds, or three frames.
 LEAST = 1_000_000
+
+
+def told(held: int, asked: int, gaps: list[tuple[int, int]]) -> str:
+    """What the station says, in a sentence: how much is held of how much, in microseconds, and from when
+    to when no frame is."""
+    front = f"That is {words.seconds_words(held / 1e6)} of {words.seconds_words(asked / 1e6)}"
+    return f"{front}: no frames are held {times_of(gaps)}." if gaps else f"{front}."
+
+
+def times_of(gaps: list[tuple[int, int]]) -> str:
+    """Some times, of which the first few are named."""
+    named = [f"from {words.clock(one)} to {words.clock(two)}" for one, two in gaps[:HOLES_NAMED]]
+    more = len(gaps) - len(named)
+    return ", ".join(named) + (f", and {more} more times" if more else "")
 
 
 def pieces_of(reading: Reading, clips: Iterable[Clip]) -> list[tuple[int, int]]:
@@ -53,6 +68,4 @@ def before(reading: Reading, first: int, since: int) -> str:
 
 def between(holes: list[tuple[int, int]]) -> str:
     """Which times within have no frames."""
-    named = [f"from {words.clock(one)} to {words.clock(two)}" for one, two in holes[:HOLES_NAMED]]
-    more = len(holes) - len(named)
-    return f"no frames came {', '.join(named)}" + (f", and {more} more times" if more else "")
+    return f"no frames came {times_of(holes)}"

@@ -29,8 +29,9 @@ class Watched:
     why: str = ""
     was_there: bool = False
     status: Status | None = None
-    # Why the station has no store of it, in the station's word.
+    # Why the station has no store of it, in the station's word; and how much of a store is made, in percent.
     absent: str = ""
+    making: int | None = None
     newest: tuple[int, int] | None = None
     # When the newest frame was another one than before, and when that was looked at last, by the clock that is never set.
     changed: float = field(default_factory=time.monotonic)

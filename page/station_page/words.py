@@ -1,22 +1,67 @@
-"""The lines that the station prints, read; and sentences that say what they mean, and what to do."""
+"""The lines that the station prints as JSON, read; and sentences that say what they mean, and what to do."""
 import datetime
-import re
-from dataclasses import dataclass
+import json
+from dataclasses import dataclass, field
 
 EPOCH = datetime.datetime(1970, 1, 1, tzinfo=datetime.timezone.utc)
-STAMP = re.compile(r"(\d{4}-\d\d-\d\dT\d\d:\d\d:\d\d(?:\.\d{1,6})?Z) ")
-LABEL = re.compile(r"@([A-Za-z0-9_-]{1,32}) ")
-KEPT = re.compile(
-    r"kept (\S+) (\d{1,2}) (\d{1,19})\.\.(\d{1,19})(?: from (?P<since>\S+) to (?P<until>\S+) event (?P<event>\d{1,20}))?(?: tag (?P<tag>\d{1,20}))?"
-)
-# How the lines begin that stand beside those of a keep's clips: how much is held, what is missing, how far it goes.
-BESIDE_KEPT = ("held ", "gap ", "event ")
-STATUS = re.compile(
-    r"status (\S+) stored (\d{1,19}) given up (\d{1,19}) waiting (\d{1,19})(?: behind (\d{1,9}(?:\.\d)?))? room (\d{1,9})(?: keeps \d{1,9})? faults (\d{1,19}) source (.{1,100})"
-)
-
-# The line of `help` of a station that releases a clip by its first frame too.
-TAKES_FIRST = re.compile(r"^release CAMERA ID \[?FIRST")
+MICROSECOND = datetime.timedelta(microseconds=1)
+# The members of each kind of line, as docs/station.md has them: a text, with # a number, with @ a time; with ? it may be missing.
+FRAMES = "camera #width #height format #rate_num #rate_den"
+MEMBERS = {
+    kind: members.split()
+    for kind, members in {
+        "kept": "camera #id #first #last @from @to #event ?#tag",
+        "kept_none": "camera #event",
+        "held": "camera #held_micros #asked_micros #event",
+        "gap": "camera #micros @at #event",
+        "event_begun": "#event @from @to",
+        "event_whole": "#event camera",
+        "event_not_whole": "#event camera why",
+        "refused": "camera #number name ?#damage ?#frame",
+        "released": "camera #id",
+        "cancelled": "camera #id",
+        "not_saving": "camera #id",
+        "not_released": "camera #id #first",
+        "saved": "camera #id path #frames",
+        "not_saved": "camera #id path why",
+        "save_waits": "camera #id path why",
+        "saving": "camera",
+        "too_many_saves": "camera",
+        "too_many_orders": "camera",
+        "no_camera": "camera",
+        "absent": "camera why",
+        "store_absent": "camera why",
+        # What else stands in a list, the page reads in the store.
+        "camera": "camera #next",
+        "status": "camera #stored #given_up #waiting #behind_micros #room ?#keeps #faults source",
+        "bad_order": "line",
+        "help": "order",
+        "too_far": "",
+        "done": "",
+        "stopped": "",
+        "source_on": FRAMES,
+        "other_geometry": FRAMES,
+        "source_unusable": "camera why",
+        "source_silent": "camera",
+        "making": "camera path #percent",
+        "status_making": "camera path #percent",
+        "waited": "camera #micros @since",
+        "stood_still": "#micros @since",
+        "syncs": "camera #micros",
+        "too_slow": "camera #micros #frames_a_second",
+        "source_missing": "camera",
+        "all_locked": "camera",
+        "nearly_all_locked": "camera",
+        "room_again": "camera",
+        "caught_up": "camera",
+        "store_open": "camera ?#held_micros ?#asked_micros",
+        "not_a_store": "camera path",
+        "given_up": "camera #frames @since",
+        "behind": "camera #micros",
+        "no_answers": "path",
+        "dropped_lines": "#lines",
+    }.items()
+}
 # What a refusal, or an absence, means, and what to do.
 WHY = {
     "AllLocked": "all of its room is locked. Release a clip that you don't need",
@@ -26,7 +71,7 @@ WHY = {
     "NotHeld": "that frame or clip isn't held any more",
     "NoSuchClip": "no clip has that number any more",
     "NumbersSpent": "its store has no number left. Move its file away, and a new one is made",
-    "BadGeometry": "its store isn't for these frames. Move its file away, and a new one is made",
+    "BadGeometry": "no store may have frames of its size. Change the camera's settings, or move its store away",
     "Stopped": "the station ends",
     "OldLayout": "the store has the old layout, without tags. `loop_cli upgrade` makes it anew while the station is stopped",
     "MustReopen": "the disk has failed. The station opens the store again; look at the disk",
@@ -36,19 +81,43 @@ WHY = {
     "NoMemory": "the station was refused memory. End other programs",
     "NoBuffers": "there is no memory for its buffers. End other programs, or give the camera fewer buffers",
     "NoRoom": "the disk is full. Remove files, or give the camera a smaller store",
-    "MissingFolder": "the store's folder isn't there. Make it, or name another one in the configuration",
+    "MissingFolder": "the folder isn't there. Make it, or name another one in the configuration",
     "Denied": "the station may not write there. Give its user the right",
     "Busy": "another program has the store open. End it",
+    "Opening": "it is being opened. Wait a moment",
+    "Moved": "another file has its path by now, or none. A store is made there",
     "Unfinished": "a store that wasn't finished is in the way. Move STORE.new away, and a store is made",
-    "TooLong": "the time that is asked for is more than a store holds. Ask for fewer minutes",
-    "TooManyFrames": "the time that is asked for is more than 16,384 frames. Ask for fewer minutes",
+    "TooLong": "the path of the file is too long. Name a shorter one in the configuration",
+    "TooManyFrames": "the time that is asked for is more than a store holds. Ask for fewer minutes",
     "NoStore": "it has no store yet, since its source hasn't come. See that the camera is plugged in and its program runs",
     "NoGeometry": "no store holds what the configuration asks, or its source says no rate. Ask for less, and give ffmpeg a rate",
     "TooFewBytes": "`bytes` of the configuration is too little for two frames. Ask for more",
     "Folder": "its store is a folder. Name another path in the configuration",
     "NotRegular": "its store isn't a file. Name another path in the configuration",
-    "CannotOpen": "its store can't be opened. Look at its path, its rights and the disk",
+    "CannotOpen": "the file can't be opened. Look at its path, its rights and the disk",
+    "Exists": "a file of that name is there already. Choose another name",
+    "IsStore": "the file in its place is a store. Choose another name",
+    "OtherFolder": "the station may save into another folder alone, which `saves` of its configuration names",
+    "Cancelled": "somebody has ended that",
+    "InUse": "the file is in use. Choose another name",
+    "CannotWrite": "the disk is full, or has failed. Make room, or look at it",
+    "Gaps": "frames of that time are missing",
+    "TooManyEvents": "16 events of it still go on. Wait until one has ended",
+    "RateUnknown": "its source says no rate. Give ffmpeg one",
+    "UnsupportedColour": "no store may have such colours. Change the camera's format, or that of ffmpeg",
+    "UnsupportedInterlace": "no store may have interlaced frames. Change the camera's settings",
+    "BadHeader": "the source's header can't be read. Look at the program that feeds its pipe",
+    "NotY4m": "the source isn't YUV4MPEG2. Look at the program that feeds its pipe",
+}
+# The same of the kinds of answers that have no name of a refusal.
+REFUSALS = {
+    "kept_none": "no stored frame is of that time. Is the camera recording?",
+    "too_many_orders": "256 orders wait for it. Its disk stands still: look at it",
+    "too_many_saves": "16 clips are being saved. Wait until one is written",
     "saving": "the clip is being saved. Wait until that has ended",
+    "not_released": "another clip has that number by now",
+    "too_far": "its end lies more than an hour ahead. Ask for an earlier one",
+    "no_camera": "the station has no camera of that name. Was its configuration changed? Start the page again",
 }
 UNKNOWN = "docs/station.md says what this means"
 
@@ -66,12 +135,26 @@ class Unfit(Exception):
         self.status = status
 
 
+class BadMember(ValueError):
+    """A member of a line isn't what its kind says."""
+
+
 @dataclass(frozen=True)
 class Line:
-    """A line of the station: its label, where it has one, and its words."""
+    """A line of the station: its label, where it has one, its kind, and the members of this kind: texts, numbers, times in microseconds."""
 
     label: str | None
-    text: str
+    kind: str
+    members: dict = field(default_factory=dict)
+
+    def __getitem__(self, key: str):
+        """A member; None where it may be missing, and is."""
+        return self.members[key]
+
+    @property
+    def camera(self) -> str | None:
+        """The camera that it is about."""
+        return self.members.get("camera")
 
 
 @dataclass(frozen=True)
@@ -86,120 +169,158 @@ class Event:
 
 @dataclass(frozen=True)
 class Status:
-    """How a camera stands, as the station counts it."""
+    """How a camera stands, as the station counts it. `behind` is in seconds, and `keeps` None where the station doesn't know it."""
 
     stored: int
     given_up: int
     waiting: int
-    behind: float | None
+    behind: float
     room: int
+    keeps: int | None
     faults: int
     source: str
 
 
-def read_line(raw: str) -> Line:
-    """A line without its time, and its label apart. A name of a file in it may have any sign."""
-    raw = plain(raw)
-    text = raw[stamped.end() :] if (stamped := STAMP.match(raw)) else raw
-    labelled = LABEL.match(text)
-    return Line(labelled[1], text[labelled.end() :]) if labelled else Line(None, text)
-
-
-def read_status(text: str) -> tuple[str, Status] | None:
-    """A line of `status`, with its camera."""
-    found = STATUS.fullmatch(text)
-    if not found:
+def read_line(raw: str) -> Line | None:
+    """A line as JSON; None where it isn't one, or lacks what its kind has. One of a kind that the page doesn't know has no members."""
+    try:
+        found = json.loads(raw)
+        if not isinstance(found, dict) or not isinstance(found.get("kind"), str):
+            return None
+        label = found.get("label")
+        if label is not None and not isinstance(label, str):
+            return None
+        kind = plain(found["kind"])
+        return Line(label, kind, dict(member_of(found, name) for name in MEMBERS.get(kind, [])))
+    except (ValueError, RecursionError):
         return None
-    name, stored, given_up, waiting, behind, room, faults, source = found.groups()
-    return name, Status(
-        int(stored),
-        int(given_up),
-        int(waiting),
-        None if behind is None else float(behind),
-        int(room),
-        int(faults),
-        source,
-    )
+
+
+def member_of(found: dict, name: str) -> tuple[str, object]:
+    """A member of a line, by its name and the marks before it."""
+    key = name.lstrip("?#@")
+    value = found.get(key)
+    if value is None and name.startswith("?"):
+        return key, None
+    mark = name.lstrip("?")[0]
+    if mark == "#" and isinstance(value, int) and not isinstance(value, bool) and 0 <= value < 2**64:
+        return key, value
+    if mark == "@" and isinstance(value, str):
+        return key, moment_of(value)
+    if mark not in "#@" and isinstance(value, str):
+        # A name of a file may have any sign.
+        return key, plain(value)
+    raise BadMember(key)
+
+
+def moment_of(text: str) -> int:
+    """A time of the station in microseconds since 1970."""
+    moment = datetime.datetime.fromisoformat(text)
+    if moment.tzinfo is None or moment < EPOCH:
+        raise BadMember(text)
+    return (moment - EPOCH) // MICROSECOND
+
+
+def status_of(line: Line) -> Status:
+    """What a line of `status` says."""
+    behind = line["behind_micros"] // 100_000 / 10
+    counts = (line[key] for key in ("stored", "given_up", "waiting"))
+    return Status(*counts, behind, line["room"], line["keeps"], line["faults"], line["source"])
 
 
 def meaning(why: str) -> str:
     """What a refusal means, and what to do: by the first of its words that is known."""
-    if many := re.search(r"TooManyFrames (\d{1,9}(?:\.\d)?)", why):
-        return f"the time that is asked for is more than 16,384 frames. {many[1]} minutes fit"
+    name, _, more = why.partition(" ")
+    if name == "TooManyFrames" and more:
+        return f"the time that is asked for is more than a store holds. {more} minutes fit"
     return next((WHY[word] for word in why.split() if word in WHY), f"{why}. {UNKNOWN}")
 
 
-# The events, each as a pattern of its line, whether it is a warning, and its sentence.
-EVENTS = [
-    (name, re.compile(pattern), is_bad, sentence)
-    for name, pattern, is_bad, sentence in [
-        ("source", r"source (?P<camera>\S+) on (?P<rest>.+)", False, "{camera}: frames come, {rest}."),
-        (
-            "missing",
-            r"source (?P<camera>\S+) missing",
-            True,
-            "{camera}: no frames come from its source. See that the camera is plugged in and its program runs.",
-        ),
-        (
-            "other",
-            r"other geometry (?P<camera>\S+) (?P<rest>.+)",
-            True,
-            "{camera}: its source gives {rest}, which its store isn't made for, so nothing is stored. Set the camera back, or move the store away.",
-        ),
-        (
-            "open",
-            r"store (?P<camera>\S+) open holds (?P<rest>.+)",
-            True,
-            "{camera}: its store holds {rest}: less than the configuration asks. Move the file away, and a larger store is made.",
-        ),
-        ("open", r"store (?P<camera>\S+) open", False, "{camera}: its store is open."),
-        ("absent", r"store (?P<camera>\S+) absent (?P<why>.+)", True, "{camera} isn't recorded: {why}."),
-        (
-            "given up",
-            r"given up (?P<camera>\S+) (?P<rest>\d+) since (?P<time>\S+)",
-            True,
-            "{camera}: frames were lost since {time}, {rest} of them: disk or machine was too busy.",
-        ),
-        (
-            "locked",
-            r"all locked (?P<camera>\S+)",
-            True,
-            "{camera}: all of its room is locked, and recording stops. Release a clip that you don't need.",
-        ),
-        ("room", r"room again (?P<camera>\S+)", False, "{camera}: there is room again."),
-        (
-            "behind",
-            r"behind (?P<camera>\S+) (?P<rest>\S+)",
-            True,
-            "{camera}: {rest} seconds of frames wait for the disk. Where that goes on, frames are lost.",
-        ),
-        ("caught up", r"caught up (?P<camera>\S+)", False, "{camera}: no frames wait for the disk any more."),
-        (
-            "not a store",
-            r"not a store (?P<camera>\S+) (?P<rest>.+?): move it away, and a store is made",
-            True,
-            "{camera}: {rest} isn't a store, so nothing is recorded. Move it away, and a store is made.",
-        ),
-        (
-            "not saved",
-            r"not saved (?P<camera>\S+) (?P<rest>.+)",
-            True,
-            "{camera}: a clip wasn't saved: {rest}. Is there room in that folder?",
-        ),
-        ("saved", r"saved (?P<camera>\S+) (?P<rest>.+)", False, "{camera}: a clip was saved: {rest} frames."),
-    ]
-]
+def refusal_of(line: Line) -> str | None:
+    """Why nothing came of an order, and what to do, by a line of its answer; None where the line is no refusal."""
+    if line.kind == "refused":
+        return meaning(line["name"])
+    if line.kind == "absent":
+        return meaning(line["why"])
+    return REFUSALS.get(line.kind)
 
 
-def read_event(text: str) -> Event | None:
-    """The event of a line without a label, if it is one."""
-    for name, pattern, is_bad, sentence in EVENTS:
-        if found := pattern.fullmatch(text):
-            words = found.groupdict()
-            if "why" in words:
-                words["why"] = meaning(words["why"])
-            return Event(name, words["camera"], is_bad, sentence.format(**words))
-    return None
+# The events: for each kind of line the word for it, whether it is a warning, and its sentence.
+EVENTS = {
+    "source_on": ("source", False, "{camera}: frames come, {frames}."),
+    "source_missing": (
+        "missing",
+        True,
+        "{camera}: no frames come from its source. See that the camera is plugged in and its program runs.",
+    ),
+    "source_unusable": ("unusable", True, "{camera}: nothing is stored, since {why}."),
+    "other_geometry": (
+        "other",
+        True,
+        "{camera}: its source gives {frames}, which its store isn't made for, so nothing is stored. Set the camera back, or move the store away.",
+    ),
+    "store_open": ("open", False, "{camera}: its store is open."),
+    "store_absent": ("absent", True, "{camera} isn't recorded: {why}."),
+    "not_a_store": ("not a store", True, "{camera}: {path} isn't a store, so nothing is recorded. Move it away, and a store is made."),
+    "given_up": ("given up", True, "{camera}: frames were lost since {since}, {frames} of them: disk or machine was too busy."),
+    "all_locked": ("locked", True, "{camera}: all of its room is locked, and recording stops. Release a clip that you don't need."),
+    "nearly_all_locked": (
+        "nearly locked",
+        True,
+        "{camera}: four fifths of its room are locked. Release what you don't need, or recording stops.",
+    ),
+    "room_again": ("room", False, "{camera}: there is room again."),
+    "behind": ("behind", True, "{camera}: {micros} s of frames wait for the disk. Where that goes on, frames are lost."),
+    "caught_up": ("caught up", False, "{camera}: no frames wait for the disk any more."),
+    "waited": (
+        "waited",
+        True,
+        "{camera}: memory was full, and its source had to wait {micros} s since {since}. A camera that doesn't wait has dropped frames. "
+        "Give it more `memory`, or a faster disk.",
+    ),
+    "stood_still": (
+        "stood still",
+        True,
+        "The station stood still for {micros} s since {since}: it was stopped, or the machine slept. Times of frames right after are late.",
+    ),
+    "too_slow": (
+        "too slow",
+        True,
+        "{camera}: its disk is too slow for its rate: {frames_a_second} frames a second fit. Use fewer or smaller frames, or another disk.",
+    ),
+    "saved": ("saved", False, "{camera}: clip {id} was saved as {path}, {frames} frames."),
+    "not_saved": ("not saved", True, "{camera}: clip {id} wasn't saved as {path}: {why}."),
+    "save_waits": ("save waits", True, "{camera}: clip {id} can't be saved as {path}: {why}. The station tries again each minute."),
+    "released": ("released", False, "{camera}: clip {id} was released, since it is saved."),
+    "event_whole": ("whole", False, "{camera}: the event of {event} has ended, and all of it is kept."),
+    "event_not_whole": ("not whole", True, "{camera}: the event of {event} has ended, and isn't whole: {why}."),
+    "dropped_lines": ("dropped", True, "{lines} lines of the station weren't read in time. A warning may be missing here."),
+}
+
+
+def shown(key: str, value: object) -> str:
+    """A member in a sentence."""
+    if value is None:
+        return ""
+    if key.endswith("micros"):
+        return f"{value / 1e6:.1f}"
+    if key in ("since", "event"):
+        return iso(value)
+    return meaning(value) if key == "why" else str(value)
+
+
+def event_of(line: Line) -> Event | None:
+    """What a line without a label says that happened, if it does."""
+    if line.kind not in EVENTS:
+        return None
+    kind, is_bad, sentence = EVENTS[line.kind]
+    said = {key: shown(key, value) for key, value in line.members.items()}
+    if "rate_num" in said:
+        said["frames"] = "{width}x{height} {format} {rate_num}:{rate_den}".format(**said)
+    if line.kind == "store_open" and line["held_micros"] is not None and line["asked_micros"] is not None:
+        text = "{camera}: its store holds {held_micros} s of {asked_micros} s. Move the file away, and a larger store is made."
+        return Event("small", line.camera, True, text.format(**said))
+    return Event(kind, line.camera, is_bad, sentence.format(**said))
 
 
 def iso(microseconds: int) -> str:

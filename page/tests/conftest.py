@@ -88,7 +88,7 @@ class Laboratory:
 
     config = "station.toml"
 
-    def __init__(self, folder, cameras=None, answers="pipe", orders=True):
+    def __init__(self, folder, cameras=None, answers="pipe", orders=True, form="json"):
         self.folder, self.runs, self.station, self.page, self.port = Path(folder), [], None, None, 0
         self.token = None
         lines = ['orders = "orders"'] if orders else []
@@ -96,9 +96,10 @@ class Laboratory:
         if answers == "pipe":
             os.mkfifo(self.folder / "answers")
         lines += ['answers = "answers"'] if answers else []
+        lines += [f'answers_form = "{form}"'] if answers and form else []
         for words in cameras or CAMERAS:
-            lines += ["[[camera]]", 'source = "pattern"', f'store = "{words["name"]}.loop"']
-            lines += [f"{key} = {json.dumps(value)}" for key, value in words.items()]
+            whole = {"source": "pattern", "store": f"{words['name']}.loop"} | words
+            lines += ["[[camera]]", *(f"{key} = {json.dumps(value)}" for key, value in whole.items())]
         (self.folder / "station.toml").write_text("\n".join(lines) + "\n", encoding="utf-8")
 
     def begin(self, *words, **more):
@@ -211,6 +212,19 @@ class Laboratory:
         """Gives the station an order, past the page."""
         with open(self.folder / "orders", "w", encoding="utf-8") as pipe:
             pipe.write(line + "\n")
+
+    def say(self, kind, **members):
+        """Has the station print a line."""
+        self.order(f"!print {json.dumps({'kind': kind} | members)}")
+
+    def told(self, *kinds):
+        """The lines that the station has printed, of these kinds or of all."""
+        lines = [json.loads(line) for line in (self.folder / "told").read_text().splitlines() if line.endswith("}")]
+        return [line for line in lines if not kinds or line["kind"] in kinds]
+
+    def polls(self):
+        """How many polls of the page the station has answered."""
+        return sum("-poll-" in line.get("label", "") for line in self.told("done"))
 
     def status(self):
         """How all stands."""

@@ -4,12 +4,13 @@
     fake_station.py CONFIG
 
 It films a pendulum into each camera's store of the configuration, in the size, format and rate of `pattern`. Beside the station's
-orders it takes `!print LINE`, which prints a line; `!pause CAMERA` and `!go CAMERA`, which stop and start its frames; `!mute`, after which
+orders it takes `!print LINE`, which prints a line of JSON, and `!raw LINE`, which writes one as it is; `!pause CAMERA` and `!go CAMERA`, which stop and start its frames; `!mute`, after which
 nothing is answered any more; `!absent CAMERA WHY` and `!there CAMERA`, between which it has no store; `!source CAMERA WORDS`, which its status then
-says; `!behind CAMERA SECONDS`, the same; `!hang CAMERA`, after which it answers no keep, whose answer never ends; `!saving CAMERA`, whose clips can't be
-released; and `!first`, after which it releases a clip by its first frame, and says so in `help`. A camera's `scene` is what it films: a
-`pendulum`, also `warm` or `cold`, or a dark `beam`."""
+says; `!behind CAMERA SECONDS`, the same; `!making CAMERA PERCENT`; `!hang CAMERA`, after which it answers no keep, whose answer never ends; and `!saving
+CAMERA`, whose clips can't be released. A camera's `scene` is what it films: a `pendulum`, also `warm` or `cold`, or a dark `beam`. What it prints
+is JSON everywhere, unless the configuration says otherwise of the answers; then it has words there that the page doesn't read."""
 import datetime
+import json
 import math
 import os
 import re
@@ -27,6 +28,8 @@ import layout
 EPOCH = datetime.datetime(1970, 1, 1, tzinfo=datetime.timezone.utc)
 # After so many frames the pendulum is back.
 SWING = 105
+# No shorter time without frames is told, in microseconds.
+LEAST_GAP = 250_000
 LABELLED = re.compile(r"(?:@([A-Za-z0-9_-]{1,32}) )?(.*)")
 
 
@@ -39,6 +42,8 @@ class Film(layout.Ring):
         num, den = map(int, rate.split(":"))
         self.words, self.name, self.is_paused, self.given_up, self.still = words, words["name"], False, 0, None
         self.reel: dict[int, bytes] = {}
+        # The tag of each clip.
+        self.tags: dict[int, int] = {}
         # A small image, since the file is written and not an image.
         super().__init__(1, 1, b"GREY", words.get("segments", 8), 1)
         self.geometry = layout.geometry_of(
@@ -133,19 +138,56 @@ class Film(layout.Ring):
         while self.due <= now and time.monotonic() < end and self.film():
             pass
 
-    def keep(self, first: int, last: int, tag: int) -> list[str]:
-        """Locks the frames of a time."""
+    def keep(self, first: int, last: int, event: int, tag: int) -> list[dict]:
+        """Locks the frames of a time; answers a line for each clip, and what is missing of the time."""
         numbers = [number for number in sorted(self.held()) if first <= self.times[number] <= last]
+        if not numbers:
+            return [{"kind": "kept_none", "camera": self.name, "event": event}]
         lines = []
         for begin, end in layout.runs_of(numbers):
             if len(self.clips) == layout.CLIPS:
-                return [*lines, f"refused {self.name} 11 ClipTableFull"]
+                return [*lines, {"kind": "refused", "camera": self.name, "number": 11, "name": "ClipTableFull"}]
             before = set(self.clips)
-            self.lock(begin, end, tag)
-            lines.append(
-                f"kept {self.name} {min(set(self.clips) - before)} {begin}..{end}" + (f" tag {tag}" if tag else "")
-            )
-        return lines or [f"kept {self.name} none"]
+            self.lock(begin, end, tag or event)
+            (id_,) = set(self.clips) - before
+            self.tags[id_] = tag or event
+            lines.append(self.kept(id_, event))
+        return lines
+
+    def kept(self, id_: int, event: int) -> dict:
+        """That a clip is kept."""
+        (first, last), tag = self.clips[id_], self.tags[id_]
+        line = {"kind": "kept", "camera": self.name, "id": id_, "first": first, "last": last}
+        line |= {"from": stamp(self.times[first]), "to": stamp(self.times[last]), "event": event}
+        return line | ({"tag": tag} if tag != event else {})
+
+    def shortfall(self, first: int, last: int, event: int) -> list[dict]:
+        """How much of a time is held, and where no frame is, where that isn't all."""
+        held = [self.times[number] for number in sorted(self.held()) if first <= self.times[number] <= last]
+        least, gaps, at = max(self.period * 3 // 2, LEAST_GAP), [], first
+        for moment in [*held, last]:
+            if moment - at > least:
+                gaps.append((at, moment - at))
+            at = moment
+        if not gaps or not held:
+            return []
+        missing = sum(micros for _, micros in gaps)
+        front = {"kind": "held", "camera": self.name, "held_micros": last - first - missing, "asked_micros": last - first, "event": event}
+        return [front, *({"kind": "gap", "camera": self.name, "micros": micros, "at": stamp(at), "event": event} for at, micros in gaps)]
+
+    def grow(self, since: int, until: int, event: int, tag: int) -> list[dict]:
+        """Locks what has come of an event whose end lies ahead, in a clip that is longer than those of before, which are released."""
+        old = [id_ for id_, clip in self.clips.items() if self.tags[id_] == (tag or event) and since <= self.times[clip[0]] <= until]
+        lines = self.keep(since, until, event, tag)
+        if any(line["kind"] == "kept" for line in lines):
+            for id_ in old:
+                self.unlock(id_)
+        return lines
+
+
+def stamp(moment: int) -> str:
+    """A time as the station prints it."""
+    return (EPOCH + datetime.timedelta(microseconds=moment)).strftime("%Y-%m-%dT%H:%M:%S.%f")[:-3] + "Z"
 
 
 class Station:
@@ -160,12 +202,22 @@ class Station:
         self.out = None
         self.full: set[str] = set()
         self.absent, self.sources, self.behind = {}, {}, {}
-        self.hanging, self.saving, self.takes_first = set(), set(), False
+        self.making: dict[str, str] = {}
+        self.hanging, self.saving = set(), set()
+        self.is_json = self.config.get("answers_form") == "json"
+        self.number = 0
+        # Events that go on: camera, since, until, number, tag.
+        self.growing: list[tuple[str, int, int, int, int]] = []
 
-    def say(self, text: str) -> None:
-        """Prints a line, with its time."""
-        line = f"{datetime.datetime.now(datetime.timezone.utc).strftime('%Y-%m-%dT%H:%M:%S.%f')[:-3]}Z {text}"
+    def say(self, line: dict, label: str | None = None) -> None:
+        """Prints a line, with its time and its label."""
+        front = {"time": stamp(int(time.time() * 1e6))} | ({"label": label} if label else {})
+        line = json.dumps(front | line, separators=(",", ":"))
         print(line, flush=True)
+        self.write(line if self.is_json else "words")
+
+    def write(self, line: str) -> None:
+        """Writes a line to the answers."""
         if not self.answers or self.is_mute:
             return
         try:
@@ -186,11 +238,30 @@ class Station:
                 has_room = film.film()
                 if not has_room and name not in self.full:
                     self.full.add(name)
-                    self.say(f"all locked {name}")
+                    self.say({"kind": "all_locked", "camera": name})
+            self.go_on()
             if ready:
                 *lines, self.rest = (self.rest + os.read(self.orders, 65536)).split(b"\n")
                 for line in lines:
                     self.take(line.decode(errors="replace"))
+
+    def go_on(self) -> None:
+        """Goes on with events whose end lay ahead."""
+        for growing in list(self.growing):
+            name, since, until, event, tag = growing
+            film, now = self.films[name], int(time.time() * 1e6)
+            if now < until:
+                # As the station does it: block by block.
+                if film.next % film.geometry.slots == 0:
+                    film.grow(since, now, event, tag)
+                continue
+            self.growing.remove(growing)
+            film.catch_up()
+            lacks = film.shortfall(since, until, event)
+            for line in [*film.grow(since, until, event, tag), *lacks]:
+                self.say(line)
+            end = {"kind": "event_not_whole", "event": event, "camera": name, "why": "Gaps"}
+            self.say(end if lacks else {"kind": "event_whole", "event": event, "camera": name})
 
     def take(self, line: str) -> None:
         """Does an order."""
@@ -199,92 +270,103 @@ class Station:
             self.command(order[1:])
             return
         is_late = order.startswith("keep") and self.hanging
-        for text in [*self.answer(order), *(["done"] if label and not is_late else [])]:
-            self.say(f"@{label} {text}" if label else text)
+        for found in [*self.answer(order), *([{"kind": "done"}] if label and not is_late else [])]:
+            self.say(found, label)
 
     def command(self, order: str) -> None:
         """What a test asks for."""
         verb, _, rest = order.partition(" ")
         if verb == "print":
-            self.say(rest)
+            self.say(json.loads(rest))
+        elif verb == "raw":
+            self.write(rest)
         elif verb == "mute":
             self.is_mute = True
         elif verb in ("pause", "go"):
             self.films[rest].is_paused = verb == "pause"
-        elif verb == "first":
-            self.takes_first = True
         elif verb == "there":
             del self.absent[rest]
         elif verb in ("hang", "saving"):
             getattr(self, {"hang": "hanging", "saving": "saving"}[verb]).add(rest)
-        elif verb in ("absent", "source", "behind"):
+        elif verb in ("absent", "source", "behind", "making"):
             camera, _, words = rest.partition(" ")
-            {"absent": self.absent, "source": self.sources, "behind": self.behind}[verb][camera] = words
+            {"absent": self.absent, "source": self.sources, "behind": self.behind, "making": self.making}[verb][camera] = words
 
-    def answer(self, order: str) -> list[str]:
+    def answer(self, order: str) -> list[dict]:
         """The lines that answer an order."""
         parts = order.split(" ")
         if parts[0] == "keep":
             return self.keep(parts[1:])
-        if parts[0] == "release" and len(parts) == 3 + (self.takes_first and len(parts) == 4):
+        if parts[0] == "release" and len(parts) in (3, 4):
             return self.release(*parts[1:])
-        if order == "help":
-            return ["keep [CAMERA] [SECONDS [TAG]]", "release CAMERA ID" + (" FIRST" if self.takes_first else "")]
         if order == "status":
             return [self.status(name, film) for name, film in self.films.items()]
         if order == "stop":
             self.is_over = True
-            return ["stopped"]
-        return [f"bad order: {order[:200]}"]
+            return [{"kind": "stopped"}]
+        return [{"kind": "bad_order", "line": order[:200]}]
 
-    def release(self, name: str, id_: str, first: str | None = None) -> list[str]:
+    def release(self, name: str, id_: str, first: str | None = None) -> list[dict]:
         """Does a release."""
-        film = self.films.get(name)
+        film, number = self.films.get(name), int(id_)
         if film is None:
-            return [f"no camera {name}"]
+            return [{"kind": "no_camera", "camera": name}]
         if name in self.saving:
-            return [f"refused {name} saving"]
-        if int(id_) not in film.clips or (first is not None and film.clips[int(id_)][0] != int(first)):
-            return [f"refused {name} 12 NoSuchClip"]
-        film.unlock(int(id_))
+            return [{"kind": "saving", "camera": name}]
+        if number not in film.clips:
+            return [{"kind": "refused", "camera": name, "number": 12, "name": "NoSuchClip"}]
+        if first is not None and film.clips[number][0] != int(first):
+            return [{"kind": "not_released", "camera": name, "id": number, "first": int(first)}]
+        film.unlock(number)
         self.full.discard(name)
-        return [f"released {name} {id_}"]
+        return [{"kind": "released", "camera": name, "id": number}]
 
-    def status(self, name: str, film: Film) -> str:
+    def status(self, name: str, film: Film) -> dict:
         """How a camera stands."""
+        if name in self.making:
+            return {"kind": "status_making", "camera": name, "path": film.words["store"], "percent": int(self.making[name])}
         if name in self.absent:
-            return f"absent {name} {self.absent[name]}"
+            return {"kind": "absent", "camera": name, "why": self.absent[name]}
+        counts = {"stored": film.next, "given_up": film.given_up, "waiting": 0}
+        behind = round(float(self.behind.get(name, "0")) * 1e6)
         source = self.sources.get(name, "missing" if film.is_paused else "on")
-        behind = self.behind.get(name, "0.0")
-        room = 0 if name in self.full else 3
-        return (
-            f"status {name} stored {film.next} given up {film.given_up} waiting 0 behind {behind} room {room} faults 0 source {source}"
-        )
+        room = {"behind_micros": behind, "room": 0 if name in self.full else 3, "keeps": 2, "faults": 0, "source": source}
+        return {"kind": "status", "camera": name, **counts, **room}
 
-    def keep(self, parts: list[str]) -> list[str]:
-        """Does a keep."""
+    def keep(self, parts: list[str]) -> list[dict]:
+        """Does a keep: `[CAMERA] [SECONDS] [+AFTER] [TAG]` or `[CAMERA] from T to T [TAG]`."""
         now, names = int(time.time() * 1e6), list(self.films)
-        if parts and not parts[0].isdigit() and parts[0] != "from":
+        self.number = max(now, self.number + 1)
+        if parts and not parts[0].lstrip("+").isdigit() and parts[0] != "from":
             if parts[0] not in self.films:
-                return [f"no camera {parts[0]}"]
+                return [{"kind": "no_camera", "camera": parts[0]}]
             names, parts = parts[:1], parts[1:]
+        span = None
         if parts[:1] == ["from"] and parts[2:3] == ["to"]:
-            first, last = (self.moment(text) for text in (parts[1], parts[3]))
-            tag = int(parts[4]) if len(parts) > 4 else 0
-        else:
-            first, last, tag = (
-                now - int(parts[0] if parts else 60) * 1_000_000,
-                now,
-                int(parts[1]) if len(parts) > 1 else 0,
-            )
+            span, parts = tuple(self.moment(text) for text in (parts[1], parts[3])), parts[4:]
+        seconds = parts.pop(0) if not span and parts and parts[0].isdigit() else None
+        after = parts.pop(0)[1:] if parts and parts[0].startswith("+") else None
         lines = []
         for name in names:
+            film = self.films[name]
             if name in self.absent:
-                lines.append(f"absent {name} {self.absent[name]}")
+                lines.append({"kind": "absent", "camera": name, "why": self.absent[name]})
             elif name not in self.hanging:
-                self.films[name].catch_up()
-                lines += self.films[name].keep(first, last, tag)
+                ahead = int(film.words.get("after", 0) if after is None else after) * 1_000_000
+                before = int(film.words.get("keep", 60) if seconds is None else seconds) * 1_000_000
+                tag = int(parts[0]) if parts else film.words.get("tag", 0)
+                lines += self.keep_of(name, *(span or (now - before, now + ahead)), now, tag)
         return lines
+
+    def keep_of(self, name: str, since: int, until: int, now: int, tag: int) -> list[dict]:
+        """Keeps a time of a camera."""
+        film, event = self.films[name], self.number
+        film.catch_up()
+        lines = film.keep(since, min(until, now), event, tag)
+        if until > now:
+            self.growing.append((name, since, until, event, tag))
+            return [*lines, {"kind": "event_begun", "event": event, "from": stamp(since), "to": stamp(until)}]
+        return [*lines, *film.shortfall(since, until, event)]
 
     def moment(self, text: str) -> int:
         """The microseconds of a time."""

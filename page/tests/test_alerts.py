@@ -3,14 +3,16 @@ import http.server
 import json
 import threading
 
+FRAMES = {"width": 640, "height": 480, "format": "YM12", "rate_num": 25, "rate_den": 1}
+
 
 def test_an_event_is_a_warning_until_it_is_seen(make):
     lab = make()
     lab.filmed()
-    lab.order("!print given up left 12 since 2026-11-22T15:38:00.123Z")
+    lab.say("given_up", camera="left", frames=12, since="2026-11-22T15:38:00.123Z")
     alert = lab.until(lambda: lab.status()["alerts"], "alert", 2)[0]
     assert "12 of them" in alert["text"] and alert["times"] == 1
-    lab.order("!print given up left 7 since 2026-11-22T15:38:01.123Z")
+    lab.say("given_up", camera="left", frames=7, since="2026-11-22T15:38:01.123Z")
     lab.until(lambda: lab.status()["alerts"][0]["times"] == 2, "second time", 2)
     assert lab.post("/api/seen", {"id": alert["id"]}).status == 200
     assert lab.status()["alerts"] == []
@@ -23,14 +25,11 @@ def test_a_source_that_comes_at_once_is_no_warning_and_one_that_stays_away_is(ma
     lab = make(page=False)
     (lab.folder / "page.toml").write_text('on_alert = ["tee", "-a", "told to a command"]\n')
     lab.start_page("--settings", str(lab.folder / "page.toml")).filmed()
-    for line in (
-        "source left missing",
-        "store left absent NoStore",
-        "source right missing",
-        "source left on 64x48 YM12 100:1",
-        "store left open",
-    ):
-        lab.order(f"!print {line}")
+    lab.say("source_missing", camera="left")
+    lab.say("store_absent", camera="left", why="NoStore")
+    lab.say("source_missing", camera="right")
+    lab.say("source_on", camera="left", **FRAMES)
+    lab.say("store_open", camera="left")
     lab.until(lambda: lab.status()["alerts"], "warning", 6)
     assert [(it["kind"], it["camera"]) for it in lab.status()["alerts"]] == [("missing", "right")]
     command = lab.folder / "told to a command"
@@ -41,16 +40,26 @@ def test_a_source_that_comes_at_once_is_no_warning_and_one_that_stays_away_is(ma
 def test_good_news_and_unknown_lines_are_no_warnings(make):
     lab = make()
     lab.filmed()
-    for line in (
-        "source left on 640x480 YM12 25:1",
-        "room again left",
-        "a word that nobody knows",
-        "\x1b[31m",
-        "x" * 3000,
-    ):
-        lab.order(f"!print {line}")
+    lab.say("source_on", camera="left", **FRAMES)
+    lab.say("a_kind_that_nobody_knows", camera="left", why="x")
+    lab.say("all_locked", camera=["left"])
+    lab.order("!raw \x1b[31m")
+    lab.say("done")
+    lab.order('!raw {"kind": "all_locked", "camera": "' + "x" * 3000)
+    lab.say("room_again", camera="left")
     lab.until(lambda: len(lab.status()["news"]) == 2, "news", 3)
     assert lab.status()["alerts"] == []
+
+
+def test_answers_that_cannot_be_read_are_warned_of_until_they_can(make):
+    lab = make()
+    lab.filmed()
+    for _ in range(3):
+        lab.order("!raw 2026-11-22T15:38:00.123Z all locked left")
+    lab.until(lambda: lab.alerts() == [("answers", None)], "warning", 5)
+    assert "answers_form" in lab.status()["alerts"][0]["text"]
+    lab.say("caught_up", camera="left")
+    lab.until(lambda: not lab.alerts(), "end of the warning", 5)
 
 
 def test_a_warning_goes_to_the_command_and_the_webhook(make):
@@ -72,7 +81,7 @@ def test_a_warning_goes_to_the_command_and_the_webhook(make):
         f'on_alert = ["tee", "a file; true"]\nwebhook = "http://127.0.0.1:{server.server_port}/x"\n'
     )
     lab.start_page("--settings", str(lab.folder / "page.toml")).filmed()
-    lab.order("!print all locked left")
+    lab.say("all_locked", camera="left")
     lab.until(lambda: heard, "post", 5)
     assert heard[0]["camera"] == "left" and "Release" in heard[0]["text"]
     assert (lab.folder / "a file; true").read_text() == heard[0]["text"] + "\n"
@@ -84,7 +93,7 @@ def test_a_command_that_is_not_there_stops_nothing(make):
     lab = make(page=False)
     (lab.folder / "page.toml").write_text('on_alert = ["/no/such/command"]\n')
     lab.start_page("--settings", str(lab.folder / "page.toml")).filmed()
-    lab.order("!print all locked left")
+    lab.say("all_locked", camera="left")
     lab.until(lambda: b"loop_alerts_not_told_total 1.0" in lab.ask("/metrics").body, "count", 5)
     lab.keep()
 
@@ -100,7 +109,7 @@ def test_a_page_that_is_open_hears_of_a_warning_at_once(make):
     stream = connection.getresponse()
     assert stream.headers["Content-Type"] == "text/event-stream"
     stream.readline()
-    lab.order("!print behind left 1.4")
+    lab.say("behind", camera="left", micros=1_400_000)
     start = time.monotonic()
     while b'"kind":"behind"' not in stream.readline():
         assert time.monotonic() - start < 2

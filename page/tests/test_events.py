@@ -6,10 +6,15 @@ import subprocess
 import zipfile
 
 import pytest
+from station_page import limits
 from station_page.events import events_of
+from station_page.heard import Heard
+from station_page.reader import Clip
+from station_page.words import read_line
+from test_right import kept_line
 
 
-def clip(camera, since, until, id_=0, first=0, rate=25, tag=0, note=""):
+def clip(camera, since, until, id_=0, first=0, rate=25, tag=0, note="", event=None):
     """A clip from a second to another, as the laboratory lists it."""
     frames = round((until - since) * rate) + 1
     return {
@@ -17,7 +22,9 @@ def clip(camera, since, until, id_=0, first=0, rate=25, tag=0, note=""):
         "id": id_,
         "first": first,
         "last": first + frames - 1,
+        "event": event,
         "tag": tag,
+        "order_tag": tag,
         "frames": frames,
         "from_us": int(since * 1e6),
         "to_us": int(until * 1e6),
@@ -87,6 +94,67 @@ def test_a_range_within_an_event_is_an_event_of_its_own():
 
 def test_clips_of_other_tags_are_other_events():
     assert sorted(cameras_of([clip("a", 0, 60, tag=1), clip("b", 0, 60, tag=2)])) == [["a"], ["b"]]
+
+
+def test_clips_of_one_number_are_one_event_whatever_their_times_and_tags():
+    clips = [clip("a", 0, 60, event=8), clip("b", 20, 90, tag=7, event=8), clip("c", 100, 101, event=8)]
+    (event,) = events_of(clips)
+    assert event["cameras"] == ["a", "b", "c"] and event["number"] == 8 and event["tag"] == 0
+    assert (event["from_us"], event["to_us"]) == (0, 101_000_000)
+
+
+def test_clips_of_one_time_and_two_numbers_are_two_events():
+    clips = [clip(name, 0, 60, id_=event, event=event) for name in "ab" for event in (1, 2)]
+    assert cameras_of(clips) == [["a", "b"], ["a", "b"]]
+    assert {event["number"] for event in events_of(clips)} == {1, 2}
+
+
+def test_a_clip_without_a_number_joins_no_event_that_has_one():
+    clips = [clip("a", 0, 60, event=1), clip("b", 0, 60), clip("c", 0, 60)]
+    assert sorted(cameras_of(clips)) == [["a"], ["b", "c"]]
+
+
+def test_an_event_says_what_it_lacks_and_until_when_it_goes_on():
+    def hear(kind, **members):
+        heard.take(read_line(json.dumps({"kind": kind, "event": 8} | members)))
+
+    def told():
+        return events_of([clip("a", 0, 60, event=8), clip("b", 0, 60, event=8)], heard)[0]
+
+    heard, number = Heard(), {"camera": "b"}
+    assert (told()["until_us"], told()["lacks"]) == (None, [])
+    hear("event_begun", **{"from": "1970-01-01T00:00:00Z", "to": "1970-01-01T00:01:30Z"})
+    assert told()["until_us"] == 90_000_000
+    hear("held", held_micros=5, asked_micros=9, **number)
+    hear("gap", micros=4, at="1970-01-01T00:00:00Z", **number)
+    assert told()["lacks"] == [{"camera": "b", "held_us": 5, "asked_us": 9, "why": ""}]
+    hear("event_not_whole", why="Gaps", **number)
+    assert told()["until_us"] is None and told()["lacks"] == [{"camera": "b", "held_us": 5, "asked_us": 9, "why": "Gaps"}]
+    hear("event_whole", camera="a")
+    assert [it["camera"] for it in told()["lacks"]] == ["b"]
+
+
+def test_what_is_remembered_of_events_has_a_bound(monkeypatch):
+    monkeypatch.setattr(limits, "EVENTS_HEARD", 3)
+    heard = Heard()
+    for number in range(1, 9):
+        heard.take(kept_line("left", number, 0, 9, number))
+    assert len(heard.events) == len(heard.clips) == 3
+    assert heard.number_of("left", Clip(8, 0, 9, 7, 1, 2)) == 8 and heard.number_of("left", Clip(1, 0, 9, 7, 1, 2)) is None
+
+
+def test_a_clip_is_of_the_event_that_its_tag_or_the_station_says():
+    heard, number = Heard(), 1795361880123456
+    heard.take(kept_line("left", 0, 93, 217, number, tag=7))
+    assert heard.number_of("left", Clip(0, 93, 217, 7, 1, 2)) == number
+    assert heard.number_of("left", Clip(1, 5, 9, number + 1, 1, 2)) == number + 1
+    # Another clip with that id, camera or beginning.
+    for camera, clip_ in (("left", Clip(0, 94, 217, 7, 1, 2)), ("right", Clip(0, 93, 217, 7, 1, 2)), ("left", Clip(1, 93, 300, 7, 1, 2))):
+        assert heard.number_of(camera, clip_) is None
+    begun = {"kind": "event_begun", "event": number, "from": "2026-11-22T15:37:55Z", "to": "2026-11-22T15:38:10Z"}
+    heard.take(read_line(json.dumps(begun)))
+    assert heard.number_of("left", Clip(1, 93, 300, 7, 1, 2)) == number
+    assert heard.number_of("left", Clip(1, 94, 300, 7, 1, 2)) is None
 
 
 def test_an_event_has_each_note_once():
@@ -202,6 +270,59 @@ def test_a_clip_of_another_beginning_is_in_no_zip(kept):
     assert kept.ask(f"/api/event.zip?clips={wrong}").status == 404
 
 
+@pytest.mark.parametrize("tag", [0, 7])
+def test_an_event_whose_end_lies_ahead_grows_and_keeps_its_note(make, tag):
+    more = {"tag": tag, "slots": 8, "segments": 32}
+    lab = make(cameras=[{"name": name, "pattern": "33x21 GREY 25:1", **more} for name in ("left", "right")])
+    lab.filmed(30)
+    lab.order("@me keep 1 +3")
+    event = lab.until(lambda: lab.ask("/api/events").json()["events"], "event")[0]
+    assert event["cameras"] == ["left", "right"] and event["tag"] == tag and event["until_us"] > event["to_us"]
+    assert lab.post("/api/event/note", {"clips": named(event), "note": "run 7"}).status == 200
+    seen = []
+
+    def ended():
+        (found,) = lab.ask("/api/events").json()["events"]
+        seen.append(found)
+        # The station says it as soon as it is so, and the page looks then.
+        return found["until_us"] is None and found["seconds"] > 3.8
+
+    lab.until(ended, "end")
+    lab.until(lambda: {it["note"] for it in lab.ask("/api/clips").json()["clips"]} == {"run 7"}, "note", 3)
+    last = seen[-1]
+    assert last["number"] == event["number"] and last["cameras"] == ["left", "right"] and len(last["clips"]) == 2
+    assert last["seconds"] < 4.3 and last["lacks"] == []
+    assert {it["number"] for it in seen} == {event["number"]}
+    news = [it["text"] for it in lab.status()["news"]]
+    assert any("has ended, and all of it is kept" in text for text in news)
+    lab.page.terminate()
+    lab.page.wait(10)
+    lab.start_page()
+    found = lab.until(lambda: lab.ask("/api/events").json()["events"], "events")
+    assert [(it["cameras"], it["note"]) for it in found] == [(["left", "right"], "run 7")]
+
+
+def test_a_keep_of_cameras_with_other_tags_is_one_event(make):
+    """Also once the page has begun again, which hasn't heard it."""
+    cameras = [{"name": name, "pattern": "33x21 GREY 25:1", "tag": tag} for name, tag in (("left", 1), ("right", 2))]
+    lab = make(cameras=cameras).filmed(30)
+    assert lab.post("/api/keep", {"seconds": 1}).status == 200
+    (heard,) = lab.ask("/api/events").json()["events"]
+    assert heard["cameras"] == ["left", "right"] and heard["number"] == lab.told("kept")[0]["event"]
+    lab.page.terminate()
+    lab.page.wait(10)
+    lab.start_page()
+    (event,) = lab.until(lambda: lab.ask("/api/events").json()["events"], "events")
+    assert event["cameras"] == ["left", "right"] and event["number"] is None
+
+
+def test_a_button_of_a_camera_that_keeps_on_says_until_when(make):
+    lab = make(cameras=[{"name": "left", "pattern": "33x21 GREY 25:1", "after": 2}]).filmed(30)
+    found = lab.post("/api/keep", {"seconds": 1}).json()["answers"][0]
+    assert found["until_us"] > found["clips"][0]["to_us"] and "It goes on until 20" in found["text"]
+    assert lab.camera()["after"] == 2 and found["event"] == lab.told("kept")[0]["event"]
+
+
 def test_a_note_is_written_beside_all_clips_of_an_event(make):
     lab = make()
     lab.filmed()
@@ -286,13 +407,13 @@ def test_all_warnings_are_seen_in_one_request_and_none_that_came_meanwhile(make)
     lab = make()
     lab.filmed()
     for name in ("left", "right"):
-        lab.order(f"!print given up {name} 12 since 2026-11-22T15:38:00.123Z")
+        lab.say("given_up", camera=name, frames=12, since="2026-11-22T15:38:00.123Z")
     ids = lab.until(
         lambda: [it["id"] for it in lab.status()["alerts"]] * (len(lab.status()["alerts"]) == 2),
         "two",
         3,
     )
-    lab.order("!print not saved left xyz Exists")
+    lab.say("not_saved", camera="left", id=0, path="xyz", why="Exists")
     lab.until(lambda: len(lab.status()["alerts"]) == 3, "three", 3)
     assert lab.post("/api/seen", {"ids": ids}).status == 200
     assert [it["kind"] for it in lab.status()["alerts"]] == ["not saved"]

@@ -177,6 +177,15 @@ def test_without_answers_a_keep_is_seen_in_the_store(make):
     assert lab.post("/api/release", {"camera": "left", "id": clip["id"], "first": clip["first"]}).status == 200
 
 
+def test_answers_as_text_are_not_read_and_that_is_said(make):
+    lab = make(form=None)
+    lab.filmed()
+    level, text = lab.status()["station"]
+    assert level == "warn" and 'answers_form = "json"' in text
+    clip = lab.keep()
+    assert clip["last"] >= clip["first"] and lab.alerts() == []
+
+
 def test_without_orders_the_page_shows_and_says_that_it_cannot_keep(make):
     lab = make(orders=False, station=False)
     found = lab.post("/api/keep", {"seconds": 1})
@@ -194,19 +203,19 @@ def test_many_keeps_at_once_each_have_their_own_answer(make):
 
 
 def test_a_keep_of_which_a_part_was_refused_says_both():
-    from station_page.laboratory import Laboratory
+    from test_right import kept_line, laboratory_of
+    from station_page.words import read_line
 
-    found = Laboratory.kept_of(
-        type("Nothing", (), {"cameras": {}})(),
-        [
-            "kept left 0 1..5",
-            "kept left 1 9..9 tag 3",
-            "refused left 11 ClipTableFull",
-            "absent right NoStore",
-            "kept other none",
-            "no camera x",
-            "bad order: keep",
-        ],
-    )
+    said = [
+        {"kind": "refused", "camera": "left", "number": 11, "name": "ClipTableFull"},
+        {"kind": "absent", "camera": "right", "why": "NoStore"},
+        {"kind": "kept_none", "camera": "other", "event": 5},
+        {"kind": "no_camera", "camera": "x"},
+        {"kind": "bad_order", "line": "keep"},
+    ]
+    lines = [kept_line("left", 0, 1, 5), kept_line("left", 1, 9, 9, tag=3), *(read_line(json.dumps(it)) for it in said)]
+    found = laboratory_of().kept_of(lines)
     assert [it.is_kept for it in found] == [True] + [False] * 5 and [clip.count() for clip in found[0].clips] == [5, 1]
-    assert "a part was kept" in found[1].text and "plugged in" in found[2].text and "no stored frame" in found[3].text
+    texts = [it.sentence() for it in found]
+    assert "left: a part was kept" in texts[1] and "plugged in" in texts[2] and "no stored frame" in texts[3]
+    assert "no camera of that name" in texts[4] and "bad_order" in texts[5] and "keep" in texts[5]

@@ -3,8 +3,10 @@ import json
 import time
 
 import pytest
-from station_page import spans, words
+from station_page import spans
+from station_page.heard import Heard
 from station_page.reader import Clip, Reader
+from station_page.words import read_line
 
 TWO = [{"name": "left", "pattern": "64x48 YM12 100:1"}, {"name": "right", "pattern": "33x21 GREY 50:1"}]
 
@@ -42,25 +44,30 @@ def test_a_station_that_never_ran_is_warned_of(make):
 def test_a_warning_whose_cause_is_over_leaves_and_says_so(make):
     # No poll says meanwhile that nothing of it is so.
     lab = make(page=False).start_limited(ASK_SECONDS=600, IDLE_ASK_SECONDS=1200).filmed()
-    lab.until(lambda: polls(lab), "the first poll")
+    lab.until(lab.polls, "the first poll")
+    frames = {"width": 32, "height": 24, "format": "GREY", "rate_num": 25, "rate_den": 1}
+    clip = {"id": 0, "path": "clips/x.y4m"}
     for bad, good, kind in [
-        ("behind left 3.5", "caught up left", "behind"),
-        ("other geometry left 32x24 GREY 25:1", "source left on 64x48 YM12 100:1", "other"),
-        ("not a store left x: move it away, and a store is made", "store left open", "not a store"),
+        (("behind", {"micros": 3_500_000}), ("caught_up", {}), "behind"),
+        (("other_geometry", frames), ("source_on", frames), "other"),
+        (("source_unusable", {"why": "RateUnknown"}), ("source_on", frames), "unusable"),
+        (("not_a_store", {"path": "x"}), ("store_open", {}), "not a store"),
+        (("store_open", {"held_micros": 5_000_000, "asked_micros": 9_000_000}), ("store_open", {}), "small"),
+        (("save_waits", clip | {"why": "MissingFolder"}), ("saved", clip | {"frames": 5}), "save waits"),
     ]:
-        lab.order(f"!print {bad}")
+        lab.say(bad[0], camera="left", **bad[1])
         lab.until(lambda kind=kind: (kind, "left") in lab.alerts(), kind, 3)
-        lab.order(f"!print {good}")
+        lab.say(good[0], camera="left", **good[1])
         lab.until(lambda: not lab.alerts(), f"end of {kind}", 3)
         assert any(it["text"].startswith("Over: left: ") for it in lab.status()["news"]), kind
 
 
 def test_a_warning_without_an_end_stays(make):
     lab = make().filmed()
-    lab.order("!print given up left 12 since 2026-11-22T15:38:00.123Z")
-    lab.order("!print room again left")
+    lab.say("given_up", camera="left", frames=12, since="2026-11-22T15:38:00.123Z")
+    lab.say("room_again", camera="left")
     lab.until(lambda: lab.alerts(), "warning", 3)
-    lab.order("!print store left open")
+    lab.say("store_open", camera="left")
     time.sleep(1.5)
     assert lab.alerts() == [("given up", "left")]
 
@@ -71,21 +78,16 @@ def test_a_warning_that_was_seen_does_not_come_back_while_its_cause_stands(make)
     alert = lab.until(lambda: lab.status()["alerts"], "warning", 12)[0]
     assert lab.post("/api/seen", {"id": alert["id"]}).status == 200
     # The next poll says the same again.
-    count = len(polls(lab))
-    lab.until(lambda: lab.status() and len(polls(lab)) > count, "poll", 12)
+    count = lab.polls()
+    lab.until(lambda: lab.status() and lab.polls() > count, "poll", 12)
     time.sleep(0.5)
     assert not lab.alerts()
     lab.order("!go left")
     lab.until(lambda: lab.camera()["level"] == "good", "frames", 8)
-    count = len(polls(lab))
-    lab.until(lambda: lab.status() and len(polls(lab)) > count, "poll", 12)
+    count = lab.polls()
+    lab.until(lambda: lab.status() and lab.polls() > count, "poll", 12)
     lab.order("!pause left")
     lab.until(lambda: lab.alerts() in ([("missing", "left")], [("silent", "left")]), "warning again", 15)
-
-
-def polls(lab):
-    """The polls that the station has answered."""
-    return [line for line in (lab.folder / "told").read_text().splitlines() if "-poll-" in line and line.endswith(" done")]
 
 
 @pytest.mark.parametrize(
@@ -101,7 +103,7 @@ def polls(lab):
     ],
 )
 def test_each_absence_is_shown_in_its_own_words(absent, why, said):
-    absent.order(f"!print store left absent {why}")
+    absent.say("store_absent", camera="left", why=why)
     absent.until(lambda: said in absent.camera()["state"], f"state of {why}", 4)
     camera = absent.camera()
     assert (camera["level"], camera["kind"], camera["short"]) == ("bad", "absent", "not recorded")
@@ -229,18 +231,50 @@ def test_a_page_whose_disk_hangs_ends_when_it_is_told(make):
 
 def test_a_keep_tells_the_clip_that_the_station_told(monkeypatch):
     """The look after a keep is late, and has an earlier clip of the same id."""
+    old = Clip(0, 0, 67, 0, 1_000_000, 2_000_000)
+    laboratory = laboratory_of(left=[old])
+    for first, last in ((22, 121), (1, 67)):
+        found = laboratory.kept_of([kept_line("left", 0, first, last)])[0]
+        assert (found.clips[0].first, found.clips[0].last, found.clips[0].is_seen) == (first, last, False)
+        assert "1970" not in found.text and f"from 2026-11-22T15:37:55.117000Z to 2026-11-22T15:38:00.077000Z, {last - first + 1} frames" in found.text
+    assert laboratory.kept_of([kept_line("left", 0, 0, 67)])[0].clips == [old]
+
+
+def test_a_keep_tells_the_longer_clip_of_an_event_that_goes_on():
+    """Its clip has grown already, and has another id, when the page looks."""
+    number = 1_795_361_880_123_456
+    other, longer = Clip(0, 0, 99, number - 1, 1, 2), Clip(3, 0, 99, number, 3, 4)
+    laboratory = laboratory_of(left=[other, longer])
+    begun = read_line('{"kind":"event_begun","event":%d,"from":"2026-11-22T15:37:55Z","to":"2026-11-22T15:38:10.500Z"}' % number)
+    found = laboratory.kept_of([kept_line("left", 0, 0, 67, number), begun])[0]
+    assert found.clips == [longer] and "It goes on until 2026-11-22T15:38:10.500000Z." in found.sentence()
+    assert found.as_object()["until_us"] == 1_795_361_890_500_000
+
+
+def laboratory_of(**clips):
+    """What judges the lines of a keep, over stores with these clips."""
     from types import SimpleNamespace
 
     from station_page.laboratory import Laboratory
 
-    old = Clip(0, 0, 67, 0, 1_000_000, 2_000_000)
-    reading = SimpleNamespace(clip=lambda id_: old)
-    laboratory = SimpleNamespace(cameras={"left": SimpleNamespace(reading=reading)})
-    for first, last in ((22, 121), (0, 68), (1, 67)):
-        found = Laboratory.kept_of(laboratory, [f"kept left 0 {first}..{last}"])[0]
-        assert (found.clips[0].first, found.clips[0].last, found.clips[0].is_seen()) == (first, last, False)
-        assert "1970" not in found.text and f"frames {first} to {last}" in found.text
-    assert Laboratory.kept_of(laboratory, ["kept left 0 0..67"])[0].clips == [old]
+    def reading(found):
+        return SimpleNamespace(clips=found, clip_of=lambda *it: next((one for one in found if (one.id, one.first, one.last) == it), None))
+
+    found = SimpleNamespace(cameras={name: SimpleNamespace(reading=reading(it)) for name, it in clips.items()}, heard=Heard())
+    found.clip_told = lambda *it: Laboratory.clip_told(found, *it)
+
+    def kept_of(lines):
+        for line in lines:
+            found.heard.take(line)
+        return Laboratory.kept_of(found, lines)
+
+    return SimpleNamespace(kept_of=kept_of)
+
+
+def kept_line(camera, id_, first, last, event=5, **more):
+    """The line of a clip that is kept."""
+    members = {"kind": "kept", "camera": camera, "id": id_, "first": first, "last": last, "event": event}
+    return read_line(json.dumps(members | {"from": "2026-11-22T15:37:55.117Z", "to": "2026-11-22T15:38:00.077Z"} | more))
 
 
 def test_a_note_is_not_told_as_written_where_the_clip_is_not_seen(make):
@@ -256,28 +290,17 @@ def test_a_note_is_not_told_as_written_where_the_clip_is_not_seen(make):
     lab.until(lambda: [it["note"] for it in lab.ask("/api/clips").json()["clips"]] == [""], "clip without a note", 8)
 
 
-def test_a_release_names_the_first_frame_where_the_station_takes_it(make):
-    lab = make(page=False)
-    lab.order("!first")
-    time.sleep(0.2)
-    lab.start_page().filmed()
-    lab.until(lambda: polls(lab), "poll", 8)
+def test_a_release_names_the_clips_first_frame_to_the_station(make):
+    lab = make().filmed()
     clip = lab.keep()
     assert lab.post("/api/release", {"camera": "left", "id": clip["id"], "first": clip["first"] + 1}).status == 404
+    # What the page sees is late: by now another clip has the id.
+    wrong = lab.until(lambda: lab.ask("/api/clips").json()["clips"], "clip")[0]
+    assert (wrong["id"], wrong["first"]) == (clip["id"], clip["first"])
     heard = lab.post("/api/release", {"camera": "left", "id": clip["id"], "first": clip["first"]})
     assert heard.status == 200 and lab.camera()["clips"] == []
-
-
-def test_the_order_of_a_release_has_the_first_frame_only_where_the_station_takes_it():
-    from types import SimpleNamespace
-
-    from station_page.laboratory import Laboratory
-
-    clip = Clip(3, 100, 200, 0, 1, 2)
-    assert Laboratory.release_order(SimpleNamespace(takes_first=True), "left", clip) == "release left 3 100"
-    assert Laboratory.release_order(SimpleNamespace(takes_first=False), "left", clip) == "release left 3"
-    for line, takes in (("release CAMERA ID FIRST", True), ("release CAMERA ID [FIRST]", True), ("release CAMERA ID", False)):
-        assert bool(words.TAKES_FIRST.search(line)) == takes
+    lab.order(f"@me release left 0 {clip['first']}")
+    lab.until(lambda: lab.told("refused"), "refusal")
 
 
 def test_a_release_that_the_station_refuses_is_said_to_be_refused(make):
@@ -307,9 +330,9 @@ def test_a_clip_whose_first_frame_is_another_is_not_released_though_the_page_saw
     lab.until(lambda: lab.camera()["clips"], "a clip")
     lab.order("release left 0")
     lab.order("keep left 1")
-    lab.until(lambda: (lab.folder / "told").read_text().count("kept left 0") == 2, "another clip")
+    lab.until(lambda: len(lab.told("kept")) == 2, "another clip")
     found = lab.post("/api/release", {"camera": "left", "id": 0, "first": old["first"]})
-    assert found.status == 404 and (lab.folder / "told").read_text().count("released left") == 1
+    assert found.status == 404 and len(lab.told("released")) == 1
 
 
 def test_two_who_release_one_clip_release_it_once(make):
@@ -321,13 +344,14 @@ def test_two_who_release_one_clip_release_it_once(make):
     with ThreadPoolExecutor(6) as pool:
         found = sorted(it.status for it in pool.map(lambda _: lab.post("/api/release", body), range(6)))
     assert found[0] == 200 and set(found[1:]) <= {404, 409}
-    assert (lab.folder / "told").read_text().count("released left 0") == 1
+    assert len(lab.told("released")) == 1
 
 
 def test_a_keep_that_is_shorter_than_asked_says_so(make):
     lab = make().filmed(100)
     found = lab.post("/api/keep", {"camera": "left", "seconds": 60}).json()["answers"][0]
-    assert " of 1 min 0 s: the ring held nothing from before " in found["text"] and found["lack"] in found["text"]
+    assert " of 1 min 0 s: no frames are held from " in found["text"] and found["lack"] in found["text"]
+    assert found["asked_us"] == 60_000_000 and 0 < found["held_us"] < 60_000_000
     assert lab.post("/api/keep", {"camera": "left", "seconds": 1}).json()["answers"][0]["lack"] == ""
 
 
@@ -339,7 +363,11 @@ def test_a_keep_over_a_hole_says_so(make):
     newest = lab.camera()["newest"][0]
     lab.filmed(newest + 100)
     found = lab.post("/api/keep", {"camera": "left", "seconds": 4}).json()["answers"][0]
-    assert found["kept"] and ("no frames came from " in found["lack"] or "no frames came until " in found["lack"])
+    assert found["kept"] and "no frames are held from " in found["lack"]
+    # The hole of 2.5 s, and what it takes to stop.
+    assert 2_300_000 < found["asked_us"] - found["held_us"] < 3_900_000
+    (event,) = lab.ask("/api/events").json()["events"]
+    assert event["lacks"] == [{"camera": "left", "held_us": found["held_us"], "asked_us": 4_000_000, "why": ""}]
 
 
 def test_a_keep_of_a_camera_that_stands_still_says_that_its_end_is_missing(make):
@@ -347,7 +375,17 @@ def test_a_keep_of_a_camera_that_stands_still_says_that_its_end_is_missing(make)
     lab.order("!pause left")
     time.sleep(2.5)
     found = lab.post("/api/keep", {"camera": "left", "seconds": 4}).json()["answers"][0]
-    assert found["kept"] and "no frames came after " in found["lack"]
+    assert found["kept"] and "no frames are held from " in found["lack"]
+
+
+@pytest.mark.parametrize("after, said", [("left", " no frames came after "), ("", "")])
+def test_what_a_keep_lacks_is_said_too_where_the_station_is_not_heard(make, after, said):
+    lab = make(answers=None).filmed(150)
+    if after:
+        lab.order(f"!pause {after}")
+        time.sleep(2.5)
+    found = lab.post("/api/keep", {"camera": "left", "seconds": 4 if after else 1}).json()["answers"][0]
+    assert found["kept"] and (said in found["lack"] if said else found["lack"] == "")
 
 
 def reading_of(tmp_path, waits):

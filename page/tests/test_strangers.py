@@ -364,7 +364,7 @@ def test_no_sign_of_a_request_reaches_a_terminal(make):
         lab.ask(path)
     lab.post("/api/note", {"camera": "left", "id": clip["id"], "note": "\x1b[2J\nloop_page: forged"})
     lab.post("/api/keep", {"camera": "left\x1b[31m\nx", "seconds": 1})
-    lab.order("!print not saved left 0 \x1b[31mx")
+    lab.say("not_saved", camera="left", id=0, path="\x1b[31mx", why="Exists")
     lab.until(lambda: lab.status()["alerts"], "warning", 3)
     assert "\x1b" not in lab.status()["alerts"][0]["text"]
     text = log_of(lab)
@@ -435,7 +435,7 @@ def test_what_could_not_be_told_is_written_down(make):
         'on_alert = ["sh", "-c", "echo no server >&2; exit 3"]\nwebhook = "http://127.0.0.1:9/secret"\n'
     )
     lab.start_page("--settings", str(lab.folder / "page.toml")).filmed()
-    lab.order("!print given up left 12 since 2026-11-22T15:38:00.123Z")
+    lab.say("given_up", camera="left", frames=12, since="2026-11-22T15:38:00.123Z")
     lab.until(lambda: len(lab.journal()) == 2, "two lines", 8)
     command, hook = lab.journal()
     assert command["kind"] == hook["kind"] == "not told"

@@ -1,58 +1,145 @@
 """Lines of the station, and sentences."""
+import json
+import re
+from pathlib import Path
+
 import pytest
 from station_page import words
 
-
-@pytest.mark.parametrize(
-    "raw, label, text",
-    [
-        ("2026-11-22T15:38:00.123Z kept left 0 93..217", None, "kept left 0 93..217"),
-        ("2026-11-22T15:38:00.123Z @a-1 kept left 0 93..217 tag 7", "a-1", "kept left 0 93..217 tag 7"),
-        ("@a-1 done", "a-1", "done"),
-        ("kept left none", None, "kept left none"),
-        ("@" + "a" * 33 + " done", None, "@" + "a" * 33 + " done"),
-    ],
-)
-def test_a_line_is_read_with_and_without_time_and_label(raw, label, text):
-    assert words.read_line(raw) == words.Line(label, text)
+STATION = (Path(__file__).resolve().parent.parent.parent / "docs" / "station.md").read_text(encoding="utf-8")
+STATUS = {"kind": "status", "camera": "left", "stored": 191, "given_up": 2, "waiting": 3, "behind_micros": 449_000, "room": 12, "faults": 1, "source": "on"}
 
 
-def test_a_status_is_read_of_old_and_new_stations():
-    name, new = words.read_status(
-        "status left stored 191 given up 2 waiting 3 behind 0.4 room 12 faults 1 source other geometry"
-    )
-    assert (name, new) == ("left", words.Status(191, 2, 3, 0.4, 12, 1, "other geometry"))
-    assert words.read_status("status left stored 191 given up 0 waiting 0 room 12 faults 0 source on")[1].behind is None
-    assert words.read_status("status left stored x") is None
+def line_of(kind, **members):
+    """A line of the station, read."""
+    return words.read_line(json.dumps({"time": "2026-11-22T15:38:00.123Z", "kind": kind, "camera": "left"} | members))
+
+
+def test_a_line_is_read_with_and_without_a_label():
+    kept = {"id": 0, "first": 93, "last": 217, "from": "2026-11-22T15:37:55.117Z", "to": "2026-11-22T15:38:00.077Z", "event": 1795361880123456}
+    found = line_of("kept", label="a-1", tag=7, **kept)
+    assert (found.label, found.kind, found.camera, found["first"], found["tag"]) == ("a-1", "kept", "left", 93, 7)
+    assert (found["from"], found["to"]) == (1795361875117000, 1795361880077000)
+    found = line_of("kept", **kept)
+    assert (found.label, found["tag"]) == (None, None)
+    assert words.read_line('{"label":"me","kind":"done"}') == words.Line("me", "done", {})
 
 
 @pytest.mark.parametrize(
-    "line, kind, is_bad, said",
+    "raw",
     [
-        ("source left on 640x480 YM12 25:1", "source", False, "640x480 YM12 25:1"),
-        ("source left missing", "missing", True, "plugged in"),
-        ("other geometry left 320x240 GREY 30:1", "other", True, "320x240 GREY 30:1"),
-        ("store left open", "open", False, "open"),
-        ("store left open holds 30.8 s of 300.0 s", "open", True, "30.8 s of 300.0 s"),
-        ("store left absent NoRoom", "absent", True, "disk is full"),
-        ("store left absent TooManyFrames 10.9", "absent", True, "10.9 minutes fit"),
-        ("store left absent NoStore", "absent", True, "plugged in"),
-        ("store left absent Whatever", "absent", True, "Whatever"),
-        ("given up left 12 since 2026-11-22T15:38:00.123Z", "given up", True, "12 of them"),
-        ("all locked left", "locked", True, "Release"),
-        ("room again left", "room", False, "room"),
-        ("behind left 1.4", "behind", True, "1.4 seconds"),
-        ("caught up left", "caught up", False, "wait"),
-        ("not a store left left.loop: move it away, and a store is made", "not a store", True, "Move it away"),
+        "",
+        "2026-11-22T15:38:00.123Z kept left 0 93..217",
+        "7",
+        "null",
+        "[]",
+        "{}",
+        '{"kind":7}',
+        '{"kind":"done","label":7}',
+        '{"kind":"all_locked"}',
+        '{"kind":"all_locked","camera":7}',
+        '{"kind":"behind","camera":"left","micros":"7"}',
+        '{"kind":"behind","camera":"left","micros":-1}',
+        '{"kind":"behind","camera":"left","micros":1.5}',
+        '{"kind":"behind","camera":"left","micros":true}',
+        '{"kind":"behind","camera":"left","micros":1e999}',
+        '{"kind":"behind","camera":"left","micros":18446744073709551616}',
+        '{"kind":"given_up","camera":"left","frames":1,"since":"yesterday"}',
+        '{"kind":"given_up","camera":"left","frames":1,"since":"2026-11-22T15:38:00"}',
+        '{"kind":"given_up","camera":"left","frames":1,"since":"1926-11-22T15:38:00Z"}',
+        "[" * 5000,
+        '{"kind":"behind","camera":"left","micros":' + "9" * 5000 + "}",
+        '{"kind":"behind","camera":"left","mic',
     ],
 )
-def test_each_event_has_a_sentence(line, kind, is_bad, said):
-    event = words.read_event(line)
+def test_what_is_no_line_or_lacks_a_member_is_none(raw):
+    assert words.read_line(raw) is None
+
+
+def test_no_sign_of_a_text_does_something_to_a_terminal():
+    found = line_of("not_saved", id=0, path="\x1b[31m\n\u202e", why="Exists")
+    assert found["path"] == "\\x1b[31m\\n\\u202e"
+
+
+def test_a_status_is_read():
+    found = words.status_of(words.read_line(json.dumps(STATUS | {"keeps": 5})))
+    assert found == words.Status(191, 2, 3, 0.4, 12, 5, 1, "on")
+    assert words.status_of(words.read_line(json.dumps(STATUS))).keeps is None
+
+
+def documented():
+    """The kinds of lines, and the members of each, as docs/station.md has them."""
+    table = STATION.split("| Kinds | Further members |\n|---|---|\n")[1].split("\n\n")[0]
+    found = {}
+    for row in table.splitlines():
+        kinds, _, members = row.strip("| ").partition(" | ")
+        for kind in re.findall(r"`(\w+)`", kinds):
+            found[kind] = set(re.findall(r"`(\w+)`", members))
+    return found
+
+
+def test_the_page_knows_each_kind_of_line_that_the_station_has_and_no_others():
+    assert len(documented()) > 40 and set(words.MEMBERS) == set(documented())
+
+
+@pytest.mark.parametrize("kind", sorted(words.MEMBERS))
+def test_the_page_reads_no_member_that_a_kind_has_not(kind):
+    assert {name.lstrip("?#@") for name in words.MEMBERS[kind]} <= documented()[kind]
+
+
+def test_each_reason_that_the_station_may_name_has_a_sentence():
+    tables = STATION.split("| WHY | What it is |\n|---|---|\n")[1:]
+    named = {word for table in tables for row in table.split("\n\n")[0].splitlines() for word in re.findall(r"`(\w+)", row.split(" | ")[0])}
+    assert {"Busy", "CannotWrite"} <= named and named <= set(words.WHY)
+    unusable = re.search(r"no store may have its frames: (.*?): change", STATION)[1]
+    assert set(re.findall(r"`(\w+)`", unusable)) <= set(words.WHY)
+
+
+FRAMES = {"width": 320, "height": 240, "format": "GREY", "rate_num": 30, "rate_den": 1}
+SINCE = {"since": "2026-11-22T15:38:00.123Z"}
+
+
+@pytest.mark.parametrize(
+    "line, members, kind, is_bad, said",
+    [
+        ("source_on", FRAMES, "source", False, "320x240 GREY 30:1"),
+        ("source_missing", {}, "missing", True, "plugged in"),
+        ("source_unusable", {"why": "RateUnknown"}, "unusable", True, "says no rate"),
+        ("other_geometry", FRAMES, "other", True, "320x240 GREY 30:1"),
+        ("store_open", {}, "open", False, "open"),
+        ("store_open", {"held_micros": 30_800_000, "asked_micros": 300_000_000}, "small", True, "30.8 s of 300.0 s"),
+        ("store_absent", {"why": "NoRoom"}, "absent", True, "disk is full"),
+        ("store_absent", {"why": "TooManyFrames 10.9"}, "absent", True, "10.9 minutes fit"),
+        ("store_absent", {"why": "NoStore"}, "absent", True, "plugged in"),
+        ("store_absent", {"why": "Whatever"}, "absent", True, "Whatever"),
+        ("given_up", {"frames": 12, **SINCE}, "given up", True, "12 of them"),
+        ("all_locked", {}, "locked", True, "Release"),
+        ("nearly_all_locked", {}, "nearly locked", True, "Release"),
+        ("room_again", {}, "room", False, "room"),
+        ("behind", {"micros": 1_449_000}, "behind", True, "1.4 s"),
+        ("caught_up", {}, "caught up", False, "wait"),
+        ("waited", {"micros": 3_200_000, **SINCE}, "waited", True, "3.2 s since 2026-11-22T15:38:00.123000Z"),
+        ("too_slow", {"micros": 250_000, "frames_a_second": 16}, "too slow", True, "16 frames a second"),
+        ("not_a_store", {"path": "left.loop"}, "not a store", True, "left.loop isn't a store"),
+        ("saved", {"id": 3, "path": "a b.y4m", "frames": 125}, "saved", False, "clip 3 was saved as a b.y4m, 125"),
+        ("not_saved", {"id": 3, "path": "a b.y4m", "why": "CannotWrite"}, "not saved", True, "a b.y4m: the disk is full"),
+        ("save_waits", {"id": 3, "path": "a b.y4m", "why": "MissingFolder"}, "save waits", True, "folder isn't there"),
+        ("released", {"id": 3}, "released", False, "clip 3"),
+        ("event_whole", {"event": 1795361880123456}, "whole", False, "2026-11-22T15:38:00.123456Z"),
+        ("event_not_whole", {"event": 1795361880123456, "why": "Gaps"}, "not whole", True, "frames of that time are missing"),
+    ],
+)
+def test_each_event_has_a_sentence(line, members, kind, is_bad, said):
+    event = words.event_of(line_of(line, **members))
     assert (event.kind, event.camera, event.is_bad) == (kind, "left", is_bad) and said in event.text
 
 
-@pytest.mark.parametrize(
-    "line", ["", "stopped", "kept left 0 1..2", "source left", "given up left x since y", "behind left"]
-)
-def test_other_lines_are_no_events(line):
-    assert words.read_event(line) is None
+@pytest.mark.parametrize("line, members, said", [("stood_still", {"micros": 3_200_000, **SINCE}, "3.2 s since"), ("dropped_lines", {"lines": 7}, "7 lines")])
+def test_what_concerns_no_camera_is_told_of_none(line, members, said):
+    event = words.event_of(line_of(line, **members))
+    assert event.camera is None and event.is_bad and said in event.text
+
+
+@pytest.mark.parametrize("kind", ["stopped", "done", "a_kind_that_nobody_knows", "source_silent"])
+def test_other_lines_are_no_events(kind):
+    assert words.event_of(line_of(kind)) is None

@@ -12,6 +12,9 @@ const KINDS = [
 const keyOf = (clip) => `${clip.camera}.${clip.id}.${clip.first}`;
 const named = (clips) => clips.map(({ camera, id, first }) => ({ camera, id, first }));
 
+/** By what an event is known: the station's number. Where it isn't known, by its clips; these may grow while the event goes on. */
+export const rowOf = (event) => event.number === null ? event.key : String(event.number);
+
 /** An event's time and length in words. */
 export const called = (event) => `the event of ${clock(event.from_us)}, ${length(event.seconds)}`;
 
@@ -68,7 +71,7 @@ export class Events {
   /** Draws the list. Rows that stay are left as they are, with what is being typed there; and nothing moves under the pointer. */
   draw() {
     const list = byId("events"), wanted = this.events.filter((event) => !byId("filter").value || event.cameras.includes(byId("filter").value));
-    const keys = new Set(wanted.map((event) => event.key)), old = list.scrollHeight;
+    const keys = new Set(wanted.map(rowOf)), old = list.scrollHeight;
     for (const [key, row] of this.rows) {
       if (keys.has(key)) continue;
       row.element.remove();
@@ -78,11 +81,11 @@ export class Events {
     list.hidden = !wanted.length;
     let newer = 0;
     wanted.forEach((event, place) => {
-      if (!this.rows.has(event.key)) {
-        this.rows.set(event.key, new Row(event, this));
+      if (!this.rows.has(rowOf(event))) {
+        this.rows.set(rowOf(event), new Row(event, this));
         newer += place < 3;
       }
-      const row = this.rows.get(event.key);
+      const row = this.rows.get(rowOf(event));
       row.show(event);
       if (list.children[place] !== row.element) list.insertBefore(row.element, list.children[place] || null);
     });
@@ -168,7 +171,10 @@ class Row {
     this.let = button(null, "Release", () => events.release(this.event));
     const top = make("div", { className: "top" }, this.time, this.length, make("span", { className: "grow" }), this.size);
     const acts = make("div", { className: "acts" }, this.play, this.get, make("span", { className: "grow" }), this.let);
-    this.element.append(top, thumbsOf(event), this.note, this.bar, acts);
+    this.lack = make("p", { className: "lack warn", hidden: true });
+    this.thumbs = thumbsOf(event);
+    this.clips = event.key;
+    this.element.append(top, this.thumbs, this.lack, this.note, this.bar, acts);
     const title = called(event);
     mark(this.note, "aria-label", `Note of ${title}`);
     for (const [control, word] of [[this.play, "Play"], [this.get, "Download"], [this.let, "Release"]]) control.setAttribute("aria-label", `${word} ${title}`);
@@ -181,9 +187,17 @@ class Row {
     say(this.time, clock(event.from_us));
     say(this.length, `${length(event.seconds)} \u00b7 ${camerasOf(event)}${event.tag ? ` \u00b7 tag ${event.tag}` : ""}`);
     say(this.size, size(event.bytes));
+    say(this.lack, lackOf(event));
+    this.lack.hidden = !this.lack.textContent;
+    if (this.clips !== event.key) {
+      // Clips that have grown have other numbers.
+      const thumbs = thumbsOf(event);
+      this.thumbs.replaceWith(thumbs);
+      Object.assign(this, { thumbs, clips: event.key });
+    }
     if (this.note !== document.activeElement && this.note.note !== event.note) this.note.value = this.note.note = event.note;
     this.element.classList.toggle("fresh", this.events.isFresh(event));
-    this.element.classList.toggle("playing", this.events.playing === event.key);
+    this.element.classList.toggle("playing", this.events.playing === rowOf(event));
   }
 
   /** Shows how far this event's download is. */
@@ -199,6 +213,15 @@ function button(drawing, text, work) {
   const element = make("button", { type: "button", className: "quiet" }, ...(drawing ? [icon(drawing), " "] : []), text);
   element.onclick = work;
   return element;
+}
+
+/** That an event goes on, and of which cameras it has less than was asked for. */
+function lackOf(event) {
+  const on = event.until_us ? `Goes on until ${clock(event.until_us)}. ` : "";
+  const named = event.lacks.slice(0, 3).map(({ camera, held_us: held, asked_us: asked }) =>
+    held === null ? `${camera} isn't whole` : `${camera} ${length(held / 1e6)} of ${length(asked / 1e6)}`);
+  const rest = event.lacks.length - named.length;
+  return on + (named.length ? `Less than was asked for: ${named.join(", ")}${rest ? `, and ${rest} more` : ""}.` : "");
 }
 
 /** A picture from the middle of each clip, the first few. */
@@ -239,7 +262,7 @@ class Fetching {
   begin(link, what, events) {
     this.as = [...crypto.getRandomValues(new Uint8Array(12))].map((byte) => byte.toString(16).padStart(2, "0")).join("");
     link.href = this.address(what, this.as);
-    const row = events.rows.get(this.event.key);
+    const row = events.rows.get(rowOf(this.event));
     if (row) row.as = this.as;
     byId("fetch-progress").hidden = false;
     byId("fetch-bar").value = 0;

@@ -1,5 +1,5 @@
 // The laboratory's page as a console: how all stands, the press, warnings and keys. The other scripts have pictures, timeline and events.
-import { Events, camerasOf } from "/static/events.js";
+import { Events, camerasOf, rowOf } from "/static/events.js";
 import { Large } from "/static/large.js";
 import { Link, ask } from "/static/link.js";
 import { Stage } from "/static/stage.js";
@@ -32,7 +32,7 @@ const view = new View(link, stage, large, timeline, (text) => answered(text, "ba
 large.wish = (camera) => view.stretch[camera];
 large.stretched = (points) => view.setStretch(large.name, points);
 view.told = () => {
-  events.plays(view.event?.key ?? null);
+  events.plays(view.event ? rowOf(view.event) : null);
   lanes();
   within();
 };
@@ -222,21 +222,22 @@ function alerts() {
 
 /** What happened, and who changed what, the newest first. */
 function happened() {
-  const changes = (standing.journal || []).map((it) => ({
-    time: it.time, bad: it.kind === "not told" || / (refused|failed): /.test(it.text), text: `${it.kind}${it.address ? `, ${it.address}, ${it.session}` : ""}: ${it.text}` }));
+  const changes = (standing.journal || []).map((it) => {
+    const front = `${it.kind}${it.address ? `, ${it.address}, ${it.session}` : ""}: `;
+    return { time: it.time, bad: it.is_bad, order: it.order ? front + it.order : "", text: front + it.text };
+  });
   const told = [...(standing.news || []), ...changes].sort((one, other) => other.time - one.time).slice(0, 30);
   const key = JSON.stringify(told);
   if (key === happened.key) return;
   happened.key = key;
   byId("done-title").hidden = !told.length;
-  byId("done").replaceChildren(...told.map((it) => make("li", { className: it.bad ? "bad" : "good" }, folded(it.text), make("time", {}, clock(it.time * 1e6)))));
+  byId("done").replaceChildren(...told.map((it) => make("li", { className: it.bad ? "bad" : "good" }, folded(it), make("time", {}, clock(it.time * 1e6)))));
 }
 
 /** A long text, of which what was done is shown, and what became of it is unfolded. */
-function folded(text) {
-  const [front, ...rest] = text.split(/: (?=\S)/), order = [front, rest.shift()].filter(Boolean).join(": ");
-  if (text.length < 100 || !rest.length) return make("span", {}, text);
-  return make("details", {}, make("summary", {}, order), make("p", {}, rest.join(": ")));
+function folded({ text, order }) {
+  if (text.length < 100 || !order) return make("span", {}, text);
+  return make("details", {}, make("summary", {}, order), make("p", {}, text.slice(order.length + 2)));
 }
 
 /** Somebody has seen warnings: these, and none that came meanwhile. */
@@ -301,6 +302,8 @@ function name() {
   const range = timeline.range, seconds = wishedSeconds(), camera = byId("camera").value;
   const lasting = range ? (range.to - range.from) / 1e6 : seconds;
   let words = range ? `Keep ${length(lasting)} from ${clock(range.from)}` : `Keep the last ${seconds ? (seconds < 100 ? `${seconds} s` : length(seconds)) : "? s"}`;
+  const after = range ? 0 : afterOf(camera);
+  if (after) words += ` and the next ${length(after)}`;
   if (camera) words += ` of ${camera}`;
   const number = standing && lasting ? left(lasting) : null;
   if (number === 0) words += ": the ring is then full, and recording stops";
@@ -312,6 +315,11 @@ function name() {
     element.className = "answer idle";
     if (element.textContent !== idle) element.replaceChildren(make("span", {}, idle ? idle[0].toUpperCase() + idle.slice(1) + (idle.endsWith(".") ? "" : ".") : ""));
   }
+}
+
+/** The seconds still to come that a press keeps too, by the station's configuration: of one camera, or the most of all. */
+function afterOf(name) {
+  return Math.max(0, ...(standing?.cameras || []).filter((camera) => !name || camera.name === name).map((camera) => camera.after || 0));
 }
 
 /** Keeps the last seconds, or the range, of all cameras or of one. */
@@ -351,20 +359,18 @@ function keptWords(answers, seconds) {
   const names = [...new Set(kept.map((answer) => answer.camera))], clips = kept.flatMap((answer) => answer.clips).filter((clip) => clip.from_us);
   const all = new Set(answers.map((answer) => answer.camera).filter(Boolean)).size;
   const who = names.length < all ? `${names.length} of ${all} cameras` : camerasOf({ cameras: names });
-  const tail = [lackWords(kept), ...remarksOf(kept), faults].filter(Boolean).join(" ");
+  const tail = [lackWords(kept), ...new Set(kept.map((answer) => answer.remark)), faults].filter(Boolean).join(" ");
   if (!clips.length) return [`Kept: ${who}. ${tail}`, tail ? "warn" : "good"];
+  const until = Math.max(0, ...kept.map((answer) => answer.until_us || 0));
   const from = Math.min(...clips.map((clip) => clip.from_us)), to = Math.max(...clips.map((clip) => clip.to_us)), took = (to - from) / 1e6;
-  const words = `Kept ${length(took < seconds - 1 ? took : seconds)} of ${who}, ${clock(from)} to ${clock(to)} ${zone(to)}.`;
+  const words = `Kept ${length(took < seconds - 1 ? took : seconds)} of ${who}, ${clock(from)} to ${clock(to)} ${zone(to)}${until ? `, and on until ${clock(until)}` : ""}.`;
   return [tail ? `${words} ${tail}` : words, tail ? "warn" : "good"];
 }
 
 /** Of which cameras nothing was kept, and why: those of one reason together. */
 function faultWords(answers) {
   const reasons = new Map();
-  for (const { camera, text } of answers) {
-    const reason = camera && text.startsWith(`${camera}: `) ? text.slice(camera.length + 2) : text;
-    reasons.set(reason, [...(reasons.get(reason) || []), camera]);
-  }
+  for (const { camera, why } of answers) reasons.set(why, [...(reasons.get(why) || []), camera]);
   return [...reasons].map(([reason, names]) => {
     if (!names[0]) return reason;
     return `${names.length < 4 ? names.join(", ") : `${names.length} cameras`}: ${reason}`;
@@ -376,14 +382,9 @@ function lackWords(kept) {
   const lacking = kept.filter((answer) => answer.lack);
   if (!lacking.length) return "";
   if (lacking.length === 1) return kept.length > 1 ? `${lacking[0].camera}: ${lacking[0].lack}` : lacking[0].lack;
-  const held = (answer) => answer.clips.reduce((sum, clip) => sum + (clip.to_us - clip.from_us) / 1e6, 0);
+  const held = (answer) => (answer.held_us ?? answer.clips.reduce((sum, clip) => sum + clip.to_us - clip.from_us, 0)) / 1e6;
   const named = lacking.slice(0, 4).map((answer) => `${answer.camera} ${length(held(answer))}`), rest = lacking.length - named.length;
   return `Less than was asked for: ${named.join(", ")}${rest ? `, and ${rest} more` : ""}. Why is under the bell.`;
-}
-
-/** What else is said of what was kept, as of a note that can't be written; each once. */
-function remarksOf(kept) {
-  return new Set(kept.map((answer) => (answer.text.split(" frames. ")[1] || "").replace(answer.lack || "", "").trim()).filter(Boolean));
 }
 
 /** Less or more time, by steps. */
@@ -403,8 +404,9 @@ let shownWithin = null;
 function within() {
   if (!view.camera) return;
   const moment = view.shown() ?? timeline.now(), event = events.at(view.camera, moment);
-  if (event?.key === shownWithin) return;
-  shownWithin = event?.key;
+  const row = event && rowOf(event);
+  if (row === shownWithin) return;
+  shownWithin = row;
   byId("within-title").hidden = !event;
   if (!event) return byId("within").replaceChildren();
   const play = make("button", { type: "button", className: "quiet" }, icon("play"), " Side by side"), get = make("button", { type: "button", className: "quiet" }, icon("down"), " Download");

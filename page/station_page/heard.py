@@ -1,0 +1,96 @@
+"""What the station has said of its events. A keep of all cameras that it means is one event, and has a number: the time at which its line was read, in
+microseconds since 1970. It is the tag of the event's clips, unless the order or the configuration gives another one."""
+import collections
+from dataclasses import dataclass, field
+
+from . import limits
+from .reader import Clip
+from .words import Line
+
+# From here on a tag is an event's number: a time after 2001. Tags of people are smaller.
+NUMBERS_FROM = 10**15
+
+
+@dataclass
+class Part:
+    """What was said of a camera's part of an event: how much of its time is held of how much, in microseconds, and from when to when no frame is; and
+    once its end is over, why it isn't whole, or nothing where it is."""
+
+    held: int | None = None
+    asked: int | None = None
+    gaps: list[tuple[int, int]] = field(default_factory=list)
+    why: str | None = None
+
+
+@dataclass
+class Told:
+    """What was said of an event: of each camera, and until when it goes on where its end lay ahead."""
+
+    parts: dict[str, Part] = field(default_factory=dict)
+    until: int = 0
+
+    def part(self, camera: str) -> Part:
+        """A camera's part."""
+        return self.parts.setdefault(camera, Part())
+
+    def goes_on(self, camera: str | None = None) -> bool:
+        """Whether its end lies ahead, of this camera, or of all: nothing was said of how it ended."""
+        parts = [self.part(camera)] if camera else self.parts.values()
+        return self.until > 0 and all(part.why is None for part in parts)
+
+
+def is_number(tag: int) -> bool:
+    """Whether a tag is an event's number."""
+    return tag >= NUMBERS_FROM
+
+
+class Heard:
+    """The events of which the station has spoken since the page began, the newest ones."""
+
+    def __init__(self) -> None:
+        self.events: collections.OrderedDict[int, Told] = collections.OrderedDict()
+        self.clips: collections.OrderedDict[tuple[str, int, int], int] = collections.OrderedDict()
+        # It grows with each line, so that what is made of it is made anew.
+        self.version = 0
+
+    def take(self, line: Line) -> None:
+        """A line of the station: of an event, or none."""
+        number = line.members.get("event")
+        if number is None:
+            return
+        self.version += 1
+        told = self.events.setdefault(number, Told())
+        self.events.move_to_end(number)
+        if line.kind == "event_begun":
+            told.until = max(told.until, line["to"])
+        elif line.kind == "kept":
+            self.clips[line["camera"], line["id"], line["first"]] = number
+            self.clips.move_to_end((line["camera"], line["id"], line["first"]))
+        elif line.kind == "held":
+            part = told.part(line["camera"])
+            part.held, part.asked, part.gaps = line["held_micros"], line["asked_micros"], []
+        elif line.kind == "gap":
+            told.part(line["camera"]).gaps.append((line["at"], line["at"] + line["micros"]))
+        elif line.kind in ("event_whole", "event_not_whole"):
+            told.part(line["camera"]).why = line.members.get("why", "")
+        for kept in (self.events, self.clips):
+            while len(kept) > limits.EVENTS_HEARD:
+                kept.popitem(last=False)
+
+    def number_of(self, camera: str, clip: Clip) -> int | None:
+        """The number of a clip's event; none where the station hasn't said it, and the clip has a tag of yours."""
+        if is_number(clip.tag):
+            return clip.tag
+        number = self.clips.get((camera, clip.id, clip.first))
+        return self.grown(camera, clip) if number is None else number
+
+    def grown(self, camera: str, clip: Clip) -> int | None:
+        """The number of the event whose end lay ahead and whose clip this is, by its first frame: a longer one has another id."""
+        for (name, _, first), number in reversed(self.clips.items()):
+            if (name, first) == (camera, clip.first) and self.told(number).until:
+                return number
+        return None
+
+    def told(self, number: int | None) -> Told:
+        """What was said of an event."""
+        return self.events.get(number or 0, Told())
