@@ -666,8 +666,16 @@ class Laboratory:
         watched, reading, source = self.seen(camera)
         clip = reading.clip(id_)
         if clip is None or (first is not None and clip.first != first):
+            clip = self.longer(watched, first)
+        if clip is None:
             raise Unfit(404, "There is no such clip any more.")
         return watched, reading, source, clip
+
+    def longer(self, watched: Watched, first: int | None) -> Clip | None:
+        """What a clip with this first frame has grown to, in an event whose end lay ahead: it has another id by then."""
+        name = watched.camera.name
+        found = [clip for clip in self.clips_of(name) if clip.first == first and self.heard.told(self.heard.number_of(name, clip)).until]
+        return found[0] if len(found) == 1 else None
 
     async def release(self, camera: str, id_: int, first: int | None) -> str:
         """Releases a clip that isn't being fetched: the one that begins with this frame, where that is given."""
@@ -690,6 +698,7 @@ class Laboratory:
         finally:
             self.releasing.discard(key)
             self.hurry.set()
+        id_ = clip.id
         if any(line.kind == "released" and (line["camera"], line["id"]) == (camera, id_) for line in lines):
             return f"{camera}: clip {id_} is released. Its room is used again."
         if waiting:

@@ -298,8 +298,21 @@ def test_an_event_whose_end_lies_ahead_grows_and_keeps_its_note(make, tag):
     lab.page.terminate()
     lab.page.wait(10)
     lab.start_page()
-    found = lab.until(lambda: lab.ask("/api/events").json()["events"], "events")
-    assert [(it["cameras"], it["note"]) for it in found] == [(["left", "right"], "run 7")]
+    lab.until(lambda: [(it["cameras"], it["note"]) for it in lab.ask("/api/events").json()["events"]] == [(["left", "right"], "run 7")], "event")
+
+
+def test_an_event_that_has_grown_since_it_was_seen_is_released_and_noted_as_that(make):
+    lab = make(cameras=[{"name": "left", "pattern": "33x21 GREY 25:1", "slots": 8, "segments": 32}]).filmed(30)
+    lab.order("@me keep 1 +2")
+    old = named(lab.until(lambda: lab.ask("/api/events").json()["events"], "event")[0])
+    lab.until(lambda: lab.told("event_whole"), "end", 6)
+    lab.until(lambda: named(lab.ask("/api/events").json()["events"][0]) != old, "longer clip", 6)
+    assert lab.post("/api/event/note", {"clips": old, "note": "run 7"}).status == 200
+    assert lab.ask("/api/events").json()["events"][0]["note"] == "run 7"
+    wrong = [dict(it, first=it["first"] + 1) for it in old]
+    assert lab.post("/api/event/release", {"clips": wrong}).status == 404
+    assert lab.post("/api/event/release", {"clips": old}).status == 200
+    assert lab.ask("/api/events").json()["events"] == []
 
 
 def test_a_keep_of_cameras_with_other_tags_is_one_event(make):
@@ -312,8 +325,7 @@ def test_a_keep_of_cameras_with_other_tags_is_one_event(make):
     lab.page.terminate()
     lab.page.wait(10)
     lab.start_page()
-    (event,) = lab.until(lambda: lab.ask("/api/events").json()["events"], "events")
-    assert event["cameras"] == ["left", "right"] and event["number"] is None
+    lab.until(lambda: [(it["cameras"], it["number"]) for it in lab.ask("/api/events").json()["events"]] == [(["left", "right"], None)], "event")
 
 
 def test_a_button_of_a_camera_that_keeps_on_says_until_when(make):
