@@ -34,6 +34,7 @@ def install_missing(packages):
 
 
 install_missing(PACKAGES)
+from conftest import PATIENCE
 from page_strangers import Wrong, expect
 from selenium import webdriver
 from selenium.common.exceptions import (
@@ -150,8 +151,9 @@ class Browser:
         return self.driver.execute_script(script, *words)
 
     def until(self, reached, what, seconds=5.0):
-        """Waits for something, and answers it. Between two pages an element may be none, or gone."""
-        end = time.monotonic() + seconds
+        """Waits for something, and answers it: for longer on a machine that is busy. Between two pages an
+        element may be none, or gone."""
+        end = time.monotonic() + seconds * PATIENCE
         while time.monotonic() < end:
             with contextlib.suppress(
                 NoSuchElementException, StaleElementReferenceException, JavascriptException

@@ -3,6 +3,7 @@ import contextlib
 import hashlib
 import io
 import json
+import os
 import re
 import shutil
 import statistics
@@ -11,14 +12,15 @@ import time
 import zipfile
 from pathlib import Path
 
+import conftest
 from browser import SIZES, ActionChains, Browser, Keys
 from conftest import TOKEN, Laboratory, token_in
 from page_strangers import Wrong, expect
 from selenium.common.exceptions import WebDriverException
 
 CAMERAS = [
-    {"name": "left", "pattern": "320x240 YM12 25:1", "keep": 2, "slots": 60},
-    {"name": "right", "pattern": "160x120 GREY 10:1", "slots": 20},
+    {"name": "left", "pattern": "320x240 YM12 25:1", "keep": 2, "slots": 60, "segments": 16},
+    {"name": "right", "pattern": "160x120 GREY 10:1", "slots": 20, "segments": 20},
 ]
 # Text as somebody might write it who wants it to become code.
 NASTY = "<img src=x onerror=alert(1)>\"'&<script>"
@@ -102,8 +104,11 @@ def press(browser, lab, shots):
     browser.until(lambda: len(events_shown(browser)) == 1, "one event", 2)
     browser.until(lambda: browser.all("#events .event.fresh"), "event that stands out", 1)
     expect("2 cameras" in events_shown(browser)[0], f"the event is {events_shown(browser)}")
-    note = browser.one("#events .event input").get_attribute("value")
-    expect(note == "run 7 k", f"the note is {note!r}, and not what was written")
+    browser.until(
+        lambda: browser.one("#events .event input").get_attribute("value") == "run 7 k",
+        "note that was written",
+        1,
+    )
     expect(
         browser.one("#note").get_attribute("value") == "",
         "the field of the note isn't empty after a keep",
@@ -699,6 +704,25 @@ def presses(browser, count, most=3):
     return f"{count} presses: median {median:.3f} s, longest {longest:.3f} s"
 
 
+def presses_beside(program, count):
+    """The same beside a true station, with four cameras of 640x480 at 25 frames a second."""
+    names = ("one", "two", "three", "four")
+    cameras = [{"name": name, "pattern": "640x480 YM12 25:1", "minutes": 1, "keep": 2} for name in names]
+    plain, conftest.STATION = conftest.STATION, program
+    try:
+        with laboratory(cameras) as lab:
+            lab.start_station().start_page()
+            lab.filmed(100, "four")
+            browser = Browser(lab)
+            try:
+                browser.open()
+                return f"beside {program} {presses(browser, count)}"
+            finally:
+                browser.driver.quit()
+    finally:
+        conftest.STATION = plain
+
+
 # ----------------------------------------------------------------------------------------------- the part
 
 
@@ -735,6 +759,8 @@ def browser_part(is_quick, shots):
         finally:
             browser.driver.quit()
     took += sizes(shots, is_quick)
+    if program := os.environ.get("LOOP_STATION"):
+        took.append(presses_beside(program, 20 if is_quick else 100))
     return f"browser: all is as it ought to be: {', '.join(took)}"
 
 

@@ -77,6 +77,13 @@ class Heard:
             while len(kept) > limits.EVENTS_HEARD:
                 kept.popitem(last=False)
 
+    def station_ended(self) -> None:
+        """No event goes on without a station. The next one says which do."""
+        for told in self.events.values():
+            if told.goes_on():
+                told.until = 0
+        self.version += 1
+
     def number_of(self, camera: str, clip: Clip) -> int | None:
         """The number of a clip's event; none where the station hasn't said it, and the clip has a tag of yours."""
         if is_number(clip.tag):

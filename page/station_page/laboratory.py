@@ -254,6 +254,7 @@ class Laboratory:
     def forget_station(self) -> None:
         """What a station said that has ended isn't so any more, nor not so."""
         self.said = 0.0
+        self.heard.station_ended()
         for name, watched in self.cameras.items():
             watched.status, watched.absent, watched.making = None, "", None
             for kind in OF_STATION:
@@ -458,6 +459,7 @@ class Laboratory:
         for name, watched in self.cameras.items():
             reading = watched.reading
             for clip in reading.clips if reading else []:
+                own = 0 if is_number(clip.tag) else clip.tag
                 found.append(
                     {
                         "camera": name,
@@ -466,8 +468,8 @@ class Laboratory:
                         "last": clip.last,
                         "event": self.heard.number_of(name, clip),
                         # A tag of yours; and what of it is the order's, and not the configuration's.
-                        "tag": (tag := 0 if is_number(clip.tag) else clip.tag),
-                        "order_tag": 0 if tag == watched.camera.tag else tag,
+                        "tag": own,
+                        "order_tag": 0 if own == watched.camera.tag else own,
                         "frames": clip.count(),
                         "from_us": clip.since,
                         "to_us": clip.until,

@@ -10,7 +10,7 @@ import sys
 from collections.abc import AsyncIterator, Awaitable
 from pathlib import Path
 
-from aiohttp import http_exceptions, web
+from aiohttp import HttpVersion11, http_exceptions, web, web_urldispatcher
 
 from . import limits, metrics, pictures, words
 from .asked import moment_in, number_in, problem, range_of
@@ -559,6 +559,16 @@ class Page:
             return await self.send_known(request, fetch, "mp4", film.size, pieces)
 
 
+async def expect(request: web.Request) -> None:
+    """Answers `Expect`. aiohttp's own answer repeats what was sent, and fails where that isn't UTF-8."""
+    if request.version < HttpVersion11:
+        return
+    if request.headers.get("Expect", "").lower() != "100-continue":
+        text = json.dumps({"error": "Of Expect the page knows 100-continue alone."})
+        raise web.HTTPExpectationFailed(text=text, content_type="application/json", headers=HEADERS)
+    await request.writer.write(b"HTTP/1.1 100 Continue\r\n\r\n")
+
+
 def keep_words(camera: object, seconds: int | None, span: tuple[int, int] | None, note: str) -> str:
     """A keep that was asked for, in words."""
     what = f"from {words.iso(span[0])} to {words.iso(span[1])}" if span else f"{seconds} s"
@@ -575,6 +585,8 @@ async def end_all(tasks: list[asyncio.Task]) -> None:
 
 async def serve(settings: Settings) -> None:
     """Runs the page until it is told to end."""
+    # For each address, and for those that there aren't.
+    web_urldispatcher._default_expect_handler = expect
     page = Page(settings)
     # A body stays as it was sent: one that is packed would be unpacked before anybody has looked at who sends it.
     runner = web.AppRunner(

@@ -137,10 +137,10 @@ class Laboratory:
         (self.folder / "limited.py").write_text(LIMITED.format(path=path, bounds=bounds, program=str(PROGRAM.resolve())))
         return self.start_page(*words, program=["/usr/bin/python3", "-B", "limited.py"])
 
-    def start_page(self, *words, program=(str(PROGRAM),), **environment):
+    def start_page(self, *words, program=None, **environment):
         """Starts the page, and waits until it has looked at its cameras."""
         self.page = self.begin(
-            *program,
+            *(program or [str(PROGRAM)]),
             self.config,
             "--listen",
             "127.0.0.1:0",

@@ -125,6 +125,10 @@ def test_an_event_says_what_it_lacks_and_until_when_it_goes_on():
     assert (told()["until_us"], told()["lacks"]) == (None, [])
     hear("event_begun", **{"from": "1970-01-01T00:00:00Z", "to": "1970-01-01T00:01:30Z"})
     assert told()["until_us"] == 90_000_000
+    heard.station_ended()
+    assert told()["until_us"] is None
+    hear("event_begun", **{"from": "1970-01-01T00:00:00Z", "to": "1970-01-01T00:01:30Z"})
+    assert told()["until_us"] == 90_000_000
     hear("held", held_micros=5, asked_micros=9, **number)
     hear("gap", micros=4, at="1970-01-01T00:00:00Z", **number)
     assert told()["lacks"] == [{"camera": "b", "held_us": 5, "asked_us": 9, "why": ""}]

@@ -355,6 +355,20 @@ def test_clients_that_leave_early_and_requests_that_are_none_leave_no_traceback(
     assert "Traceback" not in text and "Error handling" not in text and "never retrieved" not in text, text[-3000:]
 
 
+@pytest.mark.parametrize("path", [b"/healthz", b"/none", b"/api/status"])
+@pytest.mark.parametrize("word", [b"1\xd60-continue", b"forty-two"])
+def test_what_a_stranger_expects_is_refused_and_not_repeated(closed, path, word):
+    found = closed.raw(b"GET " + path + b" HTTP/1.1\r\nHost: a\r\nExpect: " + word + b"\r\nConnection: close\r\n\r\n")
+    assert found.startswith(b"HTTP/1.1 417 ") and b"100-continue alone" in found and word not in found
+    assert b"Content-Security-Policy" in found
+
+
+def test_a_body_that_waits_to_be_asked_for_is_asked_for(shared):
+    head = b"POST /api/keep HTTP/1.1\r\nHost: localhost\r\nX-Loop-Page: 1\r\nContent-Type: application/json\r\nContent-Length: 2\r\n"
+    found = shared.raw(head + b"Expect: 100-continue\r\nConnection: close\r\n\r\n{}")
+    assert found.startswith(b"HTTP/1.1 100 Continue\r\n\r\nHTTP/1.1 400 ")
+
+
 def test_no_sign_of_a_request_reaches_a_terminal(make):
     lab = make()
     lab.filmed()
