@@ -210,13 +210,9 @@ class Console:
         named = self.clips_in(body.get("clips"))
         found = [(name, self.laboratory.clip(name, id_, first)[-1]) for name, id_, first in named]
 
-        async def write() -> None:
-            """Writes it, beside each clip."""
-            for name, clip in found:
-                await asyncio.to_thread(self.laboratory.put_note, name, clip, body["note"])
-
         order = f"{clip_words(named)}: {body['note'][: limits.NOTE_BYTES]}"
-        await self.page.change(request, "note", order, write())
+        work = asyncio.to_thread(self.laboratory.put_notes, found, body["note"])
+        await self.page.change(request, "note", order, work)
         return web.json_response({"text": "The note is written."})
 
     async def release(self, request: web.Request) -> web.Response:

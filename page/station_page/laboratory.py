@@ -621,32 +621,31 @@ class Laboratory:
 
     async def noted(self, kept: list[Kept], note: str) -> list[Kept]:
         """Writes a note to what was kept. Where it can't be, the answer says so, and the clip is kept nevertheless."""
+        seen = [(one.camera or "", clip) for one in kept for clip in one.clips if clip.is_seen]
         if not note:
             return kept
-        found = []
-        for one in kept:
-            remark = ""
-            try:
-                for clip in one.clips:
-                    if not clip.is_seen:
-                        raise NotesFault(UNSEEN)
-                    await asyncio.to_thread(self.put_note, one.camera or "", clip, note)
-            except NotesFault as fault:
-                remark = str(fault)
-            found.append(replace(one, remark=remark))
-        return found
+        fault = ""
+        try:
+            if seen:
+                await asyncio.to_thread(self.put_notes, seen, note)
+        except NotesFault as found:
+            fault = str(found)
+        return [
+            replace(one, remark=fault if all(clip.is_seen for clip in one.clips) else UNSEEN) if one.clips else one for one in kept
+        ]
 
-    def put_note(self, camera: str, clip: Clip, text: str) -> None:
-        """Writes a note beside a clip."""
+    def put_notes(self, clips: list[tuple[str, Clip]], text: str) -> None:
+        """Writes a note beside some clips, each with its camera."""
         keys = {
             key_of(watched.camera.store, it)
             for name, watched in self.cameras.items()
             for it in self.clips_of(name)
         }
-        self.notes.put(self.watched(camera).camera.store, clip, text, keys.__contains__)
-        number = self.heard.number_of(camera, clip)
-        if number is not None and not is_number(clip.tag) and self.heard.told(number).goes_on(camera):
-            self.growing[camera, number] = text
+        self.notes.put([(self.watched(name).camera.store, clip) for name, clip in clips], text, keys.__contains__)
+        for name, clip in clips:
+            number = self.heard.number_of(name, clip)
+            if number is not None and not is_number(clip.tag) and self.heard.told(number).goes_on(name):
+                self.growing[name, number] = text
 
     async def carry_notes(self) -> None:
         """Writes the notes of events that go on to their longer clips. Of most they are found by the event's number, which is the clip's tag; those
@@ -654,9 +653,10 @@ class Laboratory:
         for (name, number), text in list(self.growing.items()):
             store, is_open = self.cameras[name].camera.store, self.heard.told(number).goes_on(name)
             clips = [clip for clip in self.clips_of(name) if self.heard.number_of(name, clip) == number]
-            for clip in [clip for clip in clips if text and not self.notes.of(store, clip)]:
+            lacking = [(name, clip) for clip in clips if text and not self.notes.of(store, clip)]
+            if lacking:
                 with contextlib.suppress(NotesFault):
-                    await asyncio.to_thread(self.put_note, name, clip, text)
+                    await asyncio.to_thread(self.put_notes, lacking, text)
             # The last one may not have been seen yet when the station says that it is.
             if not is_open and (name, number) in self.grown:
                 del self.growing[name, number]

@@ -75,18 +75,19 @@ class Notes:
         """The note of a clip."""
         return self.notes.get(key_of(store, clip)) or self.notes.get(by_ends(store, clip), "")
 
-    def put(self, store: str, clip: Clip, text: str, is_held) -> None:
-        """Writes a note, or takes it away where it is empty. `is_held` says of a key whether its clip still stands: notes of others make room."""
+    def put(self, clips: list[tuple[str, Clip]], text: str, is_held) -> None:
+        """Writes a note beside some clips, each with its store's path, or takes it away where it is empty. All of it is one write. `is_held` says of
+        a key whether its clip still stands: notes of others make room."""
         line = tidy(text)
         with self.lock:
             if self.fault:
                 raise NotesFault(self.fault)
-            own = {key_of(store, clip), by_ends(store, clip)}
+            own = {key for it in clips for key in (key_of(*it), by_ends(*it))}
             changed = {key: value for key, value in self.notes.items() if key not in own}
-            if line and len(changed) >= limits.NOTES:
+            if line and len(changed) + len(clips) > limits.NOTES:
                 changed = {key: value for key, value in changed.items() if is_held(key)}
             if line:
-                changed[key_of(store, clip)] = line
+                changed |= {key_of(*it): line for it in clips}
             self.write(changed)
             self.notes, self.version = changed, self.version + 1
 

@@ -8,7 +8,8 @@ orders it takes `!print LINE`, which prints a line of JSON, and `!raw LINE`, whi
 nothing is answered any more; `!absent CAMERA WHY` and `!there CAMERA`, between which it has no store; `!source CAMERA WORDS`, which its status then
 says; `!behind CAMERA SECONDS`, the same; `!making CAMERA PERCENT`; `!hang CAMERA`, after which it answers no keep, whose answer never ends; and `!saving
 CAMERA`, whose clips can't be released. A camera's `scene` is what it films: a `pendulum`, also `warm` or `cold`, or a dark `beam`. What it prints
-is JSON everywhere, unless the configuration says otherwise of the answers; then it has words there that the page doesn't read."""
+is JSON everywhere, unless the configuration says otherwise of the answers; then it has words there that the page doesn't read. The orders that it was given
+are in the file `ordered`."""
 import datetime
 import json
 import math
@@ -266,6 +267,8 @@ class Station:
     def take(self, line: str) -> None:
         """Does an order."""
         label, order = LABELLED.fullmatch(line).groups()
+        with open("ordered", "a", encoding="utf-8") as ordered:
+            ordered.write(order + "\n")
         if order.startswith("!"):
             self.command(order[1:])
             return

@@ -146,7 +146,7 @@ def test_a_note_is_on_the_disk_before_it_takes_the_old_ones_place(tmp_path, monk
     from station_page.notes import Notes, NotesFault
 
     done, notes, clip = [], Notes(str(tmp_path / "notes")), Clip(0, 1, 2, 0, 10, 20)
-    notes.put("store", clip, "old", lambda key: True)
+    notes.put([("store", clip)], "old", lambda key: True)
     sync, replace = os.fsync, os.replace
 
     def synced(file):
@@ -159,7 +159,7 @@ def test_a_note_is_on_the_disk_before_it_takes_the_old_ones_place(tmp_path, monk
 
     monkeypatch.setattr(os, "fsync", synced)
     monkeypatch.setattr(os, "replace", replaced)
-    notes.put("store", clip, "new", lambda key: True)
+    notes.put([("store", clip)], "new", lambda key: True)
     assert done == ["file", "replace", "folder"] and (tmp_path / "notes").stat().st_mode & 0o77 == 0
 
     def full(file):
@@ -167,7 +167,7 @@ def test_a_note_is_on_the_disk_before_it_takes_the_old_ones_place(tmp_path, monk
 
     monkeypatch.setattr(os, "fsync", full)
     with pytest.raises(NotesFault):
-        notes.put("store", clip, "newer", lambda key: True)
+        notes.put([("store", clip)], "newer", lambda key: True)
     assert notes.of("store", clip) == "new" and Notes(notes.path).of("store", clip) == "new"
     assert os.listdir(tmp_path) == ["notes"]
 
@@ -180,7 +180,7 @@ def test_notes_that_cannot_be_read_are_never_written_over(tmp_path, text):
     path.write_bytes(text.encode("latin-1"))
     notes = Notes(str(path))
     with pytest.raises(NotesFault, match="Move it away"):
-        notes.put("store", Clip(0, 1, 2, 0, 10, 20), "x", lambda key: True)
+        notes.put([("store", Clip(0, 1, 2, 0, 10, 20))], "x", lambda key: True)
     assert path.read_bytes() == text.encode("latin-1")
 
 
