@@ -91,7 +91,8 @@ def is_well(lab, headers=None):
     expect(answer.status in (200, 409), f"a keep is answered {answer.status}: {answer.body[:200]}")
     expect(memory(lab) < MEMORY, f"the page has taken {memory(lab)} MB")
     text = "".join(lab.printed)
-    expect("Traceback" not in text and "failed" not in text, f"the page has failed:\n{text[-2000:]}")
+    fault = re.search(r"Traceback|failed", text)
+    expect(not fault, f"the page has failed:\n{text[max(0, fault.start() - 500):][:3000] if fault else ''}")
 
 
 # ----------------------------------------------------------------------------------------------- requests that are none

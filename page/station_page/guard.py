@@ -8,6 +8,7 @@ import time
 from urllib.parse import urlsplit
 
 from aiohttp import web
+from yarl import URL
 
 from . import limits
 from .settings import Settings, is_loopback
@@ -73,7 +74,7 @@ class Connection(asyncio.BufferedProtocol):
         """The client has sent something."""
         if self.is_in:
             self.inner.data_received(bytes(self.gate.buffer[:nbytes]))
-            if self.has_too_much():
+            if self.has_too_much() or not self.has_names():
                 self.gate.refused += 1
                 self.transport.abort()
 
@@ -81,6 +82,18 @@ class Connection(asyncio.BufferedProtocol):
         """Whether more waits behind the request that is worked on than a client may send: other requests; or anything after
         `Upgrade`, which no answer here is. aiohttp would keep all of it."""
         return len(self.inner._messages) > limits.REQUESTS_WAITING or len(self.inner._message_tail) > limits.BODY_BYTES
+
+    def has_names(self) -> bool:
+        """Whether each request that waits has a host that is a name, where its line has one. aiohttp fails at others, with no answer, and
+        still before a connection that is ended has ended: so it is given another address."""
+        waiting, are_names = self.inner._messages, True
+        for place, (message, body) in enumerate(waiting):
+            try:
+                if url := getattr(message, "url", None):
+                    url.host
+            except ValueError:
+                waiting[place], are_names = (message._replace(url=URL("/")), body), False
+        return are_names
 
     def eof_received(self) -> bool | None:
         """The client sends no more."""

@@ -159,6 +159,7 @@ def test_a_clip_is_of_the_event_that_its_tag_or_the_station_says():
     heard.take(read_line(json.dumps(begun)))
     assert heard.number_of("left", Clip(1, 93, 300, 7, 1, 2)) == number
     assert heard.number_of("left", Clip(1, 94, 300, 7, 1, 2)) is None
+    assert heard.number_of("right", Clip(1, 93, 300, 7, 1, 2)) is None
 
 
 def test_an_event_has_each_note_once():

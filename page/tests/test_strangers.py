@@ -355,6 +355,15 @@ def test_clients_that_leave_early_and_requests_that_are_none_leave_no_traceback(
     assert "Traceback" not in text and "Error handling" not in text and "never retrieved" not in text, text[-3000:]
 
 
+def test_a_host_in_a_requests_line_that_has_no_name_leaves_no_traceback(make):
+    lab = make(station=False)
+    for line in (b"GET http://a\xe9b/ HTTP/1.1", b"CONNECT a\xe9b:80 HTTP/1.1", b"CONNECT /api/a\xe9b HTTP/1.1", b"GET //a\xe9b/ HTTP/1.1", b"OPTIONS http://xn--\xff/ HTTP/1.1"):
+        found = lab.raw(line + b"\r\nHost: localhost\r\n\r\n", 1)
+        assert not found or found[9:12] in (b"400", b"404", b"405"), found
+    lab.until(lambda: lab.ask("/healthz").status == 200, "answer")
+    assert "Traceback" not in log_of(lab)
+
+
 @pytest.mark.parametrize("path", [b"/healthz", b"/none", b"/api/status"])
 @pytest.mark.parametrize("word", [b"1\xd60-continue", b"forty-two"])
 def test_what_a_stranger_expects_is_refused_and_not_repeated(closed, path, word):
