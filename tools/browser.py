@@ -1,5 +1,6 @@
-"""A headless Chromium with the laboratory's page, for page_check and page_shots: what is on it, keys, sizes, themes, pictures, and whether its controls have names
-and its texts enough contrast. Where Debian's packages are missing it installs them, as root."""
+"""A headless Chromium with the laboratory's page, for page_check and page_shots: what is on it,
+keys, sizes, themes, pictures, and whether its controls have names and its texts enough contrast.
+Where Debian's packages are missing it installs them, as root."""
 import base64
 import contextlib
 import subprocess
@@ -56,7 +57,8 @@ SIZES = {
 }
 # The ratio that WCAG 2 asks of text.
 CONTRAST = 4.5
-# Texts whose contrast is too low, by the colours that stand behind them; those on pictures stand on a shade of their own.
+# Texts whose contrast is too low, by the colours that stand behind them; those on pictures stand on
+# a shade of their own.
 PALE = (
     """
 const light = (colour) => { const [r, g, b] = colour.map((it) => { const c = it / 255; return c <= 0.03928 ? c / 12.92 : ((c + 0.055) / 1.055) ** 2.4; });
@@ -151,8 +153,8 @@ class Browser:
         return self.driver.execute_script(script, *words)
 
     def until(self, reached, what, seconds=5.0):
-        """Waits for something, and answers it: for longer on a machine that is busy. Between two pages an
-        element may be none, or gone."""
+        """Waits for something, and answers it: for longer on a machine that is busy. Between two
+        pages an element may be none, or gone."""
         end = time.monotonic() + seconds * PATIENCE
         while time.monotonic() < end:
             with contextlib.suppress(

@@ -1,4 +1,5 @@
-"""The browser's part of page_check: what people do with the laboratory's page, in a headless Chromium, and what it looks like."""
+"""The browser's part of page_check: what people do with the laboratory's page, in a headless
+Chromium, and what it looks like."""
 import contextlib
 import hashlib
 import io
@@ -31,7 +32,8 @@ NUMBERS = "return [...document.querySelectorAll('.cam')].filter((it) => it.check
 # The time of day of each picture that is shown, in milliseconds.
 TIMES = """return [...document.querySelectorAll('.cam footer span:first-child')].filter((it) => it.closest('.cam').checkVisibility()).map((it) => {
 const [h, m, s] = it.textContent.split(' ').pop().split(':'); return Math.round((h * 3600 + m * 60 + Number(s)) * 1000); })"""
-# Presses the key so often, and answers the milliseconds until the answer of each stood on the screen. Each is released in between.
+# Presses the key so often, and answers the milliseconds until the answer of each stood on the
+# screen. Each is released in between.
 PRESSES = """const done = arguments[1], took = [];
 const answer = document.querySelector('#answer'), painted = () => new Promise((go) => requestAnimationFrame(() => setTimeout(go)));
 const answered = () => new Promise((go) => { const look = new MutationObserver(() => { if (answer.textContent === 'Asked.') return; look.disconnect(); go(); });
@@ -48,7 +50,7 @@ DIGEST = """const done = arguments[1]; fetch(arguments[0]).then((it) => it.array
     .then((it) => done([...new Uint8Array(it)].map((byte) => byte.toString(16).padStart(2, '0')).join('')), (fault) => done(String(fault)));"""
 
 
-# ----------------------------------------------------------------------------------------------- what people do
+# ----------------------------------------------------------------------------------- what people do
 
 
 def events_shown(browser):
@@ -64,7 +66,8 @@ def away(browser):
 
 
 def see(browser, lab, shots):
-    """Pictures that change by themselves, several a second; how the cameras stand; the time, with its zone."""
+    """Pictures that change by themselves, several a second; how the cameras stand; the time, with
+    its zone."""
     browser.until(lambda: browser.text("#pill") == "Recording 2 of 2", "pill")
     before, start = (
         browser.run("return document.querySelector('.cam').dataset.number"),
@@ -88,7 +91,8 @@ def see(browser, lab, shots):
 
 
 def press(browser, lab, shots):
-    """The button, by keys alone, with a note; one sentence for all cameras; one event, which stands out; an empty note."""
+    """The button, by keys alone, with a note; one sentence for all cameras; one event, which stands
+    out; an empty note."""
     browser.keys("n")
     expect(browser.focused() == "Note", "N doesn't lead to the note")
     browser.keys("run 7 k")
@@ -169,7 +173,8 @@ def point(browser, share, high=0.25):
 
 
 def scrub(browser, lab, shots):
-    """Under the pointer on the timeline the pictures show that moment, of all cameras; beside it they are live again."""
+    """Under the pointer on the timeline the pictures show that moment, of all cameras; beside it
+    they are live again."""
     tracks, x, y = point(browser, 0.6)
     ActionChains(browser.driver).move_to_element_with_offset(tracks, x, y).perform()
     browser.until(lambda: " ago" in browser.text(".cam .past"), "moment under the pointer")
@@ -269,7 +274,8 @@ def by_keys(browser, lab, shots):
 
 
 def large(browser, lab, shots):
-    """A camera large: by a click; the values of its pixels are the store's; the histogram; a stretch, which is said on the picture."""
+    """A camera large: by a click; the values of its pixels are the store's; the histogram; a
+    stretch, which is said on the picture."""
     browser.one(".cam button").click()
     browser.until(lambda: browser.one("#frame").get_attribute("data-number"), "large picture")
     browser.keys(Keys.ARROW_LEFT)
@@ -386,7 +392,8 @@ def release(browser, lab, shots):
 
 
 def warn(browser, lab, shots):
-    """A warning comes to two pages at once, under the bell, and leaves both when all were seen. A note moves to the other page."""
+    """A warning comes to two pages at once, under the bell, and leaves both when all were seen. A
+    note moves to the other page."""
     browser.driver.switch_to.new_window("window")
     browser.dress("1440x900", "dark")
     browser.open()
@@ -424,7 +431,8 @@ def warn(browser, lab, shots):
 
 
 def trouble(browser, lab, shots):
-    """A camera that isn't well is seen by its shape and words, the worst is in the banner, and what to do is said."""
+    """A camera that isn't well is seen by its shape and words, the worst is in the banner, and what
+    to do is said."""
     lab.order("!pause right")
     browser.until(
         lambda: "no frames" in browser.text(".cam.bad .chip.bad"),
@@ -511,7 +519,8 @@ def sign_in(browser, lab, shots):
 
 
 def reach(browser, lab, shots):
-    """Names, contrast, all by the tabulator, a note that looks like code, and nothing that the browser complains of."""
+    """Names, contrast, all by the tabulator, a note that looks like code, and nothing that the
+    browser complains of."""
     clip = lab.keep()
     answer = lab.post("/api/note", {"camera": "left", "id": clip["id"], "note": NASTY})
     expect(answer.status == 200, "a note isn't written")
@@ -577,7 +586,7 @@ STEPS = (
 )
 
 
-# ----------------------------------------------------------------------------------------------- sizes, presses
+# ----------------------------------------------------------------------------------- sizes, presses
 
 
 def cameras_of(count):
@@ -596,7 +605,8 @@ def cameras_of(count):
 
 
 def look(browser, lab, count, shots):
-    """At each size and in both themes: nothing reaches beyond the screen, all has a name, no text is pale, and each picture is in its own ratio."""
+    """At each size and in both themes: nothing reaches beyond the screen, all has a name, no text
+    is pale, and each picture is in its own ratio."""
     for size, (_, _, is_phone) in SIZES.items():
         for theme in ("dark", "light"):
             browser.dress(size, theme)
@@ -622,7 +632,8 @@ BOXES = """return [...document.querySelectorAll('.cam')].filter((it) => it.check
 
 
 def expect_largest(browser, count, is_phone):
-    """Fails where other columns would make the pictures larger, or a picture isn't shown in its own ratio."""
+    """Fails where other columns would make the pictures larger, or a picture isn't shown in its own
+    ratio."""
     boxes = browser.run(BOXES)
     expect(len(boxes) == count, f"{len(boxes)} of {count} pictures are shown")
     ratios = {"160x120", "128x128", "192x108", "96x128"} if count > 1 else {"160x120"}
@@ -692,7 +703,8 @@ def expect_one_event(browser):
 
 
 def presses(browser, count, most=3):
-    """The time from a press to its answer on the screen: the median of so many. A machine that is busy is given further tries."""
+    """The time from a press to its answer on the screen: the median of so many. A machine that is
+    busy is given further tries."""
     for place in range(most):
         found = browser.driver.execute_async_script(PRESSES, count)
         expect(isinstance(found, list), f"a press failed: {found}")
@@ -723,7 +735,7 @@ def presses_beside(program, count):
         conftest.STATION = plain
 
 
-# ----------------------------------------------------------------------------------------------- the part
+# ----------------------------------------------------------------------------------------- the part
 
 
 @contextlib.contextmanager

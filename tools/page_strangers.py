@@ -1,5 +1,6 @@
-"""The parts of tools/page_check that come as strangers: requests that are none, what would end the page, a clock that is set, a disk that hangs; a proxy
-with TLS before it; and how far its services are confined."""
+"""The parts of tools/page_check that come as strangers: requests that are none, what would end the
+page, a clock that is set, a disk that hangs; a proxy with TLS before it; and how far its services
+are confined."""
 import contextlib
 import gzip
 import http.client
@@ -20,7 +21,8 @@ from pathlib import Path
 TOP = Path(__file__).resolve().parent.parent
 PACKAGING = TOP / "packaging"
 UNITS = ("loop_station", "loop_camera@", "loop_page")
-# The most that `systemd-analyze security` may say of a unit: 10 is the worst, and what isn't confined has 9.
+# The most that `systemd-analyze security` may say of a unit: 10 is the worst, and what isn't
+# confined has 9.
 EXPOSURE = 2.0
 # What the page may take in memory, whatever strangers send it, in MB.
 MEMORY = 200
@@ -95,7 +97,7 @@ def is_well(lab, headers=None):
     expect(not fault, f"the page has failed:\n{text[max(0, fault.start() - 500):][:3000] if fault else ''}")
 
 
-# ----------------------------------------------------------------------------------------------- requests that are none
+# --------------------------------------------------------------------------- requests that are none
 
 
 def request_of(choose):
@@ -145,7 +147,8 @@ def malformed(choose):
 
 
 def status_of(port, data):
-    """The status with which bytes are answered; nothing where the connection is closed, or nothing comes soon."""
+    """The status with which bytes are answered; nothing where the connection is closed, or nothing
+    comes soon."""
     with socket.create_connection(("127.0.0.1", port), timeout=5) as client:
         try:
             client.sendall(data)
@@ -194,7 +197,7 @@ def look_at_malformed(lab, count, workers=4):
     print(f"    {count} malformed requests, {answered} of them answered, in {time.monotonic() - start:.0f} s; {memory(lab)} MB at most", flush=True)
 
 
-# ----------------------------------------------------------------------------------------------- what would end it
+# -------------------------------------------------------------------------------- what would end it
 
 
 def look_at_killers(lab):
@@ -243,7 +246,8 @@ def look_at_clocks(lab):
 
 
 def look_at_disk(lab):
-    """A disk that hangs, and 60 who ask for its frames: the other camera's pictures and keeps go on."""
+    """A disk that hangs, and 60 who ask for its frames: the other camera's pictures and keeps go
+    on."""
     lab.filmed(20, "right")
     lab.spoil("hangs", "left.loop")
     lab.until(lambda: lab.camera()["kind"] == "hangs", "word that the disk hangs", 8)
@@ -281,7 +285,7 @@ def strangers_part(is_quick, shots):
     return "strangers: the page stands"
 
 
-# ----------------------------------------------------------------------------------------------- a proxy
+# ------------------------------------------------------------------------------------------ a proxy
 
 
 def free_port():
@@ -292,7 +296,8 @@ def free_port():
 
 
 def proxy_of(kind, folder, page, port):
-    """Starts a proxy with the package's example, of which names, ports and the certificate are others here."""
+    """Starts a proxy with the package's example, of which names, ports and the certificate are
+    others here."""
     text = (PACKAGING / f"page.{kind}").read_text().replace("127.0.0.1:8080", f"127.0.0.1:{page}").replace("/etc/lapyrei", folder)
     if kind == "nginx":
         text = text.replace("listen 443", f"listen 127.0.0.1:{port}")
@@ -397,7 +402,7 @@ def proxy_part(is_quick, shots):
     return "proxy: the examples work"
 
 
-# ----------------------------------------------------------------------------------------------- units
+# -------------------------------------------------------------------------------------------- units
 
 
 def exposure(unit):
@@ -433,7 +438,8 @@ def allowed(unit):
 
 
 def look_at_calls():
-    """The calls of a session of the page, with a film, and a command of on_alert: its unit allows each."""
+    """The calls of a session of the page, with a film, and a command of on_alert: its unit allows
+    each."""
     import conftest
 
     plain = conftest.PROGRAM

@@ -1,5 +1,6 @@
-"""The laboratory's page: a companion beside the station. It reads stores while they
-are recorded, and gives orders as anybody may, so the recorder never waits for it, and nothing that is proved stands on it.
+"""The laboratory's page: a companion beside the station. It reads stores while they are recorded,
+and gives orders as anybody may, so the recorder never waits for it, and nothing that is proved
+stands on it.
 
     settings    the station's configuration, and the page's own words
     reader      stores as they are now, frame by frame, by the module lapyrei

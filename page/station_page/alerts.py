@@ -1,4 +1,5 @@
-"""What went wrong, until somebody has seen it, or until it is over; told to a command or a webhook as well."""
+"""What went wrong, until somebody has seen it, or until it is over; told to a command or a webhook
+as well."""
 import asyncio
 import contextlib
 import json
@@ -31,8 +32,8 @@ class Alert:
 
 
 class Alerts:
-    """The warnings that nobody has seen yet, newest last. One that comes again counts up: thousands of lines of one kind are one alert. One whose
-    cause is over leaves."""
+    """The warnings that nobody has seen yet, newest last. One that comes again counts up: thousands
+    of lines of one kind are one alert. One whose cause is over leaves."""
 
     def __init__(self, on_alert: list[str], webhook: str | None, journal: Journal) -> None:
         self.command, self.webhook, self.journal = on_alert, webhook, journal
@@ -63,7 +64,8 @@ class Alerts:
         return any((kind, camera) in self.standing for kind in kinds)
 
     def set(self, kind: str, camera: str | None, text: str) -> str | None:
-        """Warns of what is wrong now, once; or ends that warning where there is no text. Answers the text of one that it ended."""
+        """Warns of what is wrong now, once; or ends that warning where there is no text. Answers
+        the text of one that it ended."""
         if not text:
             return self.over(kind, camera)
         if (kind, camera) not in self.standing:
@@ -71,7 +73,8 @@ class Alerts:
         return None
 
     def over(self, kind: str, camera: str | None) -> str | None:
-        """What was wrong isn't any more: its warning leaves. Answers its text where nobody had seen it yet."""
+        """What was wrong isn't any more: its warning leaves. Answers its text where nobody had seen
+        it yet."""
         self.standing.discard((kind, camera))
         ended = [alert for alert in self.alerts if (alert.kind, alert.camera) == (kind, camera)]
         self.alerts = [alert for alert in self.alerts if alert not in ended]
@@ -88,12 +91,13 @@ class Alerts:
         return [asdict(alert) for alert in self.alerts]
 
     async def deliver(self) -> None:
-        """Tells the command and the webhook, one after the other, without end. What can't be told is written down."""
+        """Tells the command and the webhook, one after the other, without end. What can't be told
+        is written down."""
         while True:
             alert = await self.queue.get()
-            for name, tell in [("on_alert", self.run_command)] * bool(self.command) + [("webhook", self.post)] * bool(
-                self.webhook
-            ):
+            for name, tell in [("on_alert", self.run_command)] * bool(self.command) + [
+                ("webhook", self.post)
+            ] * bool(self.webhook):
                 try:
                     await tell(alert)
                     self.told += 1
@@ -103,7 +107,8 @@ class Alerts:
                     self.journal.add("not told", text, is_bad=True)
 
     async def run_command(self, alert: Alert) -> None:
-        """Runs the command, without a shell; the sentence is its input. It ends, with all that it began, where it needs too long."""
+        """Runs the command, without a shell; the sentence is its input. It ends, with all that it
+        began, where it needs too long."""
         run = await asyncio.create_subprocess_exec(
             *self.command,
             stdin=asyncio.subprocess.PIPE,
@@ -131,14 +136,18 @@ class Alerts:
         async with aiohttp.ClientSession(timeout=timeout) as session:
             data = json.dumps(asdict(alert)).encode()
             async with session.post(
-                self.webhook, data=data, headers={"Content-Type": "application/json"}, allow_redirects=False
+                self.webhook,
+                data=data,
+                headers={"Content-Type": "application/json"},
+                allow_redirects=False,
             ) as answer:
                 if answer.status >= 300:
                     raise OSError(f"the webhook answers {answer.status}")
 
 
 async def give(run: asyncio.subprocess.Process, text: str) -> None:
-    """Gives a command its input, and waits for its end. One that doesn't read its input has none."""
+    """Gives a command its input, and waits for its end. One that doesn't read its input has
+    none."""
     with contextlib.suppress(BrokenPipeError, ConnectionResetError):
         run.stdin.write(text.encode() + b"\n")
         await run.stdin.drain()

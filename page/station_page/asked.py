@@ -1,4 +1,5 @@
-"""What stands in a request: numbers, times and ranges, each within its bounds; and what is answered where one isn't."""
+"""What stands in a request: numbers, times and ranges, each within its bounds; and what is answered
+where one isn't."""
 import contextlib
 import datetime
 import re
@@ -26,16 +27,23 @@ def moment_in(value: object, what: str) -> int:
     if isinstance(value, int) and not isinstance(value, bool) and 0 <= value < limits.NUMBERS_END:
         return value
     if isinstance(value, str) and ISO_TIME.fullmatch(value):
-        word = re.sub(r"\.(\d{1,6})", lambda found: "." + found[1].ljust(6, "0"), value.replace("Z", "+00:00"))
+        word = re.sub(
+            r"\.(\d{1,6})", lambda found: "." + found[1].ljust(6, "0"), value.replace("Z", "+00:00")
+        )
         with contextlib.suppress(ValueError, OverflowError):
-            moment = datetime.datetime.fromisoformat(word) - datetime.datetime(1970, 1, 1, tzinfo=datetime.timezone.utc)
+            moment = datetime.datetime.fromisoformat(word) - datetime.datetime(
+                1970, 1, 1, tzinfo=datetime.timezone.utc
+            )
             if moment.days >= 0:
                 return moment // datetime.timedelta(microseconds=1)
-    raise Unfit(400, f"{what} isn't a time: microseconds since 1970, or such as 2026-11-22T15:38:00.250Z.")
+    raise Unfit(
+        400, f"{what} isn't a time: microseconds since 1970, or such as 2026-11-22T15:38:00.250Z."
+    )
 
 
 def range_of(request: web.Request, length: int, tag: str) -> tuple[int, int] | None:
-    """The bytes that are asked for, from a place to before another; none where all are. A range that is malformed is none, as HTTP has it."""
+    """The bytes that are asked for, from a place to before another; none where all are. A range
+    that is malformed is none, as HTTP has it."""
     found = RANGE.fullmatch(request.headers.get("Range", ""))
     if not found or not (found[1] or found[2]) or request.headers.get("If-Range", tag) != tag:
         return None

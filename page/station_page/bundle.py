@@ -1,5 +1,5 @@
-"""An event as one zip: of each camera the film, the raw frames, pictures and the table of times, and a
-text that says what it is. All names and times in it are UTC, and it says so."""
+"""An event as one zip: of each camera the film, the raw frames, pictures and the table of times,
+and a text that says what it is. All names and times in it are UTC, and it says so."""
 import asyncio
 import datetime
 import zipfile
@@ -74,8 +74,8 @@ def stamp(microseconds: int) -> str:
 
 
 def entry(name: str, microseconds: int) -> zipfile.ZipInfo:
-    """An entry of a zip, with its time. The format's own field has no zone, so a second one says the
-    time in seconds since 1970, which programs prefer."""
+    """An entry of a zip, with its time. The format's own field has no zone, so a second one says
+    the time in seconds since 1970, which programs prefer."""
     moment = moment_of(microseconds)
     info = zipfile.ZipInfo(name, (max(1980, moment.year), *moment.timetuple()[1:6]))
     seconds = (microseconds // 1_000_000) & 0xFFFFFFFF
@@ -115,7 +115,8 @@ class Bundle:
             size = f"{geometry.width}x{geometry.height} {geometry.format.decode()}"
             span = f"{iso(clip.since)} to {iso(clip.until)}, frames {clip.first} to {clip.last}"
             lines.append(
-                f"{self.called(fetch).split('/')[1]}: {span}, {size} at {geometry.rate():g} a second"
+                f"{self.called(fetch).split('/')[1]}: {span}, {size} at {geometry.rate():g} a "
+                f"second"
             )
         lines += ["", *(f".{part}: {PARTS[part]}" for part in self.what), ""]
         return "\n".join(lines).encode()
@@ -149,8 +150,8 @@ class Bundle:
         return film
 
     async def written(self, work: Iterator, part: str, fetch: Fetch) -> AsyncIterator[bytes]:
-        """What the zip has more of once some work is done, in pieces that aren't long. The work names
-        entries as (name, time, bytes), or gives more bytes of the last one."""
+        """What the zip has more of once some work is done, in pieces that aren't long. The work
+        names entries as (name, time, bytes), or gives more bytes of the last one."""
         handle = None
         try:
             while (step := await fetch.source.do(next, work, None)) is not None:
@@ -187,7 +188,8 @@ class Bundle:
         for frame in fetch.frames:
             picture = pictures.png(fetch.source.geometry, fetch.source.frame(frame.number))
             self.progress.step(1)
-            yield f"_png/{frame.number:010}_{iso(frame.time).replace(':', '-')}.png", frame.time, picture
+            when = iso(frame.time).replace(":", "-")
+            yield f"_png/{frame.number:010}_{when}.png", frame.time, picture
 
 
 def film_pieces(film: Film, fetch: Fetch) -> Iterator:

@@ -1,4 +1,5 @@
-"""The addresses of the console: what open pages are sent, what they look at, events and single pixels."""
+"""The addresses of the console: what open pages are sent, what they look at, events and single
+pixels."""
 import asyncio
 import collections
 import json
@@ -27,8 +28,8 @@ EVENTS = ""
 
 
 class Console:
-    """What the page's console asks for. `page` has the laboratory, and the ways in which requests are
-    read and answers sent."""
+    """What the page's console asks for. `page` has the laboratory, and the ways in which requests
+    are read and answers sent."""
 
     def __init__(self, page) -> None:
         self.page, self.laboratory = page, page.laboratory
@@ -53,11 +54,11 @@ class Console:
         get(rf"{frame}/light", self.light)
         get(rf"{frame}/picture", self.picture)
 
-    # --------------------------------------------------------------------------------- what pages are sent
+    # -------------------------------------------------------------------------- what pages are sent
 
     def state(self) -> list[tuple[object, str, bytes]]:
-        """What all pages are sent where it is new: a mark, a kind and a body each. It is made once for
-        all pages, where something has been seen anew."""
+        """What all pages are sent where it is new: a mark, a kind and a body each. It is made once
+        for all pages, where something has been seen anew."""
         laboratory = self.laboratory
         if self.told[0] != laboratory.version:
             clips = laboratory.clips(), laboratory.heard.version
@@ -128,7 +129,7 @@ class Console:
             moment = min(beside) if by > 0 else max(beside)
         return web.json_response({"moment": moment})
 
-    # --------------------------------------------------------------------------------- single frames
+    # -------------------------------------------------------------------------------- single frames
 
     async def source(self, request: web.Request):
         """The eye of a camera, and a frame of it that is still held."""
@@ -216,7 +217,8 @@ class Console:
         return web.json_response({"text": "The note is written."})
 
     async def release(self, request: web.Request) -> web.Response:
-        """Releases all clips of an event. What isn't is said, and the rest is released nevertheless."""
+        """Releases all clips of an event. What isn't is said, and the rest is released
+        nevertheless."""
         body = await self.page.body(request, {"clips"})
         clips = self.clips_in(body.get("clips"))
         text = await self.page.change(
@@ -244,8 +246,8 @@ class Console:
         return f"The event of {count} is released. Its room is used again."
 
     async def zip(self, request: web.Request) -> web.StreamResponse:
-        """An event as one zip: `clips` names its clips as CAMERA.ID.FIRST with `~` between them, `what`
-        its parts, and `as` the name by which pages are told how far it is."""
+        """An event as one zip: `clips` names its clips as CAMERA.ID.FIRST with `~` between them,
+        `what` its parts, and `as` the name by which pages are told how far it is."""
         query, page = request.query, self.page
         named = [text.rsplit(".", 2) for text in query.get("clips", "").split("~") if text]
         if not 1 <= len(named) <= limits.EVENT_CLIPS or any(len(it) != 3 for it in named):
@@ -322,8 +324,8 @@ def clip_words(clips: list[tuple[str, int, int]]) -> str:
 
 
 def room_of(reading: Reading) -> dict:
-    """How much may still be locked: in blocks, of so many frames each, and in clips. With all blocks
-    but one locked, recording stops when the newest block is full."""
+    """How much may still be locked: in blocks, of so many frames each, and in clips. With all
+    blocks but one locked, recording stops when the newest block is full."""
     segments = reading.geometry.segments
     locked = round(reading.locked() * segments)
     return {

@@ -1,6 +1,6 @@
-"""Clips as events: one press keeps a time of several cameras, and that is one event. Clips of one event
-have the station's number of it. Of clips with a tag of yours it isn't on the disk: where the page didn't
-hear it, it goes by their times."""
+"""Clips as events: one press keeps a time of several cameras, and that is one event. Clips of one
+event have the station's number of it. Of clips with a tag of yours it isn't on the disk: where the
+page didn't hear it, it goes by their times."""
 from .heard import Heard, Told
 
 # By how much the ends of clips of one press may differ, in microseconds, beside two periods of the
@@ -68,8 +68,8 @@ def groups_of(clips: list[dict]) -> list[Group]:
 
 
 def by_times(clips: list[dict]) -> list[Group]:
-    """The clips of each press together, by their times. Long ones come first: what a hole cut short joins
-    them."""
+    """The clips of each press together, by their times. Long ones come first: what a hole cut short
+    joins them."""
     groups: list[Group] = []
     for clip in sorted(
         clips, key=lambda it: (it["from_us"] - it["to_us"], it["to_us"], it["camera"])
@@ -83,9 +83,9 @@ def by_times(clips: list[dict]) -> list[Group]:
 
 
 def events_of(clips: list[dict], heard: Heard | None = None) -> list[dict]:
-    """The events of all clips, the newest first, as objects for JSON: `key` names an event as long as
-    its clips stay, and `number` is the station's, where it is known; times are in microseconds since
-    1970."""
+    """The events of all clips, the newest first, as objects for JSON: `key` names an event as long
+    as its clips stay, and `number` is the station's, where it is known; times are in microseconds
+    since 1970."""
     found = [event_of(group, heard or Heard()) for group in groups_of(clips)]
     return sorted(found, key=lambda it: (it["to_us"], it["from_us"], it["key"]), reverse=True)
 
@@ -119,7 +119,8 @@ def event_of(group: Group, heard: Heard) -> dict:
 
 
 def lacks_of(told: Told) -> list[dict]:
-    """Of which cameras an event has less than was asked for, in microseconds, and why it isn't whole."""
+    """Of which cameras an event has less than was asked for, in microseconds, and why it isn't
+    whole."""
     return [
         {"camera": name, "held_us": part.held, "asked_us": part.asked, "why": part.why or ""}
         for name, part in sorted(told.parts.items())

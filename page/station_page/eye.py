@@ -1,6 +1,6 @@
 """What a camera shows: its newest frame, the frame of a moment, and pictures of frames. Each camera
-has a thread of its own that reads for this, so that a disk that hangs stops the pictures of no other
-one."""
+has a thread of its own that reads for this, so that a disk that hangs stops the pictures of no
+other one."""
 import asyncio
 import collections
 import contextlib
@@ -151,7 +151,8 @@ class Eye:
             del self.making[key]
 
     def head(self, number: int) -> layout.Frame:
-        """A frame by its number, also one that came after the last look; Gone where it isn't held."""
+        """A frame by its number, also one that came after the last look; Gone where it isn't
+        held."""
         source = self.watched.source
         if source is None:
             raise Gone("no store is there")
@@ -166,7 +167,8 @@ class Eye:
         return layout.Frame(*layout.SLOT_HEAD.unpack(found)[:5])
 
     def data(self, number: int) -> tuple[bytes, layout.Geometry]:
-        """The bytes of a frame, also of one that came after the last look, and its store's geometry."""
+        """The bytes of a frame, also of one that came after the last look, and its store's
+        geometry."""
         source, place = self.watched.source, self.place
         if source is None:
             raise Gone("no store is there")

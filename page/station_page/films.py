@@ -1,4 +1,5 @@
-"""Clips as files: MP4 by ffmpeg, sent while it is made; YUV4MPEG2, byte for byte as `loop_cli export` writes it; PNGs in a zip; numbers and times."""
+"""Clips as files: MP4 by ffmpeg, sent while it is made; YUV4MPEG2, byte for byte as `loop_cli
+export` writes it; PNGs in a zip; numbers and times."""
 import asyncio
 import contextlib
 import fcntl
@@ -76,7 +77,7 @@ def fetch_of(camera: str, reading: Reading, source: Source, clip: Clip) -> Fetch
     return Fetch(camera, clip, source, tuple(reading.frames_of(clip)))
 
 
-# ----------------------------------------------------------------------------------------------- YUV4MPEG2
+# ---------------------------------------------------------------------------------------- YUV4MPEG2
 
 
 class Text:
@@ -98,14 +99,17 @@ class Text:
         return b"".join(found)
 
     def piece(self, at: int, count: int) -> bytes:
-        """Bytes from a place on, up to the end of what stands there: the header, a frame's line, or its pixels."""
+        """Bytes from a place on, up to the end of what stands there: the header, a frame's line, or
+        its pixels."""
         if at < len(self.front):
             return self.front[at : at + count]
         index, place = divmod(at - len(self.front), self.step)
         if place < len(FRAME_LINE):
             return FRAME_LINE[place : place + count]
         place -= len(FRAME_LINE)
-        return self.source.part(self.first + index, place, min(count, self.source.geometry.size - place))
+        return self.source.part(
+            self.first + index, place, min(count, self.source.geometry.size - place)
+        )
 
     async def pieces(self, start: int, end: int) -> AsyncIterator[bytes]:
         """The bytes from a place to another, a piece at a time."""
@@ -113,13 +117,15 @@ class Text:
             yield await self.source.do(self.part, at, min(limits.PIECE, end - at))
 
 
-# ----------------------------------------------------------------------------------------------- numbers, PNGs
+# ------------------------------------------------------------------------------------ numbers, PNGs
 
 
 def csv_of(fetch: Fetch) -> bytes:
     """The numbers and times of a clip's frames."""
     lines = ["number,time_us,time,sequence"]
-    lines += [f"{frame.number},{frame.time},{iso(frame.time)},{frame.sequence}" for frame in fetch.frames]
+    lines += [
+        f"{frame.number},{frame.time},{iso(frame.time)},{frame.sequence}" for frame in fetch.frames
+    ]
     return ("\r\n".join(lines) + "\r\n").encode()
 
 
@@ -146,7 +152,8 @@ class Gathered(io.RawIOBase):
 
 
 async def zip_stream(fetch: Fetch) -> AsyncIterator[bytes]:
-    """A zip with a PNG for each frame and the table of times, a frame at a time, in pieces that aren't long."""
+    """A zip with a PNG for each frame and the table of times, a frame at a time, in pieces that
+    aren't long."""
     out, geometry = Gathered(), fetch.source.geometry
     with zipfile.ZipFile(out, "w", zipfile.ZIP_STORED) as archive:
         archive.writestr("frames.csv", csv_of(fetch))
@@ -166,7 +173,7 @@ def parted(whole: bytes) -> Iterator[bytes]:
         yield whole[at : at + limits.PIECE]
 
 
-# ----------------------------------------------------------------------------------------------- MP4
+# ---------------------------------------------------------------------------------------------- MP4
 
 
 class Film:
@@ -202,7 +209,8 @@ class Film:
 
 
 def is_left(folder: Path) -> bool:
-    """Whether a folder of films is one whose page has ended without removing it: nobody holds its lock. Only the user's own count."""
+    """Whether a folder of films is one whose page has ended without removing it: nobody holds its
+    lock. Only the user's own count."""
     try:
         if folder.is_symlink() or not folder.is_dir() or folder.stat().st_uid != os.geteuid():
             return False
@@ -225,7 +233,8 @@ def clear(parent: str) -> None:
 
 
 class Films:
-    """The films that are made, one at a time, and those that were, in a folder that ends with the page."""
+    """The films that are made, one at a time, and those that were, in a folder that ends with the
+    page."""
 
     def __init__(self) -> None:
         parent = os.environ.get("CACHE_DIRECTORY") or "/var/tmp"
@@ -238,7 +247,8 @@ class Films:
         self.turn, self.count = asyncio.Semaphore(1), 0
 
     def film(self, store: str, fetch: Fetch, busy) -> Film:
-        """The film of a clip, which begins to be made where it isn't there yet. `busy` is a context in which the clip can't be released."""
+        """The film of a clip, which begins to be made where it isn't there yet. `busy` is a context
+        in which the clip can't be released."""
         key = f"{store} {fetch.camera} {fetch.tag('mp4')}"
         film = self.films.get(key)
         if film and not film.fault:
@@ -271,13 +281,15 @@ class Films:
             film.task.cancel()
 
     def tidy(self) -> None:
-        """Removes the films that were asked for longest ago, where there are too many, or they are too large."""
+        """Removes the films that were asked for longest ago, where there are too many, or they are
+        too large."""
 
         def spare() -> list[str]:
             return [key for key, film in self.films.items() if film.is_done and not film.readers]
 
         while (keys := spare()) and (
-            len(self.films) > limits.FILMS or sum(film.size for film in self.films.values()) > limits.FILM_BYTES
+            len(self.films) > limits.FILMS
+            or sum(film.size for film in self.films.values()) > limits.FILM_BYTES
         ):
             self.remove(keys[0])
 
@@ -303,7 +315,8 @@ class Films:
                 await film.grow(fault=film.why)
 
     async def encode(self, film: Film, text: Text, since: int) -> None:
-        """Runs ffmpeg over a clip that begins at a time, which the film has as that of its creation."""
+        """Runs ffmpeg over a clip that begins at a time, which the film has as that of its
+        creation."""
         try:
             run = await asyncio.create_subprocess_exec(
                 "nice",
@@ -325,7 +338,9 @@ class Films:
                 stderr=asyncio.subprocess.PIPE,
             )
         except FileNotFoundError:
-            raise FilmFault("ffmpeg isn't installed, so there are no films. Install it, or fetch YUV4MPEG2.") from None
+            raise FilmFault(
+                "ffmpeg isn't installed, so there are no films. Install it, or fetch YUV4MPEG2."
+            ) from None
         feeder = asyncio.create_task(feed(run, text))
         told = asyncio.create_task(last_words(run))
         try:
@@ -334,7 +349,9 @@ class Films:
                     file.write(piece)
                     await film.grow(len(piece))
                     if film.size > limits.FILM_BYTES:
-                        raise FilmFault("The film is too large. Keep a shorter time, or fetch YUV4MPEG2.")
+                        raise FilmFault(
+                            "The film is too large. Keep a shorter time, or fetch YUV4MPEG2."
+                        )
             await feeder
             if await run.wait():
                 raise FilmFault(f"ffmpeg made no film: {await told}. Is it installed?")
@@ -356,7 +373,8 @@ class Films:
 
 
 async def feed(run: asyncio.subprocess.Process, text: Text) -> None:
-    """Gives ffmpeg the frames. Where it ends early, its status says so; where frames are gone, it ends with them."""
+    """Gives ffmpeg the frames. Where it ends early, its status says so; where frames are gone, it
+    ends with them."""
     try:
         async for piece in text.pieces(0, text.length):
             run.stdin.write(piece)

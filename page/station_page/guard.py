@@ -1,4 +1,5 @@
-"""Which connections and requests are let in: bounds for slow and many clients, names of hosts, tokens, sessions, and the origin of changes."""
+"""Which connections and requests are let in: bounds for slow and many clients, names of hosts,
+tokens, sessions, and the origin of changes."""
 import asyncio
 import hashlib
 import hmac
@@ -14,9 +15,11 @@ from . import limits
 from .settings import Settings, is_loopback
 
 COOKIE = "loop_page"
-# Scripts, styles and pictures come from this server alone, and none of them from within the page's text.
+# Scripts, styles and pictures come from this server alone, and none of them from within the page's
+# text.
 POLICY = (
-    "default-src 'none'; script-src 'self'; style-src 'self'; img-src 'self'; media-src 'self'; connect-src 'self'; form-action 'self'; "
+    "default-src 'none'; script-src 'self'; style-src 'self'; img-src 'self'; media-src 'self'; "
+    "connect-src 'self'; form-action 'self'; "
     "base-uri 'none'; frame-ancestors 'none'"
 )
 HEADERS = {
@@ -35,7 +38,8 @@ OWN_HEADER = "X-Loop-Page"
 
 
 class Connection(asyncio.BufferedProtocol):
-    """A connection, before aiohttp's own: it is closed where its request isn't whole in time, or its client reads nothing."""
+    """A connection, before aiohttp's own: it is closed where its request isn't whole in time, or
+    its client reads nothing."""
 
     def __init__(self, inner: asyncio.Protocol, gate: "Gate") -> None:
         self.inner, self.gate = inner, gate
@@ -43,7 +47,8 @@ class Connection(asyncio.BufferedProtocol):
         self.working, self.since = 0, time.monotonic()
         self.paused: float | None = None
         self.is_in = False
-        # Whether somebody who may pass has used it. Until then it has its first seconds alone, and makes room for others.
+        # Whether somebody who may pass has used it. Until then it has its first seconds alone, and
+        # makes room for others.
         self.is_known = gate.settings.token is None
 
     def connection_made(self, transport: asyncio.BaseTransport) -> None:
@@ -57,7 +62,9 @@ class Connection(asyncio.BufferedProtocol):
         self.is_in = True
         transport.set_write_buffer_limits(high=limits.PIECE)
         # What a client that never reads can make the system hold.
-        transport.get_extra_info("socket").setsockopt(socket.SOL_SOCKET, socket.SO_SNDBUF, limits.PIECE)
+        transport.get_extra_info("socket").setsockopt(
+            socket.SOL_SOCKET, socket.SO_SNDBUF, limits.PIECE
+        )
         self.inner.connection_made(transport)
 
     def connection_lost(self, exc: Exception | None) -> None:
@@ -67,7 +74,8 @@ class Connection(asyncio.BufferedProtocol):
             self.inner.connection_lost(exc)
 
     def get_buffer(self, sizehint: int) -> memoryview:
-        """Where the system puts what the client sends: little at a time, so that little is made of it before it is looked at."""
+        """Where the system puts what the client sends: little at a time, so that little is made of
+        it before it is looked at."""
         return self.gate.buffer
 
     def buffer_updated(self, nbytes: int) -> None:
@@ -79,13 +87,18 @@ class Connection(asyncio.BufferedProtocol):
                 self.transport.abort()
 
     def has_too_much(self) -> bool:
-        """Whether more waits behind the request that is worked on than a client may send: other requests; or anything after
-        `Upgrade`, which no answer here is. aiohttp would keep all of it."""
-        return len(self.inner._messages) > limits.REQUESTS_WAITING or len(self.inner._message_tail) > limits.BODY_BYTES
+        """Whether more waits behind the request that is worked on than a client may send: other
+        requests; or anything after `Upgrade`, which no answer here is. aiohttp would keep all of
+        it."""
+        return (
+            len(self.inner._messages) > limits.REQUESTS_WAITING
+            or len(self.inner._message_tail) > limits.BODY_BYTES
+        )
 
     def has_names(self) -> bool:
-        """Whether each request that waits has a host that is a name, where its line has one. aiohttp fails at others, with no answer, and
-        still before a connection that is ended has ended: so it is given another address."""
+        """Whether each request that waits has a host that is a name, where its line has one.
+        aiohttp fails at others, with no answer, and still before a connection that is ended has
+        ended: so it is given another address."""
         waiting, are_names = self.inner._messages, True
         for place, (message, body) in enumerate(waiting):
             try:
@@ -147,8 +160,8 @@ class Gate:
                 connection.transport.abort()
 
     def has_room(self) -> bool:
-        """Whether one more connection is let in. Of those who aren't signed in the oldest one makes room, first such as nothing is
-        worked on; of the others only one on which nothing is."""
+        """Whether one more connection is let in. Of those who aren't signed in the oldest one makes
+        room, first such as nothing is worked on; of the others only one on which nothing is."""
         strangers = [it for it in self.connections if not it.is_known]
         if len(strangers) < limits.STRANGERS and len(self.connections) < limits.CONNECTIONS:
             return True
@@ -161,7 +174,8 @@ class Gate:
         return True
 
     def is_host(self, request: web.Request) -> bool:
-        """Whether the request names this host: a page without a token answers to this machine's names alone, whatever name leads here."""
+        """Whether the request names this host: a page without a token answers to this machine's
+        names alone, whatever name leads here."""
         try:
             name = urlsplit("//" + request.headers.get("Host", "")).hostname or ""
         except ValueError:
@@ -169,26 +183,35 @@ class Gate:
         return bool(self.settings.token) or is_loopback(name) or name == self.settings.host
 
     def is_known(self, request: web.Request) -> bool:
-        """Whether a request comes from somebody who knows the token. The right one always counts, also from an address that others
-        guess from: behind a proxy all have one address."""
-        return self.settings.token is None or self.is_same(bearer_of(request)) or self.is_signed_in(request)
+        """Whether a request comes from somebody who knows the token. The right one always counts,
+        also from an address that others guess from: behind a proxy all have one address."""
+        return (
+            self.settings.token is None
+            or self.is_same(bearer_of(request))
+            or self.is_signed_in(request)
+        )
 
     def is_same(self, given: str) -> bool:
         """Whether a text is the token, in a time that doesn't depend on where they differ."""
         token = self.settings.token
-        return token is not None and hmac.compare_digest(given.strip().encode(errors="replace"), token.encode())
+        return token is not None and hmac.compare_digest(
+            given.strip().encode(errors="replace"), token.encode()
+        )
 
     def guess(self, given: str, request: web.Request) -> None:
         """Counts a wrong token, by the address that sent it."""
         if not given:
             return
         address = str(request.remote)
-        self.wrong[address] = [*self.wrong.pop(address, []), time.monotonic()][-limits.WRONG_TOKENS :]
+        self.wrong[address] = [*self.wrong.pop(address, []), time.monotonic()][
+            -limits.WRONG_TOKENS :
+        ]
         while len(self.wrong) > limits.GUESSERS:
             del self.wrong[next(iter(self.wrong))]
 
     def has_guessed(self, request: web.Request) -> bool:
-        """Whether too many wrong tokens came from an address in the last minute: then another wrong one has to wait."""
+        """Whether too many wrong tokens came from an address in the last minute: then another wrong
+        one has to wait."""
         times = self.wrong.get(str(request.remote), [])
         return len(times) >= limits.WRONG_TOKENS and time.monotonic() - times[0] < 60
 
@@ -208,8 +231,9 @@ class Gate:
         return name
 
     def who(self, request: web.Request) -> tuple[str, str]:
-        """Who asks, for the journal: the address, and the session or how else the token came. A proxy on this machine says whose
-        request it gives on; from elsewhere that is anybody's word, and isn't taken."""
+        """Who asks, for the journal: the address, and the session or how else the token came. A
+        proxy on this machine says whose request it gives on; from elsewhere that is anybody's word,
+        and isn't taken."""
         address, forwarded = str(request.remote), request.headers.get("X-Forwarded-For", "")
         if forwarded and is_loopback(address):
             address = f"{forwarded.split(',')[-1].strip()[:64]} by {address}"
@@ -218,8 +242,8 @@ class Gate:
         return address, "token" if self.is_same(bearer_of(request)) else "no session"
 
     def is_own(self, request: web.Request) -> bool:
-        """Whether a change is asked for by this page, or by no page at all: a browser names the page that asks as the origin, and lets no other page
-        send a header of our own."""
+        """Whether a change is asked for by this page, or by no page at all: a browser names the
+        page that asks as the origin, and lets no other page send a header of our own."""
         origin, site = request.headers.get("Origin"), request.headers.get("Sec-Fetch-Site")
         if site not in (None, "same-origin", "none"):
             return False
@@ -228,8 +252,8 @@ class Gate:
         return OWN_HEADER in request.headers or self.is_same(bearer_of(request))
 
     def is_elsewhere(self, request: web.Request) -> bool:
-        """Whether another site's page asks, by what the browser says of it. It may lead people to the page, and use nothing of it: a
-        film in that page would keep the machine at work."""
+        """Whether another site's page asks, by what the browser says of it. It may lead people to
+        the page, and use nothing of it: a film in that page would keep the machine at work."""
         site = request.headers.get("Sec-Fetch-Site")
         return site not in (None, "same-origin", "none") and request.path not in ENTRANCES
 

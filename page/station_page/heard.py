@@ -1,5 +1,6 @@
-"""What the station has said of its events. A keep of all cameras that it means is one event, and has a number: the time at which its line was read, in
-microseconds since 1970. It is the tag of the event's clips, unless the order or the configuration gives another one."""
+"""What the station has said of its events. A keep of all cameras that it means is one event, and
+has a number: the time at which its line was read, in microseconds since 1970. It is the tag of the
+event's clips, unless the order or the configuration gives another one."""
 import collections
 from dataclasses import dataclass, field
 
@@ -13,8 +14,9 @@ NUMBERS_FROM = 10**15
 
 @dataclass
 class Part:
-    """What was said of a camera's part of an event: how much of its time is held of how much, in microseconds, and from when to when no frame is; and
-    once its end is over, why it isn't whole, or nothing where it is."""
+    """What was said of a camera's part of an event: how much of its time is held of how much, in
+    microseconds, and from when to when no frame is; and once its end is over, why it isn't whole,
+    or nothing where it is."""
 
     held: int | None = None
     asked: int | None = None
@@ -24,7 +26,8 @@ class Part:
 
 @dataclass
 class Told:
-    """What was said of an event: of each camera, and until when it goes on where its end lay ahead."""
+    """What was said of an event: of each camera, and until when it goes on where its end lay
+    ahead."""
 
     parts: dict[str, Part] = field(default_factory=dict)
     until: int = 0
@@ -34,7 +37,8 @@ class Told:
         return self.parts.setdefault(camera, Part())
 
     def goes_on(self, camera: str | None = None) -> bool:
-        """Whether its end lies ahead, of this camera, or of all: nothing was said of how it ended."""
+        """Whether its end lies ahead, of this camera, or of all: nothing was said of how it
+        ended."""
         parts = [self.part(camera)] if camera else self.parts.values()
         return self.until > 0 and all(part.why is None for part in parts)
 
@@ -85,14 +89,16 @@ class Heard:
         self.version += 1
 
     def number_of(self, camera: str, clip: Clip) -> int | None:
-        """The number of a clip's event; none where the station hasn't said it, and the clip has a tag of yours."""
+        """The number of a clip's event; none where the station hasn't said it, and the clip has a
+        tag of yours."""
         if is_number(clip.tag):
             return clip.tag
         number = self.clips.get((camera, clip.id, clip.first))
         return self.grown(camera, clip) if number is None else number
 
     def grown(self, camera: str, clip: Clip) -> int | None:
-        """The number of the event whose end lay ahead and whose clip this is, by its first frame: a longer one has another id."""
+        """The number of the event whose end lay ahead and whose clip this is, by its first frame: a
+        longer one has another id."""
         for (name, _, first), number in reversed(self.clips.items()):
             if (name, first) == (camera, clip.first) and self.told(number).until:
                 return number

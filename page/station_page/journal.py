@@ -13,8 +13,8 @@ log = logging.getLogger("loop_page")
 @dataclass(frozen=True)
 class Entry:
     """Something that somebody did, or that went wrong: when (seconds since 1970), what it is, whose
-    address and session, and in a sentence. Where something was asked for, `order` says what, and stands
-    at the beginning of the sentence too."""
+    address and session, and in a sentence. Where something was asked for, `order` says what, and
+    stands at the beginning of the sentence too."""
 
     id: int
     time: float

@@ -21,7 +21,8 @@ class Kept:
     lack: str = ""
     # What else is to be said, as of a note that can't be written.
     remark: str = ""
-    # The event's number; until when it goes on, where its end lies ahead; and how much is held of how much, where less is.
+    # The event's number; until when it goes on, where its end lies ahead; and how much is held of
+    # how much, where less is.
     event: int | None = None
     until: int | None = None
     held: int | None = None
@@ -47,7 +48,12 @@ class Kept:
             }
             for clip in self.clips
         ]
-        found = {"camera": self.camera, "kept": self.is_kept, "text": self.sentence(), "why": "" if self.is_kept else self.text}
+        found = {
+            "camera": self.camera,
+            "kept": self.is_kept,
+            "text": self.sentence(),
+            "why": "" if self.is_kept else self.text,
+        }
         found |= {"clips": clips, "lack": self.lack, "remark": self.remark, "event": self.event}
         return found | {"until_us": self.until, "held_us": self.held, "asked_us": self.asked}
 
@@ -55,16 +61,27 @@ class Kept:
 def told(name: str, clips: list[Clip], event: int | None = None) -> Kept:
     """That clips were kept, in a sentence."""
     spans = " and ".join(
-        f"clip {clip.id} from {words.iso(clip.since)} to {words.iso(clip.until)}, {clip.count()} frames" for clip in clips
+        f"clip {clip.id} from {words.iso(clip.since)} to {words.iso(clip.until)}, {clip.count()} "
+        f"frames"
+        for clip in clips
     )
     return Kept(name, True, f"kept {spans}.", clips, event=event)
 
 
 def not_kept(line: Line, is_part: bool) -> Kept:
-    """Why nothing was kept, or no more than a part, by the station's line, in a sentence with what to do."""
+    """Why nothing was kept, or no more than a part, by the station's line, in a sentence with what
+    to do."""
     why = words.refusal_of(line)
     if why is None:
         said = f": {line['line']}" if line.kind == "bad_order" else ""
-        return Kept(None, False, f"The station answers `{line.kind}`{said}. Is it as old as the page?", [])
+        return Kept(
+            None, False, f"The station answers `{line.kind}`{said}. Is it as old as the page?", []
+        )
     camera = None if line.kind == "no_camera" else line.camera
-    return Kept(camera, False, f"{PART if is_part else NOTHING}, since {why.rstrip('.?')}{'?' if why.endswith('?') else '.'}", [])
+    return Kept(
+        camera,
+        False,
+        f"{PART if is_part else NOTHING}, since "
+        f"{why.rstrip('.?')}{'?' if why.endswith('?') else '.'}",
+        [],
+    )

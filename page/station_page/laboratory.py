@@ -27,9 +27,11 @@ from .workers import NO_ANSWER, looks_of, reads_of
 log = logging.getLogger("loop_page")
 # Pieces of a timeline that a page is sent, the newest.
 PIECES = 300
-# What comes at each start of the station, and passes by itself: of these it is only warned where they last.
+# What comes at each start of the station, and passes by itself: of these it is only warned where
+# they last.
 PASSING = ("missing", "absent")
-# Which warnings are over once there is good news of a kind; and all that the station says of a camera.
+# Which warnings are over once there is good news of a kind; and all that the station says of a
+# camera.
 ENDS = {
     "source": ("missing", "other", "unusable"),
     "open": ("absent", "not a store", "small"),
@@ -37,22 +39,45 @@ ENDS = {
     "caught up": ("behind",),
     "saved": ("save waits",),
 }
-OF_STATION = ("missing", "other", "unusable", "absent", "not a store", "small", "locked", "nearly locked", "behind", "save waits")
+OF_STATION = (
+    "missing",
+    "other",
+    "unusable",
+    "absent",
+    "not a store",
+    "small",
+    "locked",
+    "nearly locked",
+    "behind",
+    "save waits",
+)
 # What is the cause where no frames come, so that it isn't warned of twice.
 NO_FRAMES = ("missing", "other", "unusable", "absent", "not a store", "locked", "lost", "hangs")
 # The kinds of lines that say what became of a keep.
 ANSWERS = ("kept", "kept_none", "refused", "absent", "too_many_orders")
 # Which part of its room is locked where the station says that it nearly is.
 NEARLY = 0.8
-# Why there is no note beside a clip that isn't seen in its store yet: it would be found by the clip's times.
-UNSEEN = "The note isn't written, since the page can't read the store at the moment. Write it beside the clip."
-OTHER_SIZE = "its source gives frames of another size, format or rate than its store, so nothing is stored."
+# Why there is no note beside a clip that isn't seen in its store yet: it would be found by the
+# clip's times.
+UNSEEN = (
+    "The note isn't written, since the page can't read the store at the moment. Write it beside "
+    "the clip."
+)
+OTHER_SIZE = (
+    "its source gives frames of another size, format or rate than its store, so nothing is stored."
+)
 UNUSABLE = "no store may have the frames of its source, so nothing is stored."
 AS_TEXT = (
-    'The station\'s answers are text, which the page doesn\'t read. Write `answers_form = "json"` into its configuration, and start station and page again.'
+    "The station's answers are text, which the page doesn't read. Write `answers_form = \"json\"` "
+    "into its configuration, and start station and page again."
 )
-UNREAD = 'The station\'s answers can\'t be read. Its configuration needs `answers_form = "json"`; start the station again, and then the page.'
-ALL_LOCKED = "all of its room is locked, and recording has stopped. Release a clip that you don't need."
+UNREAD = (
+    "The station's answers can't be read. Its configuration needs `answers_form = \"json\"`; "
+    "start the station again, and then the page."
+)
+ALL_LOCKED = (
+    "all of its room is locked, and recording has stopped. Release a clip that you don't need."
+)
 # A camera that gives less of its rate is shown as one to look at.
 LEAST_RATE = 0.8
 
@@ -63,7 +88,9 @@ class Laboratory:
     def __init__(self, settings: Settings) -> None:
         self.settings = settings
         self.cameras = {
-            camera.name: Watched(camera, Reader(camera.store, reads_of(camera.name)), looks=looks_of(camera.name))
+            camera.name: Watched(
+                camera, Reader(camera.store, reads_of(camera.name)), looks=looks_of(camera.name)
+            )
             for camera in settings.cameras
         }
         self.journal = Journal()
@@ -75,7 +102,8 @@ class Laboratory:
         self.notes, self.films = Notes(settings.notes), Films()
         self.fetching: collections.Counter[tuple[str, int]] = collections.Counter()
         self.releasing: set[tuple[str, int]] = set()
-        # Held from a look at a clip until its release is given, so that no other order of this page comes between.
+        # Held from a look at a clip until its release is given, so that no other order of this page
+        # comes between.
         self.ordering = asyncio.Lock()
         self.begun = time.monotonic()
         self.is_running, self.was_running, self.said = self.orders.pipe.is_read(), False, 0.0
@@ -85,7 +113,7 @@ class Laboratory:
         self.passing: dict[tuple[str, str | None], asyncio.Future] = {}
         self.good_news: collections.deque[dict] = collections.deque(maxlen=20)
 
-    # ------------------------------------------------------------------------------------------- what happens by itself
+    # ----------------------------------------------------------------------- what happens by itself
 
     def on_line(self, line: Line) -> None:
         """A line of the station, whoever has asked for it."""
@@ -160,23 +188,29 @@ class Laboratory:
             is_watched = self.streams or time.monotonic() - self.wanted < 10
             self.hurry.clear()
             with contextlib.suppress(asyncio.TimeoutError):
-                await asyncio.wait_for(self.hurry.wait(), limits.LOOK_SECONDS if is_watched else limits.IDLE_SECONDS)
+                await asyncio.wait_for(
+                    self.hurry.wait(), limits.LOOK_SECONDS if is_watched else limits.IDLE_SECONDS
+                )
             if self.hurry.is_set():
                 # Many events together are one look.
                 await asyncio.sleep(0.05)
 
     async def fresh(self) -> None:
-        """Sees that what was seen last isn't old: while nobody looks, cameras are looked at seldom."""
+        """Sees that what was seen last isn't old: while nobody looks, cameras are looked at
+        seldom."""
         self.wanted, version = time.monotonic(), self.version
         if self.wanted - self.looked < 2 * limits.LOOK_SECONDS:
             return
         self.hurry.set()
         async with self.changed:
             with contextlib.suppress(asyncio.TimeoutError):
-                await asyncio.wait_for(self.changed.wait_for(lambda: self.version != version), limits.FRESH_SECONDS)
+                await asyncio.wait_for(
+                    self.changed.wait_for(lambda: self.version != version), limits.FRESH_SECONDS
+                )
 
     async def ask(self) -> None:
-        """Asks the station how its cameras stand, without end: soon, until it has answered once, and after it has come again."""
+        """Asks the station how its cameras stand, without end: soon, until it has answered once,
+        and after it has come again."""
         while True:
             if self.orders.has_answers and self.orders.pipe.is_read():
                 with contextlib.suppress(NoStation):
@@ -192,8 +226,8 @@ class Laboratory:
         self.said = time.monotonic()
 
     def on_status(self, line: Line) -> None:
-        """A line of the station's `status`. What it says is so now: what was said before the page began, nobody has heard, and an event may
-        have been lost."""
+        """A line of the station's `status`. What it says is so now: what was said before the page
+        began, nobody has heard, and an event may have been lost."""
         watched = self.cameras.get(line.camera or "")
         if not watched:
             return
@@ -217,7 +251,9 @@ class Laboratory:
             self.over("missing", name)
         elif not self.is_known("missing", name):
             self.on_event(Line(None, "source_missing", {"camera": name}))
-        self.set("other", name, f"{name}: {OTHER_SIZE}" if status.source == "other geometry" else "")
+        self.set(
+            "other", name, f"{name}: {OTHER_SIZE}" if status.source == "other geometry" else ""
+        )
         self.set("unusable", name, f"{name}: {UNUSABLE}" if status.source == "unusable" else "")
         if status.room:
             self.over("locked", name)
@@ -244,9 +280,18 @@ class Laboratory:
         if self.is_running or not self.settings.orders:
             self.set("station", None, "")
         elif self.was_running:
-            self.set("station", None, "The station has ended. Nothing is recorded until it is started again.")
+            self.set(
+                "station",
+                None,
+                "The station has ended. Nothing is recorded until it is started again.",
+            )
         elif is_old:
-            self.set("station", None, f"The station doesn't run: nobody reads orders at {self.settings.orders}. Start it.")
+            self.set(
+                "station",
+                None,
+                f"The station doesn't run: nobody reads orders at {self.settings.orders}. Start "
+                f"it.",
+            )
         if self.was_running and not self.is_running:
             self.forget_station()
         self.was_running = self.is_running
@@ -261,14 +306,16 @@ class Laboratory:
                 self.over(kind, name, is_told=False)
 
     def set(self, kind: str, camera: str | None, text: str) -> None:
-        """Warns of what is wrong now, by the page's own eyes; or says that it is over, where there is no text."""
+        """Warns of what is wrong now, by the page's own eyes; or says that it is over, where there
+        is no text."""
         if text and not self.alerts.stands(kind, camera=camera):
             self.add(Event(kind, camera, True, text))
         elif not text:
             self.over(kind, camera)
 
     def judge(self, watched: Watched) -> None:
-        """Warns of what the page sees by itself: whether or not the station says something of it, or can."""
+        """Warns of what the page sees by itself: whether or not the station says something of it,
+        or can."""
         name, reading = watched.camera.name, watched.reading
         hanging = watched.hangs()
         if not hanging:
@@ -284,14 +331,22 @@ class Laboratory:
             self.set("locked", name, "")
         if reading is not None and reading.locked() < NEARLY:
             self.over("nearly locked", name)
-        has_cause = self.alerts.stands(*NO_FRAMES, camera=name) or self.alerts.stands("station", camera=None)
+        has_cause = self.alerts.stands(*NO_FRAMES, camera=name) or self.alerts.stands(
+            "station", camera=None
+        )
         if reading is None or not is_silent:
             self.set("silent", name, "")
         elif not has_cause and not any((kind, name) in self.passing for kind in PASSING):
-            self.set("silent", name, f"{name}: no new frames come. See that the camera is plugged in and its program runs.")
+            self.set(
+                "silent",
+                name,
+                f"{name}: no new frames come. See that the camera is plugged in and its program "
+                f"runs.",
+            )
 
     def judge_store(self, watched: Watched) -> None:
-        """Warns where a store that was there isn't any more, or is damaged; or where there is none, and nobody says why."""
+        """Warns where a store that was there isn't any more, or is damaged; or where there is none,
+        and nobody says why."""
         name = watched.camera.name
         if watched.reading:
             watched.was_there = True
@@ -304,20 +359,28 @@ class Laboratory:
             if not is_said and not self.alerts.stands("station", camera=None):
                 self.set("lost", name, f"{name}: {refusal(watched.why)}")
 
-    # ------------------------------------------------------------------------------------------- how all stands
+    # ------------------------------------------------------------------------------- how all stands
 
     def standing(self) -> dict:
         """How all stands, for the page."""
         if not self.settings.orders:
-            station = ["unknown", "The station's configuration has no `orders`: the page shows, and can't keep."]
+            station = [
+                "unknown",
+                "The station's configuration has no `orders`: the page shows, and can't keep.",
+            ]
         elif not self.is_running:
-            station = ["bad", f"The station doesn't run: nobody reads orders at {self.settings.orders}. Start it."]
+            station = [
+                "bad",
+                f"The station doesn't run: nobody reads orders at {self.settings.orders}. Start "
+                f"it.",
+            ]
         elif self.settings.is_text:
             station = ["warn", AS_TEXT]
         elif not self.orders.has_answers:
             station = [
                 "warn",
-                "The station's configuration has no `answers`: the page sees what is kept, and no warnings of the station.",
+                "The station's configuration has no `answers`: the page sees what is kept, and no "
+                "warnings of the station.",
             ]
         else:
             station = ["good", "The station runs."]
@@ -364,35 +427,71 @@ class Laboratory:
             "seconds": reading.seconds(),
             "frames": len(reading.frames),
             "locked": reading.locked(),
-            "pieces": [[it.first, it.last, it.since, it.until] for it in reading.pieces()[-PIECES:]],
+            "pieces": [
+                [it.first, it.last, it.since, it.until] for it in reading.pieces()[-PIECES:]
+            ],
             "removed_next": removed,
-            "clips": [[clip.id, clip.first, clip.last, clip.since, clip.until] for clip in reading.clips],
+            "clips": [
+                [clip.id, clip.first, clip.last, clip.since, clip.until] for clip in reading.clips
+            ],
         }
         if reading.frames:
             newest, oldest = reading.frames[-1], reading.frames[0]
-            found |= {"newest": [newest.number, newest.time], "oldest": [oldest.number, oldest.time]}
+            found |= {
+                "newest": [newest.number, newest.time],
+                "oldest": [oldest.number, oldest.time],
+            }
         return found
 
     def camera_state(self, watched: Watched) -> tuple[str, str, str, str]:
-        """How a camera stands: as a word for its colour, in a sentence, as a word for what it is, and shortly for a picture's edge."""
+        """How a camera stands: as a word for its colour, in a sentence, as a word for what it is,
+        and shortly for a picture's edge."""
         if waited := watched.hangs():
-            return "bad", f"Its disk hasn't answered for {words.seconds_words(waited)}. Look at the disk.", "hangs", "disk hangs"
+            return (
+                "bad",
+                f"Its disk hasn't answered for {words.seconds_words(waited)}. Look at the disk.",
+                "hangs",
+                "disk hangs",
+            )
         reading, source = watched.reading, self.source_of(watched)
         if watched.making is not None and self.orders.has_answers:
-            return "warn", f"Its store is being made: {watched.making} % of it is.", "making", "making store"
+            return (
+                "warn",
+                f"Its store is being made: {watched.making} % of it is.",
+                "making",
+                "making store",
+            )
         if watched.absent and self.orders.has_answers:
-            return "bad", f"It isn't recorded: {words.meaning(watched.absent)}.", "absent", "not recorded"
+            return (
+                "bad",
+                f"It isn't recorded: {words.meaning(watched.absent)}.",
+                "absent",
+                "not recorded",
+            )
         if reading is None:
             return "bad", refusal(watched.why), "absent", "not recorded"
         if source == "other geometry":
-            text = "Its source gives frames of another size, format or rate than its store. Nothing is stored."
+            text = (
+                "Its source gives frames of another size, format or rate than its store. Nothing "
+                "is stored."
+            )
             return "bad", text, "other", "other frames"
         if source == "unusable":
-            return "bad", "No store may have the frames of its source. Nothing is stored.", "unusable", "other frames"
+            return (
+                "bad",
+                "No store may have the frames of its source. Nothing is stored.",
+                "unusable",
+                "other frames",
+            )
         is_silent = watched.is_silent(limits.STILL_SECONDS)
         if reading.is_all_locked():
             when = "has stopped" if is_silent else "stops when the newest block is full"
-            return "bad", f"All of its room is locked. Recording {when}: release a clip.", "locked", "all locked"
+            return (
+                "bad",
+                f"All of its room is locked. Recording {when}: release a clip.",
+                "locked",
+                "all locked",
+            )
         if is_silent:
             return self.silent_state(watched, source)
         if not reading.frames:
@@ -406,7 +505,8 @@ class Laboratory:
         return watched.status.source if watched.status and self.orders.has_answers else "on"
 
     def silent_state(self, watched: Watched, source: str) -> tuple[str, str, str, str]:
-        """A camera of which no new frames come. How long it has been is reckoned by a clock only where it stood still before the page began."""
+        """A camera of which no new frames come. How long it has been is reckoned by a clock only
+        where it stood still before the page began."""
         silent = watched.silent()
         if self.settings.orders and not self.is_running:
             why = "the station doesn't run. Start it"
@@ -427,10 +527,18 @@ class Laboratory:
         """A camera of which frames come."""
         behind = watched.status.behind if watched.status else None
         if behind and behind > 1:
-            return "warn", f"The disk is slow: {behind} s of frames wait for it.", "behind", f"{behind} s behind"
+            return (
+                "warn",
+                f"The disk is slow: {behind} s of frames wait for it.",
+                "behind",
+                f"{behind} s behind",
+            )
         rate, asked = reading.rate(), reading.geometry.rate()
         if rate is not None and rate < asked * LEAST_RATE:
-            text = f"Recording {rate:.1f} of {asked:.1f} frames a second: the camera gives fewer, or frames were lost."
+            text = (
+                f"Recording {rate:.1f} of {asked:.1f} frames a second: the camera gives fewer, or "
+                f"frames were lost."
+            )
             return "warn", text, "slow", f"{rate:.0f} of {asked:.0f} a second"
         return "good", "Recording.", "good", "recording"
 
@@ -449,7 +557,10 @@ class Laboratory:
             raise Unfit(503, NO_ANSWER)
         if reading is None or source is None:
             raise Unfit(
-                503, refusal(watched.why) if watched.why else "The page has only just begun. Try again in a moment."
+                503,
+                refusal(watched.why)
+                if watched.why
+                else "The page has only just begun. Try again in a moment.",
             )
         return watched, reading, source
 
@@ -467,7 +578,8 @@ class Laboratory:
                         "first": clip.first,
                         "last": clip.last,
                         "event": self.heard.number_of(name, clip),
-                        # A tag of yours; and what of it is the order's, and not the configuration's.
+                        # A tag of yours; and what of it is the order's, and not the
+                        # configuration's.
                         "tag": own,
                         "order_tag": 0 if own == watched.camera.tag else own,
                         "frames": clip.count(),
@@ -476,14 +588,15 @@ class Laboratory:
                         "from": words.iso(clip.since),
                         "to": words.iso(clip.until),
                         "seconds": (clip.until - clip.since) / 1e6 + 1 / reading.geometry.rate(),
-                        "bytes": clip.count() * (reading.geometry.size + 6) + len(layout.text_front(reading.geometry)),
+                        "bytes": clip.count() * (reading.geometry.size + 6)
+                        + len(layout.text_front(reading.geometry)),
                         "note": self.notes.of(watched.camera.store, clip),
                         "fetched": self.fetching[name, clip.id] > 0,
                     }
                 )
         return sorted(found, key=lambda clip: (clip["to_us"], clip["camera"]), reverse=True)
 
-    # ------------------------------------------------------------------------------------------- what is asked for
+    # ---------------------------------------------------------------------------- what is asked for
 
     async def keep(
         self, camera: str | None, seconds: int | None, span: tuple[int, int] | None, note: str
@@ -502,19 +615,24 @@ class Laboratory:
         return await self.noted(kept, note)
 
     async def keep_heard(self, order: str, names: list[str]) -> list[Kept]:
-        """Gives an order to a station whose answers are heard. A camera whose disk doesn't answer holds up no other one's answer."""
+        """Gives an order to a station whose answers are heard. A camera whose disk doesn't answer
+        holds up no other one's answer."""
         async with self.ordering:
             waiting = self.orders.begin(order)
         self.hurry.set()
         try:
-            lines = await self.orders.answer(waiting, limits.CHANGE_SECONDS, lambda lines: self.is_enough(lines, names))
+            lines = await self.orders.answer(
+                waiting, limits.CHANGE_SECONDS, lambda lines: self.is_enough(lines, names)
+            )
         except NoStation:
             if not answered(waiting.lines):
                 raise
             lines = waiting.lines
         is_whole = waiting.done.done() and waiting.done.exception() is None
         late = [] if is_whole else [name for name in names if name not in answered(lines)]
-        return await self.find(lines) + [Kept(name, False, self.late_text(name), []) for name in late]
+        return await self.find(lines) + [
+            Kept(name, False, self.late_text(name), []) for name in late
+        ]
 
     def is_enough(self, lines: list[Line], names: list[str]) -> bool:
         """Whether only cameras haven't answered yet whose disks don't."""
@@ -524,32 +642,49 @@ class Laboratory:
     def late_text(self, name: str) -> str:
         """What is told of a camera that hasn't answered a keep."""
         hanging = self.cameras[name].hangs()
-        why = f"its disk hasn't answered for {words.seconds_words(hanging)}" if hanging else "it hasn't answered in time"
+        why = (
+            f"its disk hasn't answered for {words.seconds_words(hanging)}"
+            if hanging
+            else "it hasn't answered in time"
+        )
         return f"no answer, since {why}. It may still be kept: look at its clips."
 
     async def find(self, lines: list[Line]) -> list[Kept]:
-        """What the lines of an answer say, with the times of its clips, for which their stores are looked at until they show them."""
+        """What the lines of an answer say, with the times of its clips, for which their stores are
+        looked at until they show them."""
         end = time.monotonic() + limits.FIND_SECONDS
-        told_of = sorted({line["camera"] for line in lines if line.kind == "kept"} & set(self.cameras))
+        told_of = sorted(
+            {line["camera"] for line in lines if line.kind == "kept"} & set(self.cameras)
+        )
         while True:
             await self.look_at(told_of, is_new=True)
             kept = self.kept_of(lines)
             unseen = {one.camera for one in kept if not all(clip.is_seen for clip in one.clips)}
-            if all(self.cameras[name].hangs() for name in unseen if name in self.cameras) or time.monotonic() > end:
+            if (
+                all(self.cameras[name].hangs() for name in unseen if name in self.cameras)
+                or time.monotonic() > end
+            ):
                 return kept
             await asyncio.sleep(0.1)
 
     def with_lack(self, kept: Kept, seconds: int | None, span: tuple[int, int] | None) -> Kept:
-        """What became of a keep, with what it didn't get of the time that was asked for, where the station isn't heard."""
+        """What became of a keep, with what it didn't get of the time that was asked for, where the
+        station isn't heard."""
         watched = self.cameras.get(kept.camera or "")
         if not kept.clips or not watched or not watched.reading:
             return kept
         until = span[1] if span else max(watched.now(), max(clip.until for clip in kept.clips))
         since = span[0] if span else until - (seconds or 0) * 1_000_000
-        return replace(kept, lack=spans.lack(watched.reading, kept.clips, since, min(until, watched.now()) if span else until))
+        return replace(
+            kept,
+            lack=spans.lack(
+                watched.reading, kept.clips, since, min(until, watched.now()) if span else until
+            ),
+        )
 
     async def look_at(self, names: list[str], is_new: bool = False) -> None:
-        """Looks at some cameras together, and waits for a while until that is done. A look that is to be new begins after this call."""
+        """Looks at some cameras together, and waits for a while until that is done. A look that is
+        to be new begins after this call."""
         chosen = [self.cameras[name] for name in names]
         if is_new:
             await settle(chosen)
@@ -562,7 +697,8 @@ class Laboratory:
         clips, refused, camera = collections.defaultdict(list), [], None
         ends: dict[str | None, int] = {}
         for line in lines:
-            # The line of an event that goes on doesn't name its camera: it comes after the other ones of it.
+            # The line of an event that goes on doesn't name its camera: it comes after the other
+            # ones of it.
             camera = line.camera or camera
             if line.kind == "kept":
                 clips[camera].append(line)
@@ -576,11 +712,14 @@ class Laboratory:
             part = self.heard.told(number).part(name)
             lack = "" if part.held is None else spans.told(part.held, part.asked or 0, part.gaps)
             one = told(name, [self.clip_told(name, line) for line in of_one], number)
-            found.append(replace(one, lack=lack, until=ends.get(name), held=part.held, asked=part.asked))
+            found.append(
+                replace(one, lack=lack, until=ends.get(name), held=part.held, asked=part.asked)
+            )
         return found + [not_kept(line, line.camera in clips) for line in refused]
 
     def clip_told(self, name: str, line: Line) -> Clip:
-        """The clip of which a line says that it was kept: as its store has it, or, where it isn't seen there, as the station tells it."""
+        """The clip of which a line says that it was kept: as its store has it, or, where it isn't
+        seen there, as the station tells it."""
         id_, first, last = line["id"], line["first"], line["last"]
         watched = self.cameras.get(name)
         reading = watched.reading if watched else None
@@ -588,12 +727,33 @@ class Laboratory:
         found = reading.clip_of(id_, first, last) if reading else None
         # One that grows is soon a longer one, with another id.
         longer = [
-            it for it in (reading.clips if reading else []) if it.first == first and it.last > last and self.heard.number_of(name, it) == line["event"]
+            it
+            for it in (reading.clips if reading else [])
+            if it.first == first
+            and it.last > last
+            and self.heard.number_of(name, it) == line["event"]
         ]
-        return found or (longer or [Clip(id_, first, last, line["tag"] or line["event"], line["from"], line["to"], is_seen=False)])[0]
+        return (
+            found
+            or (
+                longer
+                or [
+                    Clip(
+                        id_,
+                        first,
+                        last,
+                        line["tag"] or line["event"],
+                        line["from"],
+                        line["to"],
+                        is_seen=False,
+                    )
+                ]
+            )[0]
+        )
 
     async def keep_unheard(self, order: str, names: list[str]) -> list[Kept]:
-        """Gives an order to a station whose answers can't be read, and looks in the stores what it has done."""
+        """Gives an order to a station whose answers can't be read, and looks in the stores what it
+        has done."""
         await self.look_at(names, is_new=True)
         before = {name: {(clip.id, clip.first) for clip in self.clips_of(name)} for name in names}
         self.orders.give(order)
@@ -602,16 +762,24 @@ class Laboratory:
             await asyncio.sleep(0.1)
             await self.look_at(names, is_new=True)
             new = {
-                name: [clip for clip in self.clips_of(name) if (clip.id, clip.first) not in before[name]]
+                name: [
+                    clip
+                    for clip in self.clips_of(name)
+                    if (clip.id, clip.first) not in before[name]
+                ]
                 for name in names
             }
-            if all(new.values()) or (any(new.values()) and time.monotonic() > end - limits.ANSWER_SECONDS + 1.5):
+            if all(new.values()) or (
+                any(new.values()) and time.monotonic() > end - limits.ANSWER_SECONDS + 1.5
+            ):
                 break
         nothing = (
-            "no new clip is seen in its store. The station's configuration has no `answers`, so the page can't say why"
+            "no new clip is seen in its store. The station's configuration has no `answers`, so "
+            "the page can't say why"
         )
         return [
-            told(name, clips) if clips else Kept(name, False, f"{nothing}.", []) for name, clips in new.items()
+            told(name, clips) if clips else Kept(name, False, f"{nothing}.", [])
+            for name, clips in new.items()
         ]
 
     def clips_of(self, name: str) -> list[Clip]:
@@ -620,7 +788,8 @@ class Laboratory:
         return reading.clips if reading else []
 
     async def noted(self, kept: list[Kept], note: str) -> list[Kept]:
-        """Writes a note to what was kept. Where it can't be, the answer says so, and the clip is kept nevertheless."""
+        """Writes a note to what was kept. Where it can't be, the answer says so, and the clip is
+        kept nevertheless."""
         seen = [(one.camera or "", clip) for one in kept for clip in one.clips if clip.is_seen]
         if not note:
             return kept
@@ -631,7 +800,10 @@ class Laboratory:
         except NotesFault as found:
             fault = str(found)
         return [
-            replace(one, remark=fault if all(clip.is_seen for clip in one.clips) else UNSEEN) if one.clips else one for one in kept
+            replace(one, remark=fault if all(clip.is_seen for clip in one.clips) else UNSEEN)
+            if one.clips
+            else one
+            for one in kept
         ]
 
     def put_notes(self, clips: list[tuple[str, Clip]], text: str) -> None:
@@ -641,18 +813,29 @@ class Laboratory:
             for name, watched in self.cameras.items()
             for it in self.clips_of(name)
         }
-        self.notes.put([(self.watched(name).camera.store, clip) for name, clip in clips], text, keys.__contains__)
+        self.notes.put(
+            [(self.watched(name).camera.store, clip) for name, clip in clips],
+            text,
+            keys.__contains__,
+        )
         for name, clip in clips:
             number = self.heard.number_of(name, clip)
-            if number is not None and not is_number(clip.tag) and self.heard.told(number).goes_on(name):
+            if (
+                number is not None
+                and not is_number(clip.tag)
+                and self.heard.told(number).goes_on(name)
+            ):
                 self.growing[name, number] = text
 
     async def carry_notes(self) -> None:
-        """Writes the notes of events that go on to their longer clips. Of most they are found by the event's number, which is the clip's tag; those
-        with a tag of yours are found by the clip's ends."""
+        """Writes the notes of events that go on to their longer clips. Of most they are found by
+        the event's number, which is the clip's tag; those with a tag of yours are found by the
+        clip's ends."""
         for (name, number), text in list(self.growing.items()):
             store, is_open = self.cameras[name].camera.store, self.heard.told(number).goes_on(name)
-            clips = [clip for clip in self.clips_of(name) if self.heard.number_of(name, clip) == number]
+            clips = [
+                clip for clip in self.clips_of(name) if self.heard.number_of(name, clip) == number
+            ]
             lacking = [(name, clip) for clip in clips if text and not self.notes.of(store, clip)]
             if lacking:
                 with contextlib.suppress(NotesFault):
@@ -663,7 +846,9 @@ class Laboratory:
             (self.grown.discard if is_open else self.grown.add)((name, number))
             self.grown &= set(self.growing)
 
-    def clip(self, camera: object, id_: int, first: int | None = None) -> tuple[Watched, Reading, Source, Clip]:
+    def clip(
+        self, camera: object, id_: int, first: int | None = None
+    ) -> tuple[Watched, Reading, Source, Clip]:
         """A clip by its id, and by its first number where that is given: ids are used again."""
         watched, reading, source = self.seen(camera)
         clip = reading.clip(id_)
@@ -674,16 +859,24 @@ class Laboratory:
         return watched, reading, source, clip
 
     def longer(self, watched: Watched, first: int | None) -> Clip | None:
-        """What a clip with this first frame has grown to, in an event whose end lay ahead: it has another id by then."""
+        """What a clip with this first frame has grown to, in an event whose end lay ahead: it has
+        another id by then."""
         name = watched.camera.name
-        found = [clip for clip in self.clips_of(name) if clip.first == first and self.heard.told(self.heard.number_of(name, clip)).until]
+        found = [
+            clip
+            for clip in self.clips_of(name)
+            if clip.first == first and self.heard.told(self.heard.number_of(name, clip)).until
+        ]
         return found[0] if len(found) == 1 else None
 
     async def release(self, camera: str, id_: int, first: int | None) -> str:
-        """Releases a clip that isn't being fetched: the one that begins with this frame, where that is given."""
+        """Releases a clip that isn't being fetched: the one that begins with this frame, where that
+        is given."""
         key = (camera, id_)
         if self.fetching[key] or key in self.releasing:
-            raise Unfit(409, "The clip is being fetched, or released already. Wait until that has ended.")
+            raise Unfit(
+                409, "The clip is being fetched, or released already. Wait until that has ended."
+            )
         self.releasing.add(key)
         try:
             async with self.ordering:
@@ -701,16 +894,24 @@ class Laboratory:
             self.releasing.discard(key)
             self.hurry.set()
         id_ = clip.id
-        if any(line.kind == "released" and (line["camera"], line["id"]) == (camera, id_) for line in lines):
+        if any(
+            line.kind == "released" and (line["camera"], line["id"]) == (camera, id_)
+            for line in lines
+        ):
             return f"{camera}: clip {id_} is released. Its room is used again."
         if waiting:
-            said = [words.refusal_of(line) or f"the station answers `{line.kind}`" for line in lines]
-            raise Unfit(409, f"{camera}: clip {id_} isn't released: {'; '.join(said) or 'no answer'}.")
+            said = [
+                words.refusal_of(line) or f"the station answers `{line.kind}`" for line in lines
+            ]
+            raise Unfit(
+                409, f"{camera}: clip {id_} isn't released: {'; '.join(said) or 'no answer'}."
+            )
         reading = self.cameras[camera].reading
         if reading is None or reading.clip_of(id_, clip.first, clip.last):
             raise Unfit(
                 409,
-                f"{camera}: clip {id_} still stands. The configuration has no `answers`, so the page can't say why.",
+                f"{camera}: clip {id_} still stands. The configuration has no `answers`, so the "
+                f"page can't say why.",
             )
         return f"{camera}: clip {id_} is released, as its store shows."
 

@@ -1,7 +1,7 @@
 """Every bound of the page, by its name."""
 
-# Connections at a time, of all kinds; how many of them may be of those who aren't signed in, how many
-# event streams, and how many fetches, of all cameras and of one.
+# Connections at a time, of all kinds; how many of them may be of those who aren't signed in, how
+# many event streams, and how many fetches, of all cameras and of one.
 CONNECTIONS = 300
 STRANGERS = 100
 STREAMS = 64
@@ -11,18 +11,20 @@ CAMERA_FETCHES = 12
 # the one that is worked on.
 RECEIVE_BYTES = 16 * 1024
 REQUESTS_WAITING = 16
-# Seconds in which a request has to be whole, and in which a client that reads nothing has to read something.
+# Seconds in which a request has to be whole, and in which a client that reads nothing has to read
+# something.
 REQUEST_SECONDS = 15
 READ_SECONDS = 20
 # The bytes of a request's body, and of a line of the station.
 BODY_BYTES = 16 * 1024
 LINE_BYTES = 32 * 1024
-# After so many lines of the station in a row that aren't JSON it is told that its answers can't be read.
+# After so many lines of the station in a row that aren't JSON it is told that its answers can't be
+# read.
 UNREAD_LINES = 3
 # The events, and the clips of them, of which is remembered what the station said.
 EVENTS_HEARD = 4096
-# How often cameras are looked at while a page is open, and while none is, and how long a request waits for a look; how often the station is asked how
-# it stands.
+# How often cameras are looked at while a page is open, and while none is, and how long a request
+# waits for a look; how often the station is asked how it stands.
 LOOK_SECONDS = 0.5
 IDLE_SECONDS = 5.0
 FRESH_SECONDS = 2.0
@@ -38,7 +40,8 @@ CAMERA_READS = 64
 DRAW_THREADS = 2
 # How long a keep or a release may wait for its answer: what waits for a slow disk is stored first.
 CHANGE_SECONDS = 15.0
-# How long another order may wait for its answer, and how often the answers are looked at while one is awaited, and else.
+# How long another order may wait for its answer, and how often the answers are looked at while one
+# is awaited, and else.
 ANSWER_SECONDS = 5.0
 WATCH_SECONDS = 0.02
 REST_SECONDS = 0.1
@@ -50,8 +53,8 @@ NOTE_BYTES = 500
 NOTES = 4096
 # How often it is looked at whether an answer of which a part came is enough.
 ENOUGH_SECONDS = 0.25
-# How long a source may be missing, or a store absent, before it is warned of; how long frames, a disk or
-# a station may be away before the page warns of it by its own eyes.
+# How long a source may be missing, or a store absent, before it is warned of; how long frames, a
+# disk or a station may be away before the page warns of it by its own eyes.
 PASSING_SECONDS = 3.0
 SILENT_SECONDS = 4.0
 HANGING_SECONDS = 5.0
@@ -59,7 +62,8 @@ HANGING_SECONDS = 5.0
 STILL_SECONDS = 2.0
 # How long a clip that was kept is looked for in its store, for its times and its note.
 FIND_SECONDS = 3.0
-# Alerts that are remembered, and those that wait for the command or the webhook; the seconds that these may take.
+# Alerts that are remembered, and those that wait for the command or the webhook; the seconds that
+# these may take.
 ALERTS = 100
 DELIVERIES = 100
 DELIVERY_SECONDS = 30.0
@@ -82,14 +86,16 @@ LEFT_SECONDS = 60.0
 FILM_IDLE_SECONDS = 5.0
 # The bytes of a piece that is read from a store and sent.
 PIECE = 128 * 1024
-# How long a person stays signed in, how many may be; how many wrong tokens a minute are answered, and of how many addresses they are counted.
+# How long a person stays signed in, how many may be; how many wrong tokens a minute are answered,
+# and of how many addresses they are counted.
 SESSION_SECONDS = 7 * 24 * 3600
 SESSIONS = 1000
 WRONG_TOKENS = 20
 GUESSERS = 1000
 # The largest number of a frame.
 NUMBERS_END = 2**62
-# Pictures of one camera a second: live, while an event is played, at least, and of all cameras of a page together.
+# Pictures of one camera a second: live, while an event is played, at least, and of all cameras of a
+# page together.
 LIVE_RATE = 8
 PLAY_RATE = 25
 LEAST_PICTURES = 5
@@ -97,17 +103,19 @@ PICTURES_A_SECOND = 60
 # How long a look at the newest frame serves all pages; how long a round waits for a disk.
 PEEK_SECONDS = 0.04
 ROUND_SECONDS = 1.0
-# The bytes that a page may not have taken yet before it is sent no further picture, and for how many
-# seconds it is then sent no state either.
+# The bytes that a page may not have taken yet before it is sent no further picture, and for how
+# many seconds it is then sent no state either.
 WAITING_BYTES = 64 * 1024
 STATE_SECONDS = 2.0
 # Reads for pictures of one camera that may wait.
 EYE_READS = 64
-# After how many seconds pictures become smaller where the network is slow, and larger where it isn't: at first, and at most.
+# After how many seconds pictures become smaller where the network is slow, and larger where it
+# isn't: at first, and at most.
 PACE_SECONDS = 2.0
 CALM_SECONDS = 6.0
 CALM_MOST = 60.0
-# The width of a picture, at least and at most, and of that by which a stretch is chosen; by how little it may differ and is left.
+# The width of a picture, at least and at most, and of that by which a stretch is chosen; by how
+# little it may differ and is left.
 LEAST_WIDTH = 16
 MOST_WIDTH = 16384
 AUTO_WIDTH = 256

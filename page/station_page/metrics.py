@@ -31,7 +31,10 @@ class Collector:
         standing = self.laboratory.standing()
         for word, name, text in CAMERA:
             yield self.family(
-                GaugeMetricFamily, f"loop_camera_{name}", text, [(it, it.get(word)) for it in standing["cameras"]]
+                GaugeMetricFamily,
+                f"loop_camera_{name}",
+                text,
+                [(it, it.get(word)) for it in standing["cameras"]],
             )
         yield self.family(
             GaugeMetricFamily,
@@ -58,17 +61,25 @@ class Collector:
             [(it, it["given_up"]) for it in standing["cameras"]],
         )
         yield GaugeMetricFamily(
-            "loop_station_up", "1 while a station reads its orders", value=self.laboratory.is_running
+            "loop_station_up",
+            "1 while a station reads its orders",
+            value=self.laboratory.is_running,
         )
-        yield GaugeMetricFamily("loop_alerts", "Warnings that nobody has seen", value=len(standing["alerts"]))
+        yield GaugeMetricFamily(
+            "loop_alerts", "Warnings that nobody has seen", value=len(standing["alerts"])
+        )
         yield CounterMetricFamily(
             "loop_alerts_not_told",
             "Warnings that the command or the webhook didn't take",
             value=self.laboratory.alerts.not_told,
         )
-        yield GaugeMetricFamily("loop_page_connections", "Connections to the page", value=len(self.gate.connections))
+        yield GaugeMetricFamily(
+            "loop_page_connections", "Connections to the page", value=len(self.gate.connections)
+        )
         yield CounterMetricFamily(
-            "loop_page_connections_refused", "Connections that were one too many", value=self.gate.refused
+            "loop_page_connections_refused",
+            "Connections that were one too many",
+            value=self.gate.refused,
         )
         yield CounterMetricFamily(
             "loop_page_connections_late",

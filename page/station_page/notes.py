@@ -1,6 +1,8 @@
-"""What people write beside clips, in a file of the page's own: by the store's path and by the clip, so that a note never comes to stand beside other
-frames. A clip is known by its event's number and the time of its first frame, since it grows while its event goes on; where it has a tag of yours, by
-its id and the times of its first and last frame. The file is written anew, synced, and put in the old one's place."""
+"""What people write beside clips, in a file of the page's own: by the store's path and by the clip,
+so that a note never comes to stand beside other frames. A clip is known by its event's number and
+the time of its first frame, since it grows while its event goes on; where it has a tag of yours, by
+its id and the times of its first and last frame. The file is written anew, synced, and put in the
+old one's place."""
 import contextlib
 import json
 import os
@@ -27,12 +29,14 @@ def tidy(text: str) -> str:
 
 
 def key_of(store: str, clip: Clip) -> str:
-    """By what a note is found: ids are used again, also for a clip that begins where an earlier one did."""
+    """By what a note is found: ids are used again, also for a clip that begins where an earlier one
+    did."""
     return f"event {clip.tag} {clip.since} {store}" if is_number(clip.tag) else by_ends(store, clip)
 
 
 def by_ends(store: str, clip: Clip) -> str:
-    """By what a note of a clip with a tag of yours is found; an older page has written all notes so."""
+    """By what a note of a clip with a tag of yours is found; an older page has written all notes
+    so."""
     return f"{clip.id} {clip.since} {clip.until} {store}"
 
 
@@ -68,7 +72,10 @@ class Notes:
         except FileNotFoundError:
             return None
         except (OSError, ValueError, RecursionError):
-            return f"The file of notes can't be read: {self.path}. Move it away, and start the page again."
+            return (
+                f"The file of notes can't be read: {self.path}. Move it away, and start the page "
+                f"again."
+            )
         return None
 
     def of(self, store: str, clip: Clip) -> str:
@@ -76,8 +83,9 @@ class Notes:
         return self.notes.get(key_of(store, clip)) or self.notes.get(by_ends(store, clip), "")
 
     def put(self, clips: list[tuple[str, Clip]], text: str, is_held) -> None:
-        """Writes a note beside some clips, each with its store's path, or takes it away where it is empty. All of it is one write. `is_held` says of
-        a key whether its clip still stands: notes of others make room."""
+        """Writes a note beside some clips, each with its store's path, or takes it away where it is
+        empty. All of it is one write. `is_held` says of a key whether its clip still stands: notes
+        of others make room."""
         line = tidy(text)
         with self.lock:
             if self.fault:
@@ -95,7 +103,9 @@ class Notes:
         """Writes the file: a new one, synced, in the old one's place."""
         folder, new = Path(self.path).parent, self.new()
         try:
-            descriptor = os.open(new, os.O_WRONLY | os.O_CREAT | os.O_TRUNC | os.O_NOFOLLOW | os.O_CLOEXEC, 0o600)
+            descriptor = os.open(
+                new, os.O_WRONLY | os.O_CREAT | os.O_TRUNC | os.O_NOFOLLOW | os.O_CLOEXEC, 0o600
+            )
             with os.fdopen(descriptor, "w", encoding="utf-8") as file:
                 json.dump({"version": VERSION, "notes": notes}, file, ensure_ascii=False, indent=1)
                 file.flush()

@@ -1,4 +1,5 @@
-"""Orders to the station, through the named pipe of its configuration, and its answers, from where the configuration puts them."""
+"""Orders to the station, through the named pipe of its configuration, and its answers, from where
+the configuration puts them."""
 import asyncio
 import contextlib
 import errno
@@ -18,8 +19,8 @@ class NoStation(Exception):
 
 
 class OrderPipe:
-    """The pipe of orders. It is held open while somebody reads it, so that no order is lost between two writers, and closed when the station ends,
-    so that nothing waits there for the next one."""
+    """The pipe of orders. It is held open while somebody reads it, so that no order is lost between
+    two writers, and closed when the station ends, so that nothing waits there for the next one."""
 
     def __init__(self, path: str | None) -> None:
         self.path, self.file = path, -1
@@ -65,14 +66,19 @@ class OrderPipe:
         """Gives an order, whole or not at all: a line is shorter than what a pipe takes at once."""
         if self.path is None:
             raise NoStation(
-                "The station's configuration has no `orders`, so the page can't give any. Name a pipe there, and start the station again."
+                "The station's configuration has no `orders`, so the page can't give any. Name a "
+                "pipe there, and start the station again."
             )
         if not self.is_read():
-            raise NoStation(f"The station doesn't run: nobody reads orders at {self.path}. Start it.")
+            raise NoStation(
+                f"The station doesn't run: nobody reads orders at {self.path}. Start it."
+            )
         try:
             os.write(self.file, line.encode() + b"\n")
         except BlockingIOError:
-            raise NoStation("The station doesn't read its orders: its pipe is full. Is it stopped?") from None
+            raise NoStation(
+                "The station doesn't read its orders: its pipe is full. Is it stopped?"
+            ) from None
         except OSError:
             self.close()
             raise NoStation("The station has just ended. Start it.") from None
@@ -85,7 +91,8 @@ class AnswerReader:
         self.path, self.file, self.rest, self.is_pipe, self.is_cut = path, -1, b"", False, False
 
     def open(self, at_end: bool) -> None:
-        """Opens the pipe or file, where it is there. A file that was there before is read from its end on."""
+        """Opens the pipe or file, where it is there. A file that was there before is read from its
+        end on."""
         with contextlib.suppress(OSError):
             self.file = os.open(self.path or "", os.O_RDONLY | os.O_NONBLOCK | os.O_CLOEXEC)
             self.is_pipe, self.rest = stat.S_ISFIFO(os.fstat(self.file).st_mode), b""
@@ -99,7 +106,8 @@ class AnswerReader:
             self.file = -1
 
     def look_again(self) -> None:
-        """Opens another file that has taken the path's place, and begins anew with one that was cut."""
+        """Opens another file that has taken the path's place, and begins anew with one that was
+        cut."""
         try:
             here, there = os.fstat(self.file), os.stat(self.path or "")
         except OSError:
@@ -132,7 +140,8 @@ class AnswerReader:
 
 
 class Waiting:
-    """An order that waits for its last line. `each` is told each line when it comes, among the events that come beside it."""
+    """An order that waits for its last line. `each` is told each line when it comes, among the
+    events that come beside it."""
 
     def __init__(self, label: str, each: Callable[[Line], None] | None = None) -> None:
         self.label, self.each = label, each
@@ -147,13 +156,15 @@ class Waiting:
 
 
 def label_of(prefix: str, order: str, count: int) -> str:
-    """The label of an order. Those of `status` are known by theirs, so that the service's journal leaves them out."""
+    """The label of an order. Those of `status` are known by theirs, so that the service's journal
+    leaves them out."""
     return f"{prefix}-{'poll-' if order == 'status' else ''}{count}"
 
 
 class Orders:
-    """Gives orders with labels, and hands each its answer. Lines without a label are events. `told` has on_line(line), for each line that comes,
-    on_event(line), and on_unread(), for lines that aren't JSON."""
+    """Gives orders with labels, and hands each its answer. Lines without a label are events. `told`
+    has on_line(line), for each line that comes, on_event(line), and on_unread(), for lines that
+    aren't JSON."""
 
     def __init__(self, orders: str | None, answers: str | None, told) -> None:
         self.pipe, self.reader, self.told = OrderPipe(orders), AnswerReader(answers), told
@@ -178,9 +189,13 @@ class Orders:
         return waiting
 
     async def answer(
-        self, waiting: Waiting, seconds: float, is_enough: Callable[[list[Line]], bool] | None = None
+        self,
+        waiting: Waiting,
+        seconds: float,
+        is_enough: Callable[[list[Line]], bool] | None = None,
     ) -> list[Line]:
-        """The lines that answer an order, once they are there: all of them, or, where `is_enough` says so of those that came, these."""
+        """The lines that answer an order, once they are there: all of them, or, where `is_enough`
+        says so of those that came, these."""
         end = time.monotonic() + seconds
         try:
             while not waiting.done.done():
@@ -189,19 +204,26 @@ class Orders:
                 left = end - time.monotonic()
                 if left <= 0:
                     raise asyncio.TimeoutError
-                await asyncio.wait([waiting.done], timeout=min(left, limits.ENOUGH_SECONDS) if is_enough else left)
+                await asyncio.wait(
+                    [waiting.done], timeout=min(left, limits.ENOUGH_SECONDS) if is_enough else left
+                )
             waiting.done.result()
         except asyncio.TimeoutError:
             raise NoStation(
-                f"The station hasn't answered within {seconds:.0f} seconds. It may still do what was asked: look at the clips. "
-                "Does it run, is its disk slow, and does it write its answers where the page reads them?"
+                f"The station hasn't answered within {seconds:.0f} seconds. It may still do what "
+                f"was asked: look at the clips. "
+                "Does it run, is its disk slow, and does it write its answers where the page "
+                "reads them?"
             ) from None
         finally:
             del self.waiting[waiting.label]
         return waiting.lines
 
     async def ask(
-        self, order: str, seconds: float = limits.ANSWER_SECONDS, each: Callable[[Line], None] | None = None
+        self,
+        order: str,
+        seconds: float = limits.ANSWER_SECONDS,
+        each: Callable[[Line], None] | None = None,
     ) -> list[Line]:
         """Gives an order, and waits for its answer."""
         return await self.answer(self.begin(order, each), seconds)
@@ -211,7 +233,8 @@ class Orders:
         self.pipe.write(order)
 
     def hear(self, raw: str) -> None:
-        """A line that was read. What is no JSON is left out; where several such lines come, that is told."""
+        """A line that was read. What is no JSON is left out; where several such lines come, that is
+        told."""
         line = read_line(raw)
         if line is None:
             self.unread += bool(raw)
@@ -237,7 +260,10 @@ class Orders:
         """Tells those who wait that the station has ended."""
         for waiting in self.waiting.values():
             if not waiting.done.done():
-                text = "The station ended before it answered. It may have done what was asked: look at the clips once it runs."
+                text = (
+                    "The station ended before it answered. It may have done what was asked: look "
+                    "at the clips once it runs."
+                )
                 waiting.done.set_exception(NoStation(text))
 
     async def watch(self) -> None:

@@ -1,4 +1,5 @@
-"""Frames as pictures. Colours are taken as ffmpeg takes them (docs/export.md): Y from 16 to 235 where there are three planes, and from 0 to 255 in grey."""
+"""Frames as pictures. Colours are taken as ffmpeg takes them (docs/export.md): Y from 16 to 235
+where there are three planes, and from 0 to 255 in grey."""
 import io
 
 import layout
@@ -7,9 +8,12 @@ from PIL import Image
 
 # What a byte of limited range is in full range: of Y, and of both colours.
 FULL = numpy.clip(numpy.rint((numpy.arange(256) - 16) * 255 / 219), 0, 255).astype(numpy.uint8)
-FULL_COLOUR = numpy.clip(numpy.rint((numpy.arange(256) - 128) * 255 / 224 + 128), 0, 255).astype(numpy.uint8)
+FULL_COLOUR = numpy.clip(numpy.rint((numpy.arange(256) - 128) * 255 / 224 + 128), 0, 255).astype(
+    numpy.uint8
+)
 JPEG_QUALITY = 82
-# The parts of the pixels that a stretch `auto` makes black and white, and how far the two are apart at least.
+# The parts of the pixels that a stretch `auto` makes black and white, and how far the two are apart
+# at least.
 AUTO_BLACK, AUTO_WHITE, AUTO_LEAST = 0.005, 0.995, 4
 # By how much a stretch makes colours stronger at most: of a dark picture they are mostly noise.
 COLOUR_GAIN = 3.0
@@ -29,7 +33,8 @@ def step_of(geometry: layout.Geometry, width: int | None) -> int:
 
 
 def luma_of(geometry: layout.Geometry, data: bytes, width: int | None = None) -> numpy.ndarray:
-    """The brightness of a frame's pixels as the store has it, rows by columns; of fewer pixels where a width is given."""
+    """The brightness of a frame's pixels as the store has it, rows by columns; of fewer pixels
+    where a width is given."""
     size = layout.planes_of(geometry.width, geometry.height, geometry.format)[0]
     return plane(memoryview(data)[:size], geometry.width, geometry.height, step_of(geometry, width))
 
@@ -73,8 +78,9 @@ def image_of(
     stretch: Stretch | None = None,
     between: Image.Resampling = Image.Resampling.BILINEAR,
 ) -> Image.Image:
-    """A frame as an image in grey or Y'CbCr, at most about so wide where a width is given, and stretched for the eye where that is asked for. `between` is
-    how colours are spread that stand for several pixels."""
+    """A frame as an image in grey or Y'CbCr, at most about so wide where a width is given, and
+    stretched for the eye where that is asked for. `between` is how colours are spread that stand
+    for several pixels."""
     step = step_of(geometry, width)
     whole = memoryview(data)
     sizes = layout.planes_of(geometry.width, geometry.height, geometry.format)
@@ -88,7 +94,9 @@ def image_of(
     bands = [band_of(luma, FULL if shown is None else shown)]
     colours = colours_for(stretch)
     for count in sizes[1:]:
-        band = band_of(plane(whole[at : at + count], wide, high, max(1, step // max(across, down))), colours)
+        band = band_of(
+            plane(whole[at : at + count], wide, high, max(1, step // max(across, down))), colours
+        )
         bands.append(band if band.size == size else band.resize(size, between))
         at += count
     return Image.merge("YCbCr", bands)
@@ -101,9 +109,12 @@ def jpeg(
     stretch: Stretch | None = None,
     quality: int = JPEG_QUALITY,
 ) -> bytes:
-    """A frame as JPEG. A JPEG halves the colours again, so that those of the frame come out as they were where each was repeated."""
+    """A frame as JPEG. A JPEG halves the colours again, so that those of the frame come out as they
+    were where each was repeated."""
     out = io.BytesIO()
-    image_of(geometry, data, width, stretch, Image.Resampling.NEAREST).save(out, "JPEG", quality=quality)
+    image_of(geometry, data, width, stretch, Image.Resampling.NEAREST).save(
+        out, "JPEG", quality=quality
+    )
     return out.getvalue()
 
 
@@ -115,7 +126,8 @@ def png(geometry: layout.Geometry, data: bytes) -> bytes:
 
 
 def light(geometry: layout.Geometry, data: bytes) -> dict:
-    """How often each brightness is there in a frame, as the store has it, and the stretch that `auto` takes."""
+    """How often each brightness is there in a frame, as the store has it, and the stretch that
+    `auto` takes."""
     luma = luma_of(geometry, data)
     black, white = auto_stretch(luma)
     counts = numpy.bincount(luma.ravel(), minlength=256)
@@ -123,7 +135,8 @@ def light(geometry: layout.Geometry, data: bytes) -> dict:
 
 
 def value_at(geometry: layout.Geometry, part, x: int, y: int) -> dict[str, int]:
-    """A pixel's values as the store has them. `part` answers so many bytes of the frame from a place on."""
+    """A pixel's values as the store has them. `part` answers so many bytes of the frame from a
+    place on."""
     sizes = layout.planes_of(geometry.width, geometry.height, geometry.format)
     if len(sizes) == 1:
         return {"value": part(y * geometry.width + x, 1)[0]}

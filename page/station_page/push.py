@@ -2,9 +2,9 @@
 pictures of all cameras, as quickly as the network takes them.
 
 A message is two lengths of 4 bytes (big-endian), those of its head and of its body; the head, which
-is JSON and says by `kind` what it is; and the body. A picture is made once for all pages that look at
-the same time. A page whose network is slow is sent fewer and smaller pictures, each of them new: none
-waits behind others."""
+is JSON and says by `kind` what it is; and the body. A picture is made once for all pages that look
+at the same time. A page whose network is slow is sent fewer and smaller pictures, each of them new:
+none waits behind others."""
 import asyncio
 import contextlib
 import fcntl
@@ -132,7 +132,8 @@ class Pace:
         self.calm = limits.CALM_SECONDS
 
     def round(self, is_late: bool) -> None:
-        """A round of pictures was sent, or couldn't be, since the client still takes earlier ones."""
+        """A round of pictures was sent, or couldn't be, since the client still takes earlier
+        ones."""
         self.late += is_late
         self.rounds += not is_late
         took = time.monotonic() - self.since
@@ -202,7 +203,8 @@ class Stream:
         try:
             picture = await eye.picture(frame, look)
         except (Gone, Unfit):
-            # It was overwritten just now, or the disk doesn't answer: a later round shows a newer one.
+            # It was overwritten just now, or the disk doesn't answer: a later round shows a newer
+            # one.
             return None
         self.shown[name] = mark
         return message("picture", picture.body, **told, **words_of(picture))
@@ -248,7 +250,8 @@ class Push:
     """All open pages, and what each is sent."""
 
     def __init__(self, laboratory, state, is_known) -> None:
-        """`state` answers what all pages are sent, and `is_known` whether a request may be answered."""
+        """`state` answers what all pages are sent, and `is_known` whether a request may be
+        answered."""
         self.laboratory, self.state, self.is_known = laboratory, state, is_known
         self.eyes = {name: Eye(watched) for name, watched in laboratory.cameras.items()}
         self.streams: dict[str, Stream] = {}

@@ -1,5 +1,5 @@
-"""Stores as they are now. The layout, how a store that changes meanwhile is read, and how a frame is known to be whole are the module lapyrei's; here
-stands what the page makes of a reading."""
+"""Stores as they are now. The layout, how a store that changes meanwhile is read, and how a frame
+is known to be whole are the module lapyrei's; here stands what the page makes of a reading."""
 import asyncio
 import os
 import threading
@@ -19,7 +19,8 @@ RATE_FRAMES = 50
 
 @dataclass(frozen=True)
 class Clip:
-    """A clip: its id, its numbers and its tag, and the times of its first and last frame in microseconds since 1970."""
+    """A clip: its id, its numbers and its tag, and the times of its first and last frame in
+    microseconds since 1970."""
 
     id: int
     first: int
@@ -49,9 +50,15 @@ class Reading:
     """A store at a moment."""
 
     def __init__(self, store: layout.Store) -> None:
-        self.store, self.geometry, self.frames, self.next = store, store.geometry, store.frames, store.next
+        self.store, self.geometry, self.frames, self.next = (
+            store,
+            store.geometry,
+            store.frames,
+            store.next,
+        )
         self.clips = [
-            Clip(id_, first, last, tag, store.times[first], store.times[last]) for id_, first, last, tag in store.clips
+            Clip(id_, first, last, tag, store.times[first], store.times[last])
+            for id_, first, last, tag in store.clips
         ]
 
     def clip(self, id_: int) -> Clip | None:
@@ -65,7 +72,9 @@ class Reading:
 
     def is_all_locked(self) -> bool:
         """Whether no block is left into which further frames could come."""
-        return self.removed_next() is None and len(self.store.with_frames()) == self.geometry.segments
+        return (
+            self.removed_next() is None and len(self.store.with_frames()) == self.geometry.segments
+        )
 
     def rate(self) -> float | None:
         """Frames a second, by the newest ones."""
@@ -85,10 +94,14 @@ class Reading:
         return sum(layout.meets(spans, block, slots) for block in blocks) / self.geometry.segments
 
     def removed_next(self) -> tuple[int, int] | None:
-        """The first and the last number of the block that is removed next, or nothing where there is room or none may be removed."""
+        """The first and the last number of the block that is removed next, or nothing where there
+        is room or none may be removed."""
         free = self.geometry.segments - len(self.store.with_frames())
         victim = None if free else self.store.victim()
-        return victim and (victim.block * self.geometry.slots, (victim.block + 1) * self.geometry.slots - 1)
+        return victim and (
+            victim.block * self.geometry.slots,
+            (victim.block + 1) * self.geometry.slots - 1,
+        )
 
     def pieces(self) -> list[Piece]:
         """The held frames, divided where a number or time is missing."""
@@ -99,7 +112,8 @@ class Reading:
     def divide(self) -> list[Piece]:
         """The pieces, reckoned."""
         frames, longest = self.frames, layout.longest_step(self.geometry)
-        # A frame as a tuple, since this is done for each frame, often: its number is the first, and its time the fourth.
+        # A frame as a tuple, since this is done for each frame, often: its number is the first, and
+        # its time the fourth.
         breaks = [
             place
             for place, (old, new) in enumerate(zip(frames, frames[1:]), 1)
@@ -107,7 +121,12 @@ class Reading:
         ]
         spans = zip([0, *breaks], [*breaks, len(frames)])
         return [
-            Piece(frames[start].number, frames[end - 1].number, frames[start].time, frames[end - 1].time)
+            Piece(
+                frames[start].number,
+                frames[end - 1].number,
+                frames[start].time,
+                frames[end - 1].time,
+            )
             for start, end in spans
             if start < end
         ]
@@ -122,7 +141,8 @@ class Reading:
         )
 
     def near(self, number: int, by: int) -> layout.Frame | None:
-        """The held frame that is so many held frames after a number, or the last one on that side."""
+        """The held frame that is so many held frames after a number, or the last one on that
+        side."""
         if not self.frames:
             return None
         place = bisect_left(self.frames, number, key=lambda frame: frame.number)
@@ -163,7 +183,8 @@ class Source:
 
 
 class Reader:
-    """A store in the file of a path, read again and again. Readings are made one at a time, from any thread."""
+    """A store in the file of a path, read again and again. Readings are made one at a time, from
+    any thread."""
 
     def __init__(self, path: str, reads: Workers | None = None) -> None:
         """`reads` are the threads in which its frames are read."""

@@ -29,8 +29,15 @@ from .workers import DRAWING, NO_ANSWER
 log = logging.getLogger("loop_page")
 TOO_MANY = "Too many wrong tokens came from your address. Wait a minute, or bring the right one."
 STATIC = Path(__file__).parent / "static"
-TYPES = {".html": "text/html", ".js": "text/javascript", ".css": "text/css", ".svg": "image/svg+xml"}
-STATIC_FILES = {path.name: TYPES[path.suffix] for path in sorted(STATIC.iterdir()) if path.suffix in TYPES}
+TYPES = {
+    ".html": "text/html",
+    ".js": "text/javascript",
+    ".css": "text/css",
+    ".svg": "image/svg+xml",
+}
+STATIC_FILES = {
+    path.name: TYPES[path.suffix] for path in sorted(STATIC.iterdir()) if path.suffix in TYPES
+}
 KINDS = {
     "mp4": "video/mp4",
     "y4m": "video/x-yuv4mpeg2",
@@ -40,8 +47,11 @@ KINDS = {
 }
 
 
-# Requests that are none, and clients that leave, for which aiohttp would write where it failed: it asserts that they are there.
-MALFORMED = Expected((http_exceptions.HttpProcessingError, web.RequestPayloadError, ConnectionError, AssertionError))
+# Requests that are none, and clients that leave, for which aiohttp would write where it failed: it
+# asserts that they are there.
+MALFORMED = Expected(
+    (http_exceptions.HttpProcessingError, web.RequestPayloadError, ConnectionError, AssertionError)
+)
 
 
 class Pictures:
@@ -50,14 +60,19 @@ class Pictures:
     def __init__(self) -> None:
         self.made: collections.OrderedDict[tuple, bytes] = collections.OrderedDict()
         self.bytes = 0
-        # One at a time of each store, so that one frame of each is in memory. A disk that doesn't answer holds up its own pictures alone.
-        self.turns: collections.defaultdict[tuple, asyncio.Lock] = collections.defaultdict(asyncio.Lock)
+        # One at a time of each store, so that one frame of each is in memory. A disk that doesn't
+        # answer holds up its own pictures alone.
+        self.turns: collections.defaultdict[tuple, asyncio.Lock] = collections.defaultdict(
+            asyncio.Lock
+        )
 
     async def jpeg(self, source, frame, width: int | None) -> bytes:
         """A frame as JPEG, made once. Unfit where its disk doesn't answer."""
         key = (source.opened.identity, frame.number, frame.time, width)
         try:
-            return await asyncio.wait_for(self.made_of(key, source, frame, width), limits.PICTURE_SECONDS)
+            return await asyncio.wait_for(
+                self.made_of(key, source, frame, width), limits.PICTURE_SECONDS
+            )
         except asyncio.TimeoutError:
             raise Unfit(503, NO_ANSWER) from None
 
@@ -74,7 +89,9 @@ class Pictures:
         """Remembers a picture, and drops those that were asked for longest ago."""
         self.made[key] = body
         self.bytes += len(body)
-        while len(self.made) > 1 and (len(self.made) > limits.PICTURES or self.bytes > limits.PICTURE_BYTES):
+        while len(self.made) > 1 and (
+            len(self.made) > limits.PICTURES or self.bytes > limits.PICTURE_BYTES
+        ):
             self.bytes -= len(self.made.popitem(last=False)[1])
 
 
@@ -115,7 +132,7 @@ class Page:
         self.console.add_to(app)
         return app
 
-    # ------------------------------------------------------------------------------------------- who is let in
+    # -------------------------------------------------------------------------------- who is let in
 
     @web.middleware
     async def let_in(self, request: web.Request, handler) -> web.StreamResponse:
@@ -162,7 +179,11 @@ class Page:
             return problem(
                 answer.status,
                 f"{answer.reason}.",
-                {key: answer.headers[key] for key in ("Allow", "Content-Range") if key in answer.headers},
+                {
+                    key: answer.headers[key]
+                    for key in ("Allow", "Content-Range")
+                    if key in answer.headers
+                },
             )
         except ConnectionError:
             # The client has left.
@@ -174,7 +195,11 @@ class Page:
     def gate_of(self, request: web.Request) -> None:
         """Refuses who may not pass."""
         if not self.gate.is_host(request):
-            raise Unfit(421, "This page answers to the names of its own machine alone. Another name wants a token.")
+            raise Unfit(
+                421,
+                "This page answers to the names of its own machine alone. Another name wants a "
+                "token.",
+            )
         if not self.gate.is_known(request) and request.path not in OPEN:
             self.refuse_stranger(request)
         if request.headers.get("Content-Encoding", "identity").lower() != "identity":
@@ -184,11 +209,13 @@ class Page:
         if request.method not in ("GET", "HEAD") and not self.gate.is_own(request):
             raise Unfit(
                 403,
-                "A change has to come from this page (Origin), or with the header X-Loop-Page: 1, or with the token as a bearer.",
+                "A change has to come from this page (Origin), or with the header X-Loop-Page: 1, "
+                "or with the token as a bearer.",
             )
 
     def refuse_stranger(self, request: web.Request) -> None:
-        """Says to somebody without the token what to do. Of a wrong one it is counted from where it came."""
+        """Says to somebody without the token what to do. Of a wrong one it is counted from where it
+        came."""
         if self.gate.has_guessed(request):
             raise Unfit(429, TOO_MANY)
         given = bearer_of(request)
@@ -201,10 +228,13 @@ class Page:
     def note_guesses(self, request: web.Request, given: str) -> None:
         """Writes down, once a minute, that too many wrong tokens came from an address."""
         if given and self.gate.has_guessed(request):
-            text = f"{limits.WRONG_TOKENS} wrong tokens came within a minute. More of them have to wait."
+            text = (
+                f"{limits.WRONG_TOKENS} wrong tokens came within a minute. More of them have to "
+                f"wait."
+            )
             self.laboratory.journal.add("wrong tokens", text, self.gate.who(request), is_bad=True)
 
-    # ------------------------------------------------------------------------------------------- the page itself
+    # ------------------------------------------------------------------------------ the page itself
 
     def file(self, name: str) -> web.Response:
         """A file of the page."""
@@ -246,7 +276,9 @@ class Page:
             return await self.refuse_sign_in(request, str(token))
         name = self.gate.sign_in()
         address, _ = self.gate.who(request)
-        self.laboratory.journal.add("sign-in", "signed in.", (address, f"session {session_word(name)}"))
+        self.laboratory.journal.add(
+            "sign-in", "signed in.", (address, f"session {session_word(name)}")
+        )
         answer = web.HTTPSeeOther("/")
         answer.set_cookie(
             COOKIE,
@@ -281,7 +313,8 @@ class Page:
         raise answer
 
     async def events(self, request: web.Request) -> web.StreamResponse:
-        """How all stands, again and again. A client that is slow is sent the newest state once it reads, and none in between."""
+        """How all stands, again and again. A client that is slow is sent the newest state once it
+        reads, and none in between."""
         if self.laboratory.streams >= limits.STREAMS:
             raise Unfit(503, "Too many pages are open.")
         response = web.StreamResponse(headers={"Content-Type": "text/event-stream"})
@@ -294,7 +327,9 @@ class Page:
             version = -1
             while True:
                 async with self.laboratory.changed:
-                    await self.laboratory.changed.wait_for(lambda: self.laboratory.version != version)
+                    await self.laboratory.changed.wait_for(
+                        lambda: self.laboratory.version != version
+                    )
                     version, state = self.laboratory.version, self.laboratory.state
                 await response.write(b"data: " + state + b"\n\n")
         except (ConnectionResetError, ConnectionAbortedError):
@@ -302,7 +337,7 @@ class Page:
         finally:
             self.laboratory.streams -= 1
 
-    # ------------------------------------------------------------------------------------------- for instruments
+    # ------------------------------------------------------------------------------ for instruments
 
     async def healthz(self, request: web.Request) -> web.Response:
         """The server runs."""
@@ -312,7 +347,8 @@ class Page:
         """Prometheus's text."""
         await self.laboratory.fresh()
         return web.Response(
-            body=metrics.text_of(self.registry), headers={"Content-Type": "text/plain; version=0.0.4; charset=utf-8"}
+            body=metrics.text_of(self.registry),
+            headers={"Content-Type": "text/plain; version=0.0.4; charset=utf-8"},
         )
 
     async def status(self, request: web.Request) -> web.Response:
@@ -336,7 +372,8 @@ class Page:
         return web.json_response({"journal": self.laboratory.journal.listed()})
 
     async def newest(self, request: web.Request) -> web.Response:
-        """The newest stored frame; or the one of a number, so that pages that look at the same time cost one picture."""
+        """The newest stored frame; or the one of a number, so that pages that look at the same time
+        cost one picture."""
         await self.laboratory.fresh()
         watched, reading, source = self.laboratory.seen(request.match_info["camera"])
         if not reading.frames:
@@ -359,10 +396,18 @@ class Page:
         await self.laboratory.fresh()
         _, reading, _ = self.laboratory.seen(request.match_info["camera"])
         query = request.query
-        number, moment = (number_in(query.get(word), limits.NUMBERS_END, word) for word in ("number", "time"))
-        if not re.fullmatch(r"-?[0-9]{1,6}", query.get("by", "0")) or (number is None) == (moment is None):
+        number, moment = (
+            number_in(query.get(word), limits.NUMBERS_END, word) for word in ("number", "time")
+        )
+        if not re.fullmatch(r"-?[0-9]{1,6}", query.get("by", "0")) or (number is None) == (
+            moment is None
+        ):
             raise Unfit(400, "Ask for time=MICROSECONDS, or for number=N and by=M.")
-        found = reading.at(moment) if moment is not None else reading.near(number or 0, int(query.get("by", "0")))
+        found = (
+            reading.at(moment)
+            if moment is not None
+            else reading.near(number or 0, int(query.get("by", "0")))
+        )
         if found is None:
             raise Unfit(404, "No frame is stored.")
         return web.json_response({"number": found.number, "time": found.time})
@@ -392,29 +437,48 @@ class Page:
     async def keep(self, request: web.Request) -> web.Response:
         """Locks the last seconds, or a span of time."""
         body = await self.body(request, {"camera", "seconds", "from", "to", "note"})
-        note, camera, seconds, span = body.get("note", ""), body.get("camera"), body.get("seconds"), None
+        note, camera, seconds, span = (
+            body.get("note", ""),
+            body.get("camera"),
+            body.get("seconds"),
+            None,
+        )
         if not isinstance(note, str):
             raise Unfit(400, "note isn't a text.")
         if "from" in body or "to" in body:
             span = moment_in(body.get("from"), "from"), moment_in(body.get("to"), "to")
             if seconds is not None or span[0] > span[1]:
                 raise Unfit(400, "Give seconds, or from and to, where from isn't after to.")
-        elif not isinstance(seconds, int) or isinstance(seconds, bool) or not 1 <= seconds <= limits.KEEP_SECONDS:
+        elif (
+            not isinstance(seconds, int)
+            or isinstance(seconds, bool)
+            or not 1 <= seconds <= limits.KEEP_SECONDS
+        ):
             raise Unfit(400, f"seconds is a whole number from 1 to {limits.KEEP_SECONDS}.")
         kept = await self.change(
-            request, "keep", keep_words(camera, seconds, span, note), self.laboratory.keep(camera, seconds, span, note)
+            request,
+            "keep",
+            keep_words(camera, seconds, span, note),
+            self.laboratory.keep(camera, seconds, span, note),
         )
         is_kept = any(one.is_kept for one in kept)
         return web.json_response(
-            {"kept": is_kept, "answers": [one.as_object() for one in kept]}, status=200 if is_kept else 409
+            {"kept": is_kept, "answers": [one.as_object() for one in kept]},
+            status=200 if is_kept else 409,
         )
 
-    async def of_clip(self, request: web.Request, more: set[str]) -> tuple[dict, str, int, int | None]:
+    async def of_clip(
+        self, request: web.Request, more: set[str]
+    ) -> tuple[dict, str, int, int | None]:
         """A request about a clip: its body, camera, id and first number."""
         body = await self.body(request, {"camera", "id", "first"} | more)
         camera, id_, first = body.get("camera"), body.get("id"), body.get("first")
         for value, what in ((id_, "id"), (first if first is not None else 0, "first")):
-            if not isinstance(value, int) or isinstance(value, bool) or not 0 <= value < limits.NUMBERS_END:
+            if (
+                not isinstance(value, int)
+                or isinstance(value, bool)
+                or not 0 <= value < limits.NUMBERS_END
+            ):
                 raise Unfit(400, f"{what} isn't a number.")
         return body, self.laboratory.watched(camera).camera.name, id_, first
 
@@ -422,7 +486,9 @@ class Page:
         """Releases a clip."""
         _, camera, id_, first = await self.of_clip(request, set())
         order = f"clip {id_} of {camera}" + ("" if first is None else f" from frame {first}")
-        text = await self.change(request, "release", order, self.laboratory.release(camera, id_, first))
+        text = await self.change(
+            request, "release", order, self.laboratory.release(camera, id_, first)
+        )
         return web.json_response({"text": text})
 
     async def note(self, request: web.Request) -> web.Response:
@@ -432,7 +498,9 @@ class Page:
             raise Unfit(400, "note isn't a text.")
         *_, clip = self.laboratory.clip(camera, id_, first)
         work = asyncio.to_thread(self.laboratory.put_notes, [(camera, clip)], body["note"])
-        await self.change(request, "note", f"clip {id_} of {camera}: {body['note'][: limits.NOTE_BYTES]}", work)
+        await self.change(
+            request, "note", f"clip {id_} of {camera}: {body['note'][: limits.NOTE_BYTES]}", work
+        )
         return web.json_response({"text": "The note is written."})
 
     async def change(self, request: web.Request, kind: str, order: str, work: Awaitable):
@@ -446,7 +514,11 @@ class Page:
         except Exception as fault:
             self.laboratory.journal.add(kind, f"failed: {fault!r}", who, order, is_bad=True)
             raise
-        told = " ".join(one.sentence() for one in found) if isinstance(found, list) else found or "written."
+        told = (
+            " ".join(one.sentence() for one in found)
+            if isinstance(found, list)
+            else found or "written."
+        )
         self.laboratory.journal.add(kind, told, who, order)
         self.laboratory.hurry.set()
         return found
@@ -462,16 +534,25 @@ class Page:
         self.laboratory.hurry.set()
         return web.json_response({"text": "Seen."})
 
-    # ------------------------------------------------------------------------------------------- clips as files
+    # ------------------------------------------------------------------------------- clips as files
 
     async def fetch(self, request: web.Request) -> web.StreamResponse:
         """A clip as a file."""
-        camera, id_, kind = request.match_info["camera"], int(request.match_info["id"]), request.match_info["kind"]
+        camera, id_, kind = (
+            request.match_info["camera"],
+            int(request.match_info["id"]),
+            request.match_info["kind"],
+        )
         await self.laboratory.fresh()
-        fetch = self.laboratory.fetch(camera, id_, number_in(request.query.get("first"), limits.NUMBERS_END, "first"))
+        fetch = self.laboratory.fetch(
+            camera, id_, number_in(request.query.get("first"), limits.NUMBERS_END, "first")
+        )
         if kind == "jpg":
-            return await self.picture(fetch.source, fetch.frames[len(fetch.frames) // 2], limits.THUMB_WIDTH)
-        # A bound for each camera, so that those of one whose disk doesn't answer leave the others theirs.
+            return await self.picture(
+                fetch.source, fetch.frames[len(fetch.frames) // 2], limits.THUMB_WIDTH
+            )
+        # A bound for each camera, so that those of one whose disk doesn't answer leave the others
+        # theirs.
         if self.fetches.total() >= limits.FETCHES or self.fetches[camera] >= limits.CAMERA_FETCHES:
             raise Unfit(503, "Too many clips are being fetched. Try again in a minute.")
         self.fetches[camera] += 1
@@ -482,8 +563,11 @@ class Page:
             self.fetches[camera] -= 1
 
     def file_response(self, request: web.Request, fetch, kind: str) -> web.StreamResponse:
-        """An answer that is a file: it is saved under a name, or played where `play` is asked for."""
-        response = web.StreamResponse(headers={"Content-Type": KINDS[kind], "ETag": fetch.tag(kind)})
+        """An answer that is a file: it is saved under a name, or played where `play` is asked
+        for."""
+        response = web.StreamResponse(
+            headers={"Content-Type": KINDS[kind], "ETag": fetch.tag(kind)}
+        )
         if "play" not in request.query:
             response.headers["Content-Disposition"] = f'attachment; filename="{fetch.name(kind)}"'
         self.dress(response)
@@ -492,7 +576,8 @@ class Page:
     async def send(
         self, request: web.Request, response: web.StreamResponse, pieces: AsyncIterator[bytes]
     ) -> web.StreamResponse:
-        """Sends a body. Where it can't go on, the connection is broken off, so that nobody takes a part for the whole."""
+        """Sends a body. Where it can't go on, the connection is broken off, so that nobody takes a
+        part for the whole."""
         try:
             await response.prepare(request)
             if request.method == "HEAD":
@@ -507,8 +592,11 @@ class Page:
                 request.transport.abort()
         return response
 
-    async def send_known(self, request: web.Request, fetch, kind: str, length: int, pieces) -> web.StreamResponse:
-        """Sends a file whose length is known, or the range of it that is asked for. `pieces` gives the bytes from a place to another."""
+    async def send_known(
+        self, request: web.Request, fetch, kind: str, length: int, pieces
+    ) -> web.StreamResponse:
+        """Sends a file whose length is known, or the range of it that is asked for. `pieces` gives
+        the bytes from a place to another."""
         found = range_of(request, length, fetch.tag(kind))
         response = self.file_response(request, fetch, kind)
         start, end = found or (0, length)
@@ -536,16 +624,24 @@ class Page:
 
     async def fetch_zip(self, request: web.Request, fetch) -> web.StreamResponse:
         """PNGs. How long the zip is isn't known before it ends."""
-        return await self.send(request, self.file_response(request, fetch, "zip"), zip_stream(fetch))
+        return await self.send(
+            request, self.file_response(request, fetch, "zip"), zip_stream(fetch)
+        )
 
     async def fetch_mp4(self, request: web.Request, fetch) -> web.StreamResponse:
         """A film: as it is made, or, once it is, any range of it."""
         films, store = self.laboratory.films, self.laboratory.cameras[fetch.camera].camera.store
         film = films.film(store, fetch, self.laboratory.busy(fetch.camera, fetch.clip.id))
         with films.reading(film):
-            if not film.is_done and request.method == "GET" and request.headers.get("Range") in (None, "bytes=0-"):
+            if (
+                not film.is_done
+                and request.method == "GET"
+                and request.headers.get("Range") in (None, "bytes=0-")
+            ):
                 await film.until(0)
-                return await self.send(request, self.file_response(request, fetch, "mp4"), film.pieces())
+                return await self.send(
+                    request, self.file_response(request, fetch, "mp4"), film.pieces()
+                )
             while not film.is_done:
                 await film.until(film.size)
 
@@ -560,7 +656,8 @@ class Page:
 
 
 async def expect(request: web.Request) -> None:
-    """Answers `Expect`. aiohttp's own answer repeats what was sent, and fails where that isn't UTF-8."""
+    """Answers `Expect`. aiohttp's own answer repeats what was sent, and fails where that isn't
+    UTF-8."""
     if request.version < HttpVersion11:
         return
     if request.headers.get("Expect", "").lower() != "100-continue":
@@ -572,11 +669,14 @@ async def expect(request: web.Request) -> None:
 def keep_words(camera: object, seconds: int | None, span: tuple[int, int] | None, note: str) -> str:
     """A keep that was asked for, in words."""
     what = f"from {words.iso(span[0])} to {words.iso(span[1])}" if span else f"{seconds} s"
-    return f"{what} of {camera if isinstance(camera, str) else 'all cameras'}" + (f", note {note[:limits.NOTE_BYTES]!r}" if note else "")
+    return f"{what} of {camera if isinstance(camera, str) else 'all cameras'}" + (
+        f", note {note[:limits.NOTE_BYTES]!r}" if note else ""
+    )
 
 
 async def end_all(tasks: list[asyncio.Task]) -> None:
-    """Ends all tasks. Before Python 3.12 `wait_for` loses a cancellation that comes together with what it waits for: then there is another one."""
+    """Ends all tasks. Before Python 3.12 `wait_for` loses a cancellation that comes together with
+    what it waits for: then there is another one."""
     while left := [task for task in tasks if not task.done()]:
         for task in left:
             task.cancel()
@@ -588,7 +688,8 @@ async def serve(settings: Settings) -> None:
     # For each address, and for those that there aren't.
     web_urldispatcher._default_expect_handler = expect
     page = Page(settings)
-    # A body stays as it was sent: one that is packed would be unpacked before anybody has looked at who sends it.
+    # A body stays as it was sent: one that is packed would be unpacked before anybody has looked at
+    # who sends it.
     runner = web.AppRunner(
         page.app(), access_log=None, keepalive_timeout=limits.REQUEST_SECONDS, auto_decompress=False
     )
@@ -612,7 +713,11 @@ async def serve(settings: Settings) -> None:
         )
     ]
     port = server.sockets[0].getsockname()[1]
-    print(f"loop_page: http://{f'[{settings.host}]' if ':' in settings.host else settings.host}:{port}/", flush=True)
+    print(
+        f"loop_page: "
+        f"http://{f'[{settings.host}]' if ':' in settings.host else settings.host}:{port}/",
+        flush=True,
+    )
     await asyncio.wait(tasks, return_when=asyncio.FIRST_COMPLETED)
     server.close()
     for connection in list(page.gate.connections):

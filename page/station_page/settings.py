@@ -1,4 +1,5 @@
-"""The station's configuration file, and the page's own words: its options and its file of settings."""
+"""The station's configuration file, and the page's own words: its options and its file of
+settings."""
 import argparse
 import ipaddress
 import os
@@ -24,8 +25,9 @@ class BadSettings(Exception):
 
 @dataclass(frozen=True)
 class Camera:
-    """A camera of the station: its name, the path of its store, the seconds of its button, its source in words, and what the order `keep` takes
-    where it doesn't say it: the seconds that are still to come, and the tag."""
+    """A camera of the station: its name, the path of its store, the seconds of its button, its
+    source in words, and what the order `keep` takes where it doesn't say it: the seconds that are
+    still to come, and the tag."""
 
     name: str
     store: str
@@ -92,7 +94,10 @@ def camera_of(table: object, folder: str, path: str) -> Camera:
     name, store = text_at(table, "name", path), text_at(table, "store", path)
     if not name or not NAME.fullmatch(name) or name.isdigit() or not store:
         raise BadSettings(f"{path}: a camera needs a name, of letters, digits, - or _, and a store")
-    keep, after, tag = (number_at(table, word, left_out, path) for word, left_out in (("keep", 60), ("after", 0), ("tag", 0)))
+    keep, after, tag = (
+        number_at(table, word, left_out, path)
+        for word, left_out in (("keep", 60), ("after", 0), ("tag", 0))
+    )
     return Camera(name, os.path.join(folder, store), keep, str(table.get("source", "")), after, tag)
 
 
@@ -124,30 +129,42 @@ def address_of(listen: str) -> tuple[str, int]:
 
 
 def token_in(path: str) -> str:
-    """The token in a file: its first line. Nobody else may know it, so a file that others may read or write is refused."""
+    """The token in a file: its first line. Nobody else may know it, so a file that others may read
+    or write is refused."""
     try:
         with open(path, encoding="ascii") as file:
             found = os.fstat(file.fileno())
             if not stat.S_ISREG(found.st_mode):
                 raise BadSettings(f"token: {path} isn't a file")
             if found.st_mode & (stat.S_IRWXO | stat.S_IWGRP):
-                raise BadSettings(f"token: {path}: others may read or write it. Take that right away: chmod o=,g-w {path}")
+                raise BadSettings(
+                    f"token: {path}: others may read or write it. Take that right away: chmod "
+                    f"o=,g-w {path}"
+                )
             if found.st_uid not in (0, os.geteuid()):
-                raise BadSettings(f"token: {path} belongs to another user, who may change it. Make a file of your own")
+                raise BadSettings(
+                    f"token: {path} belongs to another user, who may change it. Make a file of "
+                    f"your own"
+                )
             token = file.readline(1024).strip()
     except OSError as fault:
         raise BadSettings(f"token: {path}: {fault.strerror}") from None
     except UnicodeDecodeError:
-        raise BadSettings(f"token: {path}: a token has letters, digits and signs of ASCII alone") from None
+        raise BadSettings(
+            f"token: {path}: a token has letters, digits and signs of ASCII alone"
+        ) from None
     if len(token) < TOKEN_LEAST:
         raise BadSettings(f"token: {path}: its first line needs {TOKEN_LEAST} characters or more")
     return token
 
 
 def make_token(path: str) -> None:
-    """Makes a file with a new token, which its owner alone may read. One that is there stays as it is."""
+    """Makes a file with a new token, which its owner alone may read. One that is there stays as it
+    is."""
     try:
-        file = os.open(path, os.O_WRONLY | os.O_CREAT | os.O_EXCL | os.O_NOFOLLOW | os.O_CLOEXEC, 0o600)
+        file = os.open(
+            path, os.O_WRONLY | os.O_CREAT | os.O_EXCL | os.O_NOFOLLOW | os.O_CLOEXEC, 0o600
+        )
         with os.fdopen(file, "w", encoding="ascii") as out:
             # Whatever the mask of the caller.
             os.fchmod(out.fileno(), 0o600)
@@ -175,27 +192,41 @@ def parser() -> argparse.ArgumentParser:
         description="See, press and fetch what a station records, in a browser.",
         epilog="docs/page.md and loop_page(1) describe it.",
     )
-    words.add_argument("config", metavar="CONFIG", nargs="?", help="the station's own configuration file")
+    words.add_argument(
+        "config", metavar="CONFIG", nargs="?", help="the station's own configuration file"
+    )
     words.add_argument("--version", action="version", version=f"loop_page {version()}")
     words.add_argument(
-        "--make-token", metavar="FILE", help="make a file with a new token, which you alone may read, and end"
+        "--make-token",
+        metavar="FILE",
+        help="make a file with a new token, which you alone may read, and end",
     )
     words.add_argument(
         "--listen",
         metavar="ADDRESS:PORT",
-        help="where the page is (127.0.0.1:8080); another address than this machine's wants a token",
+        help=(
+            "where the page is (127.0.0.1:8080); another address than this machine's wants a token"
+        ),
     )
-    words.add_argument("--token", metavar="FILE", help="a file whose first line is the token, of 16 characters or more; "
-        "others may neither read nor write it")
     words.add_argument(
-        "--settings", metavar="FILE", help="more words: listen, token, on_alert, webhook, notes, folder (TOML)"
+        "--token",
+        metavar="FILE",
+        help="a file whose first line is the token, of 16 characters or more; "
+        "others may neither read nor write it",
+    )
+    words.add_argument(
+        "--settings",
+        metavar="FILE",
+        help="more words: listen, token, on_alert, webhook, notes, folder (TOML)",
     )
     words.add_argument(
         "--folder",
         metavar="FOLDER",
         help="the folder in which the station runs, for paths that are relative (this one)",
     )
-    words.add_argument("--notes", metavar="FILE", help="where notes are kept (loop_page.notes in that folder)")
+    words.add_argument(
+        "--notes", metavar="FILE", help="where notes are kept (loop_page.notes in that folder)"
+    )
     return words
 
 
@@ -234,7 +265,9 @@ def read_settings(given: argparse.Namespace) -> Settings:
     host, port = address_of(named["listen"] or "127.0.0.1:8080")
     token = token_in(named["token"]) if named["token"] else None
     if token is None and not is_loopback(host):
-        raise BadSettings(f"listen: {host} can be reached from elsewhere, so the page wants a token: --token FILE")
+        raise BadSettings(
+            f"listen: {host} can be reached from elsewhere, so the page wants a token: --token FILE"
+        )
     place = {word: text_at(config, word, given.config) for word in ("orders", "answers")}
     orders, answers = (path and os.path.join(folder, path) for path in place.values())
     is_text = answers is not None and config.get("answers_form") != "json"

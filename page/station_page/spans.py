@@ -1,6 +1,6 @@
-"""What a keep didn't get of the time that was asked for. The station says it; where nobody hears the
-station, the page reckons it by the store: because the ring held no more, because no frames came for a
-while, or because they came no more."""
+"""What a keep didn't get of the time that was asked for. The station says it; where nobody hears
+the station, the page reckons it by the store: because the ring held no more, because no frames came
+for a while, or because they came no more."""
 from collections.abc import Iterable
 
 from . import words
@@ -13,8 +13,8 @@ LEAST = 1_000_000
 
 
 def told(held: int, asked: int, gaps: list[tuple[int, int]]) -> str:
-    """What the station says, in a sentence: how much is held of how much, in microseconds, and from when
-    to when no frame is."""
+    """What the station says, in a sentence: how much is held of how much, in microseconds, and from
+    when to when no frame is."""
     front = f"That is {words.seconds_words(held / 1e6)} of {words.seconds_words(asked / 1e6)}"
     return f"{front}: no frames are held {times_of(gaps)}." if gaps else f"{front}."
 
@@ -27,7 +27,8 @@ def times_of(gaps: list[tuple[int, int]]) -> str:
 
 
 def pieces_of(reading: Reading, clips: Iterable[Clip]) -> list[tuple[int, int]]:
-    """The times from which to which a clip's frames follow one another, in microseconds since 1970."""
+    """The times from which to which a clip's frames follow one another, in microseconds since
+    1970."""
     found = []
     for clip in clips:
         for piece in reading.pieces():
@@ -38,7 +39,8 @@ def pieces_of(reading: Reading, clips: Iterable[Clip]) -> list[tuple[int, int]]:
 
 
 def lack(reading: Reading, clips: list[Clip], since: int, until: int) -> str:
-    """What is missing of a time from `since` to `until`, in a sentence; nothing where all is there."""
+    """What is missing of a time from `since` to `until`, in a sentence; nothing where all is
+    there."""
     period = round(1_000_000 / reading.geometry.rate())
     least = max(LEAST, 3 * period)
     pieces = pieces_of(reading, clips)
@@ -55,7 +57,10 @@ def lack(reading: Reading, clips: list[Clip], since: int, until: int) -> str:
     if not missed:
         return ""
     held = sum(one[1] - one[0] + period for one in pieces) / 1e6
-    return f"That is {words.seconds_words(held)} of {words.seconds_words((until - since) / 1e6)}: {', and '.join(missed)}."
+    return (
+        f"That is {words.seconds_words(held)} of {words.seconds_words((until - since) / 1e6)}: "
+        f"{', and '.join(missed)}."
+    )
 
 
 def before(reading: Reading, first: int, since: int) -> str:

@@ -29,11 +29,13 @@ class Watched:
     why: str = ""
     was_there: bool = False
     status: Status | None = None
-    # Why the station has no store of it, in the station's word; and how much of a store is made, in percent.
+    # Why the station has no store of it, in the station's word; and how much of a store is made, in
+    # percent.
     absent: str = ""
     making: int | None = None
     newest: tuple[int, int] | None = None
-    # When the newest frame was another one than before, and when that was looked at last, by the clock that is never set.
+    # When the newest frame was another one than before, and when that was looked at last, by the
+    # clock that is never set.
     changed: float = field(default_factory=time.monotonic)
     looked: float = field(default_factory=time.monotonic)
     # Whether a new frame was seen to come since the page began.
@@ -44,27 +46,36 @@ class Watched:
     looks: Workers = field(default_factory=lambda: looks_of(""))
 
     def begin(self) -> None:
-        """Begins to look, in a thread of its own, where it isn't being looked at: a disk may need long."""
+        """Begins to look, in a thread of its own, where it isn't being looked at: a disk may need
+        long."""
         if self.looking is None or self.looking.done():
-            self.looking, self.began = asyncio.create_task(self.looks.do(self.look)), time.monotonic()
+            self.looking, self.began = (
+                asyncio.create_task(self.looks.do(self.look)),
+                time.monotonic(),
+            )
 
     def hangs(self) -> float:
         """For how many seconds its disk hasn't answered, where that is long; else 0."""
         waited = time.monotonic() - self.began
-        return waited if self.looking and not self.looking.done() and waited > 2 * limits.DISK_SECONDS else 0.0
+        return (
+            waited
+            if self.looking and not self.looking.done() and waited > 2 * limits.DISK_SECONDS
+            else 0.0
+        )
 
     def silent(self) -> float:
         """For how many seconds no new frame was seen. A clock that is set changes nothing of it."""
         return max(0.0, self.looked - self.changed)
 
     def is_silent(self, least: float) -> bool:
-        """Whether no new frame has come for so many seconds, and for longer than frames of its rate need."""
+        """Whether no new frame has come for so many seconds, and for longer than frames of its rate
+        need."""
         rate = self.reading.geometry.rate() if self.reading else 1.0
         return self.silent() > max(least, 3 / rate + limits.LOOK_SECONDS)
 
     def now(self) -> int:
-        """The time that the station's clock may have now, in microseconds since 1970, by the newest frame; by the system's clock where no
-        frame was seen to come."""
+        """The time that the station's clock may have now, in microseconds since 1970, by the newest
+        frame; by the system's clock where no frame was seen to come."""
         if not self.has_moved or self.newest is None:
             return int(time.time() * 1e6)
         return self.newest[1] + int((time.monotonic() - self.changed) * 1e6)
@@ -87,7 +98,8 @@ class Watched:
 
 
 async def settle(chosen: list[Watched]) -> None:
-    """Waits for the looks that are under way, but not for a disk that doesn't answer, and not again for one that didn't."""
+    """Waits for the looks that are under way, but not for a disk that doesn't answer, and not again
+    for one that didn't."""
     tasks = [it.looking for it in chosen if it.looking and not it.looking.done() and not it.hangs()]
     if tasks:
         await asyncio.wait(tasks, timeout=limits.DISK_SECONDS)

@@ -1,11 +1,13 @@
-"""The lines that the station prints as JSON, read; and sentences that say what they mean, and what to do."""
+"""The lines that the station prints as JSON, read; and sentences that say what they mean, and what
+to do."""
 import datetime
 import json
 from dataclasses import dataclass, field
 
 EPOCH = datetime.datetime(1970, 1, 1, tzinfo=datetime.timezone.utc)
 MICROSECOND = datetime.timedelta(microseconds=1)
-# The members of each kind of line, as docs/station.md has them: a text, with # a number, with @ a time; with ? it may be missing.
+# The members of each kind of line, as docs/station.md has them: a text, with # a number, with @ a
+# time; with ? it may be missing.
 FRAMES = "camera #width #height format #rate_num #rate_den"
 MEMBERS = {
     kind: members.split()
@@ -71,40 +73,48 @@ WHY = {
     "NotHeld": "that frame or clip isn't held any more",
     "NoSuchClip": "no clip has that number any more",
     "NumbersSpent": "its store has no number left. Move its file away, and a new one is made",
-    "BadGeometry": "no store may have frames of its size. Change the camera's settings, or move its store away",
+    "BadGeometry": "no store may have frames of its size. Change the camera's settings, or move "
+        "its store away",
     "Stopped": "the station ends",
-    "OldLayout": "the store has the old layout, without tags. `loop_cli upgrade` makes it anew while the station is stopped",
+    "OldLayout": "the store has the old layout, without tags. `loop_cli upgrade` makes it anew "
+        "while the station is stopped",
     "MustReopen": "the disk has failed. The station opens the store again; look at the disk",
     "Disk": "the disk has failed. Look at it, and at the station's messages",
     "Damaged": "the store is damaged. Move its file away, and a new one is made",
     "NotFormatted": "the file isn't a store. Move it away, and a store is made",
     "NoMemory": "the station was refused memory. End other programs",
-    "NoBuffers": "there is no memory for its buffers. End other programs, or give the camera fewer buffers",
+    "NoBuffers": "there is no memory for its buffers. End other programs, or give the camera "
+        "fewer buffers",
     "NoRoom": "the disk is full. Remove files, or give the camera a smaller store",
     "MissingFolder": "the folder isn't there. Make it, or name another one in the configuration",
     "Denied": "the station may not write there. Give its user the right",
     "Busy": "another program has the store open. End it",
     "Opening": "it is being opened. Wait a moment",
     "Moved": "another file has its path by now, or none. A store is made there",
-    "Unfinished": "a store that wasn't finished is in the way. Move STORE.new away, and a store is made",
+    "Unfinished": "a store that wasn't finished is in the way. Move STORE.new away, and a store "
+        "is made",
     "TooLong": "the path of the file is too long. Name a shorter one in the configuration",
     "TooManyFrames": "the time that is asked for is more than a store holds. Ask for fewer minutes",
-    "NoStore": "it has no store yet, since its source hasn't come. See that the camera is plugged in and its program runs",
-    "NoGeometry": "no store holds what the configuration asks, or its source says no rate. Ask for less, and give ffmpeg a rate",
+    "NoStore": "it has no store yet, since its source hasn't come. See that the camera is plugged "
+        "in and its program runs",
+    "NoGeometry": "no store holds what the configuration asks, or its source says no rate. Ask "
+        "for less, and give ffmpeg a rate",
     "TooFewBytes": "`bytes` of the configuration is too little for two frames. Ask for more",
     "Folder": "its store is a folder. Name another path in the configuration",
     "NotRegular": "its store isn't a file. Name another path in the configuration",
     "CannotOpen": "the file can't be opened. Look at its path, its rights and the disk",
     "Exists": "a file of that name is there already. Choose another name",
     "IsStore": "the file in its place is a store. Choose another name",
-    "OtherFolder": "the station may save into another folder alone, which `saves` of its configuration names",
+    "OtherFolder": "the station may save into another folder alone, which `saves` of its "
+        "configuration names",
     "Cancelled": "somebody has ended that",
     "InUse": "the file is in use. Choose another name",
     "CannotWrite": "the disk is full, or has failed. Make room, or look at it",
     "Gaps": "frames of that time are missing",
     "TooManyEvents": "16 events of it still go on. Wait until one has ended",
     "RateUnknown": "its source says no rate. Give ffmpeg one",
-    "UnsupportedColour": "no store may have such colours. Change the camera's format, or that of ffmpeg",
+    "UnsupportedColour": "no store may have such colours. Change the camera's format, or that of "
+        "ffmpeg",
     "UnsupportedInterlace": "no store may have interlaced frames. Change the camera's settings",
     "BadHeader": "the source's header can't be read. Look at the program that feeds its pipe",
     "NotY4m": "the source isn't YUV4MPEG2. Look at the program that feeds its pipe",
@@ -117,13 +127,15 @@ REFUSALS = {
     "saving": "the clip is being saved. Wait until that has ended",
     "not_released": "another clip has that number by now",
     "too_far": "its end lies more than an hour ahead. Ask for an earlier one",
-    "no_camera": "the station has no camera of that name. Was its configuration changed? Start the page again",
+    "no_camera": "the station has no camera of that name. Was its configuration changed? Start "
+        "the page again",
 }
 UNKNOWN = "docs/station.md says what this means"
 
 
 def plain(text: str) -> str:
-    """A text in one line, in which each sign that does something to a terminal is shown as what it is."""
+    """A text in one line, in which each sign that does something to a terminal is shown as what it
+    is."""
     return "".join(sign if sign.isprintable() else ascii(sign)[1:-1] for sign in text)
 
 
@@ -141,7 +153,8 @@ class BadMember(ValueError):
 
 @dataclass(frozen=True)
 class Line:
-    """A line of the station: its label, where it has one, its kind, and the members of this kind: texts, numbers, times in microseconds."""
+    """A line of the station: its label, where it has one, its kind, and the members of this kind:
+    texts, numbers, times in microseconds."""
 
     label: str | None
     kind: str
@@ -159,7 +172,8 @@ class Line:
 
 @dataclass(frozen=True)
 class Event:
-    """Something that happened: to which camera, whether it is a warning or good news, and in a sentence."""
+    """Something that happened: to which camera, whether it is a warning or good news, and in a
+    sentence."""
 
     kind: str
     camera: str | None
@@ -169,7 +183,8 @@ class Event:
 
 @dataclass(frozen=True)
 class Status:
-    """How a camera stands, as the station counts it. `behind` is in seconds, and `keeps` None where the station doesn't know it."""
+    """How a camera stands, as the station counts it. `behind` is in seconds, and `keeps` None where
+    the station doesn't know it."""
 
     stored: int
     given_up: int
@@ -182,7 +197,8 @@ class Status:
 
 
 def read_line(raw: str) -> Line | None:
-    """A line as JSON; None where it isn't one, or lacks what its kind has. One of a kind that the page doesn't know has no members."""
+    """A line as JSON; None where it isn't one, or lacks what its kind has. One of a kind that the
+    page doesn't know has no members."""
     try:
         found = json.loads(raw)
         if not isinstance(found, dict) or not isinstance(found.get("kind"), str):
@@ -203,7 +219,12 @@ def member_of(found: dict, name: str) -> tuple[str, object]:
     if value is None and name.startswith("?"):
         return key, None
     mark = name.lstrip("?")[0]
-    if mark == "#" and isinstance(value, int) and not isinstance(value, bool) and 0 <= value < 2**64:
+    if (
+        mark == "#"
+        and isinstance(value, int)
+        and not isinstance(value, bool)
+        and 0 <= value < 2**64
+    ):
         return key, value
     if mark == "@" and isinstance(value, str):
         return key, moment_of(value)
@@ -237,7 +258,8 @@ def meaning(why: str) -> str:
 
 
 def refusal_of(line: Line) -> str | None:
-    """Why nothing came of an order, and what to do, by a line of its answer; None where the line is no refusal."""
+    """Why nothing came of an order, and what to do, by a line of its answer; None where the line is
+    no refusal."""
     if line.kind == "refused":
         return meaning(line["name"])
     if line.kind == "absent":
@@ -251,50 +273,90 @@ EVENTS = {
     "source_missing": (
         "missing",
         True,
-        "{camera}: no frames come from its source. See that the camera is plugged in and its program runs.",
+        "{camera}: no frames come from its source. See that the camera is plugged in and its "
+        "program runs.",
     ),
     "source_unusable": ("unusable", True, "{camera}: nothing is stored, since {why}."),
     "other_geometry": (
         "other",
         True,
-        "{camera}: its source gives {frames}, which its store isn't made for, so nothing is stored. Set the camera back, or move the store away.",
+        "{camera}: its source gives {frames}, which its store isn't made for, so nothing is "
+        "stored. Set the camera back, or move the store away.",
     ),
     "store_open": ("open", False, "{camera}: its store is open."),
     "store_absent": ("absent", True, "{camera} isn't recorded: {why}."),
-    "not_a_store": ("not a store", True, "{camera}: {path} isn't a store, so nothing is recorded. Move it away, and a store is made."),
-    "given_up": ("given up", True, "{camera}: frames were lost since {since}, {frames} of them: disk or machine was too busy."),
-    "all_locked": ("locked", True, "{camera}: all of its room is locked, and recording stops. Release a clip that you don't need."),
+    "not_a_store": (
+        "not a store",
+        True,
+        "{camera}: {path} isn't a store, so nothing is recorded. Move it away, and a store is "
+        "made.",
+    ),
+    "given_up": (
+        "given up",
+        True,
+        "{camera}: frames were lost since {since}, {frames} of them: disk or machine was too busy.",
+    ),
+    "all_locked": (
+        "locked",
+        True,
+        "{camera}: all of its room is locked, and recording stops. Release a clip that you don't "
+        "need.",
+    ),
     "nearly_all_locked": (
         "nearly locked",
         True,
-        "{camera}: four fifths of its room are locked. Release what you don't need, or recording stops.",
+        "{camera}: four fifths of its room are locked. Release what you don't need, or recording "
+        "stops.",
     ),
     "room_again": ("room", False, "{camera}: there is room again."),
-    "behind": ("behind", True, "{camera}: {micros} s of frames wait for the disk. Where that goes on, frames are lost."),
+    "behind": (
+        "behind",
+        True,
+        "{camera}: {micros} s of frames wait for the disk. Where that goes on, frames are lost.",
+    ),
     "caught_up": ("caught up", False, "{camera}: no frames wait for the disk any more."),
     "waited": (
         "waited",
         True,
-        "{camera}: memory was full, and its source had to wait {micros} s since {since}. A camera that doesn't wait has dropped frames. "
+        "{camera}: memory was full, and its source had to wait {micros} s since {since}. A camera "
+        "that doesn't wait has dropped frames. "
         "Give it more `memory`, or a faster disk.",
     ),
     "stood_still": (
         "stood still",
         True,
-        "The station stood still for {micros} s since {since}: it was stopped, or the machine slept. Times of frames right after are late.",
+        "The station stood still for {micros} s since {since}: it was stopped, or the machine "
+        "slept. Times of frames right after are late.",
     ),
     "too_slow": (
         "too slow",
         True,
-        "{camera}: its disk is too slow for its rate: {frames_a_second} frames a second fit. Use fewer or smaller frames, or another disk.",
+        "{camera}: its disk is too slow for its rate: {frames_a_second} frames a second fit. Use "
+        "fewer or smaller frames, or another disk.",
     ),
     "saved": ("saved", False, "{camera}: clip {id} was saved as {path}, {frames} frames."),
     "not_saved": ("not saved", True, "{camera}: clip {id} wasn't saved as {path}: {why}."),
-    "save_waits": ("save waits", True, "{camera}: clip {id} can't be saved as {path}: {why}. The station tries again each minute."),
+    "save_waits": (
+        "save waits",
+        True,
+        "{camera}: clip {id} can't be saved as {path}: {why}. The station tries again each minute.",
+    ),
     "released": ("released", False, "{camera}: clip {id} was released, since it is saved."),
-    "event_whole": ("whole", False, "{camera}: the event of {event} has ended, and all of it is kept."),
-    "event_not_whole": ("not whole", True, "{camera}: the event of {event} has ended, and isn't whole: {why}."),
-    "dropped_lines": ("dropped", True, "{lines} lines of the station weren't read in time. A warning may be missing here."),
+    "event_whole": (
+        "whole",
+        False,
+        "{camera}: the event of {event} has ended, and all of it is kept.",
+    ),
+    "event_not_whole": (
+        "not whole",
+        True,
+        "{camera}: the event of {event} has ended, and isn't whole: {why}.",
+    ),
+    "dropped_lines": (
+        "dropped",
+        True,
+        "{lines} lines of the station weren't read in time. A warning may be missing here.",
+    ),
 }
 
 
@@ -317,8 +379,15 @@ def event_of(line: Line) -> Event | None:
     said = {key: shown(key, value) for key, value in line.members.items()}
     if "rate_num" in said:
         said["frames"] = "{width}x{height} {format} {rate_num}:{rate_den}".format(**said)
-    if line.kind == "store_open" and line["held_micros"] is not None and line["asked_micros"] is not None:
-        text = "{camera}: its store holds {held_micros} s of {asked_micros} s. Move the file away, and a larger store is made."
+    if (
+        line.kind == "store_open"
+        and line["held_micros"] is not None
+        and line["asked_micros"] is not None
+    ):
+        text = (
+            "{camera}: its store holds {held_micros} s of {asked_micros} s. Move the file away, "
+            "and a larger store is made."
+        )
         return Event("small", line.camera, True, text.format(**said))
     return Event(kind, line.camera, is_bad, sentence.format(**said))
 
@@ -326,7 +395,9 @@ def event_of(line: Line) -> Event | None:
 def iso(microseconds: int) -> str:
     """A time of the day, UTC, with microseconds; the number itself where it is none."""
     try:
-        return (EPOCH + datetime.timedelta(microseconds=microseconds)).strftime("%Y-%m-%dT%H:%M:%S.%fZ")
+        return (EPOCH + datetime.timedelta(microseconds=microseconds)).strftime(
+            "%Y-%m-%dT%H:%M:%S.%fZ"
+        )
     except OverflowError:
         return str(microseconds)
 

@@ -1,5 +1,6 @@
 """Threads for work that may take long. Each camera has some of its own, so that a disk that doesn't
-answer holds up no other camera; and drawing pictures has two, so that few are in memory at a time."""
+answer holds up no other camera; and drawing pictures has two, so that few are in memory at a
+time."""
 import asyncio
 import contextlib
 import queue

@@ -1,4 +1,5 @@
-"""What the tests share: a laboratory in a folder, with the station of fake_station.py and a page."""
+"""What the tests share: a laboratory in a folder, with the station of fake_station.py and a
+page."""
 import fcntl
 import http.client
 import json
@@ -21,7 +22,8 @@ sys.path[1:1] = map(str, PLACES)
 sys.dont_write_bytecode = True
 import lapyrei.layout  # noqa: E402,F401  Before tools/layout.py, which would take the one beside it.
 STATION = os.environ.get("FAKE_STATION") or str(HERE / "fake_station.py")
-# How much longer than on a machine that has time a test waits for something before it fails. What has to be quick is measured by the test itself.
+# How much longer than on a machine that has time a test waits for something before it fails. What
+# has to be quick is measured by the test itself.
 PATIENCE = 4
 OWN = {"X-Loop-Page": "1", "Content-Type": "application/json"}
 CAMERAS = [{"name": "left", "pattern": "64x48 YM12 100:1"}, {"name": "right", "pattern": "33x21 GREY 50:1"}]
@@ -38,8 +40,9 @@ def token_in(folder, text=TOKEN):
     return str(path)
 
 
-# What a page loads first where its disk or its clock is to be wrong: reads of a file named in the file `hangs` wait until it isn't any more, and the
-# system's clock is as many seconds wrong as the file `clock` says.
+# What a page loads first where its disk or its clock is to be wrong: reads of a file named in the
+# file `hangs` wait until it isn't any more, and the system's clock is as many seconds wrong as the
+# file `clock` says.
 SPOILT = """
 import os, time
 here = os.path.dirname(__file__)
@@ -160,7 +163,8 @@ class Laboratory:
         return self.start_page(*words, PYTHONPATH=str(self.folder / "spoilt"))
 
     def spoil(self, name, text):
-        """Makes a disk hang (`hangs`, a file's name), or the clock wrong (`clock`, by seconds); a text without anything ends that."""
+        """Makes a disk hang (`hangs`, a file's name), or the clock wrong (`clock`, by seconds); a
+        text without anything ends that."""
         (self.folder / "spoilt" / f"{name}.new").write_text(text)
         os.rename(self.folder / "spoilt" / f"{name}.new", self.folder / "spoilt" / name)
 
@@ -173,7 +177,8 @@ class Laboratory:
         return [(it["kind"], it["camera"]) for it in self.status()["alerts"]]
 
     def until(self, reached, what, seconds=10):
-        """Waits for something, and answers it: for so many seconds on a machine that has time, and for longer on one that is busy."""
+        """Waits for something, and answers it: for so many seconds on a machine that has time, and
+        for longer on one that is busy."""
         end = time.monotonic() + seconds * PATIENCE
         while time.monotonic() < end:
             found = reached()

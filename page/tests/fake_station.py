@@ -1,15 +1,19 @@
 #!/usr/bin/python3
-"""A station for the page's tests: it writes stores as the layout says, takes the orders that the page gives, and prints what docs/station.md says.
+"""A station for the page's tests: it writes stores as the layout says, takes the orders that the
+page gives, and prints what docs/station.md says.
 
     fake_station.py CONFIG
 
-It films a pendulum into each camera's store of the configuration, in the size, format and rate of `pattern`. Beside the station's
-orders it takes `!print LINE`, which prints a line of JSON, and `!raw LINE`, which writes one as it is; `!pause CAMERA` and `!go CAMERA`, which stop and start its frames; `!mute`, after which
-nothing is answered any more; `!absent CAMERA WHY` and `!there CAMERA`, between which it has no store; `!source CAMERA WORDS`, which its status then
-says; `!behind CAMERA SECONDS`, the same; `!making CAMERA PERCENT`; `!hang CAMERA`, after which it answers no keep, whose answer never ends; and `!saving
-CAMERA`, whose clips can't be released. A camera's `scene` is what it films: a `pendulum`, also `warm` or `cold`, or a dark `beam`. What it prints
-is JSON everywhere, unless the configuration says otherwise of the answers; then it has words there that the page doesn't read. The orders that it was given
-are in the file `ordered`."""
+It films a pendulum into each camera's store of the configuration, in the size, format and rate of
+`pattern`. Beside the station's orders it takes `!print LINE`, which prints a line of JSON, and
+`!raw LINE`, which writes one as it is; `!pause CAMERA` and `!go CAMERA`, which stop and start its
+frames; `!mute`, after which nothing is answered any more; `!absent CAMERA WHY` and `!there CAMERA`,
+between which it has no store; `!source CAMERA WORDS`, which its status then says; `!behind CAMERA
+SECONDS`, the same; `!making CAMERA PERCENT`; `!hang CAMERA`, after which it answers no keep, whose
+answer never ends; and `!saving CAMERA`, whose clips can't be released. A camera's `scene` is what
+it films: a `pendulum`, also `warm` or `cold`, or a dark `beam`. What it prints is JSON everywhere,
+unless the configuration says otherwise of the answers; then it has words there that the page
+doesn't read. The orders that it was given are in the file `ordered`."""
 import datetime
 import json
 import math
@@ -85,7 +89,8 @@ class Film(layout.Ring):
         return (luma + light).astype(numpy.uint8).tobytes() + self.still[1]
 
     def filmed(self, number: int) -> bytes:
-        """The bytes of a frame. A scene that is named comes again after a swing, so that it costs little."""
+        """The bytes of a frame. A scene that is named comes again after a swing, so that it costs
+        little."""
         if "scene" not in self.words:
             return self.pixels(number)
         place = number % SWING
@@ -111,7 +116,8 @@ class Film(layout.Ring):
         return luma.tobytes() + self.still[1]
 
     def film(self) -> bool:
-        """Stores the frames that are due, a few at a time, since orders come too; answers whether there was room."""
+        """Stores the frames that are due, a few at a time, since orders come too; answers whether
+        there was room."""
         for _ in range(8):
             if self.due > time.time() * 1e6:
                 break
@@ -134,13 +140,15 @@ class Film(layout.Ring):
         return True
 
     def catch_up(self) -> None:
-        """Stores what came before an order, as the station does: on a busy machine frames are late."""
+        """Stores what came before an order, as the station does: on a busy machine frames are
+        late."""
         now, end = time.time() * 1e6, time.monotonic() + 5
         while self.due <= now and time.monotonic() < end and self.film():
             pass
 
     def keep(self, first: int, last: int, event: int, tag: int) -> list[dict]:
-        """Locks the frames of a time; answers a line for each clip, and what is missing of the time."""
+        """Locks the frames of a time; answers a line for each clip, and what is missing of the
+        time."""
         numbers = [number for number in sorted(self.held()) if first <= self.times[number] <= last]
         if not numbers:
             return [{"kind": "kept_none", "camera": self.name, "event": event}]
@@ -177,7 +185,8 @@ class Film(layout.Ring):
         return [front, *({"kind": "gap", "camera": self.name, "micros": micros, "at": stamp(at), "event": event} for at, micros in gaps)]
 
     def grow(self, since: int, until: int, event: int, tag: int) -> list[dict]:
-        """Locks what has come of an event whose end lies ahead, in a clip that is longer than those of before, which are released."""
+        """Locks what has come of an event whose end lies ahead, in a clip that is longer than those
+        of before, which are released."""
         old = [id_ for id_, clip in self.clips.items() if self.tags[id_] == (tag or event) and since <= self.times[clip[0]] <= until]
         lines = self.keep(since, until, event, tag)
         if any(line["kind"] == "kept" for line in lines):

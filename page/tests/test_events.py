@@ -182,7 +182,7 @@ def test_a_thousand_clips_are_soon_events():
     assert time.process_time() - start < 1
 
 
-# ----------------------------------------------------------------------------------------------- over the page
+# ------------------------------------------------------------------------------------ over the page
 
 
 @pytest.fixture(scope="module")

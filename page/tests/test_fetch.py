@@ -199,7 +199,8 @@ def test_a_clip_that_is_fetched_cannot_be_released_until_that_has_ended(make):
 
 
 def test_a_fetch_whose_frames_are_taken_away_breaks_off(make):
-    """Somebody else releases the clip, and its frames are overwritten: the client sees that the file isn't whole."""
+    """Somebody else releases the clip, and its frames are overwritten: the client sees that the
+    file isn't whole."""
     lab = make(cameras=[{"name": "left", "pattern": "640x480 YM12 25:1", "segments": 3, "slots": 10}])
     lab.filmed(25).keep(1)
     with slow_client(lab, "/api/clips/left/0.y4m") as client:

@@ -1,4 +1,5 @@
-"""What an open page is sent: pictures of all cameras over one answer, live, of a moment, and played."""
+"""What an open page is sent: pictures of all cameras over one answer, live, of a moment, and
+played."""
 import asyncio
 import http.client
 import io
@@ -200,7 +201,7 @@ def test_a_speed_that_is_no_number_is_refused():
         view_of({"speed": float("nan")}, ["left"])
 
 
-# ----------------------------------------------------------------------------------------------- single frames
+# ------------------------------------------------------------------------------------ single frames
 
 
 def test_a_pixel_has_the_values_of_the_store(shared):
@@ -268,7 +269,7 @@ def test_colours_come_out_of_a_jpeg_as_they_were():
     assert numpy.abs(one - two).max() < 4
 
 
-# ----------------------------------------------------------------------------------------------- the newest frame
+# --------------------------------------------------------------------------------- the newest frame
 
 
 def test_the_newest_frame_is_found_as_a_reading_finds_it(shared):
@@ -368,7 +369,7 @@ def test_pages_that_look_at_the_same_time_cost_one_picture():
     )
 
 
-# ----------------------------------------------------------------------------------------------- slow networks
+# ------------------------------------------------------------------------------------ slow networks
 
 
 def test_pictures_become_smaller_where_the_network_is_slow_and_larger_again(monkeypatch):

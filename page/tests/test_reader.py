@@ -99,7 +99,8 @@ def test_a_folder_a_pipe_and_nothing_are_refused(tmp_path):
 
 
 def test_a_frame_is_never_that_of_another_block(tmp_path):
-    """A writer goes round the ring as fast as it can, and each frame that is read is its number's, or is said to be gone."""
+    """A writer goes round the ring as fast as it can, and each frame that is read is its number's,
+    or is said to be gone."""
     path = tmp_path / "a.loop"
     ring = layout.Ring(64, 48, b"GREY", 3, 2)
     put(path, ring)
@@ -135,7 +136,8 @@ def test_a_frame_is_never_that_of_another_block(tmp_path):
 
 @pytest.mark.parametrize("moment", range(7))
 def test_a_frame_that_is_overwritten_while_it_is_read_is_gone(tmp_path, moment):
-    """Its block is removed before one of the seven reads, and another one has come in its place: it is never the bytes of that one."""
+    """Its block is removed before one of the seven reads, and another one has come in its place: it
+    is never the bytes of that one."""
     path, ring = tmp_path / "a.loop", layout.Ring(64, 48, b"GREY", 3, 2)
     put(path, ring)
     with open(path, "r+b") as file:

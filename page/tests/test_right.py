@@ -421,6 +421,7 @@ def test_what_a_keep_lacks_within(tmp_path):
     # Two clips beside a hole say the same as one over it.
     parts = [Clip(0, 0, 24, 0, 0, 960_000), Clip(1, 25, 74, 0, 5_960_000, whole.until)]
     assert spans.lack(reading, parts, 0, whole.until) == lack
-    # A clip that begins after the hole lacks what the ring holds nothing of in that time, and no more.
+    # A clip that begins after the hole lacks what the ring holds nothing of in that time, and no
+    # more.
     late = spans.lack(reading, parts[1:], 2_000_000, whole.until)
     assert "no frames came until 00:00:05.9Z" in late

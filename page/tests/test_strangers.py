@@ -1,4 +1,5 @@
-"""What strangers may take of the page, and what they may not: each was a way to end it, to keep others out, or to look."""
+"""What strangers may take of the page, and what they may not: each was a way to end it, to keep
+others out, or to look."""
 import asyncio
 import gzip
 import json
@@ -41,7 +42,7 @@ def log_of(lab):
     return lab.page.stdout.read()
 
 
-# ----------------------------------------------------------------------------------------------- what would end it
+# -------------------------------------------------------------------------------- what would end it
 
 
 def test_a_body_that_is_packed_is_refused_and_not_unpacked(closed):
@@ -91,7 +92,7 @@ def test_some_requests_over_one_connection_are_each_answered(shared):
     assert found.count(b"HTTP/1.1 200 OK") == 10
 
 
-# ----------------------------------------------------------------------------------------------- what would keep others out
+# ----------------------------------------------------------------------- what would keep others out
 
 
 def test_strangers_make_room_for_who_has_the_token(closed):
@@ -192,7 +193,7 @@ def test_the_right_token_passes_where_others_have_guessed(closed):
     assert any("20 wrong tokens" in it for it in told)
 
 
-# ----------------------------------------------------------------------------------------------- tokens, sessions, forms
+# -------------------------------------------------------------------------- tokens, sessions, forms
 
 
 @pytest.mark.parametrize("mode, is_good", [(0o600, True), (0o640, True), (0o400, True), (0o644, False), (0o660, False), (0o602, False)])
@@ -306,7 +307,7 @@ def test_wrong_tokens_are_counted_for_a_minute_and_of_a_bounded_number_of_addres
     assert not gate.has_guessed(request)
 
 
-# ----------------------------------------------------------------------------------------------- other sites
+# -------------------------------------------------------------------------------------- other sites
 
 
 def test_an_origin_that_ends_as_the_page_is_another_one(shared):
@@ -332,7 +333,7 @@ def test_another_site_may_lead_to_the_page(closed, shared):
     assert closed.ask("/sign-in", headers={"Sec-Fetch-Site": "cross-site"}).status == 200
 
 
-# ----------------------------------------------------------------------------------------------- what is printed
+# ---------------------------------------------------------------------------------- what is printed
 
 
 def test_clients_that_leave_early_and_requests_that_are_none_leave_no_traceback(make):
@@ -409,7 +410,7 @@ def test_wrong_settings_with_signs_are_told_without_them(make):
     assert done.returncode == 1 and "\x1b" not in done.stderr
 
 
-# ----------------------------------------------------------------------------------------------- who changed what
+# --------------------------------------------------------------------------------- who changed what
 
 
 def test_each_change_is_written_down_with_who_asked_for_it(closed):
@@ -500,7 +501,7 @@ def test_the_journal_has_bounds():
     assert len(journal.listed()) == len(journal.entries) == limits.JOURNAL and [it["text"] for it in journal.listed(2)] == ["248", "249"]
 
 
-# ----------------------------------------------------------------------------------------------- films and pictures
+# ------------------------------------------------------------------------------- films and pictures
 
 
 def test_what_a_killed_page_left_is_removed_and_what_another_has_stays(make):
