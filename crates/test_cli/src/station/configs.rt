@@ -3,8 +3,7 @@
 use crate::asserts::{holds, same};
 use loop_record::PixelFormat;
 use loop_station_words::{
-    AnswersForm, CameraConfig, Config, FrameShape, MemoryLimit, Source,
-    StoreSize, read_config,
+    AnswersForm, CameraConfig, Config, FrameShape, MemoryLimit, Source, StoreSize, read_config,
 };
 use std::alloc::Global;
 use std::process::Abort;
