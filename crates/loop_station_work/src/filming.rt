@@ -144,15 +144,10 @@ fn make_store<R: AllocGlobal + Places + Wait + Clock>(
         return Err(Absent::Stopped);
     };
     let geometry = geometry_for(&header, &state.config.room)?;
-    let path = state.config.store.as_str();
-    let made = rt.make_store(path, geometry, |percent| {
-        state.life.set_making(rt, Some(percent));
-        !state.is_stopped(rt)
-    });
+    let made = rt.make_store(rt, state, geometry);
     state.life.set_making(rt, None);
-    state
-        .life
-        .set_place(rt, rt.place_of(path).unwrap_or_default());
+    let place = rt.place_of(state.config.store.as_str());
+    state.life.set_place(rt, place.unwrap_or_default());
     made
 }
 

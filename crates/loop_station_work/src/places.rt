@@ -4,6 +4,7 @@ use crate::absent::Absent;
 use crate::clock::Timeline;
 use crate::part::{PartFile, lies_in};
 use crate::save::NotSaved;
+use crate::state::CameraState;
 use loop_file::{FileDisk, FileFault, FilePlace, open_file, open_to_read};
 use loop_record::Geometry;
 use loop_store::{OpenRefused, Store, StoreFault, format};
@@ -12,6 +13,7 @@ use std::fs::{File, OpenFile, OpenOptions};
 use std::io::{ErrorKind, Read};
 use std::os::unix::fs::{FileExt, FileTypeExt, MetadataExt};
 use std::rt::Files;
+use std::sync::Wait;
 use std::time::Clock;
 use std::{fs, io};
 
@@ -84,15 +86,15 @@ pub trait Places {
     /// Opens the file of a store.
     fn open_store(&self, path: &str) -> Result<FileDisk, FileFault>;
 
-    /// Makes a store where there is no file, and opens it. It is made as NAME.new in the same folder, and is renamed
-    /// once it is complete. A NAME.new that an earlier run left is made anew, or just renamed where it is a store
-    /// already. It is made in steps: `step` gets how much of the file is on the disk, in percent, and says whether to
-    /// go on. If not, the file is removed, and the answer is `Stopped`.
-    fn make_store<F: FnMut(u32) -> bool>(
+    /// Makes the store of a camera where there is no file, and opens it. It is made as NAME.new in the same folder,
+    /// and is renamed once it is complete. A NAME.new that an earlier run left is made anew, or just renamed where it
+    /// is a store already. It is made in steps, after each of which the camera learns how much of the file is on the
+    /// disk. Where it is stopped meanwhile, the file is removed, and the answer is `Stopped`.
+    fn make_store<R: Wait>(
         &self,
-        path: &str,
+        waits: &R,
+        state: &CameraState,
         geometry: Geometry,
-        step: F,
     ) -> Result<Store<FileDisk>, Absent>;
 
     /// Opens the named pipe of orders, so that it never comes to an end: this end of it can write too. A file is opened
@@ -161,14 +163,13 @@ impl Places for HostRuntime {
         FileDisk::open(self, path)
     }
 
-    fn make_store<F: FnMut(u32) -> bool>(
+    fn make_store<R: Wait>(
         &self,
-        path: &str,
+        waits: &R,
+        state: &CameraState,
         geometry: Geometry,
-        step: F,
     ) -> Result<Store<FileDisk>, Absent> {
-        let mut step = step;
-        make_at(self, path, geometry, &mut step)
+        make_at(self, waits, state, geometry)
     }
 
     fn open_orders(&self, path: &str) -> io::Result<File> {
@@ -300,12 +301,13 @@ fn sync_time_beside<R: AllocGlobal + Files<File = File> + Clock>(
 }
 
 // Makes a store where there is no file, under another name first, and opens it.
-fn make_at<R: AllocGlobal + Files<File = File>, F: FnMut(u32) -> bool>(
-    rt: &R,
-    path: &str,
+fn make_at<H: AllocGlobal + Files<File = File>, R: Wait>(
+    rt: &H,
+    waits: &R,
+    state: &CameraState,
     geometry: Geometry,
-    step: &mut F,
 ) -> Result<Store<FileDisk>, Absent> {
+    let path = state.config.store.as_str();
     let place = match FilePlace::of(rt, path) {
         Ok(place) => place,
         Err(fault) => return Err(Absent::of(path, fault)),
@@ -314,7 +316,7 @@ fn make_at<R: AllocGlobal + Files<File = File>, F: FnMut(u32) -> bool>(
     let store = match left_at(rt, &made, &geometry) {
         Ok(Some(store)) => store,
         Ok(None) if is_link(rt, path) => format_at(rt, &mut made, geometry)?,
-        Ok(None) => format_in_steps(rt, path, geometry, step)?,
+        Ok(None) => format_in_steps(rt, waits, state, geometry)?,
         Err(Absent::File(fault)) => return Err(Absent::of(path, fault)),
         Err(why) => return Err(why),
     };
@@ -332,12 +334,13 @@ fn is_link<R: Files>(rt: &R, path: &str) -> bool {
 
 // Makes the file of a store, whose path ends in no link, under another name, with a store in it. A file that isn't made
 // to its end is removed.
-fn format_in_steps<R: AllocGlobal + Files<File = File>, F: FnMut(u32) -> bool>(
-    rt: &R,
-    path: &str,
+fn format_in_steps<H: AllocGlobal + Files<File = File>, R: Wait>(
+    rt: &H,
+    waits: &R,
+    state: &CameraState,
     geometry: Geometry,
-    step: &mut F,
 ) -> Result<Store<FileDisk>, Absent> {
+    let path = state.config.store.as_str();
     match geometry.check() {
         Ok(()) => {}
         Err(_) => return Err(Absent::NoGeometry),
@@ -356,7 +359,7 @@ fn format_in_steps<R: AllocGlobal + Files<File = File>, F: FnMut(u32) -> bool>(
     if file.try_lock().is_err() {
         return Err(Absent::File(FileFault::Busy));
     }
-    if let Err(why) = fill_in_steps(&file, geometry.disk_size(), step) {
+    if let Err(why) = fill_in_steps(waits, &file, geometry.disk_size(), state) {
         // The fault that led here is reported, and not what fails now.
         let _left = fs::remove_file(rt, name.as_str());
         return Err(why);
@@ -372,10 +375,11 @@ fn format_in_steps<R: AllocGlobal + Files<File = File>, F: FnMut(u32) -> bool>(
 }
 
 // Gives a file so many bytes of zero, each written and on the disk, in steps.
-fn fill_in_steps<F: FnMut(u32) -> bool>(
+fn fill_in_steps<R: Wait>(
+    rt: &R,
     file: &File,
     size: u64,
-    step: &mut F,
+    state: &CameraState,
 ) -> Result<(), Absent> {
     let zeros = zeros();
     if let Err(fault) = grow_anew(file, size) {
@@ -385,7 +389,7 @@ fn fill_in_steps<F: FnMut(u32) -> bool>(
     let pieces = size / PIECE as u64 + 1;
     for piece in 0..pieces {
         let percent = at.saturating_mul(100) / size.max(1);
-        if !step(u32::try_from(percent).unwrap_or(100)) {
+        if !state.makes(rt, u32::try_from(percent).unwrap_or(100)) {
             return Err(Absent::Stopped);
         }
         let count = size.saturating_sub(at).min(PIECE as u64);

@@ -343,6 +343,12 @@ impl CameraState {
         self.threads.wake(rt);
     }
 
+    /// So much of its store is made, in percent. Returns whether to go on.
+    pub fn makes<R: Wait>(&self, rt: &R, percent: u32) -> bool {
+        self.life.set_making(rt, Some(percent));
+        !self.is_stopped(rt)
+    }
+
     /// Whether it is to end.
     pub fn is_stopped<R: Wait>(&self, rt: &R) -> bool {
         self.life.camera(rt).stopping
