@@ -1,2 +1,3 @@
 pub mod RecordTexts
 pub mod StopImages
+pub mod NewestHeld

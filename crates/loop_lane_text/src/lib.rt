@@ -5,7 +5,7 @@
 //!   run's steps.
 //!
 //! Both only make the calls that a program would, one after the other; their contracts follow from the contracts of
-//! these calls alone.
+//! these calls alone. `laws` says that a ring holds as many of the newest frames as it was chosen for.
 //!
 //! docs/lane.md says why it is so.
 #![tactic(auto)]
@@ -21,6 +21,8 @@ ghost use Rattle.loop_lane_text.specs.Reopened.{AnswersReopened, IsLeftBehind};
 ghost use Rattle.loop_desk.specs.declared.lane.Lane.{Lane};
 ghost use Rattle.loop_y4m.specs.Export.{frames_between};
 ghost use Rattle.loop_y4m.specs.Text.{text};
+
+pub mod laws;
 
 use loop_desk::{Lane, LaneEvent, LaneReply, lane_run};
 use loop_disk::Disk;
