@@ -151,7 +151,15 @@ sys.exit(lapyrei.command.main({words!r}))
 def slow(folder, *words, **more):
     """The command, which takes 50 ms a frame and says so."""
     program = SLOW.format(path=sys.path, words=list(words))
-    return subprocess.Popen([sys.executable, "-B", "-c", program], cwd=folder, **more)
+
+    def heeds():
+        # What a shell runs in the background ignores SIGINT, and under nohup SIGHUP: the command would too.
+        for number in (signal.SIGINT, signal.SIGHUP):
+            signal.signal(number, signal.SIG_DFL)
+
+    return subprocess.Popen(
+        [sys.executable, "-B", "-c", program], cwd=folder, preexec_fn=heeds, **more
+    )
 
 
 @pytest.mark.parametrize("number", [signal.SIGTERM, signal.SIGINT, signal.SIGHUP])
