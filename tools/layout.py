@@ -139,7 +139,7 @@ class Ring:
         )
         self.image = bytearray(fresh(self.geometry, version))
         self.write = write or self.put
-        self.blocks = [None] * segments
+        self.blocks: list = [None] * segments
         self.clips = {}
         self.next = 0
         self.sequence = 0
@@ -188,13 +188,8 @@ class Ring:
 
     def held(self):
         """The held numbers."""
-        slots = self.geometry.slots
-        return [
-            n
-            for b in self.blocks
-            if b is not None
-            for n in range(b * slots, min((b + 1) * slots, self.next))
-        ]
+        slots, blocks = self.geometry.slots, [it for it in self.blocks if it is not None]
+        return [n for b in blocks for n in range(b * slots, min((b + 1) * slots, self.next))]
 
     def lock(self, first, last, tag):
         """Locks frames that are held, under the least free id. In version 1 the tag is 0."""

@@ -166,7 +166,8 @@ def torn(image, record, choose):
 def after_power_loss(base, records, choose):
     """A file after the loss of power after these records: what was synced, and of all else what was
     chosen."""
-    image, pending = bytearray(base), []
+    image = bytearray(base)
+    pending: list[tuple] = []
     for record in records:
         if record[0] == "S":
             for it in pending:

@@ -199,6 +199,29 @@ KINDS = {
             )
         ],
     ),
+    "lint": Kind(
+        "lint_check",
+        [],
+        [],
+        [],
+        "Debian's flake8, mypy and shellcheck have nothing to say",
+        [
+            Wrong(
+                "a tool with an import that nothing uses",
+                given={
+                    "LINT_MORE": changed_copy(
+                        "tools/about.py", "import sys\n", "import os\nimport sys\n"
+                    )
+                },
+                says="about.py:.*F401",
+            ),
+            Wrong(
+                "a script with words that come apart",
+                given={"LINT_MORE": changed_copy("tools/package", '"$0"', "$0")},
+                says="SC2086",
+            ),
+        ],
+    ),
     "info": Kind(
         "store_info_check",
         [],
