@@ -222,6 +222,26 @@ KINDS = {
             ),
         ],
     ),
+    "edits": Kind(
+        "edits_check",
+        [],
+        [],
+        [],
+        "each wrong body fits its source, whether the gate tries it or not",
+        [
+            Wrong(
+                "a body whose text isn't in the source",
+                given={
+                    "EDITS": changed_copy(
+                        "crates/loop_ring/must-fail/a_locked_block_goes.edit",
+                        "clips == 0",
+                        "clips < 0",
+                    )
+                },
+                says="clips < 0\\)' stands 0 times",
+            )
+        ],
+    ),
     "info": Kind(
         "store_info_check",
         [],
