@@ -179,7 +179,7 @@ impl<D: Disk + Drop, A: Allocator> Desk<D, A> {
     }
 
     /// Stores the first frames that wait, all or none: as many as a group may have and the block of the next number has
-    /// room for. It takes no memory and copies no pixel but into the group.
+    /// room for. It takes no memory and copies no pixel.
     ///
     /// If nothing waits, it makes no call of the disk. `MustReopen` comes before that; all else is as `Store::append`
     /// has it. A refusal keeps every frame that waits.
