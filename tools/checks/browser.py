@@ -61,35 +61,55 @@ CONTRAST = 4.5
 # a shade of their own.
 PALE = (
     """
-const light = (colour) => { const [r, g, b] = colour.map((it) => { const c = it / 255; return c <= 0.03928 ? c / 12.92 : ((c + 0.055) / 1.055) ** 2.4; });
+const light = (colour) => { const [r, g, b] = colour.map((it) => { const c = it / 255;
+    return c <= 0.03928 ? c / 12.92 : ((c + 0.055) / 1.055) ** 2.4; });
     return 0.2126 * r + 0.7152 * g + 0.0722 * b; };
 const pen = new OffscreenCanvas(1, 1).getContext('2d', { willReadFrequently: true });
-const numbers = (text) => { pen.clearRect(0, 0, 1, 1); pen.fillStyle = text; pen.fillRect(0, 0, 1, 1); const it = [...pen.getImageData(0, 0, 1, 1).data]; return [...it.slice(0, 3), it[3] / 255]; };
-const over = (front, back) => front.slice(0, 3).map((it, place) => it * front[3] + back[place] * (1 - front[3]));
-const behind = (element) => { const layers = []; for (let it = element; it; it = it.parentElement) { const found = numbers(getComputedStyle(it).backgroundColor);
-    if (found[3] > 0) layers.push(found); if (found[3] > 0.99) break; } return layers.reverse().reduce((back, front) => over(front, back), [255, 255, 255]); };
+const numbers = (text) => { pen.clearRect(0, 0, 1, 1); pen.fillStyle = text;
+    pen.fillRect(0, 0, 1, 1); const it = [...pen.getImageData(0, 0, 1, 1).data];
+    return [...it.slice(0, 3), it[3] / 255]; };
+const over = (front, back) => front.slice(0, 3).map((it,
+    place) => it * front[3] + back[place] * (1 - front[3]));
+const behind = (element) => { const layers = []; for (let it = element; it;
+    it = it.parentElement) { const found = numbers(getComputedStyle(it).backgroundColor);
+    if (found[3] > 0) layers.push(found); if (found[3] > 0.99) break;
+        } return layers.reverse().reduce((back, front) => over(front, back), [255, 255, 255]); };
 const found = [];
-const judge = (element, text, style) => { const back = behind(element), one = light(over(numbers(style.color), back)), two = light(back);
+const judge = (element, text, style) => { const back = behind(element),
+    one = light(over(numbers(style.color), back)), two = light(back);
     const ratio = (Math.max(one, two) + 0.05) / (Math.min(one, two) + 0.05);
-    if (ratio < %s) found.push(`${element.tagName}.${element.className} ${text.trim().slice(0, 30)} ${ratio.toFixed(2)}`); };
+    const name = `${element.tagName}.${element.className} ${text.trim().slice(0, 30)}`;
+    if (ratio < %s) found.push(`${name} ${ratio.toFixed(2)}`); };
 const walk = document.createTreeWalker(document.body, NodeFilter.SHOW_TEXT);
 while (walk.nextNode()) { const element = walk.currentNode.parentElement;
-    if (!walk.currentNode.data.trim() || !element.checkVisibility() || element.closest('.unseen, option')) continue;
+    if (!walk.currentNode.data.trim() || !element.checkVisibility()
+        || element.closest('.unseen, option')) continue;
     judge(element, walk.currentNode.data, getComputedStyle(element)); }
-for (const element of document.querySelectorAll('input, select')) if (element.checkVisibility()) { judge(element, element.value || '', getComputedStyle(element));
-    if (element.placeholder) judge(element, element.placeholder, getComputedStyle(element, '::placeholder')); }
+for (const element of document.querySelectorAll('input, select')) if (element.checkVisibility()) {
+    judge(element, element.value || '', getComputedStyle(element));
+    if (element.placeholder) judge(element, element.placeholder, getComputedStyle(element,
+        '::placeholder')); }
 return found;"""
     % CONTRAST
 )
 # Controls that are seen and have no name by a label, a text or a title of their own.
-NAMELESS = """return [...document.querySelectorAll('button, a, input, select, canvas, progress, dialog[open]')].filter((it) =>
-    it.checkVisibility() && it.ariaHidden !== 'true' && !(it.ariaLabel || it.textContent.trim() || it.title || it.labels?.[0]?.textContent.trim()))"""
+NAMELESS = """return [...document.querySelectorAll(
+    'button, a, input, select, canvas, progress, dialog[open]')].filter((it) =>
+    it.checkVisibility() && it.ariaHidden !== 'true'
+        && !(it.ariaLabel || it.textContent.trim() || it.title
+        || it.labels?.[0]?.textContent.trim()))"""
 # What reaches beyond the screen, and what is cut off within its own box.
-BEYOND = """const found = []; const wide = document.documentElement.clientWidth, high = innerHeight, scrolls = document.scrollingElement;
+BEYOND = """const found = []; const wide = document.documentElement.clientWidth,
+    high = innerHeight, scrolls = document.scrollingElement;
 if (scrolls.scrollWidth > wide) found.push(`the page is ${scrolls.scrollWidth} wide`);
-if (!arguments[0] && scrolls.scrollHeight > high) found.push(`the page is ${scrolls.scrollHeight} high`);
-for (const it of document.querySelectorAll('button, select, input, .cam, .line, .side, .press, .bar, .banner')) { if (!it.checkVisibility() || it.closest('.events, #large-side, dialog')) continue;
-    const box = it.getBoundingClientRect(); if (box.right > wide + 1 || box.left < -1 || (!arguments[0] && (box.bottom > high + 1 || box.top < -1))) found.push(`${it.tagName} ${it.id || it.className} reaches beyond the screen`); }
+if (!arguments[0] && scrolls.scrollHeight > high)
+    found.push(`the page is ${scrolls.scrollHeight} high`);
+const boxes = 'button, select, input, .cam, .line, .side, .press, .bar, .banner';
+for (const it of document.querySelectorAll(boxes)) {
+    if (!it.checkVisibility() || it.closest('.events, #large-side, dialog')) continue;
+    const box = it.getBoundingClientRect(); if (box.right > wide + 1 || box.left < -1
+        || (!arguments[0] && (box.bottom > high + 1 || box.top < -1)))
+        found.push(`${it.tagName} ${it.id || it.className} reaches beyond the screen`); }
 return found;"""
 
 
@@ -175,7 +195,10 @@ class Browser:
 
     def named(self, name):
         """The button or link of a name, as those hear it who don't see."""
-        script = "return [...document.querySelectorAll('button, a')].find((it) => it.checkVisibility() && (it.ariaLabel || it.textContent.trim()) === arguments[0])"
+        script = (
+            "return [...document.querySelectorAll('button, a')].find((it) => it.checkVisibility()"
+            " && (it.ariaLabel || it.textContent.trim()) === arguments[0])"
+        )
         found = self.until(lambda: self.run(script, name), f"control {name!r}")
         expect(
             found.accessible_name.strip() == name, f"{name!r} is heard as {found.accessible_name!r}"

@@ -28,26 +28,40 @@ NASTY = "<img src=x onerror=alert(1)>\"'&<script>"
 # The median of presses, from the key to the answer on the screen.
 PRESS_SECONDS = 0.3
 # The numbers of the frames that are shown.
-NUMBERS = "return [...document.querySelectorAll('.cam')].filter((it) => it.checkVisibility()).map((it) => Number(it.dataset.number))"
+NUMBERS = (
+    "return [...document.querySelectorAll('.cam')].filter((it) => it.checkVisibility()).map((it) =>"
+    " Number(it.dataset.number))"
+)
 # The time of day of each picture that is shown, in milliseconds.
-TIMES = """return [...document.querySelectorAll('.cam footer span:first-child')].filter((it) => it.closest('.cam').checkVisibility()).map((it) => {
-const [h, m, s] = it.textContent.split(' ').pop().split(':'); return Math.round((h * 3600 + m * 60 + Number(s)) * 1000); })"""
+TIMES = """return [...document.querySelectorAll('.cam footer span:first-child')].filter(
+    (it) => it.closest('.cam').checkVisibility()).map((it) => {
+const [h, m, s] = it.textContent.split(' ').pop().split(':');
+    return Math.round((h * 3600 + m * 60 + Number(s)) * 1000); })"""
 # Presses the key so often, and answers the milliseconds until the answer of each stood on the
 # screen. Each is released in between.
 PRESSES = """const done = arguments[1], took = [];
-const answer = document.querySelector('#answer'), painted = () => new Promise((go) => requestAnimationFrame(() => setTimeout(go)));
-const answered = () => new Promise((go) => { const look = new MutationObserver(() => { if (answer.textContent === 'Asked.') return; look.disconnect(); go(); });
+const answer = document.querySelector('#answer');
+const painted = () => new Promise((go) => requestAnimationFrame(() => setTimeout(go)));
+const answered = () => new Promise((go) => { const look = new MutationObserver(() => {
+    if (answer.textContent === 'Asked.') return; look.disconnect(); go(); });
     look.observe(answer, { childList: true, characterData: true, subtree: true }); });
-const once = async () => { const before = performance.now(), is = answered(); document.body.dispatchEvent(new KeyboardEvent('keydown', { key: 'k', bubbles: true }));
-    await is; await painted(); took.push(performance.now() - before); if (!/^Kept/.test(answer.textContent)) throw new Error(answer.textContent); };
+const once = async () => { const before = performance.now(), is = answered();
+    document.body.dispatchEvent(new KeyboardEvent('keydown', { key: 'k', bubbles: true }));
+    await is; await painted(); took.push(performance.now() - before);
+        if (!/^Kept/.test(answer.textContent)) throw new Error(answer.textContent); };
 const free = async () => { const found = await (await fetch('/api/events')).json();
-    for (const event of found.events) await fetch('/api/event/release', { method: 'POST', headers: { 'Content-Type': 'application/json', 'X-Loop-Page': '1' },
-        body: JSON.stringify({ clips: event.clips.map(({ camera, id, first }) => ({ camera, id, first })) }) }); };
-(async () => { document.activeElement.blur(); for (let place = 0; place < arguments[0]; place++) { await once(); if (place % 10 === 9) await free(); }
+    for (const event of found.events) await fetch('/api/event/release', {
+        method: 'POST', headers: { 'Content-Type': 'application/json', 'X-Loop-Page': '1' },
+        body: JSON.stringify({ clips: event.clips.map(({ camera, id, first }) => ({ camera, id,
+            first })) }) }); };
+(async () => { document.activeElement.blur(); for (let place = 0; place < arguments[0];
+    place++) { await once(); if (place % 10 === 9) await free(); }
     done(took); })().catch((fault) => done(String(fault)));"""
 # Fetches an address, and answers its bytes' SHA-256.
-DIGEST = """const done = arguments[1]; fetch(arguments[0]).then((it) => it.arrayBuffer()).then((it) => crypto.subtle.digest('SHA-256', it))
-    .then((it) => done([...new Uint8Array(it)].map((byte) => byte.toString(16).padStart(2, '0')).join('')), (fault) => done(String(fault)));"""
+DIGEST = """const done = arguments[1]; fetch(arguments[0]).then((it) => it.arrayBuffer())
+    .then((it) => crypto.subtle.digest('SHA-256', it))
+    .then((it) => done([...new Uint8Array(it)].map((byte) => byte.toString(16).padStart(2,
+        '0')).join('')), (fault) => done(String(fault)));"""
 
 
 # ----------------------------------------------------------------------------------- what people do
@@ -55,7 +69,10 @@ DIGEST = """const done = arguments[1]; fetch(arguments[0]).then((it) => it.array
 
 def events_shown(browser):
     """The events that are shown: their time and cameras, the newest first."""
-    script = "return [...document.querySelectorAll('#events .event')].map((it) => it.querySelector('.len').textContent)"
+    script = (
+        "return [...document.querySelectorAll('#events .event')].map((it) =>"
+        " it.querySelector('.len').textContent)"
+    )
     return browser.run(script)
 
 
@@ -121,7 +138,8 @@ def press(browser, lab, shots):
     expect("5 s" in browser.text("#press-text"), f"the button says {browser.text('#press-text')!r}")
     browser.named("Less time").click()
     browser.run(
-        "const it = document.querySelector('#seconds'); it.value = '2'; it.dispatchEvent(new Event('input'))"
+        "const it = document.querySelector('#seconds'); it.value = '2'; it.dispatchEvent(new"
+        " Event('input'))"
     )
 
 
@@ -307,7 +325,9 @@ def large(browser, lab, shots):
         lambda: not browser.one("#large-stretch").is_displayed(), "picture as it is stored"
     )
     browser.run(
-        "for (const [id, value] of [['black', 20], ['white', 90]]) { const it = document.querySelector('#' + id); it.value = value; it.dispatchEvent(new Event('change')); }"
+        "for (const [id, value] of [['black', 20], ['white', 90]]) { const it ="
+        " document.querySelector('#' + id); it.value = value; it.dispatchEvent(new"
+        " Event('change')); }"
     )
     browser.until(lambda: "20 to 90" in browser.text("#large-stretch"), "stretch by two points")
     browser.named("As stored").click()
@@ -320,7 +340,9 @@ def large(browser, lab, shots):
 
 
 # The sum of what the large picture shows.
-MIDDLE = """const it = document.querySelector('#large-picture'); return it.getContext('2d').getImageData(0, 0, it.width, it.height).data.reduce((sum, one) => sum + one, 0);"""
+MIDDLE = """const it = document.querySelector('#large-picture');
+    return it.getContext('2d').getImageData(0, 0, it.width, it.height).data.reduce((sum,
+    one) => sum + one, 0);"""
 
 
 def pixel_of(lab, number, x, y):
@@ -336,11 +358,13 @@ def play(browser, lab, shots):
     """An event is played: all its cameras in step, slowly, frame by frame, to its end."""
     event = lab.ask("/api/events").json()["events"][-1]
     browser.run(
-        "[...document.querySelectorAll('#events .event')].at(-1).querySelector('.acts button').click()"
+        "[...document.querySelectorAll('#events .event')].at(-1).querySelector('.acts"
+        " button').click()"
     )
     browser.until(lambda: browser.all("#events .event.playing"), "event that is played")
     browser.run(
-        "const it = document.querySelector('#speed'); it.value = '0.25'; it.dispatchEvent(new Event('change'))"
+        "const it = document.querySelector('#speed'); it.value = '0.25'; it.dispatchEvent(new"
+        " Event('change'))"
     )
     seen, apart, start = set(), [], time.monotonic()
     while time.monotonic() < start + 2:
@@ -360,7 +384,8 @@ def play(browser, lab, shots):
     browser.keys(Keys.ARROW_RIGHT)
     browser.until(lambda: browser.run(NUMBERS)[0] in (before, before + 1), "next frame", 2)
     browser.run(
-        "const it = document.querySelector('#speed'); it.value = '4'; it.dispatchEvent(new Event('change'))"
+        "const it = document.querySelector('#speed'); it.value = '4'; it.dispatchEvent(new"
+        " Event('change'))"
     )
     browser.keys(" ")
     last = next(it["last"] for it in event["clips"] if it["camera"] == "left")
@@ -499,9 +524,11 @@ def sign_in(browser, lab, shots):
             browser.until(lambda: browser.focused() == "Token", "field of the token")
             browser.keys(token, Keys.ENTER)
             browser.until(
-                lambda: browser.driver.title == "Laboratory"
-                if is_in
-                else "isn't the token" in browser.text("main"),
+                lambda: (
+                    browser.driver.title == "Laboratory"
+                    if is_in
+                    else "isn't the token" in browser.text("main")
+                ),
                 f"answer to {token}",
             )
         browser.until(browser.has_pictures, "a frame after the sign-in")
@@ -624,10 +651,12 @@ def look(browser, lab, count, shots):
     browser.dress("1440x900", "dark")
 
 
-SMALL = """return [...document.querySelectorAll('button, input, select')].filter((it) => it.checkVisibility() && it.getBoundingClientRect().height < 38
+SMALL = """return [...document.querySelectorAll('button, input, select')].filter(
+    (it) => it.checkVisibility() && it.getBoundingClientRect().height < 38
     && !it.closest('.cam')).map((it) => it.id || it.textContent || it.className)"""
 # The width and height of each picture as it is shown, of its cell, and of its frame.
-BOXES = """return [...document.querySelectorAll('.cam')].filter((it) => it.checkVisibility()).map((it) => { const box = it.getBoundingClientRect(), picture = it.querySelector('.picture');
+BOXES = """return [...document.querySelectorAll('.cam')].filter((it) => it.checkVisibility())
+    .map((it) => { const box = it.getBoundingClientRect(), picture = it.querySelector('.picture');
     return [box.width, box.height, picture.width / picture.height]; })"""
 
 
@@ -719,7 +748,9 @@ def presses(browser, count, most=3):
 def presses_beside(program, count):
     """The same beside a true station, with four cameras of 640x480 at 25 frames a second."""
     names = ("one", "two", "three", "four")
-    cameras = [{"name": name, "pattern": "640x480 YM12 25:1", "minutes": 1, "keep": 2} for name in names]
+    cameras = [
+        {"name": name, "pattern": "640x480 YM12 25:1", "minutes": 1, "keep": 2} for name in names
+    ]
     plain, conftest.STATION = conftest.STATION, program
     try:
         with laboratory(cameras) as lab:

@@ -1,5 +1,5 @@
-"""The part `station` of tools/checks/page_check: the page beside a true station, which LOOP_STATION names.
-What the station says as JSON is read, and what the page tells of it is so in the stores."""
+"""The part `station` of tools/checks/page_check: the page beside a true station, which LOOP_STATION
+names. What the station says as JSON is read, and what the page tells of it is so in the stores."""
 import contextlib
 import os
 import shutil
@@ -85,7 +85,9 @@ def look_at_keep(lab):
     left = answers["left"]
     expect(left["asked_us"] == 20_000_000, f"less than 20 s is held, and that isn't said: {left}")
     held = sum(it["to_us"] - it["from_us"] + 40_000 for it in left["clips"])
-    expect(abs(held - left["held_us"]) < 500_000, f"{left['held_us']} us are said to be held: {left}")
+    expect(
+        abs(held - left["held_us"]) < 500_000, f"{left['held_us']} us are said to be held: {left}"
+    )
     expect("no frames are held from " in left["text"], f"the sentence is {left['text']}")
     expect(answers["small"]["until_us"], f"it isn't said that it goes on: {answers['small']}")
     number = numbers.pop()
@@ -99,7 +101,10 @@ def look_at_keep(lab):
 
     event = lab.until(whole, "end of the event", 10)
     notes = {it["note"] for it in lab.ask("/api/clips").json()["clips"]}
-    lab.until(lambda: {it["note"] for it in lab.ask("/api/clips").json()["clips"]} == {"run 7"}, f"note: {notes}")
+    lab.until(
+        lambda: {it["note"] for it in lab.ask("/api/clips").json()["clips"]} == {"run 7"},
+        f"note: {notes}",
+    )
     lacks = {it["camera"]: it for it in event["lacks"]}
     expect(set(lacks) == {"fed", "left", "small"}, f"it lacks something of {set(lacks)}")
     expect(lacks["small"]["why"] == "Gaps", f"the station said Gaps: {lacks}")
@@ -180,7 +185,8 @@ def open_event(lab):
 
 
 def look_at_text(lab):
-    """A station whose configuration isn't for JSON is said to be that, and its answers aren't read."""
+    """A station whose configuration isn't for JSON is said to be that, and its answers aren't
+    read."""
     lab.end(lab.page, signal.SIGTERM)
     lab.end(lab.station, signal.SIGTERM)
     path = lab.folder / "station.toml"
@@ -205,4 +211,7 @@ def station_part(is_quick, shots):
         took = look_at_warnings(lab)
         look_at_end(lab)
         look_at_text(lab)
-    return f"station: events, holes, releases and warnings of {program}; a dead camera after {took:.1f} s"
+    return (
+        f"station: events, holes, releases and warnings of {program}; a dead camera after"
+        f" {took:.1f} s"
+    )

@@ -76,7 +76,7 @@ def parts_of(page):
 
 def sections_of(page):
     """The commands that are typed, section by section."""
-    sections = {}
+    sections: dict[str, list] = {}
     for part in parts_of(page):
         if part.kind == "typed" and not elsewhere(part.text):
             sections.setdefault(part.section, []).append(part)
