@@ -4,5 +4,11 @@ instrument may. So no two of them read the station's answers from one pipe, and 
 note where people look.
 
     settings    files of TOML in which no word is unknown
+    moments     times of day
     pages       a station's page, asked by HTTP
+    broker      an MQTT broker, which is waited for
+    bridge      loop_mqtt: a station at a broker
+    asked       what an order by MQTT asks for
+    told        what loop_mqtt remembers: orders, and what was told
+    standing    states that a broker remembers, and that of the archive
 """
