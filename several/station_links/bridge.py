@@ -4,23 +4,19 @@ import json
 import queue
 import threading
 import time
-from dataclasses import dataclass
+from dataclasses import dataclass, replace
 
 from . import asked, moments
 from .broker import TOPIC, Broker, BrokerWords, broker_words
+from .doing import Doer, page_words, span_of
 from .pages import Page, PageFault
-from .settings import BadSettings, Words, secret_in, words_of
+from .settings import BadSettings, Words, words_of
 from .standing import States, archive_in
 from .told import Memory
 
 # So long an event has to be seen unchanged before it is told: its note and the clips of other
 # cameras come a moment later.
 SETTLED_SECONDS = 2.0
-# So long an order waits for a page or a station that isn't there, and how often it is tried.
-PATIENCE_SECONDS = 3600.0
-TRY_SECONDS = 1.0
-# These answers of a page may be others once somebody has looked at its settings.
-WAITED_FOR = (401, 403, 421, 429)
 
 
 @dataclass(frozen=True)
@@ -29,20 +25,11 @@ class MqttWords:
 
     station: str
     prefix: str
-    page: str
-    token: str | None
+    page: Page
     state: str
     archive: str | None
     look: float
     broker: BrokerWords
-
-
-def page_words(words: Words) -> tuple[str, str | None]:
-    """The page's address, and its token where it has one."""
-    page = words.text("page", "http://127.0.0.1:8080", r"https?://[^\s/]+(/[^\s]*)?",
-                      "an address such as http://127.0.0.1:8080")
-    path = words.text("token", None)
-    return page, secret_in(path, "token") if path else None
 
 
 def read_words(path: str) -> MqttWords:
@@ -55,7 +42,7 @@ def read_words(path: str) -> MqttWords:
     found = MqttWords(
         station,
         words.text("prefix", "lapyrei", TOPIC, "the beginning of topics").rstrip("/"),
-        *page_words(words),
+        page_words(words),
         words.text("state", "loop_mqtt.state"),
         words.text("archive", None),
         words.number("look", 0.2, 60, 1.0),
@@ -65,10 +52,6 @@ def read_words(path: str) -> MqttWords:
     return found
 
 
-class NotNow(Exception):
-    """Why an order waits, in a sentence."""
-
-
 class Bridge:
     """A station at a broker. Three threads are at work: the broker's takes orders, one does them,
     and the program's own looks at the page."""
@@ -76,13 +59,16 @@ class Bridge:
     def __init__(self, words: MqttWords, tell) -> None:
         self.words, self.tell = words, tell
         self.base = f"{words.prefix}/{words.station}"
-        self.page = Page(words.page, words.token)
+        self.page = words.page
         self.memory = Memory(words.state, tell)
+        # What an earlier run has left to do.
+        self.left = self.memory.open_orders()
         topics = [f"{words.prefix}/all/keep", f"{self.base}/keep"]
         self.broker = Broker(words.broker, f"lapyrei-{words.station}", topics, self.take, tell)
         self.states, self.lock = States(self.broker), threading.Lock()
         self.orders: queue.Queue[tuple[asked.Keep, bool]] = queue.Queue()
         self.over, self.page_fault = threading.Event(), ""
+        self.doer = Doer(self.page, self.over)
         # What is on its way to the broker, by the numbers of its messages: the keys by which it is
         # known.
         self.flying: dict[int, list[str]] = {}
@@ -149,7 +135,7 @@ class Bridge:
 
     # -------------------------------------------------------------------------------------- orders
 
-    def take(self, _topic: str, payload: bytes) -> None:
+    def take(self, _topic: str, payload: bytes, _is_old: bool) -> None:
         """An order has come. It is written down before it is acknowledged."""
         try:
             keep = asked.keep_in(payload)
@@ -168,7 +154,7 @@ class Bridge:
 
     def work(self) -> None:
         """Does the orders, one after the other: first those that an earlier run has left."""
-        for id_, words in self.memory.open_orders():
+        for id_, words in self.left:
             if not self.over.is_set():
                 self.do(asked.keep_of(id_, words), True)
         while not self.over.is_set():
@@ -179,60 +165,20 @@ class Bridge:
             self.do(keep, is_again)
 
     def do(self, keep: asked.Keep, is_again: bool) -> None:
-        """Does an order, and answers it. A page that isn't there is waited for."""
-        end, waits = time.monotonic() + PATIENCE_SECONDS, ""
-        while not self.over.is_set():
-            try:
-                found = self.kept(keep, is_again)
-            except (PageFault, NotNow) as fault:
-                if time.monotonic() < end:
-                    if not waits:
-                        waits = str(fault)
-                        self.answer(keep, {"waits": True, "text": waits})
-                    self.over.wait(TRY_SECONDS)
-                    continue
-                found = {"kept": False, "refused": "NoPage", "text": str(fault)}
-            except Exception as fault:
-                # An answer that isn't a page's, or a fault of this program: the next order is done.
-                found = {"kept": False, "refused": "Failed", "text": repr(fault)}
+        """Does an order, and answers it."""
+        found = self.doer.do(
+            replace(keep, note=keep.note or "MQTT"),
+            is_again,
+            lambda why: self.answer(keep, {"waits": True, "text": why}),
+        )
+        if found:
             found = self.dressed({"id": keep.id} | found)
             self.memory.answer(keep.id, json.dumps(found))
             self.tell_once([f"answer {keep.id}"], "answers", found)
-            return
 
     def answer(self, keep: asked.Keep, found: dict) -> None:
         """Answers an order before it is done."""
         self.broker.publish(f"{self.base}/answers", self.dressed({"id": keep.id} | found))
-
-    def kept(self, keep: asked.Keep, is_again: bool) -> dict:
-        """What became of an order."""
-        if is_again:
-            for event in self.page.events():
-                if keep.mark() in event["note"]:
-                    return self.kept_before(event)
-        self.must_run()
-        note = f"{keep.note or 'MQTT'} {keep.mark()}"
-        status, found = self.page.keep(keep.since, keep.until, note, keep.camera)
-        if status in (200, 409) and "answers" in found:
-            return kept_of(found)
-        why = str(found.get("error", f"status {status}"))
-        if status in WAITED_FOR:
-            raise NotNow(f"The page refuses: {why}")
-        if status == 503:
-            self.must_run()
-        name = "NoCamera" if status == 404 else f"Page{status}"
-        return {"kept": False, "refused": name, "text": why}
-
-    def must_run(self) -> None:
-        """Waits where the station doesn't run."""
-        level, text = self.page.status()["station"]
-        if level == "bad":
-            raise NotNow(text)
-
-    def kept_before(self, event: dict) -> dict:
-        """What became of an order that was done before a restart, whose answer isn't known."""
-        found = {"kept": True, "event": event["number"], "cameras": event["cameras"]}
-        return found | span_of(event) | {"text": "It was kept before a restart."}
 
     # --------------------------------------------------------------------------------------- looks
 
@@ -325,26 +271,6 @@ class Bridge:
 def keys_of(event: dict) -> list[str]:
     """By what an event's clips are known as long as they stay: a clip that grows has another id."""
     return [f"clip {it['camera']} {it['first']} {it['from_us']}" for it in event["clips"]]
-
-
-def span_of(event: dict) -> dict:
-    """From when to when an event is, in both forms of times."""
-    since, until = event["from_us"], event["to_us"]
-    span = {"from": moments.iso(since), "to": moments.iso(until)}
-    return span | {"from_us": since, "to_us": until}
-
-
-def kept_of(found: dict) -> dict:
-    """A page's answer to a keep, as an answer by MQTT."""
-    answers = sorted(found["answers"], key=lambda one: one["camera"] or "")
-    clips = [clip for one in answers for clip in one["clips"]]
-    told = {"kept": found["kept"], "event": next((it["event"] for it in answers if it["event"]), None)}
-    if clips:
-        ends = min(it["from_us"] for it in clips), max(it["to_us"] for it in clips)
-        told |= span_of({"from_us": ends[0], "to_us": ends[1]})
-    words = ("camera", "kept", "clips", "until_us", "held_us", "asked_us", "why")
-    told["cameras"] = [{word: one[word] for word in words} for one in answers]
-    return told | {"text": " ".join(one["text"] for one in answers)}
 
 
 def checked(path: str, tell) -> Bridge:

@@ -65,15 +65,19 @@ def host_of(words: Words) -> str:
 
 
 class Broker:
-    """A connection that is made again for ever. `on_message(topic, payload)` is called before a
-    message is acknowledged, in the connection's own thread. `generation` grows with each
-    connection, and `acknowledged` has the numbers of the messages that the broker has."""
+    """A connection that is made again for ever. `on_message(topic, payload, is_old)` is called
+    before a message is acknowledged, in the connection's own thread. `generation` grows with each
+    connection; a `clean` one hears nothing of what came without it. `acknowledged` has the numbers
+    of the messages that the broker has."""
 
-    def __init__(self, words: BrokerWords, client: str, topics: list[str], on_message, tell) -> None:
+    def __init__(
+        self, words: BrokerWords, client: str, topics: list[str], on_message, tell,
+        clean: bool = False,
+    ) -> None:
         self.words, self.topics, self.on_message, self.tell = words, topics, on_message, tell
         self.generation, self.is_up, self.dropped = 0, False, 0
         self.why, self.acknowledged = "", queue.SimpleQueue()
-        self.client = mqtt.Client(client, clean_session=False)
+        self.client = mqtt.Client(client, clean_session=clean)
         self.client.max_queued_messages_set(WAITING)
         self.client.reconnect_delay_set(1, RETRY_SECONDS)
         if words.user:
@@ -132,7 +136,7 @@ class Broker:
     def came(self, _client, _data, message) -> None:
         """A message. Whatever is wrong with it, the next one is read."""
         try:
-            self.on_message(message.topic, message.payload)
+            self.on_message(message.topic, message.payload, message.retain)
         except Exception as fault:
             self.tell(f"a message on {message.topic} wasn't taken: {fault!r}")
 

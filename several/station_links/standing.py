@@ -38,8 +38,8 @@ class States:
         had = self.told.get(topic)
         if had and had[0] == generation:
             is_same = steady(had[2]) == steady(found)
-            is_late = now - had[1] >= NUMBERS_SECONDS and without_time(had[2]) != without_time(found)
-            if is_same and not is_late:
+            is_late = now - had[1] >= NUMBERS_SECONDS
+            if is_same and not (is_late and without_time(had[2]) != without_time(found)):
                 return
         self.told[topic] = generation, now, found
         self.broker.publish(topic, found, retain=True)

@@ -18,7 +18,7 @@ import pytest
 TOP = Path(__file__).resolve().parent.parent.parent
 SEVERAL = TOP / "several"
 sys.dont_write_bytecode = True
-sys.path[1:1] = [str(SEVERAL), str(TOP / "page")]
+sys.path[1:1] = [str(SEVERAL), str(TOP / "python")]
 
 
 def of_page():
@@ -32,6 +32,7 @@ def of_page():
 
 
 Laboratory = of_page().Laboratory
+import layout  # noqa: E402,F401  That of the tools, which the page's tests make known.
 # Rings that hold minutes, of small pictures.
 CAMERAS = [
     {"name": "left", "pattern": "16x12 YM12 5:1", "segments": 32},
