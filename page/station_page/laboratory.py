@@ -869,9 +869,11 @@ class Laboratory:
         ]
         return found[0] if len(found) == 1 else None
 
-    async def release(self, camera: str, id_: int, first: int | None) -> str:
+    async def release(
+        self, camera: str, id_: int, first: int | None, exactly: tuple[int, int] | None = None
+    ) -> str:
         """Releases a clip that isn't being fetched: the one that begins with this frame, where that
-        is given."""
+        is given; and `exactly` the one that ends with this frame and has this tag."""
         key = (camera, id_)
         if self.fetching[key] or key in self.releasing:
             raise Unfit(
@@ -882,6 +884,9 @@ class Laboratory:
             async with self.ordering:
                 await self.look_at([self.watched(camera).camera.name], is_new=True)
                 *_, clip = self.clip(camera, id_, first)
+                # An old layout has no tags.
+                if exactly and (clip.last, clip.tag or exactly[1]) != exactly:
+                    raise Unfit(409, "Another clip has that number by now.")
                 # By its first frame too, so that no other clip is released that has its id by then.
                 order = f"release {camera} {clip.id} {clip.first}"
                 waiting = self.orders.begin(order) if self.orders.has_answers else None

@@ -21,6 +21,7 @@ from .journal import Expected, PlainFormatter
 from .laboratory import Laboratory
 from .notes import NotesFault
 from .orders import NoStation
+from .push import whole
 from .reader import Gone
 from .settings import BadSettings, Settings, read_settings
 from .words import Unfit
@@ -483,11 +484,14 @@ class Page:
         return body, self.laboratory.watched(camera).camera.name, id_, first
 
     async def release(self, request: web.Request) -> web.Response:
-        """Releases a clip."""
-        _, camera, id_, first = await self.of_clip(request, set())
+        """Releases a clip. One that copies clips elsewhere says its last frame and tag too."""
+        body, camera, id_, first = await self.of_clip(request, {"last", "tag"})
         order = f"clip {id_} of {camera}" + ("" if first is None else f" from frame {first}")
+        exactly = None
+        if "last" in body or "tag" in body:
+            exactly = tuple(whole(body.get(it), 0, 2**64 - 1, it) for it in ("last", "tag"))
         text = await self.change(
-            request, "release", order, self.laboratory.release(camera, id_, first)
+            request, "release", order, self.laboratory.release(camera, id_, first, exactly)
         )
         return web.json_response({"text": text})
 
