@@ -12,6 +12,7 @@ import layout
 
 from . import limits, spans, words
 from .alerts import Alerts
+from .archived import Archive
 from .films import Fetch, Films, fetch_of
 from .heard import Heard, is_number
 from .journal import Journal
@@ -100,6 +101,7 @@ class Laboratory:
         self.growing: dict[tuple[str, int], str] = {}
         self.grown: set[tuple[str, int]] = set()
         self.notes, self.films = Notes(settings.notes), Films()
+        self.archive = Archive(settings.archive)
         self.fetching: collections.Counter[tuple[str, int]] = collections.Counter()
         self.releasing: set[tuple[str, int]] = set()
         # Held from a look at a clip until its release is given, so that no other order of this page
@@ -264,6 +266,8 @@ class Laboratory:
         """Looks once, and sends all pages what was seen."""
         await self.look_at(list(self.cameras))
         self.judge_station()
+        self.archive.look()
+        self.set("archive", None, self.archive.text() if self.archive.path else "")
         for watched in self.cameras.values():
             self.judge(watched)
         await self.carry_notes()
@@ -393,6 +397,7 @@ class Laboratory:
             "news": list(self.good_news)[-3:],
             "journal": self.journal.listed(limits.JOURNAL_SENT),
             "notes_fault": self.notes.fault,
+            "archive": self.archive.standing(),
             "notes": self.notes.version,
             "cameras": [self.camera(watched) for watched in self.cameras.values()],
         }
@@ -594,6 +599,8 @@ class Laboratory:
                         "fetched": self.fetching[name, clip.id] > 0,
                     }
                 )
+        for one in found:
+            one["archived"] = self.archive.has(one)
         return sorted(found, key=lambda clip: (clip["to_us"], clip["camera"]), reverse=True)
 
     # ---------------------------------------------------------------------------- what is asked for

@@ -124,6 +124,12 @@ AUTO_CALM = 3
 HOLE = 200_000
 # The bytes of pictures that are remembered of each camera.
 EYE_BYTES = 2 * 1024 * 1024
+# The bytes of the archive's file; for how long it may be as it is, and how long a clip may wait: one
+# that can't be archived, and any.
+ARCHIVE_BYTES = 4 * 1024 * 1024
+ARCHIVE_SILENT_SECONDS = 60.0
+ARCHIVE_FAULT_SECONDS = 60.0
+ARCHIVE_SECONDS = 600.0
 # Events that are fetched at a time.
 EVENT_FETCHES = 8
 # The clips of an event that a request may name, and those that a store has room for.
