@@ -533,6 +533,8 @@ class Camera:
             self.rclone.run("moveto", f"{place}/{name}", f"{archive}/{name}", "--ignore-times")
         is_renamed = bool(self.rclone.can(archive)["Features"].get("Move"))
         if not self.rclone.is_equal(sent, archive, names, is_quick=is_renamed):
+            for name in names:
+                self.rclone.run("deletefile", f"{archive}/{name}", is_told=False)
             raise Fault("the copy was changed when it got its name")
 
     def note(self, clip: Clip, entry: Archived) -> None:

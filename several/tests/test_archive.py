@@ -124,7 +124,7 @@ def clips_of(station):
 
 def note(station, clip, text):
     """Writes a note beside a clip, once the page has seen it."""
-    body = {"camera": clip["camera"], "id": clip["id"], "first": clip["first"], "note": text}
+    body = {"camera": "left", "id": clip["id"], "first": clip["first"], "note": text}
     until(lambda: station.post("/api/note", body).status == 200, "note")
 
 
@@ -293,7 +293,8 @@ def test_a_full_server_is_said_and_waited_for(station, dav, make, tmp_path):
     assert clips_of(station)
     (station.folder / "full").unlink()
     until(lambda: not clips_of(station), "release", 120)
-    assert dav.files() and not archive.camera()["fault"]
+    assert dav.files()
+    until(lambda: not archive.camera()["fault"], "end of the fault")
 
 
 def test_a_camera_whose_place_fails_holds_up_no_other(station, dav, begin):
