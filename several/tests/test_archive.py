@@ -33,9 +33,9 @@ class Dav:
 
     def start(self):
         """Starts it, at the port that it had."""
-        self.run = self.begin(
-            "rclone", "serve", "webdav", str(self.folder), "--addr", f"127.0.0.1:{self.port}"
-        )
+        # What a test changes past it is seen at once.
+        words = ["--addr", f"127.0.0.1:{self.port}", "--dir-cache-time", "0s"]
+        self.run = self.begin("rclone", "serve", "webdav", str(self.folder), *words)
         found = until(lambda: LISTENS.search(self.run.printed()), "WebDAV server")
         self.port = int(found[1])
         return self
