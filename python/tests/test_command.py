@@ -153,7 +153,8 @@ def slow(folder, *words, **more):
     program = SLOW.format(path=sys.path, words=list(words))
 
     def heeds():
-        # What a shell runs in the background ignores SIGINT, and under nohup SIGHUP: the command would too.
+        # What a shell runs in the background ignores SIGINT, and under nohup SIGHUP: the command
+        # would too.
         for number in (signal.SIGINT, signal.SIGHUP):
             signal.signal(number, signal.SIG_DFL)
 
