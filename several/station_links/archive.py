@@ -354,7 +354,7 @@ class State:
                 file.flush()
                 if is_synced:
                     os.fsync(file.fileno())
-            os.chmod(new, 0o644)
+            os.chmod(new, 0o640)
             os.replace(new, self.path)
             if is_synced:
                 folder = os.open(self.path.parent, os.O_RDONLY)

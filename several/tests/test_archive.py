@@ -9,8 +9,9 @@ import subprocess
 import sys
 from pathlib import Path
 
+import conftest
 import pytest
-from conftest import SEVERAL, until
+from conftest import SEVERAL
 
 sys.path.insert(1, str(SEVERAL))
 from station_links import archive as program
@@ -21,7 +22,14 @@ CAMERAS = [
     {"name": "left", "pattern": "32x24 GREY 20:1", "segments": 32, "slots": 128},
     {"name": "right", "pattern": "33x21 YM12 20:1", "segments": 32, "slots": 128},
 ]
+# rclone is run some times for each clip, which takes long where other programs have the processors.
+PATIENCE = 180
 LISTENS = re.compile(r"http://127\.0\.0\.1:(\d+)/")
+
+
+def until(reached, what):
+    """Waits for a state, and answers it."""
+    return conftest.until(reached, what, PATIENCE)
 
 
 class Dav:
@@ -95,7 +103,7 @@ class Archive:
 
     def has(self, count):
         """Waits until so many clips are archived."""
-        until(lambda: len(self.told()["archived"]) >= count, f"{count} archived clips", 120)
+        until(lambda: len(self.told()["archived"]) >= count, f"{count} archived clips")
         return self
 
 
@@ -237,7 +245,7 @@ def test_a_server_that_is_killed_is_waited_for(station, dav, make):
     until(lambda: archive.camera()["fault"], "fault")
     assert archive.camera()["waiting"] == 1 and clips_of(station)
     dav.start()
-    until(lambda: not clips_of(station), "release", 120)
+    until(lambda: not clips_of(station), "release")
     assert list(dav.files()) and archive.camera()["archived"] == 1 and clip
 
 
@@ -292,7 +300,7 @@ def test_a_full_server_is_said_and_waited_for(station, dav, make, tmp_path):
     until(lambda: "no space left" in archive.camera()["fault"], "fault")
     assert clips_of(station)
     (station.folder / "full").unlink()
-    until(lambda: not clips_of(station), "release", 120)
+    until(lambda: not clips_of(station), "release")
     assert dav.files()
     until(lambda: not archive.camera()["fault"], "end of the fault")
 
