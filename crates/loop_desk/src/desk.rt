@@ -62,7 +62,7 @@ impl<D: Disk + Drop, A: Allocator + Copy> Desk<D, A> {
     /// kept. If memory is refused, the store comes back.
     pub fn new(alloc: A, store: Store<D, A>, limits: DeskLimits) -> Result<Self, Store<D, A>>
         requires pending { (1 ≤ limits.pending) × (limits.pending ≤ 64) }
-        requires group { (1 ≤ limits.group) × (limits.group ≤ 8) }
+        requires group { (1 ≤ limits.group) × (limits.group ≤ 64) }
         ensures made { IfOk result (λ desk. desk ≡ record { store = store; pending = []; limits = limits }) }
         ensures refused { IfErr result (λ back. back ≡ store) }
     {
