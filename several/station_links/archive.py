@@ -2,9 +2,10 @@
 and only then released, where that is wished.
 
 A clip comes from the station's page byte for byte, with the times of its frames and its note. It goes
-into a folder of its own below `.incoming`, is compared there with what was sent, and then gets its
-name: so whatever has a name in the archive is whole. What fails is tried again for ever. The file of
-the state says what is archived; it is replaced whole, and the page and loop_mqtt read it."""
+into a folder of its own below `.incoming`, is compared there with what was sent, and then the folder
+gets its name: so whatever has a name in the archive is whole. What fails is tried again for ever.
+The file of the state says what is archived; it is replaced whole, and the page and loop_mqtt read
+it."""
 import contextlib
 import datetime
 import fcntl
@@ -252,9 +253,16 @@ class Rclone:
         return status == 0
 
     def is_equal(self, sent: "Sent", place: str, names: list[str], is_quick: bool = False) -> bool:
-        """Whether files of a place are those that were sent, by `rclone check`: by their hashes, or,
-        where the place has none, by all their bytes; with `is_quick` by their lengths then. Each is
-        looked up by itself, however many there are."""
+        """Whether files of a place are those that were sent."""
+        return self.compared(sent, place, names, is_quick) == {f"= {name}" for name in names}
+
+    def compared(
+        self, sent: "Sent", place: str, names: list[str], is_quick: bool = False
+    ) -> set[str]:
+        """What `rclone check` says of each file, whether a place has it as it was sent: `=` and its
+        name, `*` where it is another one, `+` where it isn't there. It goes by hashes, or, where the
+        place has none, by all bytes; with `is_quick` by lengths then. Each is looked up by itself,
+        however many there are."""
         words = ["check", str(sent.folder), place, "--one-way", "--combined", "-", "--no-traverse"]
         words += ["--files-from-raw", str(sent.listed(names))]
         has_hashes = bool(self.can(place).get("Hashes"))
@@ -265,7 +273,7 @@ class Rclone:
         lines = set(answer.splitlines())
         if any(line.startswith("!") for line in lines) or not lines:
             raise Fault(f"rclone check: {last_line(said)}")
-        return lines == {f"= {name}" for name in names}
+        return lines
 
 
 def last_line(said: str) -> str:
@@ -511,10 +519,12 @@ class Camera:
                 for kind in KINDS:
                     os.rename(sent.folder / f"{sent.name}.{kind}", sent.folder / f"{name}.{kind}")
                 sent = replace(sent, name=name)
-            if not self.rclone.has(place, sent.names()[0]):
+            if not self.rclone.has(place, f"{name}/{sent.names()[0]}"):
                 return sent, False
-            if self.rclone.is_equal(sent, place, sent.names()):
-                return sent, True
+            lines = self.rclone.compared(sent, f"{place}/{name}", sent.names())
+            if not any(line.startswith("*") for line in lines):
+                # All of it, or what a program has left that was killed while it was renamed.
+                return sent, all(line.startswith("=") for line in lines)
         raise Fault(f"the archive has 999 others called {front}")
 
     def send(self, sent: Sent) -> None:
@@ -522,20 +532,18 @@ class Camera:
         archive, limit = self.place.archive, self.all.settings.bandwidth
         with self.all.incoming(archive) as place:
             more = ["--bwlimit", limit] if limit else []
-            self.rclone.run("copyto", str(sent.folder), place, "--ignore-times", *more)
-            if not self.rclone.is_equal(sent, place, sent.names()):
+            there = f"{place}/{sent.name}"
+            self.rclone.run("copyto", str(sent.folder), there, "--ignore-times", *more)
+            if not self.rclone.is_equal(sent, there, sent.names()):
                 raise Fault("the copy isn't what was sent")
-            self.move(sent, place, archive, sent.names())
-
-    def move(self, sent: Sent, place: str, archive: str, names: list[str]) -> None:
-        """Gives files their names. The frames come last: what has them has all."""
-        for name in reversed(names):
-            self.rclone.run("moveto", f"{place}/{name}", f"{archive}/{name}", "--ignore-times")
-        is_renamed = bool(self.rclone.can(archive)["Features"].get("Move"))
-        if not self.rclone.is_equal(sent, archive, names, is_quick=is_renamed):
-            for name in names:
-                self.rclone.run("deletefile", f"{archive}/{name}", is_told=False)
-            raise Fault("the copy was changed when it got its name")
+            self.rclone.run("moveto", there, f"{archive}/{sent.name}", "--ignore-times")
+            can = self.rclone.can(archive)["Features"]
+            is_renamed = bool(can.get("Move") and can.get("DirMove"))
+            if not self.rclone.is_equal(
+                sent, f"{archive}/{sent.name}", sent.names(), is_quick=is_renamed
+            ):
+                self.rclone.run("purge", f"{archive}/{sent.name}", is_told=False)
+                raise Fault("the copy was changed when it got its name")
 
     def note(self, clip: Clip, entry: Archived) -> None:
         """The note was changed: the archive's words are written anew."""
@@ -543,8 +551,11 @@ class Camera:
             sent = Sent(folder, entry.name, entry.bytes, entry.sha256)
             self.write_words(clip, sent)
             with self.all.incoming(entry.archive) as place:
-                self.rclone.run("copyto", str(folder), place, "--ignore-times")
-                self.move(sent, place, entry.archive, sent.names()[-1:])
+                name, there = sent.names()[-1], f"{entry.archive}/{entry.name}"
+                self.rclone.run("copyto", str(folder / name), f"{place}/{name}", "--ignore-times")
+                self.rclone.run("moveto", f"{place}/{name}", f"{there}/{name}", "--ignore-times")
+                if not self.rclone.is_equal(sent, there, [name]):
+                    raise Fault("the note in the archive isn't what was sent")
         self.state.change(entry, replace(entry, clip=clip))
 
     def release(self, clip: Clip, entry: Archived) -> None:

@@ -56,7 +56,7 @@ class Dav:
         """The files of a kind that have their names, each with what is in it."""
         return {
             path.name: path.read_bytes()
-            for path in sorted((self.folder / "kept").glob(f"*.{kind}"))
+            for path in sorted((self.folder / "kept").glob(f"*/*.{kind}"))
         }
 
     def notes(self):
@@ -272,7 +272,7 @@ def test_a_copy_that_is_wrong_is_never_released(station, dav, make, tmp_path, ki
     """A server that changes one byte of what it was sent: of the same length, so that only what is
     compared tells."""
     clip = station.keep(1)
-    body = f"for it in {dav.folder}/kept/.incoming/*/*.{kind}; do printf x | dd of=$it bs=1 seek=90 conv=notrunc 2>/dev/null; done"
+    body = f"for it in {dav.folder}/kept/.incoming/*/*/*.{kind}; do printf x | dd of=$it bs=1 seek=90 conv=notrunc 2>/dev/null; done"
     wrong = spoilt(tmp_path / "wrong", "check", body)
     archive = make(release="archived").start(path=wrong)
     until(lambda: "isn't what was sent" in archive.camera()["fault"], "fault")
@@ -285,7 +285,7 @@ def test_a_copy_that_is_wrong_is_never_released(station, dav, make, tmp_path, ki
 
 def test_a_copy_that_changes_with_its_name_is_never_released(station, dav, make, tmp_path):
     station.keep(1)
-    body = f"for it in {dav.folder}/kept/*.y4m; do test ! -e $it || truncate -s 90 $it; done"
+    body = f"for it in {dav.folder}/kept/*/*.y4m; do test ! -e $it || truncate -s 90 $it; done"
     wrong = spoilt(tmp_path / "wrong", "check", body)
     archive = make(release="archived").start(path=wrong)
     until(lambda: "changed when it got its name" in archive.camera()["fault"], "fault")
@@ -340,11 +340,11 @@ def test_a_state_that_cannot_be_read_is_compared_anew(station, dav, make):
     station.keep(1)
     archive = make().start().has(1)
     archive.run.end()
-    before = {path: path.stat().st_mtime_ns for path in (dav.folder / "kept").iterdir() if path.is_file()}
+    before = {path: path.stat().st_mtime_ns for path in (dav.folder / "kept").glob("*/*") if path.is_file()}
     archive.state.write_text("{")
     archive.start().has(1)
     assert "can't be read" in archive.run.printed()
-    assert before == {path: path.stat().st_mtime_ns for path in (dav.folder / "kept").iterdir() if path.is_file()}
+    assert before == {path: path.stat().st_mtime_ns for path in (dav.folder / "kept").glob("*/*") if path.is_file()}
 
 
 def test_a_page_that_does_not_run_is_said(station, dav, make):
