@@ -886,7 +886,7 @@ KINDS = {
                 "a loop_archive that releases what it hasn't sent",
                 given={
                     "LOOP_ARCHIVE": changed_links(
-                        "archive.py", "                if not is_there:\n", "                if 0:\n"
+                        "archive.py", "    if not is_there:\n", "    if 0:\n"
                     )
                 },
                 words=["3"],
