@@ -1,8 +1,7 @@
 -- An order is answered once.
-use Rattle.std.proofs.Common.{◌≡◌, ℕ, ◌+◌, Bool, true, false, not, List, [], ◌∷◌, Option, Some, None, zero, suc, is_some, slice_get, slice_set, if◌then◌else◌, arith, refl}
+use Rattle.std.proofs.Common.{◌≡◌, ℕ, Bool, true, false, List, [], ◌∷◌, Option, Some, None, zero, suc, is_some, slice_get, if◌then◌else◌, arith, refl}
 use Rattle.std.proofs.lemmas.Grind.{common_steps}
-use Rattle.std.specs.List.{position}
-use Rattle.loop_station_core.specs.Answers.{answers_of, given_by, gives, is_open, is_whole}
+use Rattle.loop_station_core.specs.Answers.{answers_of, given_by, gives, is_whole}
 
 -- where each camera has answered, each has
 all-there : {L : Type 0} (given : List (Option L)) (place : ℕ) (o : Option L) → is_whole given ≡ true

@@ -1,12 +1,10 @@
 -- What a search finds is a gap, and a stretch with one is looked into.
-use Rattle.std.proofs.Common.{◌≡◌, ℕ, ◌+◌, ◌-◌, ◌*◌, ◌/◌, ◌≤◌, ◌<◌, Bool, true, false, zero, suc, max, nat_lt, nat_le, if◌then◌else◌, ap, arith, refl}
+use Rattle.std.proofs.Common.{◌≡◌, ℕ, ◌+◌, ◌-◌, ◌*◌, ◌≤◌, ◌<◌, Bool, true, false, zero, suc, ap, arith, refl}
 use Rattle.std.proofs.lemmas.Grind.{common_steps}
 use Rattle.loop_station_core.specs.Laws.{goes_on, search_of, searched}
-use Rattle.loop_station_core.specs.Search.{has_gap, is_narrow, mark_at, middle, most, passed, told, turn}
-use Rattle.loop_station_core.specs.declared.search.Mark.{Mark}
+use Rattle.loop_station_core.specs.Search.{has_gap, mark_at, middle, most, passed, told, turn}
 use Rattle.loop_station_core.specs.declared.search.Search.{Search}
-use Rattle.loop_station_core.specs.declared.search.SearchTurn.{SearchTurn}
-use Rattle.loop_station_core.specs.declared.search.SearchTurn.TheVariants.{Read, Gap, Again, Over}
+use Rattle.loop_station_core.specs.declared.search.SearchTurn.TheVariants.{Gap}
 
 -- its stretch is one of frames, in their order
 record IsOf (time : ℕ → ℕ) (period : ℕ) (s : Search) : Type 0 where

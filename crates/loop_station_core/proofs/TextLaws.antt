@@ -1,9 +1,9 @@
 -- A text that is told as saved is on the disk.
-use Rattle.std.proofs.Common.{◌≡◌, ℕ, Bool, true, false, List, [], ◌∷◌, arith, refl}
+use Rattle.std.proofs.Common.{◌≡◌, Bool, true, false, List, [], ◌∷◌, arith, refl}
 use Rattle.std.proofs.lemmas.Grind.{common_steps}
-use Rattle.loop_station_core.specs.Texts.{AllThreeCame, FirstCame, after_steps, next_step, refused_step}
+use Rattle.loop_station_core.specs.Texts.{AllThreeCame, FirstCame, after_steps}
 use Rattle.loop_station_core.specs.declared.text.TextStep.{TextStep}
-use Rattle.loop_station_core.specs.declared.text.TextStep.TheVariants.{SyncText, Name, SyncName, Unname, Saved, NotSaved}
+use Rattle.loop_station_core.specs.declared.text.TextStep.TheVariants.{SyncText, SyncName, Unname, Saved, NotSaved}
 
 -- what isn't saved stays so
 stays : (replaces : Bool) (steps : List Bool) → after_steps NotSaved replaces steps ≡ NotSaved

@@ -1,5 +1,5 @@
 -- How the gaps of a clip are found, by the times of few of its frames.
-use Rattle.std.specs.Prelude.{ℕ, ◌+◌, ◌-◌, ◌*◌, ◌/◌, ◌≡◌, ◌≤◌, ◌<◌, Bool, true, List, [], ◌∷◌, max, nat_lt, nat_le, if◌then◌else◌}
+use Rattle.std.specs.Prelude.{ℕ, ◌+◌, ◌-◌, ◌*◌, ◌/◌, Bool, max, nat_lt, nat_le, if◌then◌else◌}
 use Rattle.loop_station_core.specs.declared.search.Mark.{Mark}
 use Rattle.loop_station_core.specs.declared.search.Search.{Search}
 use Rattle.loop_station_core.specs.declared.search.SearchTurn.{SearchTurn}

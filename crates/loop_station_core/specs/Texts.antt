@@ -1,5 +1,5 @@
 -- The steps by which a text gets its name.
-use Rattle.std.specs.Prelude.{ℕ, ◌+◌, Bool, true, false, List, [], ◌∷◌, if◌then◌else◌}
+use Rattle.std.specs.Prelude.{Bool, true, false, List, [], ◌∷◌, if◌then◌else◌}
 use Rattle.loop_station_core.specs.declared.text.TextStep.{TextStep}
 use Rattle.loop_station_core.specs.declared.text.TextStep.TheVariants.{SyncText, Name, SyncName, Unname, Saved, NotSaved}
 
