@@ -127,14 +127,14 @@ abbrev pub told_syncs : Bool → Option DiskSeen → Option Change
 told_syncs false (Some d) = Some (Syncs d.sync)
 told_syncs _ _ = None
 
--- how many frames a second a disk takes: 8 by each flush, which syncs twice
-abbrev pub disk_frames : ℕ → ℕ
-disk_frames sync = 4000000 / max sync 1
+-- how many frames a second a disk takes: so many by each flush, which syncs twice
+abbrev pub disk_frames : DiskSeen → ℕ
+disk_frames d = d.group * 500000 / max d.sync 1
 
 -- the line for a disk that takes fewer than its source gives, unless it was measured before
 abbrev pub told_slow : Bool → Option DiskSeen → Option Change
-told_slow false (Some d) = if nat_lt (disk_frames d.sync * d.rate_den) d.rate_num
-    then Some (TooSlow d.sync (disk_frames d.sync))
+told_slow false (Some d) = if nat_lt (disk_frames d * d.rate_den) d.rate_num
+    then Some (TooSlow d.sync (disk_frames d))
     else None
 told_slow _ _ = None
 

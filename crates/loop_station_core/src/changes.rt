@@ -26,9 +26,8 @@ const SHORT_WAIT: u64 = 100_000;
 // A store that is being made is told anew after so many percent.
 const QUARTER: u32 = 25;
 
-// So many frames at most come to the disk by one flush, which syncs twice: of a sync of a microsecond half as many a
-// microsecond.
-const FLUSHED_A_SECOND: u64 = 4_000_000;
+// A flush syncs twice: half of the microseconds of a second.
+const FLUSHED_A_SECOND: u64 = 500_000;
 
 /// The cause of a store that isn't there because its source hasn't come yet.
 pub const NOT_THERE_YET: u32 = 0;
@@ -71,6 +70,8 @@ pub enum StoreSeen {
 pub struct DiskSeen {
     /// How many microseconds a sync takes.
     pub sync: u64,
+    /// How many frames a flush stores at most, by two syncs.
+    pub group: u32,
     /// How many frames the store's source gives: so many in so many seconds.
     pub rate_num: u32,
     pub rate_den: u32,
@@ -257,11 +258,9 @@ impl Reported {
     pub fn next(self, seen: &Seen) -> (Reported, Changes)
         ensures { result ≡ (known_after self seen.entry.now, lines_of self seen.entry.now) }
     {
-        let is_early = seen.now < self.soon;
-        let (source, source_change) = next_source(self.source, seen.source, is_early);
-        let (store, store_change) = next_store(self.store, seen.store, is_early);
+        let (source, source_change) = next_source(self.source, seen.source, seen.now < self.soon);
+        let (store, store_change) = next_store(self.store, seen.store, seen.now < self.soon);
         let (lost, given_up) = next_lost(self.lost, seen.lost, seen.now, seen.stopping);
-        let locked = next_locked(self.locked, seen.locked);
         let (nearly, nearly_change) = next_nearly(self.nearly, seen.room, seen.blocks);
         let (behind, behind_change) = next_behind(self.behind, seen.behind);
         let (waited, waited_change) = next_waited(
@@ -289,7 +288,7 @@ impl Reported {
             source: source_change,
             store: store_change,
             given_up,
-            locked,
+            locked: next_locked(self.locked, seen.locked),
             nearly: nearly_change,
             behind: behind_change,
             waited: waited_change,
@@ -511,10 +510,10 @@ fn next_syncs(told: bool, disk: Option<DiskSeen>) -> Option<Change>
 }
 
 // How many frames a second a disk takes at most.
-fn frames_a_second(sync: u64) -> u64
-    ensures { result ≡ disk_frames sync }
+fn frames_a_second(disk: DiskSeen) -> u64
+    ensures { result ≡ disk_frames disk }
 {
-    FLUSHED_A_SECOND / sync.max(1)
+    u64::from(disk.group) * FLUSHED_A_SECOND / disk.sync.max(1)
 }
 
 // The disk is too slow for the source's rate.
@@ -522,7 +521,7 @@ fn next_slow(told: bool, disk: Option<DiskSeen>) -> Option<Change>
     ensures { result ≡ told_slow told disk }
 {
     let disk = disk?;
-    let frames = frames_a_second(disk.sync);
+    let frames = frames_a_second(disk);
     if told || frames.saturating_mul(u64::from(disk.rate_den)) >= u64::from(disk.rate_num) {
         return None;
     }

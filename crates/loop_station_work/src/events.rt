@@ -7,6 +7,7 @@
 
 use crate::absent::Absent;
 use crate::asked::held_of_asked;
+use crate::filming::limits_for;
 use crate::state::CameraState;
 use loop_station_core::{Change, DiskSeen, KINDS, NOT_THERE_YET, Reported, Seen, StoreSeen};
 use loop_station_words::Lines;
@@ -129,6 +130,7 @@ fn disk_seen<R: Wait>(rt: &R, state: &CameraState) -> Option<DiskSeen> {
     let (sync, geometry) = (state.life.sync(rt)?, state.life.store(rt)?);
     Some(DiskSeen {
         sync,
+        group: limits_for(geometry.frame_bytes()).group,
         rate_num: geometry.rate_num,
         rate_den: geometry.rate_den,
     })

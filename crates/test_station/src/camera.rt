@@ -174,6 +174,7 @@ impl Camera {
             if self.measured.is_none() {
                 self.measured = Some(DiskSeen {
                     sync: random.below(400_000),
+                    group: random.seconds(64).saturating_add(1),
                     rate_num: random.seconds(200),
                     rate_den: random.seconds(3).saturating_add(1),
                 });

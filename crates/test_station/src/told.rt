@@ -330,9 +330,10 @@ fn judge_disk(judge: &mut Judge, known: bool, seen: Option<DiskSeen>, changes: &
         _ => false,
     };
     judge.holds(told, "how fast a disk is, is told once");
-    // A flush of 8 frames takes two syncs.
+    // A flush of so many frames takes two syncs.
     let flush = disk.sync.max(1).saturating_mul(2);
-    let frames = 8_000_000u64.checked_div(flush).unwrap_or(0);
+    let second = u64::from(disk.group).saturating_mul(1_000_000);
+    let frames = second.checked_div(flush).unwrap_or(0);
     let wanted = u64::from(disk.rate_num);
     let slow = frames.saturating_mul(u64::from(disk.rate_den)) < wanted;
     let right = match changes.slow {
