@@ -5,3 +5,5 @@ pub mod GapLaws
 pub mod KeepLaws
 pub mod LineLaws
 pub mod SaveLaws
+pub mod SearchLaws
+pub mod TextLaws
