@@ -4,4 +4,6 @@ pub mod FrameLaws
 pub mod GapLaws
 pub mod KeepLaws
 pub mod LineLaws
+pub mod MarkLaws
 pub mod SaveLaws
+pub mod TimeLaws

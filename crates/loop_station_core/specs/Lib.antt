@@ -4,5 +4,7 @@ pub mod Frames
 pub mod Gaps
 pub mod Keeps
 pub mod Laws
+pub mod Marks
 pub mod Saving
 pub mod Telling
+pub mod Timing

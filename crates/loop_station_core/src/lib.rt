@@ -7,6 +7,8 @@
 //! - `runs`: what of a keep's time is held, and the gaps in it; which clips lie within longer ones;
 //! - `saves`: places of saves: which begins, which waits, and which clips are read meanwhile;
 //! - `replies`: when an order is answered, by as many cameras as it means;
+//! - `marks`: what stands in a frame's flags: its bits, and whether it came late;
+//! - `timing`: the times that a source says of its frames, and the gaps between them;
 //! - `changes`: which lines about a camera follow from what is seen of it;
 //! - `laws`: what holds over any list of events, each law the contract of a function that does nothing.
 //!
@@ -21,15 +23,19 @@ mod camera;
 mod changes;
 mod keep;
 pub mod laws;
+mod marks;
 mod replies;
 mod runs;
 mod saves;
 mod tally;
+mod timing;
 
 pub use camera::{Act, Camera, Event, FilmingEvent, SourceEvent};
 pub use changes::{Change, Changes, KINDS, NOT_THERE_YET, Reported, Seen, SourceSeen, StoreSeen};
 pub use keep::{Keep, KeepTurn, Numbers, bounds, is_too_far, next_turn};
+pub use marks::{bits_of, came_late, is_late, mark};
 pub use replies::Replies;
 pub use runs::{ClipSpan, Gap, Run, Shortfall, is_covered, shortfall_of};
 pub use saves::{Asked, Cancelled, Ended, SaveKey, Saves, StoppedSave};
 pub use tally::Tally;
+pub use timing::{Arrival, Stamped, Timing};
