@@ -1,10 +1,27 @@
 //! What holds over any list of events. Each function does nothing: its contract is the law.
 
 ghost use Rattle.loop_station_core.specs.Laws.{DisksAreToldOnce, FilmingsGoOn, FoundGapsAreSo, FramesAddUp, GapsAddUp, GapsAreLookedFor, KeepsAreRight, LinesAreSo, LockedLinesAlternate, LostAreToldOnce, OrdersAreAnsweredOnce, ReadClipsWait, ReleasesAreFree, SavedTextsAreThere, SilentSourcesWait, StopsAreForGood};
+ghost use Rattle.loop_station_core.specs.Marks.{MarksAreRead};
+ghost use Rattle.loop_station_core.specs.Timing.{GapsAreToldApart, TimesRise};
 
 /// Each frame that came is stored, lost, at the desk, or on its way to it.
 pub fn frames_add_up()
     ensures { FramesAddUp }
+{}
+
+/// The time of each frame is later than that of the frame before, whatever its source says.
+pub fn times_rise()
+    ensures { TimesRise }
+{}
+
+/// Between two gaps that are told lies a second, or more.
+pub fn gaps_are_told_apart()
+    ensures { GapsAreToldApart }
+{}
+
+/// Bits and lateness are read back from a mark.
+pub fn marks_are_read()
+    ensures { MarksAreRead }
 {}
 
 /// At looks that come one after the other, a keep locks what its line asks for, and only once each frame that had come

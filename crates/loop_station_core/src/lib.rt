@@ -11,6 +11,8 @@
 //! - `text`: the steps by which the text of a save gets its name;
 //! - `replies`: the answers of the cameras that an order means, and when it is answered;
 //! - `still`: whether the program stood still;
+//! - `marks`: what stands in a frame's flags: its bits, and whether it came late;
+//! - `timing`: the times that a source says of its frames, and the gaps between them;
 //! - `changes`: which lines about a camera follow from what is seen of it;
 //! - `laws`: what holds over any list of events, each law the contract of a function that does nothing.
 //!
@@ -27,6 +29,7 @@ mod changes;
 mod growth;
 mod keep;
 pub mod laws;
+mod marks;
 mod replies;
 mod runs;
 mod saves;
@@ -34,6 +37,7 @@ mod search;
 mod still;
 mod tally;
 mod text;
+mod timing;
 
 pub use camera::{Act, Camera, Event, FilmingEvent, SourceEvent};
 pub use changes::{
@@ -41,6 +45,7 @@ pub use changes::{
 };
 pub use growth::{EventEnd, GrowthTurn, KeptAnswer, event_end, kept_answer, next_growth};
 pub use keep::{Keep, KeepTurn, Numbers, bounds, is_too_far, next_turn};
+pub use marks::{bits_of, came_late, is_late, mark};
 pub use replies::Replies;
 pub use runs::{ClipSpan, Gap, Run, Shortfall, is_covered, shortfall_of};
 pub use saves::{Asked, Cancelled, Ended, SaveKey, Saves, StoppedSave};
@@ -48,3 +53,4 @@ pub use search::{Mark, Search, SearchTurn};
 pub use still::stood_still;
 pub use tally::Tally;
 pub use text::{TextStep, next_text_step};
+pub use timing::{Arrival, Stamped, Timing};
