@@ -251,6 +251,21 @@ class Told(Station):
             raise Silent(f"stop: {self.told[-3:]}, status {self.run.poll()}")
 
 
+class Piped(Told):
+    """A station whose answers come through a named pipe, each the moment it is written."""
+
+    def __init__(self, program, folder, env=None):
+        path = Path(folder, ANSWERS)
+        if not path.exists():
+            os.mkfifo(path)
+        super().__init__(os.path.abspath(program), folder, env)
+
+    def follow(self, path):
+        with open(path, "rb") as pipe:
+            for line in pipe:
+                self.hear([line])
+
+
 def camera(name, source, **words):
     """The lines of a configuration for a camera: its words, numbers and truth values as they are
     and all else quoted."""

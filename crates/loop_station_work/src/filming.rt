@@ -39,6 +39,7 @@ const LOOK_AGAIN: u64 = 100;
 
 // The most frames that a camera's flush stores, and the fewest that it may store where they are large.
 const MOST: u32 = 64;
+
 const FEWEST: u32 = 8;
 
 // How many bytes the frames of a flush have together at most, where they are more than the fewest.
@@ -303,9 +304,9 @@ fn why_ended<R: Wait>(rt: &R, state: &CameraState, filmed: Filmed) -> Absent {
     }
 }
 
-// How much the desk of a camera accepts. A flush costs two syncs, however many frames it stores; as many come while it
-// lasts, and wait in memory.
-fn limits_for(frame_bytes: u32) -> DeskLimits
+/// How much the desk of a camera accepts. A flush costs two syncs, however many frames it stores; as many come while it
+/// lasts, and wait in memory.
+pub(crate) fn limits_for(frame_bytes: u32) -> DeskLimits
     ensures pending { result.pending ≡ 64 }
     ensures group { (1 ≤ result.group) × (result.group ≤ 64) }
 {
