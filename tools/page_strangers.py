@@ -67,7 +67,7 @@ def laboratory(*words, token=None, cameras=CAMERAS, spoilt=False):
     from conftest import Laboratory, token_in
 
     folder = tempfile.mkdtemp(prefix="page_check", dir="/var/tmp")
-    lab = Laboratory(folder, cameras)
+    lab = Laboratory(folder, cameras, as_it_is=True)
     try:
         lab.start_station()
         more = ["--token", token_in(folder, token)] if token else []
@@ -235,13 +235,13 @@ def look_at_clocks(lab):
         time.sleep(1.2)
         expect(lab.camera()["level"] == "good", f"with a clock that is {wrong} s wrong a camera is {lab.camera()['state']}")
     lab.order("!pause left")
-    lab.until(lambda: lab.camera()["level"] == "bad", "word that no frames come", 8)
+    lab.until(lambda: lab.camera()["level"] == "bad", "word that no frames come")
     for wrong in ("-86400", "86400", "0"):
         lab.spoil("clock", wrong)
         time.sleep(0.7)
         expect(lab.camera()["level"] == "bad", f"with a clock that is {wrong} s wrong a dead camera is {lab.camera()['state']}")
     lab.order("!go left")
-    lab.until(lambda: lab.camera()["level"] == "good" and not lab.status()["alerts"], "frames again", 10)
+    lab.until(lambda: lab.camera()["level"] == "good" and not lab.status()["alerts"], "frames again")
     print("    a clock that is set changes nothing", flush=True)
 
 
@@ -250,7 +250,7 @@ def look_at_disk(lab):
     on."""
     lab.filmed(20, "right")
     lab.spoil("hangs", "left.loop")
-    lab.until(lambda: lab.camera()["kind"] == "hangs", "word that the disk hangs", 8)
+    lab.until(lambda: lab.camera()["kind"] == "hangs", "word that the disk hangs")
     paths = ["/api/cameras/left/newest.jpg", "/api/clips/left/0.y4m", "/api/cameras/left/frames/3.jpg"]
     for path in paths * 20:
         threading.Thread(target=lambda path=path: lab.ask(path, timeout=30), daemon=True).start()
@@ -267,7 +267,7 @@ def look_at_disk(lab):
     took = time.monotonic() - begun
     expect(kept.status == 200 and took < 1.5, f"beside a disk that hangs a keep is answered {kept.status} after {took:.1f} s")
     lab.spoil("hangs", "")
-    lab.until(lambda: lab.camera()["level"] == "good", "the disk again", 10)
+    lab.until(lambda: lab.camera()["level"] == "good", "the disk again")
     is_well(lab)
     print(f"    a disk that hangs: the other camera's slowest picture after {slowest:.2f} s, its keep after {took:.2f} s", flush=True)
 
@@ -340,7 +340,7 @@ def look_at_proxy(kind, lab, folder):
     port = free_port()
     run = proxy_of(kind, folder, lab.port, port)
     try:
-        lab.until(lambda: is_open(port), f"{kind}: {Path(folder, 'errors').read_text()[-500:]}", 15)
+        lab.until(lambda: is_open(port), f"{kind}: {Path(folder, 'errors').read_text()[-500:]}")
         origin = f"https://cameras.example.org:{port}"
         expect(ask(folder, port, "/").headers["Location"] == "/sign-in", f"{kind}: / doesn't lead to the sign-in")
         form = {"Content-Type": "application/x-www-form-urlencoded", "Origin": origin}
@@ -458,7 +458,7 @@ def look_at_calls():
                 for kind in ("mp4", "y4m", "zip", "csv", "jpg"):
                     expect(lab.ask(f"/api/clips/left/0.{kind}", timeout=60).status == 200, f"no {kind} under strace")
                 lab.say("all_locked", camera="left")
-                lab.until(lambda: '["logger"' in Path(folder, "calls").read_text(errors="replace"), "command of on_alert", 20)
+                lab.until(lambda: '["logger"' in Path(folder, "calls").read_text(errors="replace"), "command of on_alert")
                 lab.post("/api/release", {"camera": "left", "id": 0})
         finally:
             conftest.PROGRAM = plain
