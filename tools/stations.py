@@ -40,14 +40,19 @@ class Station:
                 before()
 
         self.run = subprocess.Popen(
-            [program, "station.toml"], cwd=folder, env=env, preexec_fn=begin,
+            [program, "station.toml"],
+            cwd=folder,
+            env=env,
+            preexec_fn=begin,
             stdin=subprocess.DEVNULL if orders else subprocess.PIPE,
-            **{"stdout": subprocess.PIPE, **outputs})
+            stdout=outputs.get("stdout", subprocess.PIPE),
+            stderr=outputs.get("stderr"),
+        )
         if self.run.stdout:
-            threading.Thread(target=self.read, daemon=True).start()
+            threading.Thread(target=self.read, args=[self.run.stdout], daemon=True).start()
 
-    def read(self):
-        for line in self.run.stdout:
+    def read(self, told):
+        for line in told:
             with self.more:
                 text = line.decode().rstrip("\n")
                 (self.events if text.startswith(EVENTS) else self.lines).append(text)
@@ -62,12 +67,12 @@ class Station:
 
     def send(self, text):
         """Writes orders, all in one write."""
-        if self.orders:
+        if self.run.stdin:
+            os.write(self.run.stdin.fileno(), text.encode())
+        else:
             descriptor = self.opened(self.orders)
             os.write(descriptor, text.encode())
             os.close(descriptor)
-        else:
-            os.write(self.run.stdin.fileno(), text.encode())
 
     def opened(self, path, seconds=20):
         """A pipe, once the station reads from it."""
@@ -244,6 +249,21 @@ class Told(Station):
         self.expect(lambda told: told and told[-1]["kind"] == "stopped", seconds, "stop")
         if self.run.wait(seconds) != 0:
             raise Silent(f"stop: {self.told[-3:]}, status {self.run.poll()}")
+
+
+class Piped(Told):
+    """A station whose answers come through a named pipe, each the moment it is written."""
+
+    def __init__(self, program, folder, env=None):
+        path = Path(folder, ANSWERS)
+        if not path.exists():
+            os.mkfifo(path)
+        super().__init__(os.path.abspath(program), folder, env)
+
+    def follow(self, path):
+        with open(path, "rb") as pipe:
+            for line in pipe:
+                self.hear([line])
 
 
 def camera(name, source, **words):

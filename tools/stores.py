@@ -1,5 +1,6 @@
-"""What kill_check, power_check, format_check, start_check, output_check, descriptor_check and save_check share: the programs, the preloaded library and
-its log, what a loss of power may leave of a file, and the plain recorder that says what a file may hold."""
+"""What kill_check, power_check, format_check, start_check, output_check, descriptor_check and
+save_check share: the programs, the preloaded library and its log, what a loss of power may leave of
+a file, and the plain recorder that says what a file may hold."""
 import os
 import random
 import struct
@@ -11,7 +12,7 @@ import layout
 
 TOOLS = os.path.dirname(os.path.abspath(__file__))
 CRATES = os.path.join(TOOLS, "..", "crates")
-ALL = str(2 ** 64 - 1)
+ALL = str(2**64 - 1)
 MODES = ("no_sync", "late_sync", "gate_first")
 SECTOR = 512
 
@@ -21,44 +22,69 @@ class Violation(Exception):
 
 
 def built(name):
-    """A program's path. One that the variable LOOP_CLI, LOOP_STATION, BENCH_PROGRAMS or EXAMPLE_FILL names is taken as it is; else it is built, and proved
-    where something changed."""
+    """A program's path. One that the variable LOOP_CLI, LOOP_STATION, BENCH_PROGRAMS or
+    EXAMPLE_FILL names is taken as it is; else it is built, and proved where something changed."""
     given = os.environ.get(name.upper())
     if given:
         return os.path.abspath(given)
     crate = os.path.join(CRATES, name)
-    print(f"proving and building {name} where something has changed: up to an hour, silently", file=sys.stderr, flush=True)
+    print(
+        f"proving and building {name} where something has changed: up to an hour, silently",
+        file=sys.stderr,
+        flush=True,
+    )
     with tempfile.TemporaryDirectory() as folder:
         words = ["rt", "run", "--jobs", "1", *words_of(name, folder)]
-        if subprocess.run(words, cwd=crate, stdin=subprocess.DEVNULL, capture_output=True).returncode != 0:
+        if (
+            subprocess.run(
+                words, cwd=crate, stdin=subprocess.DEVNULL, capture_output=True
+            ).returncode
+            != 0
+        ):
             sys.exit(f"rt run made no {name}")
     return os.path.join(crate, "out", name)
 
 
 def words_of(name, folder, stops=True):
-    """What makes a program end at once, with status 0, as it is run once it was built: loop_station wants a configuration, whose orders end it, or not."""
+    """What makes a program end at once, with status 0, as it is run once it was built: loop_station
+    wants a configuration, whose orders end it, or not."""
     if name != "loop_station":
         return []
     orders, config = os.path.join(folder, "orders"), os.path.join(folder, "station.toml")
     with open(orders, "w") as file:
         file.write("stop\n" if stops else "")
     with open(config, "w") as file:
-        file.write(f'orders = "{orders}"\n[[camera]]\nname = "one"\nsource = "pattern"\nstore = "{folder}/one.loop"\nbytes = 100000000\n')
+        file.write(
+            f'orders = "{orders}"\n[[camera]]\nname = "one"\nsource = "pattern"\nstore ='
+            f' "{folder}/one.loop"\nbytes = 100000000\n'
+        )
     return ["--", config]
 
 
 def library(folder):
     """The preloaded library, built into a folder."""
     path = os.path.join(folder, "preload.so")
-    subprocess.run(["cc", "-shared", "-fPIC", "-O2", "-o", path, os.path.join(TOOLS, "preload.c"), "-ldl"], check=True)
+    subprocess.run(
+        ["cc", "-shared", "-fPIC", "-O2", "-o", path, os.path.join(TOOLS, "preload.c"), "-ldl"],
+        check=True,
+    )
     return path
 
 
-def under(preload, path, log=None, mode=None, fail=None, threads=None, text=None, kill=None, clip=None):
+def under(
+    preload, path, log=None, mode=None, fail=None, threads=None, text=None, kill=None, clip=None
+):
     """The environment of a program with the library before it."""
     env = dict(os.environ, LD_PRELOAD=preload, LOOP_FILE=path)
-    given = (("LOOP_LOG", log), ("LOOP_MODE", mode), ("LOOP_FAIL", fail), ("LOOP_THREADS", threads), ("LOOP_TEXT", text), ("LOOP_KILL", kill),
-             ("LOOP_CLIP", clip))
+    given = (
+        ("LOOP_LOG", log),
+        ("LOOP_MODE", mode),
+        ("LOOP_FAIL", fail),
+        ("LOOP_THREADS", threads),
+        ("LOOP_TEXT", text),
+        ("LOOP_KILL", kill),
+        ("LOOP_CLIP", clip),
+    )
     env.update({name: value for name, value in given if value})
     return env
 
@@ -76,14 +102,15 @@ def log_of(path):
         size = count if kind in "WAw" else 0
         if at + 17 + size > len(data):
             break
-        records.append((kind, place, data[at + 17: at + 17 + size]))
+        records.append((kind, place, data[at + 17 : at + 17 + size]))
         at += 17 + size
     return records
 
 
 def settle(log, path):
-    """Makes a log after a kill one of what was done: a record that was cut is removed, and a last write, which is logged before it is made, has the
-    bytes that the file has in its place, since the kill may have come in between."""
+    """Makes a log after a kill one of what was done: a record that was cut is removed, and a last
+    write, which is logged before it is made, has the bytes that the file has in its place, since
+    the kill may have come in between."""
     if not os.path.exists(log):
         return
     whole = log_of(log)
@@ -101,7 +128,7 @@ def write_to(image, at, data):
     """Writes bytes into an image, which grows where it has to."""
     if len(image) < at + len(data):
         image.extend(bytes(at + len(data) - len(image)))
-    image[at: at + len(data)] = data
+    image[at : at + len(data)] = data
 
 
 def set_length(image, length):
@@ -120,7 +147,8 @@ def change(image, record):
 
 
 def torn(image, record, choose):
-    """Makes what a loss of power leaves of a change: of each sector of a write what was chosen for it, new, old or zero."""
+    """Makes what a loss of power leaves of a change: of each sector of a write what was chosen for
+    it, new, old or zero."""
     kind, place, data = record
     if kind == "T":
         if choose() != "old":
@@ -128,7 +156,7 @@ def torn(image, record, choose):
         return
     at = 0
     while at < len(data):
-        part = data[at: at + SECTOR - (place + at) % SECTOR]
+        part = data[at : at + SECTOR - (place + at) % SECTOR]
         what = choose()
         if what != "old":
             write_to(image, place + at, part if what == "new" else bytes(len(part)))
@@ -136,8 +164,10 @@ def torn(image, record, choose):
 
 
 def after_power_loss(base, records, choose):
-    """A file after the loss of power after these records: what was synced, and of all else what was chosen."""
-    image, pending = bytearray(base), []
+    """A file after the loss of power after these records: what was synced, and of all else what was
+    chosen."""
+    image = bytearray(base)
+    pending: list[tuple] = []
     for record in records:
         if record[0] == "S":
             for it in pending:
@@ -161,10 +191,16 @@ def footage(number, run):
 
 
 class Plain:
-    """The plain recorder: the frames by their numbers, each as its byte, the clips, the next number, and the layout's version."""
+    """The plain recorder: the frames by their numbers, each as its byte, the clips, the next
+    number, and the layout's version."""
 
     def __init__(self, geometry, frames=None, clips=None, following=0, version=2):
-        self.geometry, self.frames, self.clips, self.next = geometry, dict(frames or {}), list(clips or []), following
+        self.geometry, self.frames, self.clips, self.next = (
+            geometry,
+            dict(frames or {}),
+            list(clips or []),
+            following,
+        )
         self.version = version
 
     def copy(self):
@@ -181,7 +217,11 @@ class Plain:
         """The states that the store of one more frame goes through."""
         states, gone = [], self.victim()
         if gone is not None:
-            self.frames = {number: it for number, it in self.frames.items() if number // self.geometry.slots != gone}
+            self.frames = {
+                number: it
+                for number, it in self.frames.items()
+                if number // self.geometry.slots != gone
+            }
             states.append(self.copy())
         self.frames[self.next] = byte
         self.next += 1
@@ -190,7 +230,9 @@ class Plain:
     def lock(self, first, last, tag=0):
         """The state after a lock."""
         taken = {clip[0] for clip in self.clips}
-        self.clips = sorted(self.clips + [(min(set(range(layout.CLIPS)) - taken), first, last, tag)])
+        self.clips = sorted(
+            self.clips + [(min(set(range(layout.CLIPS)) - taken), first, last, tag)]
+        )
         return [self.copy()]
 
     def unlock(self, index):
@@ -205,7 +247,9 @@ class Plain:
 
     def reads_as(self):
         """What an image of this state reads as."""
-        frames = {number: bytes([byte]) * self.geometry.size for number, byte in self.frames.items()}
+        frames = {
+            number: bytes([byte]) * self.geometry.size for number, byte in self.frames.items()
+        }
         return layout.Recording(self.geometry, self.version, self.next, frames, self.clips)
 
 
@@ -216,7 +260,8 @@ def list_of(program, path):
 
 
 def reads_the_same(program, path, image):
-    """Writes an image into a file; `list` and `export` answer what the rules say, and a refused file keeps its bytes. Answers what it reads as."""
+    """Writes an image into a file; `list` and `export` answer what the rules say, and a refused
+    file keeps its bytes. Answers what it reads as."""
     with open(path, "wb") as file:
         file.write(image)
     found = layout.read(image)
@@ -230,17 +275,32 @@ def reads_the_same(program, path, image):
                 raise Violation("a refused file was changed")
     elif found.frames:
         text = path + ".y4m"
-        done = subprocess.run([program, "export", path, "0", ALL, text], capture_output=True, text=True)
+        done = subprocess.run(
+            [program, "export", path, "0", ALL, text], capture_output=True, text=True
+        )
         with open(text, "rb") as file:
             exported = file.read()
-        if (done.returncode, done.stdout) != (0, f"exported {len(found.frames)}\n") or exported != layout.text_of(found, 0, 2 ** 64 - 1):
-            raise Violation(f"export answers {done.returncode} {done.stdout!r} {done.stderr!r}, or another text than the frames that are held")
+        if (done.returncode, done.stdout) != (
+            0,
+            f"exported {len(found.frames)}\n",
+        ) or exported != layout.text_of(found, 0, 2**64 - 1):
+            raise Violation(
+                f"export answers {done.returncode} {done.stdout!r} {done.stderr!r}, or another text"
+                " than the frames that are held"
+            )
     return found
 
 
 def is_one_of(found, readings):
     """Sees that what an image reads as is one of these, pixels and all."""
     if found not in readings:
-        shown = found.text if isinstance(found, layout.Refused) else layout.listed(found).replace("\n", ", ")
+        shown = (
+            found.text
+            if isinstance(found, layout.Refused)
+            else layout.listed(found).replace("\n", ", ")
+        )
         wanted = " or ".join(layout.listed(reading).replace("\n", ", ") for reading in readings)
-        raise Violation(f"a file reads as {shown}; what may stand there is {wanted}(with the pixels of each number and run)")
+        raise Violation(
+            f"a file reads as {shown}; what may stand there is {wanted}(with the pixels of each"
+            " number and run)"
+        )

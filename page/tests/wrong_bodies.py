@@ -90,7 +90,7 @@ def copy_of(folder, name, old, new):
     """A copy of the page with a wrong body; its program."""
     for part in ("page", "python"):
         shutil.copytree(TOP / part, folder / part, ignore=shutil.ignore_patterns("tests"))
-    shutil.copytree(TOP / "tools", folder / "tools", ignore=shutil.ignore_patterns("wrong_bodies"))
+    shutil.copytree(TOP / "tools", folder / "tools", ignore=shutil.ignore_patterns("wrong_bodies", "checks"))
     path = folder / "page" / "station_page" / f"{name}.py"
     text = path.read_text(encoding="utf-8")
     if text.count(old) != 1:

@@ -1,6 +1,6 @@
 """Which clips are one event. A keep of a time makes a clip for each run of held frames of that
-time, in each file: what people see as one event may be several clips. The station gives each event a
-number, which is the tag of its clips unless the user gave another one; else it is told from the
+time, in each file: what people see as one event may be several clips. The station gives each event
+a number, which is the tag of its clips unless the user gave another one; else it is told from the
 clips' times. `grouped` is the one function that decides. It needs nothing but Python."""
 from __future__ import annotations
 

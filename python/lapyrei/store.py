@@ -419,8 +419,8 @@ class Clip(Frames):
 class Event(Frames):
     """The frames of an event: of the clips of one keep (lapyrei.events says how that is told). It
     has `clips`, the tag, the station's `number` of the event or None, the times of its first and
-    last frame in microseconds, and a name: the id of its first clip, and in a store of several files
-    the file's place before it (`2.0`)."""
+    last frame in microseconds, and a name: the id of its first clip, and in a store of several
+    files the file's place before it (`2.0`)."""
 
     def __init__(self, frames: Frames, clips: list[Clip]) -> None:
         super().__init__(frames._parts, frames._of, frames._heads)

@@ -159,7 +159,8 @@ def slow(folder, *words, stop=None, **more):
     more |= {"stdin": subprocess.PIPE} if stop else {}
 
     def heeds():
-        # What a shell runs in the background ignores SIGINT, and under nohup SIGHUP: the command would too.
+        # What a shell runs in the background ignores SIGINT, and under nohup SIGHUP: the command
+        # would too.
         for number in (signal.SIGINT, signal.SIGHUP):
             signal.signal(number, signal.SIG_DFL)
 

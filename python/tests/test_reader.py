@@ -73,7 +73,7 @@ def test_random_rings_and_what_spoilt_bytes_make_of_them(tmp_path, seed):
 @pytest.mark.parametrize("seed", range(4))
 def test_what_kills_and_losses_of_power_leave_is_read(tmp_path, seed):
     """A writer's calls, each a write and its sync, are cut anywhere; of a write that isn't synced
-    each sector is new, old or zero, as tools/power_check has it."""
+    each sector is new, old or zero, as tools/checks/power_check has it."""
     choose, records = random.Random(seed), []
     random.seed(seed)
     it = layout.Ring(16, 30, choose.choice(FORMATS), 3, 2)

@@ -12,8 +12,9 @@ use std::time::{Clock, Duration};
 struct Known {
     camera: Camera,
     tally: Tally,
-    // Why the source is unusable, if it is.
+    // Why the source is unusable, if it is, and the number of that cause: another one has another.
     unusable: &'static str,
+    cause: u32,
     // What the source's header said last. The size of its ring means nothing.
     offered: Option<Geometry>,
     // The geometry of the store.
@@ -41,6 +42,7 @@ impl Life {
                 camera: Camera::new(),
                 tally: Tally::new(),
                 unusable: "",
+                cause: 0,
                 offered: None,
                 wanted: None,
                 place: None,
@@ -114,14 +116,18 @@ impl Life {
     /// The source gives what no store takes, by the name of the fault.
     pub fn set_unusable<R: Wait>(&self, rt: &R, why: &'static str) {
         let mut known = self.known.lock(rt);
-        known.unusable = why;
+        if known.unusable != why {
+            known.unusable = why;
+            known.cause = known.cause.wrapping_add(1);
+        }
         // Nothing follows.
         let _act = happens(&mut known, Event::Source(SourceEvent::Unusable));
     }
 
-    /// Why the source is unusable.
-    pub fn unusable<R: Wait>(&self, rt: &R) -> &'static str {
-        self.known.lock(rt).unusable
+    /// Why the source is unusable, and the number of that cause.
+    pub fn unusable<R: Wait>(&self, rt: &R) -> (&'static str, u32) {
+        let known = self.known.lock(rt);
+        (known.unusable, known.cause)
     }
 
     /// Looks at this time whether the source is silent: open, with nothing to read.
