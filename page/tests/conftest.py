@@ -83,11 +83,11 @@ runpy.run_path({program!r}, run_name="__main__")
 """
 
 
-def until(reached, what):
+def until(reached, what, seconds=LIMIT):
     """Waits for a state, and answers it."""
-    end = time.monotonic() + LIMIT
+    end = time.monotonic() + seconds
     while not (found := reached()):
-        assert time.monotonic() < end, f"no {what} within {LIMIT} s"
+        assert time.monotonic() < end, f"no {what} within {seconds} s"
         time.sleep(0.05)
     return found
 
@@ -122,8 +122,8 @@ class Laboratory:
     def __init__(
         self, folder, cameras=None, answers="pipe", orders=True, form="json", as_it_is=False
     ):
-        """`as_it_is` leaves the page its own bounds."""
-        self.bounds = {} if as_it_is else PATIENT
+        """`as_it_is` leaves the page its own bounds, and the cameras their own rings."""
+        self.bounds, room = ({}, {}) if as_it_is else (PATIENT, ROOM)
         self.folder, self.runs, self.station, self.page, self.port = Path(folder), [], None, None, 0
         self.token = None
         lines = ['orders = "orders"'] if orders else []
@@ -133,7 +133,7 @@ class Laboratory:
         lines += ['answers = "answers"'] if answers else []
         lines += [f'answers_form = "{form}"'] if answers and form else []
         for words in cameras or CAMERAS:
-            whole = {"source": "pattern", "store": f"{words['name']}.loop"} | ROOM | words
+            whole = {"source": "pattern", "store": f"{words['name']}.loop"} | room | words
             lines += ["[[camera]]", *(f"{key} = {json.dumps(value)}" for key, value in whole.items())]
         (self.folder / "station.toml").write_text("\n".join(lines) + "\n", encoding="utf-8")
 
@@ -195,12 +195,12 @@ class Laboratory:
         self.port = int(found[1])
         return self
 
-    def start_spoilt(self, **bounds):
+    def start_spoilt(self, *words, **bounds):
         """Starts the page, with other bounds, so that its disk and its clock may become wrong."""
         (self.folder / "spoilt").mkdir()
         (self.folder / "spoilt" / "sitecustomize.py").write_text(SPOILT)
         bounds = self.bounds | bounds
-        return self.start_page(bounds=bounds, PYTHONPATH=str(self.folder / "spoilt"))
+        return self.start_page(*words, bounds=bounds, PYTHONPATH=str(self.folder / "spoilt"))
 
     def spoil(self, name, text):
         """Makes a disk hang (`hangs`, a file's name), or the clock wrong (`clock`, by seconds); a
@@ -290,9 +290,12 @@ class Laboratory:
         self.until(lambda: (self.camera(name).get("newest") or [0])[0] >= count, f"{count} frames")
         return self
 
-    def keep(self, seconds=1, **more):
-        """Keeps, and answers the clip of the first camera."""
-        answer = self.post("/api/keep", {"camera": "left", "seconds": seconds, **more})
+    def keep(self, seconds=1, camera="left", **more):
+        """Keeps the newest seconds that a camera has stored, however late its station is, and
+        answers their clip."""
+        newest = self.stored(camera)[-1].time
+        span = {"from": newest - int(seconds * 1e6), "to": newest}
+        answer = self.post("/api/keep", {"camera": camera, **span, **more})
         assert answer.status == 200, answer.body
         return answer.json()["answers"][0]["clips"][0]
 

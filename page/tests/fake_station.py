@@ -106,9 +106,9 @@ class Film(layout.Ring):
         if self.words.get("scene") == "beam":
             return self.beam(luma, number)
         angle, arm, ball = 0.9 * math.cos(number * 0.12), height * 0.7, max(2, height // 10)
-        for part in numpy.linspace(0, 1, height):
-            across = min(max(0, int(width / 2 + arm * part * math.sin(angle))), width - 1)
-            luma[int(arm * part * math.cos(angle)), across] = 235
+        parts = arm * numpy.linspace(0, 1, height)
+        across = (width / 2 + parts * math.sin(angle)).astype(int).clip(0, width - 1)
+        luma[(parts * math.cos(angle)).astype(int), across] = 235
         top, left = int(arm * math.cos(angle)) - ball, int(width / 2 + arm * math.sin(angle)) - ball
         box = luma[max(0, top) : top + 2 * ball, max(0, left) : max(0, left + 2 * ball)]
         down, across = numpy.mgrid[0 : box.shape[0], 0 : box.shape[1]]

@@ -421,9 +421,8 @@ def test_events_of_nonsense_are_refused(kept, clips):
 def test_clips_of_a_zip_that_is_fetched_cannot_be_released(make):
     import socket
 
-    lab = make(cameras=[{"name": "left", "pattern": "640x480 YM12 25:1"}])
-    lab.filmed(60)
-    lab.post("/api/keep", {"seconds": 2})
+    lab = make(cameras=[{"name": "left", "pattern": "640x480 YM12 10:1"}])
+    lab.filmed(25).keep(2)
     (event,) = lab.ask("/api/events").json()["events"]
     with socket.socket() as client:
         client.setsockopt(socket.SOL_SOCKET, socket.SO_RCVBUF, 4096)

@@ -185,8 +185,8 @@ def test_no_other_address_leads_to_a_file(kept, path):
 
 
 def test_a_clip_that_is_fetched_cannot_be_released_until_that_has_ended(make):
-    lab = make(cameras=[{"name": "left", "pattern": "640x480 YM12 25:1"}])
-    clip = lab.filmed(60).keep(2)
+    lab = make(cameras=[{"name": "left", "pattern": "640x480 YM12 10:1"}])
+    clip = lab.filmed(25).keep(2)
     with slow_client(lab, "/api/clips/left/0.y4m") as client:
         client.recv(100)
         found = lab.post("/api/release", {"camera": "left", "id": 0, "first": clip["first"]})
@@ -201,7 +201,7 @@ def test_a_clip_that_is_fetched_cannot_be_released_until_that_has_ended(make):
 def test_a_fetch_whose_frames_are_taken_away_breaks_off(make):
     """Somebody else releases the clip, and its frames are overwritten: the client sees that the
     file isn't whole."""
-    lab = make(cameras=[{"name": "left", "pattern": "640x480 YM12 25:1", "segments": 3, "slots": 10}])
+    lab = make(cameras=[{"name": "left", "pattern": "640x480 YM12 10:1", "segments": 3, "slots": 10}])
     lab.filmed(25).keep(1)
     with slow_client(lab, "/api/clips/left/0.y4m") as client:
         front = client.recv(4096)
@@ -212,7 +212,7 @@ def test_a_fetch_whose_frames_are_taken_away_breaks_off(make):
 
 def test_a_zip_whose_frames_are_taken_away_never_looks_whole(make):
     """Its length isn't known before: only the end of the last piece says that it is whole."""
-    lab = make(cameras=[{"name": "left", "pattern": "640x480 YM12 25:1", "segments": 3, "slots": 10}])
+    lab = make(cameras=[{"name": "left", "pattern": "640x480 YM12 10:1", "segments": 3, "slots": 10}])
     lab.filmed(25).keep(20)
     with slow_client(lab, "/api/clips/left/0.zip") as client:
         front = client.recv(4096)
@@ -250,8 +250,8 @@ def all_of(client):
 
 
 def test_several_fetch_the_same_film_at_once(make):
-    lab = make(cameras=[{"name": "left", "pattern": "320x240 YM12 25:1"}])
-    lab.filmed(60).keep(2)
+    lab = make(cameras=[{"name": "left", "pattern": "320x240 YM12 10:1"}])
+    lab.filmed(25).keep(2)
     found = []
     threads = [threading.Thread(target=lambda: found.append(lab.ask("/api/clips/left/0.mp4").body)) for _ in range(4)]
     for thread in threads:

@@ -41,9 +41,9 @@ def test_open_pages_have_a_bound(make):
 
 
 def test_fetches_of_all_cameras_have_a_bound(make):
-    lab = make(page=False, cameras=[{"name": name, "pattern": "640x480 YM12 25:1"} for name in ("left", "right")])
-    lab.start_limited(FETCHES=2).filmed(60).filmed(60, "right")
-    lab.post("/api/keep", {"seconds": 2})
+    lab = make(page=False, cameras=[{"name": name, "pattern": "640x480 YM12 10:1"} for name in ("left", "right")])
+    lab.start_limited(FETCHES=2).filmed(25).filmed(25, "right").keep(2)
+    lab.keep(2, "right")
     clients = [asking(lab, f"/api/clips/{name}/0.y4m", 4096) for name in ("left", "right")]
     assert all(client.recv(100).startswith(b"HTTP/1.1 200") for client in clients)
     assert lab.ask("/api/clips/left/0.csv").status == 503
@@ -71,8 +71,8 @@ def test_a_body_that_does_not_come_in_time_is_refused(make):
 
 
 def test_a_client_that_reads_nothing_is_closed(make):
-    lab = make(page=False, cameras=[{"name": "left", "pattern": "640x480 YM12 25:1"}])
-    lab.start_limited(READ_SECONDS=2).filmed(60).keep(2)
+    lab = make(page=False, cameras=[{"name": "left", "pattern": "640x480 YM12 10:1"}])
+    lab.start_limited(READ_SECONDS=2).filmed(25).keep(2)
     with asking(lab, "/api/clips/left/0.y4m", 4096) as client:
         client.recv(100)
         lab.until(lambda: b"loop_page_connections_late_total 1.0" in lab.ask("/metrics").body, "end of it")
@@ -89,8 +89,8 @@ def test_orders_that_wait_have_a_bound(make):
 
 
 def test_a_film_that_is_too_large_is_refused_and_none_is_left(make):
-    lab = make(page=False, cameras=[{"name": "left", "pattern": "320x240 YM12 25:1"}])
-    lab.start_limited(FILM_BYTES=5000).filmed(60).keep(2)
+    lab = make(page=False, cameras=[{"name": "left", "pattern": "320x240 YM12 10:1"}])
+    lab.start_limited(FILM_BYTES=5000).filmed(25).keep(2)
     with pytest.raises(Exception):
         assert lab.ask("/api/clips/left/0.mp4").status != 200
         raise OSError("refused")
@@ -99,14 +99,14 @@ def test_a_film_that_is_too_large_is_refused_and_none_is_left(make):
 
 
 def test_films_that_wait_have_a_bound_and_one_that_nobody_reads_ends(make):
-    lab = make(page=False, cameras=[{"name": "left", "pattern": "640x480 YM12 25:1"}])
+    lab = make(page=False, cameras=[{"name": "left", "pattern": "640x480 YM12 10:1"}])
     # An ffmpeg that makes nothing before it is told to.
     (lab.folder / "ffmpeg").write_text(
         f'#!/bin/sh\nwhile [ ! -e "{lab.folder}/go" ]; do printf x; sleep 0.1; done\nexec /usr/bin/ffmpeg "$@"\n'
     )
     (lab.folder / "ffmpeg").chmod(0o755)
     bounds = lab.bounds | {"FILMS_WAITING": 2, "FILM_IDLE_SECONDS": 0.5}
-    lab.start_page(bounds=bounds, PATH=f"{lab.folder}:{os.environ['PATH']}").filmed(100)
+    lab.start_page(bounds=bounds, PATH=f"{lab.folder}:{os.environ['PATH']}").filmed(40)
     clips = [lab.keep(second)["id"] for second in (3, 2, 1)]
     with asking(lab, f"/api/clips/left/{clips[0]}.mp4", 4096), asking(lab, f"/api/clips/left/{clips[1]}.mp4", 4096):
         lab.until(lambda: len(list(lab.folder.glob("loop_page.*/*.mp4"))) == 2, "two films")
@@ -125,8 +125,8 @@ def test_films_that_are_remembered_have_a_bound(make):
 
 def test_a_part_of_a_film_that_is_made_waits_for_all_of_it(make):
     """Nobody is told that a film is as long as it is at the moment."""
-    lab = make(cameras=[{"name": "left", "pattern": "640x480 YM12 25:1"}])
-    lab.filmed(100).keep(4)
+    lab = make(cameras=[{"name": "left", "pattern": "640x480 YM12 10:1"}])
+    lab.filmed(45).keep(4)
     part = lab.ask("/api/clips/left/0.mp4", headers={"Range": "bytes=0-99"})
     whole = lab.ask("/api/clips/left/0.mp4")
     assert part.status == 206 and part.headers["Content-Range"] == f"bytes 0-99/{len(whole.body)}"

@@ -339,8 +339,8 @@ def test_another_site_may_lead_to_the_page(closed, shared):
 
 
 def test_clients_that_leave_early_and_requests_that_are_none_leave_no_traceback(make):
-    lab = make(cameras=[{"name": "left", "pattern": "640x480 YM12 25:1"}])
-    lab.filmed(50).keep(2)
+    lab = make(cameras=[{"name": "left", "pattern": "640x480 YM12 10:1"}])
+    lab.filmed(25).keep(2)
     paths = ["/", "/events", "/api/status", "/api/cameras/left/newest.jpg", "/metrics", *(f"/api/clips/left/0.{kind}" for kind in ("mp4", "y4m", "zip", "csv"))]
     for path in paths * 3:
         for seconds in (0, 0.02, 0.2):
@@ -559,9 +559,9 @@ def test_pictures_that_are_remembered_have_bounds_by_count_and_bytes(monkeypatch
 def test_a_fetch_too_many_of_a_camera_is_refused_and_another_camera_has_its_own(make, monkeypatch):
     from station_page import limits
 
-    lab = make(cameras=[{"name": "left", "pattern": "640x480 YM12 25:1"}, {"name": "right", "pattern": "64x48 GREY 25:1"}])
-    lab.filmed(60).keep(2)
-    lab.post("/api/keep", {"camera": "right", "seconds": 1})
+    lab = make(cameras=[{"name": "left", "pattern": "640x480 YM12 10:1"}, {"name": "right", "pattern": "64x48 GREY 25:1"}])
+    lab.filmed(25).filmed(30, "right").keep(2)
+    lab.keep(1, "right")
     clients = []
     for _ in range(limits.CAMERA_FETCHES):
         client = socket.socket()

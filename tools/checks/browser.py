@@ -35,7 +35,7 @@ def install_missing(packages):
 
 
 install_missing(PACKAGES)
-from conftest import PATIENCE
+from conftest import LIMIT
 from page_strangers import Wrong, expect
 from selenium import webdriver
 from selenium.common.exceptions import (
@@ -159,7 +159,7 @@ class Browser:
     def open(self):
         """Opens the page, and waits for the pictures of all its cameras."""
         self.driver.get(self.address)
-        self.until(self.has_pictures, "pictures", 10)
+        self.until(self.has_pictures, "pictures")
 
     def has_pictures(self):
         """Whether each camera that is shown has a picture."""
@@ -172,10 +172,10 @@ class Browser:
         """Runs a script in the page."""
         return self.driver.execute_script(script, *words)
 
-    def until(self, reached, what, seconds=5.0):
-        """Waits for something, and answers it: for longer on a machine that is busy. Between two
-        pages an element may be none, or gone."""
-        end = time.monotonic() + seconds * PATIENCE
+    def until(self, reached, what):
+        """Waits for something, and answers it. Between two pages an element may be none, or
+        gone."""
+        end = time.monotonic() + LIMIT
         while time.monotonic() < end:
             with contextlib.suppress(
                 NoSuchElementException, StaleElementReferenceException, JavascriptException
@@ -183,7 +183,7 @@ class Browser:
                 if found := reached():
                     return found
             time.sleep(0.03)
-        raise Wrong(f"no {what} within {seconds:.0f} s")
+        raise Wrong(f"no {what} within {LIMIT} s")
 
     def one(self, selector):
         """An element."""

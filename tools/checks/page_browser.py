@@ -94,7 +94,7 @@ def see(browser, lab, shots):
     while time.monotonic() < start + 2:
         seen.add(browser.run("return document.querySelector('.cam').dataset.number"))
     expect(len(seen - {before}) >= 8, f"in two seconds {len(seen)} pictures came")
-    browser.until(lambda: re.search(r"2[45]\.\d fps", browser.text(".cam")), "rate", 4)
+    browser.until(lambda: re.search(r"2[45]\.\d fps", browser.text(".cam")), "rate")
     expect(
         re.search(r"\d\d:\d\d:\d\d\.\d (UTC|UTC[+\u2212]\d)", browser.text("#clock")),
         "the clock has no zone",
@@ -119,16 +119,14 @@ def press(browser, lab, shots):
     browser.until(
         lambda: re.match(r"Kept 2 s of 2 cameras, \S+ to \S+ UTC", browser.text("#answer")),
         "answer",
-        2,
     )
     expect(time.monotonic() - start < 1, f"the answer took {time.monotonic() - start:.1f} s")
-    browser.until(lambda: len(events_shown(browser)) == 1, "one event", 2)
-    browser.until(lambda: browser.all("#events .event.fresh"), "event that stands out", 1)
+    browser.until(lambda: len(events_shown(browser)) == 1, "one event")
+    browser.until(lambda: browser.all("#events .event.fresh"), "event that stands out")
     expect("2 cameras" in events_shown(browser)[0], f"the event is {events_shown(browser)}")
     browser.until(
         lambda: browser.one("#events .event input").get_attribute("value") == "run 7 k",
         "note that was written",
-        1,
     )
     expect(
         browser.one("#note").get_attribute("value") == "",
@@ -154,9 +152,9 @@ def fetch(browser, lab, shots):
         expect("UTC" in browser.text("#fetch"), "it isn't said in which zone names and times are")
         browser.shot(shots, "download")
         browser.run("[...document.querySelectorAll('#fetch-whole a')].at(-1).click()")
-        browser.until(lambda: browser.text("#fetch-words") == "All is sent.", "end of the zip", 40)
+        browser.until(lambda: browser.text("#fetch-words") == "All is sent.", "end of the zip")
         expect(browser.one("#fetch-bar").get_property("value") == 1, "the bar isn't full")
-        path = browser.until(lambda: next(Path(folder).glob("event_*.zip"), None), "file", 5)
+        path = browser.until(lambda: next(Path(folder).glob("event_*.zip"), None), "file")
         time.sleep(0.3)
         with zipfile.ZipFile(io.BytesIO(path.read_bytes())) as archive:
             expect(archive.testzip() is None, "the zip is damaged")
@@ -197,15 +195,15 @@ def scrub(browser, lab, shots):
     ActionChains(browser.driver).move_to_element_with_offset(tracks, x, y).perform()
     browser.until(lambda: " ago" in browser.text(".cam .past"), "moment under the pointer")
     browser.until(
-        lambda: spread(browser) is not None and spread(browser) < 150, "pictures of one moment", 3
+        lambda: spread(browser) is not None and spread(browser) < 150, "pictures of one moment"
     )
     first = browser.run(NUMBERS)
     time.sleep(0.5)
     expect(browser.run(NUMBERS) == first, "the pictures go on while the pointer stands on a moment")
     ActionChains(browser.driver).move_to_element_with_offset(tracks, x - 60, y).perform()
-    browser.until(lambda: browser.run(NUMBERS)[0] < first[0], "earlier frame under the pointer", 3)
+    browser.until(lambda: browser.run(NUMBERS)[0] < first[0], "earlier frame under the pointer")
     away(browser)
-    browser.until(lambda: browser.run(NUMBERS)[0] > first[0] + 20, "live picture", 3)
+    browser.until(lambda: browser.run(NUMBERS)[0] > first[0] + 20, "live picture")
 
 
 def spread(browser):
@@ -231,7 +229,7 @@ def drag(browser, lab, shots):
     browser.shot(shots, "range")
     away(browser)
     browser.keys("k")
-    browser.until(lambda: len(events_shown(browser)) == before + 1, "event of the range", 3)
+    browser.until(lambda: len(events_shown(browser)) == before + 1, "event of the range")
     newest = lab.ask("/api/events").json()["events"]
     lasting = min(abs(it["seconds"] - float(words[1])) for it in newest if len(it["cameras"]) == 2)
     expect(
@@ -267,25 +265,25 @@ def by_keys(browser, lab, shots):
     ):
         browser.keys(keys)
         browser.until(
-            lambda wanted=before + step: large() == wanted, f"frame {before + step} by a key", 3
+            lambda wanted=before + step: large() == wanted, f"frame {before + step} by a key"
         )
         before += step
     ActionChains(browser.driver).key_down(Keys.SHIFT).send_keys(Keys.ARROW_LEFT * 5).key_up(
         Keys.SHIFT
     ).perform()
-    browser.until(lambda: "0.2 s" in browser.text("#range"), "range by keys", 2)
+    browser.until(lambda: "0.2 s" in browser.text("#range"), "range by keys")
     browser.keys(Keys.ESCAPE)
-    browser.until(lambda: not browser.text("#range").startswith("Range"), "end of the range", 2)
+    browser.until(lambda: not browser.text("#range").startswith("Range"), "end of the range")
     browser.keys("l")
-    browser.until(lambda: browser.text("#large-ago") == "live", "live picture by a key", 2)
+    browser.until(lambda: browser.text("#large-ago") == "live", "live picture by a key")
     browser.keys("0")
     browser.until(
-        lambda: browser.one("#stage").is_displayed() and number() > 0, "all cameras by a key", 2
+        lambda: browser.one("#stage").is_displayed() and number() > 0, "all cameras by a key"
     )
     browser.keys(Keys.ARROW_LEFT * 3)
-    browser.until(lambda: " ago" in browser.text(".cam .past"), "moment of all cameras by keys", 2)
+    browser.until(lambda: " ago" in browser.text(".cam .past"), "moment of all cameras by keys")
     browser.keys(Keys.ESCAPE)
-    browser.until(lambda: not browser.one(".cam .past").is_displayed(), "live pictures by a key", 2)
+    browser.until(lambda: not browser.one(".cam .past").is_displayed(), "live pictures by a key")
     browser.keys("?")
     browser.until(lambda: "keep" in browser.text("#help"), "keys")
     browser.keys(Keys.ESCAPE)
@@ -314,7 +312,7 @@ def large(browser, lab, shots):
         lambda: "stretched for the eye" in browser.text("#large-stretch"),
         "word that the picture is stretched",
     )
-    browser.until(lambda: browser.run(MIDDLE) != before, "stretched picture", 3)
+    browser.until(lambda: browser.run(MIDDLE) != before, "stretched picture")
     expect(
         browser.one("#auto").get_attribute("aria-pressed") == "true",
         "the button doesn't say that it is pressed",
@@ -382,17 +380,17 @@ def play(browser, lab, shots):
     time.sleep(0.3)
     before = browser.run(NUMBERS)[0]
     browser.keys(Keys.ARROW_RIGHT)
-    browser.until(lambda: browser.run(NUMBERS)[0] in (before, before + 1), "next frame", 2)
+    browser.until(lambda: browser.run(NUMBERS)[0] in (before, before + 1), "next frame")
     browser.run(
         "const it = document.querySelector('#speed'); it.value = '4'; it.dispatchEvent(new"
         " Event('change'))"
     )
     browser.keys(" ")
     last = next(it["last"] for it in event["clips"] if it["camera"] == "left")
-    browser.until(lambda: browser.run(NUMBERS)[0] == last, f"last frame of the event, {last}", 8)
+    browser.until(lambda: browser.run(NUMBERS)[0] == last, f"last frame of the event, {last}")
     browser.until(lambda: browser.one("#play").accessible_name == "Play", "end")
     browser.keys("l")
-    browser.until(lambda: browser.run(NUMBERS)[0] > last, "live picture", 3)
+    browser.until(lambda: browser.run(NUMBERS)[0] > last, "live picture")
 
 
 def release(browser, lab, shots):
@@ -408,7 +406,7 @@ def release(browser, lab, shots):
         if not is_there:
             browser.until(lambda: len(events_shown(browser)) == before - 1, "release")
             browser.until(
-                lambda: "is released" in browser.text("#answer"), "word of the release", 2
+                lambda: "is released" in browser.text("#answer"), "word of the release"
             )
         expect(
             (len(events_shown(browser)) == before) == is_there,
@@ -430,10 +428,9 @@ def warn(browser, lab, shots):
         browser.until(
             lambda: browser.run("return document.querySelector('#badge').textContent") == "2",
             "two warnings",
-            3,
         )
     browser.keys("b")
-    browser.until(lambda: "12 of them" in browser.text("#alerts"), "warning under the bell", 2)
+    browser.until(lambda: "12 of them" in browser.text("#alerts"), "warning under the bell")
     browser.shot(shots, "warnings")
     expect(
         "run 7 k" in browser.run("return document.querySelector('#done').textContent"),
@@ -442,12 +439,12 @@ def warn(browser, lab, shots):
     browser.named("All seen").click()
     for window in windows:
         browser.driver.switch_to.window(window)
-        browser.until(lambda: not browser.one("#badge").is_displayed(), "end of the warnings", 2)
+        browser.until(lambda: not browser.one("#badge").is_displayed(), "end of the warnings")
     browser.run("const it = document.querySelector('#events input'); it.focus(); it.value = ''")
     browser.keys("moves", Keys.ENTER)
     browser.driver.switch_to.window(windows[0])
     note = "return document.querySelector('#events input').value"
-    browser.until(lambda: browser.run(note) == "moves", "note of another page", 3)
+    browser.until(lambda: browser.run(note) == "moves", "note of another page")
     browser.driver.switch_to.window(windows[-1])
     browser.driver.close()
     browser.driver.switch_to.window(windows[0])
@@ -462,7 +459,6 @@ def trouble(browser, lab, shots):
     browser.until(
         lambda: "no frames" in browser.text(".cam.bad .chip.bad"),
         "chip of a camera without frames",
-        12,
     )
     browser.until(lambda: browser.text("#pill") == "Recording 1 of 2", "pill")
     expect(
@@ -480,7 +476,7 @@ def trouble(browser, lab, shots):
     browser.keys(Keys.ESCAPE)
     lab.order("!go right")
     browser.until(
-        lambda: browser.text("#banner") != "" and not browser.all(".cam.bad"), "end of it", 8
+        lambda: browser.text("#banner") != "" and not browser.all(".cam.bad"), "end of it"
     )
 
 
@@ -488,24 +484,24 @@ def lose(browser, lab, shots):
     """The station is lost, and comes back; and the server, which is said within 3 seconds."""
     lab.end(lab.station)
     browser.until(
-        lambda: "doesn't run" in browser.text("#banner"), "word that the station doesn't run", 3
+        lambda: "doesn't run" in browser.text("#banner"), "word that the station doesn't run"
     )
     expect(
         browser.text("#pill") == "Not recording 0 of 2", f"the pill says {browser.text('#pill')!r}"
     )
     lab.start_station()
-    browser.until(lambda: browser.text("#pill") == "Recording 2 of 2", "recording again", 10)
+    browser.until(lambda: browser.text("#pill") == "Recording 2 of 2", "recording again")
     port = lab.port
     lab.end(lab.page)
     browser.until(
-        lambda: "has lost its server" in browser.text("#banner"), "word that the server is lost", 3
+        lambda: "has lost its server" in browser.text("#banner"), "word that the server is lost"
     )
     expect(browser.text("#pill") == "Server lost", f"the pill says {browser.text('#pill')!r}")
     browser.shot(shots, "lost")
     lab.start_page("--listen", f"127.0.0.1:{port}")
-    browser.until(lambda: "lost" not in browser.text("#banner"), "server again", 6)
+    browser.until(lambda: "lost" not in browser.text("#banner"), "server again")
     first = browser.run(NUMBERS)[0]
-    browser.until(lambda: browser.run(NUMBERS)[0] > first, "frame after the server came back", 5)
+    browser.until(lambda: browser.run(NUMBERS)[0] > first, "frame after the server came back")
 
 
 def sign_in(browser, lab, shots):
@@ -638,7 +634,7 @@ def look(browser, lab, count, shots):
         for theme in ("dark", "light"):
             browser.dress(size, theme)
             time.sleep(0.5)
-            browser.until(browser.has_pictures, f"pictures at {size}", 8)
+            browser.until(browser.has_pictures, f"pictures at {size}")
             try:
                 browser.judge_look(is_phone)
                 expect_largest(browser, count, is_phone)
@@ -773,7 +769,7 @@ def presses_beside(program, count):
 def laboratory(cameras):
     """A laboratory in a new folder."""
     folder = tempfile.mkdtemp(prefix="page_check", dir="/var/tmp")
-    lab = Laboratory(folder, cameras)
+    lab = Laboratory(folder, cameras, as_it_is=True)
     try:
         yield lab
     finally:

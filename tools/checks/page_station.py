@@ -47,7 +47,7 @@ def laboratory(program):
 
     folder = tempfile.mkdtemp(prefix="page_check", dir="/var/tmp")
     plain, conftest.STATION = conftest.STATION, program
-    lab = conftest.Laboratory(folder, CAMERAS)
+    lab = conftest.Laboratory(folder, CAMERAS, as_it_is=True)
     os.mkfifo(lab.folder / "fed.y4m")
     lab.feeder = Feeder(lab.folder / "fed.y4m")
     lab.feeder.start()
@@ -99,7 +99,7 @@ def look_at_keep(lab):
         found = event_of(lab, number)
         return found if found and found["until_us"] is None else None
 
-    event = lab.until(whole, "end of the event", 10)
+    event = lab.until(whole, "end of the event")
     notes = {it["note"] for it in lab.ask("/api/clips").json()["clips"]}
     lab.until(
         lambda: {it["note"] for it in lab.ask("/api/clips").json()["clips"]} == {"run 7"},
@@ -143,20 +143,20 @@ def look_at_warnings(lab):
     """A camera that ends is warned of within 10 s, and a ring that is all locked; both leave."""
     lab.feeder.is_over = True
     start = time.monotonic()
-    lab.until(lambda: ("missing", "fed") in lab.alerts(), "warning of a camera that has ended", 10)
+    lab.until(lambda: ("missing", "fed") in lab.alerts(), "warning of a camera that has ended")
     took = time.monotonic() - start
     lab.feeder = Feeder(lab.folder / "fed.y4m")
     lab.feeder.start()
-    lab.until(lambda: ("missing", "fed") not in lab.alerts(), "end of that warning", 15)
-    lab.until(lambda: lab.camera("small").get("removed_next"), "ring that is full", 30)
+    lab.until(lambda: ("missing", "fed") not in lab.alerts(), "end of that warning")
+    lab.until(lambda: lab.camera("small").get("removed_next"), "ring that is full")
     lab.post("/api/keep", {"camera": "small", "seconds": 60})
-    lab.until(lambda: lab.camera("small")["kind"] == "locked", "word that all is locked", 10)
-    lab.until(lambda: ("locked", "small") in lab.alerts(), "warning that all is locked", 10)
+    lab.until(lambda: lab.camera("small")["kind"] == "locked", "word that all is locked")
+    lab.until(lambda: ("locked", "small") in lab.alerts(), "warning that all is locked")
     for clip in lab.ask("/api/clips").json()["clips"]:
         if clip["camera"] == "small":
             lab.post("/api/release", {"camera": "small", "id": clip["id"], "first": clip["first"]})
-    lab.until(lambda: lab.camera("small")["level"] == "good", "recording again", 15)
-    lab.until(lambda: ("locked", "small") not in lab.alerts(), "end of that warning", 15)
+    lab.until(lambda: lab.camera("small")["level"] == "good", "recording again")
+    lab.until(lambda: ("locked", "small") not in lab.alerts(), "end of that warning")
     return took
 
 
@@ -165,7 +165,7 @@ def look_at_end(lab):
     lab.order("@me keep left 1 +6")
     number = lab.until(lambda: open_event(lab), "event that goes on")
     lab.end(lab.station, signal.SIGKILL)
-    lab.until(lambda: ("station", None) in lab.alerts(), "word that the station has ended", 5)
+    lab.until(lambda: ("station", None) in lab.alerts(), "word that the station has ended")
     lab.start_station()
 
     def ended():
@@ -173,7 +173,7 @@ def look_at_end(lab):
         found = event_of(lab, number)
         return found and found["until_us"] is None and found["to_us"] - found["from_us"] > 5_000_000
 
-    lab.until(ended, "end of the event", 30)
+    lab.until(ended, "end of the event")
     lacks = event_of(lab, number)["lacks"]
     expect([it["why"] for it in lacks] == ["Gaps"], f"frames were lost by the kill: {lacks}")
 
@@ -195,7 +195,7 @@ def look_at_text(lab):
     lab.until(lambda: (lab.folder / "told").read_text(), "station that has read its file")
     path.write_text(path.read_text().replace("answers =", 'answers_form = "json"\nanswers ='))
     lab.start_page()
-    lab.until(lambda: ("answers", None) in lab.alerts(), "word that answers can't be read", 15)
+    lab.until(lambda: ("answers", None) in lab.alerts(), "word that answers can't be read")
 
 
 def station_part(is_quick, shots):

@@ -149,7 +149,7 @@ def laboratory(*words, token=None, cameras=CAMERAS, spoilt=False):
     from conftest import Laboratory, token_in
 
     folder = tempfile.mkdtemp(prefix="page_check", dir="/var/tmp")
-    lab = Laboratory(folder, cameras)
+    lab = Laboratory(folder, cameras, as_it_is=True)
     try:
         lab.start_station()
         more = ["--token", token_in(folder, token)] if token else []
@@ -376,7 +376,7 @@ def look_at_clocks(lab):
             f"with a clock that is {wrong} s wrong a camera is {lab.camera()['state']}",
         )
     lab.order("!pause left")
-    lab.until(lambda: lab.camera()["level"] == "bad", "word that no frames come", 8)
+    lab.until(lambda: lab.camera()["level"] == "bad", "word that no frames come")
     for wrong in ("-86400", "86400", "0"):
         lab.spoil("clock", wrong)
         time.sleep(0.7)
@@ -386,7 +386,7 @@ def look_at_clocks(lab):
         )
     lab.order("!go left")
     lab.until(
-        lambda: lab.camera()["level"] == "good" and not lab.status()["alerts"], "frames again", 10
+        lambda: lab.camera()["level"] == "good" and not lab.status()["alerts"], "frames again"
     )
     print("    a clock that is set changes nothing", flush=True)
 
@@ -396,7 +396,7 @@ def look_at_disk(lab):
     on."""
     lab.filmed(20, "right")
     lab.spoil("hangs", "left.loop")
-    lab.until(lambda: lab.camera()["kind"] == "hangs", "word that the disk hangs", 8)
+    lab.until(lambda: lab.camera()["kind"] == "hangs", "word that the disk hangs")
     paths = [
         "/api/cameras/left/newest.jpg",
         "/api/clips/left/0.y4m",
@@ -428,7 +428,7 @@ def look_at_disk(lab):
         f"beside a disk that hangs a keep is answered {kept.status} after {took:.1f} s",
     )
     lab.spoil("hangs", "")
-    lab.until(lambda: lab.camera()["level"] == "good", "the disk again", 10)
+    lab.until(lambda: lab.camera()["level"] == "good", "the disk again")
     is_well(lab)
     print(
         (
@@ -525,7 +525,7 @@ def look_at_proxy(kind, lab, folder):
     port = free_port()
     run = proxy_of(kind, folder, lab.port, port)
     try:
-        lab.until(lambda: is_open(port), f"{kind}: {Path(folder, 'errors').read_text()[-500:]}", 15)
+        lab.until(lambda: is_open(port), f"{kind}: {Path(folder, 'errors').read_text()[-500:]}")
         origin = f"https://cameras.example.org:{port}"
         expect(
             ask(folder, port, "/").headers["Location"] == "/sign-in",
@@ -711,7 +711,6 @@ def look_at_calls():
                 lab.until(
                     lambda: '["logger"' in Path(folder, "calls").read_text(errors="replace"),
                     "command of on_alert",
-                    20,
                 )
                 lab.post("/api/release", {"camera": "left", "id": 0})
         finally:
