@@ -108,7 +108,7 @@ def look_at(place: int) -> Found:
     """What a camera says of itself."""
     vendor, model = Aravis.get_device_vendor(place), Aravis.get_device_model(place)
     known = Found(
-        Aravis.get_device_serial_nbr(place) or Aravis.get_device_id(place),
+        serial_of(place),
         f"{vendor} {model}",
         Aravis.get_device_protocol(place) or "",
         Aravis.get_device_address(place) or "",
@@ -124,6 +124,13 @@ def look_at(place: int) -> Found:
         )
     except GLib.Error as fault:
         return known._replace(why=fault.message)
+
+
+def serial_of(place: int) -> str:
+    """The word by which a file names a camera."""
+    if Aravis.get_device_protocol(place) == FAKE:
+        return Aravis.get_device_id(place)
+    return Aravis.get_device_serial_nbr(place) or Aravis.get_device_id(place)
 
 
 def rates(camera: Any) -> dict[str, float]:

@@ -188,6 +188,6 @@ def test_the_list_has_every_camera():
     done = subprocess.run([PROGRAM, "--list", "--fake"], capture_output=True, text=True)
     assert done.returncode == 0
     lines = done.stdout.splitlines()
-    at = lines.index("GENICAM=1  Aravis Fake  Fake 0.0.0.0")
+    at = lines.index("GENICAM=Fake_1  Aravis Fake  Fake 0.0.0.0")
     assert "Mono8" in lines[at + 1].split() and "Mono16" in lines[at + 1].split()
     assert lines[at + 2].startswith("    largest 2048x2048; now 512x512 Mono8 25 a second of ")
