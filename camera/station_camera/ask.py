@@ -1,4 +1,5 @@
-"""Plain prompts. What an option has said isn't asked; with --yes nothing is, and the proposal is taken."""
+"""Plain prompts. What an option has said isn't asked; with --yes nothing is, and the proposal is
+taken."""
 from __future__ import annotations
 
 from typing import Callable, Sequence

@@ -25,8 +25,8 @@ def said(counts: dict[str, int]) -> str:
 
 
 class Lost:
-    """How many frames are missing, by the camera's own numbers. Those of GigE Vision have 16 bits, and
-    1 follows 65535; an incomplete frame has its number too."""
+    """How many frames are missing, by the camera's own numbers. Those of GigE Vision have 16 bits,
+    and 1 follows 65535; an incomplete frame has its number too."""
 
     def __init__(self) -> None:
         self.last: int | None = None

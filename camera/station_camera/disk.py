@@ -51,8 +51,8 @@ def measured(folder: Path) -> Disk:
 
 
 def store_bytes(form: Form, minutes: float) -> int | None:
-    """The bytes of the store that the station makes for so many minutes, or None where none holds so
-    many frames."""
+    """The bytes of the store that the station makes for so many minutes, or None where none holds
+    so many frames."""
     frames = -(-Fraction(minutes) * 60 * form.rate // 1)
     slots = max(SLOTS, -(-int(frames) // (SEGMENTS_MOST - 1)))
     if slots > SLOTS_MOST:

@@ -9,8 +9,8 @@ KNOWN = "Mono8 Mono10 Mono12 Mono16"
 
 
 class Offer(NamedTuple):
-    """A camera: its kind ('genicam' or 'device'), the word by which its file names it, what it calls
-    itself, its formats, the sizes and rates of each, and the size of its sensor."""
+    """A camera: its kind ('genicam' or 'device'), the word by which its file names it, what it
+    calls itself, its formats, the sizes and rates of each, and the size of its sensor."""
 
     kind: str
     word: str

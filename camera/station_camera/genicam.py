@@ -21,16 +21,16 @@ FAKE = "Fake"
 MICRO = 1_000_000
 # What buffers may take while nobody reads, and how many they are at least and at most.
 BUFFER_ROOM, BUFFERS_LEAST, BUFFERS_MOST = 256_000_000, 8, 200
-# How long a wait for a frame is, after which silence a camera is asked whether it is there, and after
-# which one that is there is started again.
+# How long a wait for a frame is, after which silence a camera is asked whether it is there, and
+# after which one that is there is started again.
 POLL, SILENCE, STUCK = 0.2, 2.0, 10.0
 # How often the clocks are compared.
 CLOCK_EVERY = 60.0
 OK = Aravis.BufferStatus.SUCCESS
 # The names that streams have for what they count.
 COUNTED = {"resent": "n_resent_packets", "missing": "n_missing_packets", "starved": "n_underruns"}
-# Commands that write the camera's time into a feature, the feature, and the one that has its ticks a
-# second (GigE Vision 1, and the names that followed).
+# Commands that write the camera's time into a feature, the feature, and the one that has its ticks
+# a second (GigE Vision 1, and the names that followed).
 LATCHES = (
     ("TimestampLatch", "TimestampLatchValue", None),
     ("GevTimestampControlLatch", "GevTimestampValue", "GevTimestampTickFrequency"),
@@ -62,8 +62,8 @@ class Found(NamedTuple):
 
 
 class Picture(NamedTuple):
-    """A whole frame as the camera gave it: its number, its time in the camera's nanoseconds, when it
-    began to arrive by the system's, and its bytes."""
+    """A whole frame as the camera gave it: its number, its time in the camera's nanoseconds, when
+    it began to arrive by the system's, and its bytes."""
 
     number: int
     stamp: int
@@ -88,7 +88,8 @@ def ids() -> Iterator[tuple[int, list[str]]]:
 
 
 def device_of(serial: str) -> str | None:
-    """Aravis' word for the camera of a serial number, an identity, a MAC or an address, if it is there."""
+    """Aravis' word for the camera of a serial number, an identity, a MAC or an address, if it is
+    there."""
     if serial.startswith(FAKE):
         Aravis.enable_interface(FAKE)
     for place, words in ids():
@@ -212,7 +213,8 @@ class Camera:
         took = tuple(self.camera.get_region())
         if took != (x, y, width, height):
             raise Refused(
-                f"REGION={width}x{height}+{x}+{y}: the camera takes {took[2]}x{took[3]}+{took[0]}+{took[1]}"
+                f"REGION={width}x{height}+{x}+{y}: the camera takes "
+                f"{took[2]}x{took[3]}+{took[0]}+{took[1]}"
             )
 
     def _exposure(self, micros: float) -> None:
@@ -298,7 +300,8 @@ class Camera:
             return False
 
     def film(self, counts: Counts, asked: Callable[[], bool]) -> Iterator[Picture]:
-        """The frames, as long as nobody asks for the end, whole ones alone. Gone where the camera goes."""
+        """The frames, as long as nobody asks for the end, whole ones alone. Gone where the camera
+        goes."""
         with said("it gives no stream", Gone):
             stream = self.camera.create_stream(None, None)
         if stream is None:

@@ -157,7 +157,8 @@ class Film:
             raise BadFrames(f"its frames are {shown(form)} now, and were {shown(self.form)}")
         clock, looked = camera.clock(), time.monotonic()
         self.tell(
-            f"filming {self.wanted.genicam}: {shown(form)} of {camera.format.name}, {camera.buffers()} buffers"
+            f"filming {self.wanted.genicam}: {shown(form)} of {camera.format.name}, "
+            f"{camera.buffers()} buffers"
         )
         self.last = ""
         if self.form is None:
@@ -228,8 +229,8 @@ def list_all(fake: bool) -> int:
             continue
         print(f"    {' '.join(it.formats)}")
         print(
-            f"    largest {it.largest[0]}x{it.largest[1]}; now {it.size[0]}x{it.size[1]} {it.format}"
-            + (f" {it.rate:g} a second of {it.most:g} at most" if it.most else "")
+            f"    largest {it.largest[0]}x{it.largest[1]}; now {it.size[0]}x{it.size[1]} "
+            f"{it.format}" + (f" {it.rate:g} a second of {it.most:g} at most" if it.most else "")
         )
     devices = []
     try:

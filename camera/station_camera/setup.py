@@ -128,11 +128,13 @@ class Setup:
                 if source == it.word or it.kind == "device" and os.path.realpath(it.word) == real:
                     return it
             raise Stopped(
-                f"no camera {source} is found; there are: {', '.join(it.word for it in offers) or 'none'}"
+                f"no camera {source} is found; there are: "
+                f"{', '.join(it.word for it in offers) or 'none'}"
             )
         if not offers:
             raise Stopped(
-                "no camera is found: look at its cable, its power, and at dmesg; for one of GigE Vision at "
+                "no camera is found: look at its cable, its power, and at dmesg; for one of "
+                "GigE Vision at "
                 "the addresses of both sides (ip addr)"
             )
         return offers[self.ask.one_of("Cameras that were found:", [it.line() for it in offers])]
@@ -234,7 +236,8 @@ class Setup:
             raise Stopped(f"{name}: {fault}") from None
         came = f", {taken.rate:.3g} a second came" if taken.rate else ""
         self.tell(
-            f"a picture is in {taken.path}: {taken.form.width}x{taken.form.height} {taken.form.colour}{came}"
+            f"a picture is in {taken.path}: {taken.form.width}x{taken.form.height} "
+            f"{taken.form.colour}{came}"
         )
         return taken.form
 
@@ -244,15 +247,18 @@ class Setup:
         self.tell(f"measuring the disk of {self.paths.stores}")
         it = disk.measured(self.paths.stores)
         self.tell(
-            f"it writes {it.bandwidth / 1e6:.0f} MB a second, a sync takes {it.sync:.1f} ms ({it.worst:.0f} at most), "
-            f"{disk.gigabytes(it.free)} are free; the camera brings {disk.needs(form) / 1e6:.1f} MB a second"
+            f"it writes {it.bandwidth / 1e6:.0f} MB a second, a sync takes {it.sync:.1f} ms "
+            f"({it.worst:.0f} at most), "
+            f"{disk.gigabytes(it.free)} are free; the camera brings "
+            f"{disk.needs(form) / 1e6:.1f} MB a second"
         )
         if disk.needs(form) > it.bandwidth / 2:
             self.tell("that is much for this disk: choose fewer or smaller frames, or another disk")
         offers = disk.proposals(form, it)
         if not offers:
             raise Stopped(
-                f"{self.paths.stores} has no room for a minute of these frames: make room, or choose smaller ones"
+                f"{self.paths.stores} has no room for a minute of these frames: make room, or "
+                f"choose smaller ones"
             )
         if self.given.minutes or self.given.hours:
             try:
@@ -272,7 +278,8 @@ class Setup:
             minutes, size = offers[self.ask.one_of("How much is kept:", lines, near)]
         if size > it.free:
             self.tell(
-                f"{disk.gigabytes(size)} are more than is free, unless an old store of this camera goes"
+                f"{disk.gigabytes(size)} are more than is free, unless an old store of this "
+                f"camera goes"
             )
         self.tell(f"the store takes {disk.gigabytes(size)}")
         return minutes
@@ -302,7 +309,8 @@ class Setup:
         )
 
     def old_store(self, store: Path, form: Form, minutes: float) -> None:
-        """A store of other frames, or of another size, is moved away where that is wanted: it stays."""
+        """A store of other frames, or of another size, is moved away where that is wanted: it
+        stays."""
         it = services.store_at(store)
         if it is None:
             return
@@ -364,7 +372,8 @@ class Setup:
         following = services.wait_for_frame(store, seen, FIRST_FRAME)
         if following is None:
             raise Stopped(
-                f"no frame was stored in {FIRST_FRAME:.0f} s: journalctl -u loop_station -u loop_camera@{name}"
+                f"no frame was stored in {FIRST_FRAME:.0f} s: journalctl -u loop_station -u "
+                f"loop_camera@{name}"
             )
         self.tell(f"{name} records: frame {following - 1} is in {store}")
         self.tell(f"keep what has just happened: echo keep {name} >{self.paths.orders}")

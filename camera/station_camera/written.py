@@ -1,5 +1,6 @@
-"""What loop_setup writes: NAME.camera and station.toml. An old file stays beside the new one, and what
-stands in station.toml beside a camera's words stays too: comments, other words, other cameras."""
+"""What loop_setup writes: NAME.camera and station.toml. An old file stays beside the new one, and
+what stands in station.toml beside a camera's words stays too: comments, other words, other
+cameras."""
 from __future__ import annotations
 
 import os
@@ -23,7 +24,8 @@ def wrong_name(name: str) -> str | None:
 
 
 def replace(path: Path, text: str) -> Path | None:
-    """Writes a file, whole or not at all. An old one of another text stays beside it; answers its path."""
+    """Writes a file, whole or not at all. An old one of another text stays beside it; answers its
+    path."""
     old = None
     mode = 0o644
     if path.exists():

@@ -36,7 +36,8 @@ def test_counts_are_told_once_a_second_and_at_the_end():
     time[0] += 0.9
     counts.look()
     assert told == [
-        "1 frame incomplete and dropped; since the start 0 frames given on, 1 frame incomplete and dropped"
+        "1 frame incomplete and dropped; since the start 0 frames given on, 1 frame "
+        "incomplete and dropped"
     ]
     time[0] += 0.1
     counts.frames = 7

@@ -1,11 +1,12 @@
-"""loop_camera over Aravis' camera without hardware, whose pixels are known by the frame's number."""
+"""loop_camera over Aravis' camera without hardware, whose pixels are known by the frame's
+number."""
 import os
 import subprocess
 import zlib
 
 import numpy as np
 import pytest
-from conftest import PROGRAM, parsed
+from conftest import PATIENCE, PROGRAM, parsed
 
 from station_camera import genicam, program, text, words
 
@@ -143,7 +144,7 @@ def test_a_reader_that_goes_ends_it_with_status_1(tmp_path):
     run.stdout.close()
     said = run.stderr.read().decode()
     run.stderr.close()
-    assert run.wait(60) == 1 and "nobody reads the frames any more" in said
+    assert run.wait(PATIENCE) == 1 and "nobody reads the frames any more" in said
 
 
 def test_a_pipe_is_written_where_that_is_asked(camera, tmp_path):

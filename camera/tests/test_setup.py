@@ -6,7 +6,7 @@ from types import SimpleNamespace
 
 import pytest
 
-from station_camera import disk, found, genicam, services, setup, v4l2, words, written
+from station_camera import disk, found, genicam, pictures, services, setup, v4l2, words, written
 from station_camera.ask import Ask, Stopped
 from station_camera.text import Form
 
@@ -58,6 +58,8 @@ class Laboratory:
         monkeypatch.setattr(services, "is_active", lambda unit: unit in self.runs)
         monkeypatch.setattr(services, "store_at", self.store)
         monkeypatch.setattr(setup, "FIRST_FRAME", 1.0)
+        # A busy machine may take its time for a picture.
+        monkeypatch.setattr(pictures, "SECONDS", 200.0)
         monkeypatch.setattr(disk, "SECONDS", 0.05)
         monkeypatch.setattr(disk, "SYNCS", 3)
         monkeypatch.setattr(genicam, "cameras", cameras)
