@@ -2,6 +2,7 @@
 from __future__ import annotations
 
 import contextlib
+import gc
 import time
 from fractions import Fraction
 from typing import Any, Callable, Iterator, NamedTuple
@@ -154,7 +155,7 @@ class Camera:
         with said("it can't be opened", Gone):
             self.camera = Aravis.Camera.new(identity)
         self.device = self.camera.get_device()
-        self.device.connect("control-lost", self._lose)
+        self.heard = self.device.connect("control-lost", self._lose)
         self._set()
         with said("it doesn't say what it gives", Refused):
             self.format = samples.format_of(self.camera.get_pixel_format_as_string())
@@ -164,6 +165,13 @@ class Camera:
 
     def _lose(self, _device: Any) -> None:
         self.is_lost = True
+
+    def close(self) -> None:
+        """Gives the camera back, so that it can be opened anew."""
+        self.device.disconnect(self.heard)
+        self.device = self.camera = None
+        # What refers to itself would hold the camera.
+        gc.collect()
 
     def _set(self) -> None:
         """Sets what the file asks for, features first, in the order of the file."""
@@ -322,7 +330,7 @@ class Camera:
         self, stream: Any, counts: Counts, before: dict[str, int], asked: Callable[[], bool]
     ) -> Iterator[Picture]:
         """The frames of a stream that has begun. `before` is what its counts are added to."""
-        lost = Lost()
+        lost, stuck = Lost(), max(STUCK, 3 / float(self.rate))
         heard = time.monotonic()
         while not asked():
             buffer = stream.timeout_pop_buffer(int(POLL * MICRO))
@@ -333,8 +341,8 @@ class Camera:
             if buffer is None:
                 if self.is_lost or now - heard > SILENCE and not self.answers():
                     raise Gone("it has gone")
-                if now - heard > STUCK and self.wanted.trigger in (None, "off"):
-                    raise Gone(f"it has given no frame for {STUCK:.0f} s")
+                if now - heard > stuck and self.wanted.trigger in (None, "off"):
+                    raise Gone(f"it has given no frame for {stuck:.0f} s")
                 continue
             heard = now
             if buffer.get_status() == Aravis.BufferStatus.CLEARED:

@@ -69,9 +69,18 @@ def take(content: str, name: str, folder: Path) -> Taken:
                 raise Failed("no picture came" + (": " + lines[-1] if lines else "")) from None
             finally:
                 timer.cancel()
-                run.kill()
-                run.wait()
-                run.stdout.close()
+                end(run)
+
+
+def end(run: subprocess.Popen) -> None:
+    """Ends loop_camera so that it gives the camera back: it isn't killed where it ends by itself."""
+    run.stdout.close()
+    run.terminate()
+    try:
+        run.wait(10)
+    except subprocess.TimeoutExpired:
+        run.kill()
+        run.wait()
 
 
 def taken(source, path: Path) -> Taken:

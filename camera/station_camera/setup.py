@@ -113,8 +113,10 @@ class Setup:
             self.tell(f"{file} is {old} now")
         if not self.given.no_start:
             services.run("disable", "--now", f"loop_camera@{name}.service")
-            if "[[camera]]" in text and services.is_active("loop_station.service"):
-                services.run("restart", "loop_station.service")
+            if services.is_active("loop_station.service"):
+                # A station without a camera doesn't begin.
+                left = written.table_of(text, self.paths.config).get("camera")
+                services.run("restart" if left else "stop", "loop_station.service")
         self.tell(
             f"{name} is removed; its store stays: {self.paths.stores / (store or name + '.loop')}"
         )

@@ -17,6 +17,9 @@ from station_camera.counts import Counts, Lost
         ([7, 7], 0),
         ([500, 3, 4], 0),
         ([65534, 65535, 0, 1], 0),
+        ([65534, 1, 65535, 2], 0),
+        ([3, 6, 4, 7], 1),
+        ([5, 4, 6], -1),
     ],
 )
 def test_missing_numbers_are_lost_frames(numbers, missing):

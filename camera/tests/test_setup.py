@@ -212,7 +212,10 @@ def test_a_camera_is_removed_and_its_store_stays(laboratory, capsys):
         not (laboratory.etc / "left.camera").exists()
         and (laboratory.etc / "left.camera.removed").exists()
     )
-    assert laboratory.calls == ["disable --now loop_camera@left.service"]
+    assert laboratory.calls == [
+        "disable --now loop_camera@left.service",
+        "stop loop_station.service",
+    ]
     capsys.readouterr()
     assert laboratory.run("--remove", "left") == 1
     assert "has no camera left" in capsys.readouterr().err
