@@ -104,7 +104,8 @@ def test_the_archive_is_told_and_each_clip_once(bench):
     # One that is half written changes nothing.
     path.write_text('{"time": "2026-11-22T15:39:00Z", "cam')
     bench.restart()
-    archive(bench.folder, fault="full", archived=[clip, clip | {"path": "b.y4m"}, clip | {"path": "c"}])
+    clips = [clip, clip | {"path": "b.y4m"}, clip | {"path": "c"}]
+    archive(bench.folder, fault="full", archived=clips)
     until(lambda: bench.newest("archive")["fault"] == "full", "fault")
     until(lambda: paths()[-1] == "c", "clip")
     assert paths() == ["a.y4m", "b.y4m", "c"]
