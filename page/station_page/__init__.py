@@ -20,6 +20,10 @@ stands on it.
     kept        what became of a keep
     spans       what a keep didn't get of the time that was asked for
     journal     who changed what
+    archived    which clips are elsewhere too
+    others      another station's page, as this one asks it
+    together    what several stations say, as one
+    stations    several stations in one console
     advice      what to do where a camera isn't well
     laboratory  all of these together: how each camera stands
     guard       which connections and requests are let in

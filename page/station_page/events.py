@@ -106,6 +106,7 @@ def event_of(group: Group, heard: Heard) -> dict:
         "note": "; ".join(notes),
         "tag": ordered[0]["tag"],
         "fetched": any(it["fetched"] for it in ordered),
+        "archived": all(it.get("archived", False) for it in ordered),
         "until_us": told.until if told.goes_on() else None,
         "lacks": lacks_of(told),
         "clips": [

@@ -12,6 +12,7 @@ import layout
 
 from . import limits, spans, words
 from .alerts import Alerts
+from .archived import Archive
 from .films import Fetch, Films, fetch_of
 from .heard import Heard, is_number
 from .journal import Journal
@@ -100,6 +101,7 @@ class Laboratory:
         self.growing: dict[tuple[str, int], str] = {}
         self.grown: set[tuple[str, int]] = set()
         self.notes, self.films = Notes(settings.notes), Films()
+        self.archive = Archive(settings.archive)
         self.fetching: collections.Counter[tuple[str, int]] = collections.Counter()
         self.releasing: set[tuple[str, int]] = set()
         # Held from a look at a clip until its release is given, so that no other order of this page
@@ -264,6 +266,8 @@ class Laboratory:
         """Looks once, and sends all pages what was seen."""
         await self.look_at(list(self.cameras))
         self.judge_station()
+        self.archive.look()
+        self.set("archive", None, self.archive.text() if self.archive.path else "")
         for watched in self.cameras.values():
             self.judge(watched)
         await self.carry_notes()
@@ -393,6 +397,7 @@ class Laboratory:
             "news": list(self.good_news)[-3:],
             "journal": self.journal.listed(limits.JOURNAL_SENT),
             "notes_fault": self.notes.fault,
+            "archive": self.archive.standing(),
             "notes": self.notes.version,
             "cameras": [self.camera(watched) for watched in self.cameras.values()],
         }
@@ -594,6 +599,8 @@ class Laboratory:
                         "fetched": self.fetching[name, clip.id] > 0,
                     }
                 )
+        for one in found:
+            one["archived"] = self.archive.has(one)
         return sorted(found, key=lambda clip: (clip["to_us"], clip["camera"]), reverse=True)
 
     # ---------------------------------------------------------------------------- what is asked for
@@ -869,9 +876,11 @@ class Laboratory:
         ]
         return found[0] if len(found) == 1 else None
 
-    async def release(self, camera: str, id_: int, first: int | None) -> str:
+    async def release(
+        self, camera: str, id_: int, first: int | None, exactly: tuple[int, int] | None = None
+    ) -> str:
         """Releases a clip that isn't being fetched: the one that begins with this frame, where that
-        is given."""
+        is given; and `exactly` the one that ends with this frame and has this tag."""
         key = (camera, id_)
         if self.fetching[key] or key in self.releasing:
             raise Unfit(
@@ -882,6 +891,9 @@ class Laboratory:
             async with self.ordering:
                 await self.look_at([self.watched(camera).camera.name], is_new=True)
                 *_, clip = self.clip(camera, id_, first)
+                # An old layout has no tags.
+                if exactly and (clip.last, clip.tag or exactly[1]) != exactly:
+                    raise Unfit(409, "Another clip has that number by now.")
                 # By its first frame too, so that no other clip is released that has its id by then.
                 order = f"release {camera} {clip.id} {clip.first}"
                 waiting = self.orders.begin(order) if self.orders.has_answers else None

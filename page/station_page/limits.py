@@ -124,6 +124,23 @@ AUTO_CALM = 3
 HOLE = 200_000
 # The bytes of pictures that are remembered of each camera.
 EYE_BYTES = 2 * 1024 * 1024
+# After how many seconds another station that says nothing doesn't answer, and how often it is tried
+# again; the connections to it, the bytes of a message of it, and how many steps of frames are taken
+# at once over several stations.
+AWAY_SECONDS = 5.0
+AGAIN_SECONDS = 1.0
+STATION_CONNECTIONS = 48
+MESSAGE_BYTES = 32 * 1024 * 1024
+STEPS = 50
+# By how many microseconds its clock may be off, and by how many answers that is reckoned.
+CLOCK_MICROS = 20_000
+CLOCK_SAMPLES = 8
+# The bytes of the archive's file; for how long it may be as it is, and how long a clip may wait: one
+# that can't be archived, and any.
+ARCHIVE_BYTES = 4 * 1024 * 1024
+ARCHIVE_SILENT_SECONDS = 60.0
+ARCHIVE_FAULT_SECONDS = 60.0
+ARCHIVE_SECONDS = 600.0
 # Events that are fetched at a time.
 EVENT_FETCHES = 8
 # The clips of an event that a request may name, and those that a store has room for.

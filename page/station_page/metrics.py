@@ -5,6 +5,8 @@ from typing import TYPE_CHECKING
 from prometheus_client import CollectorRegistry, generate_latest
 from prometheus_client.core import CounterMetricFamily, GaugeMetricFamily, Metric
 
+from . import archived
+
 if TYPE_CHECKING:
     from .guard import Gate
     from .laboratory import Laboratory
@@ -60,6 +62,7 @@ class Collector:
             "Frames that were lost since the station began",
             [(it, it["given_up"]) for it in standing["cameras"]],
         )
+        yield from archived.families(standing["archive"])
         yield GaugeMetricFamily(
             "loop_station_up",
             "1 while a station reads its orders",

@@ -255,6 +255,8 @@ class Push:
         self.laboratory, self.state, self.is_known = laboratory, state, is_known
         self.eyes = {name: Eye(watched) for name, watched in laboratory.cameras.items()}
         self.streams: dict[str, Stream] = {}
+        # What else a page is sent, by its stream and answer, until it goes away.
+        self.beside = None
 
     def stream(self, id_: object) -> Stream:
         """The stream of a page."""
@@ -267,16 +269,20 @@ class Push:
         if self.laboratory.streams >= limits.STREAMS:
             raise Unfit(503, "Too many pages are open.")
         self.laboratory.streams += 1
-        stream = Stream(self.eyes)
+        stream, beside = Stream(self.eyes), None
         self.streams[stream.id] = stream
         try:
             await response.prepare(request)
             self.laboratory.hurry.set()
             await response.write(message("hello", id=stream.id, cameras=list(self.eyes)))
+            if self.beside:
+                beside = asyncio.create_task(self.beside(stream, response))
             await self.run(stream, request, response)
         except (ConnectionResetError, ConnectionAbortedError):
             return
         finally:
+            if beside:
+                beside.cancel()
             stream.close()
             self.laboratory.streams -= 1
             del self.streams[stream.id]

@@ -21,8 +21,10 @@ from .journal import Expected, PlainFormatter
 from .laboratory import Laboratory
 from .notes import NotesFault
 from .orders import NoStation
+from .push import whole
 from .reader import Gone
 from .settings import BadSettings, Settings, read_settings
+from .stations import Stations
 from .words import Unfit
 from .workers import DRAWING, NO_ANSWER
 
@@ -104,11 +106,14 @@ class Page:
         self.pictures, self.fetches = Pictures(), collections.Counter()
         self.files = {name: (STATIC / name).read_bytes() for name in STATIC_FILES}
         self.console = Console(self)
+        self.stations = Stations(self)
 
     def app(self) -> web.Application:
         """All of them."""
         app = web.Application(middlewares=[self.let_in], client_max_size=limits.BODY_BYTES)
         get, post, camera = app.router.add_get, app.router.add_post, r"{camera:[A-Za-z0-9_-]{1,32}}"
+        # Where there are other stations, their addresses come before those of this one alone.
+        self.stations.add_to(app)
         get("/", self.front)
         get("/static/{name}", self.static)
         get("/favicon.ico", self.icon, allow_head=False)
@@ -434,8 +439,10 @@ class Page:
             raise Unfit(400, f"The body is an object with these words: {', '.join(sorted(words))}.")
         return found
 
-    async def keep(self, request: web.Request) -> web.Response:
-        """Locks the last seconds, or a span of time."""
+    async def asked_keep(
+        self, request: web.Request
+    ) -> tuple[str | None, int | None, tuple[int, int] | None, str]:
+        """What a keep asks for: a camera or all, seconds or a span, and a note."""
         body = await self.body(request, {"camera", "seconds", "from", "to", "note"})
         note, camera, seconds, span = (
             body.get("note", ""),
@@ -455,6 +462,11 @@ class Page:
             or not 1 <= seconds <= limits.KEEP_SECONDS
         ):
             raise Unfit(400, f"seconds is a whole number from 1 to {limits.KEEP_SECONDS}.")
+        return camera, seconds, span, note
+
+    async def keep(self, request: web.Request) -> web.Response:
+        """Locks the last seconds, or a span of time."""
+        camera, seconds, span, note = await self.asked_keep(request)
         kept = await self.change(
             request,
             "keep",
@@ -483,11 +495,14 @@ class Page:
         return body, self.laboratory.watched(camera).camera.name, id_, first
 
     async def release(self, request: web.Request) -> web.Response:
-        """Releases a clip."""
-        _, camera, id_, first = await self.of_clip(request, set())
+        """Releases a clip. One that copies clips elsewhere says its last frame and tag too."""
+        body, camera, id_, first = await self.of_clip(request, {"last", "tag"})
         order = f"clip {id_} of {camera}" + ("" if first is None else f" from frame {first}")
+        exactly = None
+        if "last" in body or "tag" in body:
+            exactly = tuple(whole(body.get(it), 0, 2**64 - 1, it) for it in ("last", "tag"))
         text = await self.change(
-            request, "release", order, self.laboratory.release(camera, id_, first)
+            request, "release", order, self.laboratory.release(camera, id_, first, exactly)
         )
         return web.json_response({"text": text})
 
@@ -698,7 +713,7 @@ async def serve(settings: Settings) -> None:
     server = await loop.create_server(
         lambda: Connection(runner.server(), page.gate), settings.host, settings.port, backlog=64
     )
-    ended = asyncio.Event()
+    port, ended = server.sockets[0].getsockname()[1], asyncio.Event()
     for number in (signal.SIGINT, signal.SIGTERM):
         loop.add_signal_handler(number, ended.set)
     tasks = [
@@ -710,9 +725,9 @@ async def serve(settings: Settings) -> None:
             page.laboratory.alerts.deliver(),
             page.gate.watch(),
             ended.wait(),
+            *page.stations.works(port),
         )
     ]
-    port = server.sockets[0].getsockname()[1]
     print(
         f"loop_page: "
         f"http://{f'[{settings.host}]' if ':' in settings.host else settings.host}:{port}/",
@@ -723,6 +738,7 @@ async def serve(settings: Settings) -> None:
     for connection in list(page.gate.connections):
         connection.transport.abort()
     await page.laboratory.close()
+    await page.stations.close()
     faults = [task.exception() for task in tasks if task.done() and not task.cancelled()]
     await end_all(tasks)
     await runner.cleanup()

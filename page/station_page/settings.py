@@ -9,10 +9,12 @@ import stat
 import tomllib
 from dataclasses import dataclass, field
 from pathlib import Path
+from urllib.parse import urlsplit
 
 NAME = re.compile(r"[A-Za-z0-9_-]{1,32}")
-WORDS = {"listen", "token", "on_alert", "webhook", "notes", "folder"}
+WORDS = {"listen", "token", "on_alert", "webhook", "notes", "folder", "archive", "station"}
 TOKEN_LEAST = 16
+MOST_STATIONS = 16
 # The random bytes of a token that the page makes.
 TOKEN_BYTES = 32
 # Where the version stands: beside the installed modules, or beside the sources.
@@ -38,6 +40,16 @@ class Camera:
 
 
 @dataclass(frozen=True)
+class OtherStation:
+    """The page of another station that this page shows too: its name here, its address, and the
+    token that it wants."""
+
+    name: str
+    url: str
+    token: str | None
+
+
+@dataclass(frozen=True)
 class Settings:
     """All that the page was told."""
 
@@ -52,6 +64,9 @@ class Settings:
     is_text: bool = False
     on_alert: list[str] = field(default_factory=list)
     webhook: str | None = None
+    # The file in which loop_archive says how it stands.
+    archive: str | None = None
+    stations: list[OtherStation] = field(default_factory=list)
 
     def is_loopback(self) -> bool:
         """Whether this machine alone can reach the page."""
@@ -217,7 +232,7 @@ def parser() -> argparse.ArgumentParser:
     words.add_argument(
         "--settings",
         metavar="FILE",
-        help="more words: listen, token, on_alert, webhook, notes, folder (TOML)",
+        help="more words: listen, token, on_alert, webhook, notes, folder, archive, station (TOML)",
     )
     words.add_argument(
         "--folder",
@@ -242,6 +257,27 @@ def own_words(path: str | None) -> dict:
     if webhook and not re.match(r"https?://", webhook):
         raise BadSettings(f"{path}: webhook is an address that begins with http:// or https://")
     return own
+
+
+def stations_of(tables: object, path: str) -> list[OtherStation]:
+    """The other stations that a file names."""
+    if not isinstance(tables, list) or len(tables) > MOST_STATIONS:
+        raise BadSettings(f"{path}: there are at most {MOST_STATIONS} stations, as [[station]]")
+    found = []
+    for table in tables:
+        if not isinstance(table, dict) or set(table) - {"name", "url", "token"}:
+            raise BadSettings(f"{path}: a [[station]] has url, token and name alone")
+        url, token = text_at(table, "url", path), text_at(table, "token", path)
+        parts = urlsplit(url or "")
+        if parts.scheme not in ("http", "https") or not parts.hostname or parts.query:
+            raise BadSettings(f"{path}: url of a [[station]] is an address that begins with http://"
+                              " or https://")
+        name = text_at(table, "name", path) or re.sub(r"[^A-Za-z0-9_-]", "-", parts.hostname)
+        if not NAME.fullmatch(name) or any(it.name == name for it in found):
+            raise BadSettings(f"{path}: {name} can't be a station's name, or is another one's: give "
+                              "it a name, of letters, digits, - or _")
+        found.append(OtherStation(name, url.rstrip("/"), token_in(token) if token else None))
+    return found
 
 
 def options_of(words: list[str]) -> argparse.Namespace:
@@ -272,6 +308,7 @@ def read_settings(given: argparse.Namespace) -> Settings:
     orders, answers = (path and os.path.join(folder, path) for path in place.values())
     is_text = answers is not None and config.get("answers_form") != "json"
     notes = os.path.join(folder, named["notes"] or "loop_page.notes")
+    archive = text_at(own, "archive", given.settings or "")
     return Settings(
         cameras_of(config, folder, given.config),
         orders,
@@ -283,4 +320,6 @@ def read_settings(given: argparse.Namespace) -> Settings:
         is_text,
         list(own.get("on_alert", [])),
         own.get("webhook"),
+        archive and os.path.join(folder, archive),
+        stations_of(own.get("station", []), given.settings or ""),
     )

@@ -185,7 +185,7 @@ class Row {
     this.event = event;
     this.element.dataset.key = event.key;
     say(this.time, clock(event.from_us));
-    say(this.length, `${length(event.seconds)} \u00b7 ${camerasOf(event)}${event.tag ? ` \u00b7 tag ${event.tag}` : ""}`);
+    say(this.length, `${length(event.seconds)} \u00b7 ${camerasOf(event)}${event.tag ? ` \u00b7 tag ${event.tag}` : ""}${event.archived ? " \u00b7 archived" : ""}`);
     say(this.size, size(event.bytes));
     say(this.lack, lackOf(event));
     this.lack.hidden = !this.lack.textContent;

@@ -1,0 +1,396 @@
+"""Several stations in one console: one state, one press, one event; and one that doesn't answer."""
+import io
+import json
+import re
+import signal
+import socket
+import time
+import zipfile
+
+import pytest
+from conftest import TOKEN, Laboratory, token_in
+from station_page.others import Clock
+from station_page.settings import BadSettings, stations_of
+from station_page.together import Presses, are_near, joined
+from test_push import Open
+
+# Rings of minutes, so that nothing is overwritten on a slow machine.
+LEFT = {"name": "left", "pattern": "64x48 YM12 20:1", "segments": 32}
+TOP = {"name": "top", "pattern": "33x21 GREY 20:1", "segments": 32}
+MINUTE = 15
+
+
+def settings_of(folder, *stations):
+    """Writes the page's settings with these stations, each as (name, port, more)."""
+    lines = []
+    for name, port, *more in stations:
+        lines += ["[[station]]", f'name = "{name}"', f'url = "http://127.0.0.1:{port}/"', *more]
+    (folder / "page.toml").write_text("\n".join(lines) + "\n")
+
+
+def three_in(folder, made):
+    """A page that shows its own station and two others, `north` and `south`. What is begun is put
+    into a list."""
+    for name, cameras in (("hub", [LEFT]), ("north", [LEFT, TOP]), ("south", [LEFT, TOP])):
+        (folder / name).mkdir()
+        made.append(Laboratory(folder / name, cameras).start_station())
+    hub, *others = made
+    settings_of(hub.folder, *((it.folder.name, it.start_page().port) for it in others))
+    hub.start_page("--settings", "page.toml")
+    hub.until(lambda: len(names_of(hub)) == 5, "cameras of all", MINUTE)
+    for it in others:
+        it.filmed(60).filmed(60, "top")
+    hub.filmed(60)
+    return made
+
+
+@pytest.fixture(scope="module")
+def three(tmp_path_factory):
+    """Three stations for tests that leave them as they were."""
+    made = []
+    try:
+        yield three_in(tmp_path_factory.mktemp("three"), made)
+    finally:
+        for it in made:
+            it.close()
+
+
+@pytest.fixture
+def own_three(tmp_path):
+    """Three stations of which a test ends some."""
+    made = []
+    try:
+        yield three_in(tmp_path, made)
+    finally:
+        for it in made:
+            it.close()
+
+
+def names_of(hub):
+    """The cameras that a page shows."""
+    return [it["name"] for it in hub.status()["cameras"]]
+
+
+def station_of(hub, name):
+    """How another station stands."""
+    return next(it for it in hub.status()["stations"] if it["name"] == name)
+
+
+def events_of(hub):
+    """The events that a page shows."""
+    return hub.ask("/api/events").json()["events"]
+
+
+def noted(hub, note):
+    """The events of a note that a page shows."""
+    return [it for it in events_of(hub) if it["note"] == note]
+
+
+def kept_by(hub, count, note):
+    """Keeps on all stations with a note, and waits for the event of so many cameras."""
+    answer = hub.post("/api/keep", {"seconds": 2, "note": note})
+    assert answer.status == 200, answer.body
+    found = hub.until(
+        lambda: [it for it in noted(hub, note) if len(it["cameras"]) == count and it["until_us"] is None],
+        f"event of {count} cameras", MINUTE,
+    )
+    return answer.json()["answers"], found[0]
+
+
+def let_go(hub, event):
+    """Releases an event."""
+    clips = [{key: it[key] for key in ("camera", "id", "first")} for it in event["clips"]]
+    answer = hub.post("/api/event/release", {"clips": clips})
+    assert answer.status == 200, answer.body
+
+
+# ------------------------------------------------------------------------------------- one console
+
+
+def test_the_cameras_of_all_stations_are_in_one_console(three):
+    hub, north, _ = three
+    assert names_of(hub) == ["left", "north:left", "north:top", "south:left", "south:top"]
+    found = {it["name"]: it for it in hub.status()["cameras"]}
+    assert (found["north:top"]["width"], found["north:top"]["format"]) == (33, "GREY")
+    hub.until(lambda: all(it["level"] == "good" for it in hub.status()["cameras"]), "good cameras", MINUTE)
+    north.order("!pause top")
+    hub.until(lambda: {it["name"]: it["level"] for it in hub.status()["cameras"]}["north:top"] == "bad", "bad camera", MINUTE)
+    north.order("!go top")
+    hub.until(lambda: {it["name"]: it["level"] for it in hub.status()["cameras"]}["north:top"] == "good", "good camera", MINUTE)
+
+
+def test_one_press_keeps_the_same_span_on_all_and_is_one_event(three):
+    hub, north, south = three
+    answers, event = kept_by(hub, 5, "run 7")
+    assert sorted(it["camera"] for it in answers if it["kept"]) == sorted(names_of(hub))
+    orders = [re.findall(r"^keep from (\S+) to (\S+)", (it.folder / "ordered").read_text(), re.M)[-1] for it in three]
+    assert len(set(orders)) == 1
+    assert len(noted(hub, "run 7")) == 1 and len(event["clips"]) == 5
+    for one in (north, south):
+        assert len(noted(one, "run 7")) == 1
+    # All begin and end within two frames of each other, whatever the machine does.
+    for word in ("from_us", "to_us"):
+        moments = [clip[word] for clip in event["clips"]]
+        assert max(moments) - min(moments) <= 2 * 50_000, moments
+    let_go(hub, event)
+
+
+def test_a_range_and_one_camera_alone_are_kept_where_they_are(three):
+    hub, north, south = three
+    moment = north.camera("top")["newest"][1]
+    body = {"camera": "north:top", "from": moment - 2_000_000, "to": moment - 1_000_000, "note": "alone"}
+    assert [it["camera"] for it in hub.post("/api/keep", body).json()["answers"]] == ["north:top"]
+    (event,) = hub.until(lambda: noted(hub, "alone"), "event", MINUTE)
+    assert event["cameras"] == ["north:top"] and not noted(south, "alone")
+    let_go(hub, event)
+    assert hub.post("/api/keep", {"camera": "east:top", "seconds": 1}).status == 404
+    assert hub.post("/api/keep", {"camera": "north:none", "seconds": 1}).status == 409
+    answer = hub.post("/api/keep", {"camera": "left", "seconds": 1}).json()["answers"][0]
+    assert answer["camera"] == "left" and answer["kept"]
+    assert hub.post("/api/release", {"camera": "left", "id": answer["clips"][0]["id"]}).status == 200
+
+
+def test_a_note_and_a_release_reach_each_station(three):
+    hub, north, south = three
+    _, event = kept_by(hub, 5, "soon")
+    clips = [{key: it[key] for key in ("camera", "id", "first")} for it in event["clips"]]
+    assert hub.post("/api/event/note", {"clips": clips, "note": "later"}).status == 200
+    assert [len(noted(one, "later")) for one in three] == [1, 1, 1]
+    one = next(it for it in clips if it["camera"] == "south:top")
+    assert hub.post("/api/note", one | {"note": "this one"}).status == 200
+    assert {it["note"] for it in south.ask("/api/clips").json()["clips"]} == {"later", "this one"}
+    assert hub.post("/api/release", one).status == 200
+    answer = hub.post("/api/event/release", {"clips": [it for it in clips if it != one]})
+    assert answer.status == 200, answer.body
+    assert [it.ask("/api/clips").json()["clips"] for it in (north, south)] == [[], []]
+    hub.until(lambda: not events_of(hub), "released event", MINUTE)
+    assert "release" in [it["kind"] for it in north.journal()]
+
+
+def test_files_of_other_stations_come_as_they_are_there(three):
+    hub, north, _ = three
+    _, event = kept_by(hub, 5, "files")
+    clip = next(it for it in event["clips"] if it["camera"] == "north:top")
+    path = f"/api/clips/north:top/{clip['id']}.y4m?first={clip['first']}"
+    text = north.text_of("top", clip)
+    assert hub.ask(path).body == text
+    part = hub.ask(path, headers={"Range": "bytes=10-19"})
+    assert (part.status, part.body, part.headers["Content-Range"]) == (206, text[10:20], f"bytes 10-19/{len(text)}")
+    assert hub.ask(path.replace("north", "east")).status == 404
+    newest = hub.ask("/api/cameras/north%3Aleft/newest.jpg")
+    assert newest.status == 200 and newest.body[:2] == b"\xff\xd8" and int(newest.headers["X-Frame-Number"]) >= 30
+    let_go(hub, event)
+    for wrong in ("north:left/../../healthz", "north:left/frames/x.jpg", "north:..%2F..%2Fhealthz/newest.jpg"):
+        assert hub.ask(f"/api/cameras/{wrong}").status == 404
+
+
+def test_one_zip_has_the_files_of_all_stations(three):
+    hub, north, _ = three
+    _, event = kept_by(hub, 5, "zip")
+    answer = hub.ask(f"/api/event.zip?clips={event['key']}&what=y4m,csv,png&as=me", timeout=60)
+    assert answer.status == 200
+    found = zipfile.ZipFile(io.BytesIO(answer.body))
+    assert found.testzip() is None
+    names = {it.split("/")[1] for it in found.namelist()}
+    cameras = ("left", "north_left", "north_top", "south_left", "south_top")
+    assert names == {"event.txt"} | {f"{it}.{kind}" for it in cameras for kind in ("y4m", "csv", "png.zip")}
+    clip = next(it for it in event["clips"] if it["camera"] == "north:top")
+    (name,) = [it for it in found.namelist() if it.endswith("north_top.y4m")]
+    assert found.read(name) == north.text_of("top", clip)
+    let_go(hub, event)
+
+
+def test_a_page_is_sent_pictures_of_all_stations(three):
+    hub, north, _ = three
+    page = Open(hub)
+    for camera in ("left", "north:left", "south:top"):
+        page.next("picture", lambda head: head["camera"] == camera, 60)
+    assert page.look(cameras=["north:top"]).status == 200
+    head, body = page.picture("north:top", 60)
+    assert head["live"] and body[:2] == b"\xff\xd8"
+    moment = north.camera("top")["newest"][1] - 1_000_000
+    page.look(cameras=["north:top"], moment=moment)
+    head, _ = page.next("picture", lambda head: head["camera"] == "north:top" and not head["live"], 60)
+    assert head["time"] <= moment
+    assert page.look(cameras=["east:top"]).status == 404
+    page.close()
+
+
+def test_a_step_is_the_next_frame_of_whichever_station_has_it(three):
+    hub, north, south = three
+    moment = north.camera("left")["oldest"][1] + 1_000_000
+    asked = {"cameras": ["north:left", "south:left"], "moment": moment, "by": 1}
+    after = hub.post("/api/step", asked).json()["moment"]
+    wanted = min(it.post("/api/step", {"cameras": ["left"], "moment": moment, "by": 1}).json()["moment"] for it in (north, south))
+    assert after == wanted > moment
+    before = hub.post("/api/step", asked | {"moment": after, "by": -1}).json()["moment"]
+    assert before <= moment < after
+
+
+def test_warnings_of_all_stations_are_seen_at_their_own(three):
+    hub, north, _ = three
+    north.say("given_up", camera="top", frames=3, since="2026-11-22T15:38:00.123Z")
+    alert = hub.until(lambda: [it for it in hub.status()["alerts"] if it["camera"] == "north:top"], "warning", MINUTE)[0]
+    assert hub.post("/api/seen", {"ids": [alert["id"]]}).status == 200
+    assert not north.alerts()
+
+
+# ------------------------------------------------------------------------- a station that isn't there
+
+
+def test_a_station_that_does_not_answer_is_said_and_holds_up_no_other(own_three):
+    hub, north, south = own_three
+    for note, how in (("stands still", signal.SIGSTOP), ("is gone", signal.SIGKILL)):
+        north.page.send_signal(how)
+        hub.until(lambda: station_of(hub, "north")["level"] == "bad", "word of it", MINUTE)
+        hub.until(lambda: ("away", "north") in hub.alerts(), "warning", MINUTE)
+        cameras = {it["name"]: it for it in hub.status()["cameras"]}
+        assert cameras["north:left"]["kind"] == "away" and "hasn't answered" in cameras["north:left"]["state"]
+        assert cameras["south:left"]["kind"] != "away"
+        answers, event = kept_by(hub, 3, note)
+        assert sorted(it["camera"] for it in answers if it["kept"]) == ["left", "south:left", "south:top"]
+        (refused,) = [it for it in answers if not it["kept"]]
+        assert refused["camera"] == "north" and refused["text"]
+        north.page.send_signal(signal.SIGCONT)
+        if how == signal.SIGSTOP:
+            hub.until(lambda: station_of(hub, "north")["level"] != "bad", "station that is back", MINUTE)
+            hub.until(lambda: ("away", "north") not in hub.alerts(), "end of the warning", MINUTE)
+
+
+def test_a_wrong_token_is_said_and_the_right_one_lets_in(make, tmp_path):
+    other = make("--token", token_in(tmp_path), cameras=[LEFT])
+    wrong = tmp_path / "wrong"
+    wrong.mkdir()
+    hub = make(page=False, cameras=[LEFT])
+    settings_of(hub.folder, ("one", other.port, f'token = "{token_in(tmp_path)}"'),
+                ("two", other.port, f'token = "{token_in(wrong, TOKEN[::-1])}"'))
+    hub.start_page("--settings", "page.toml")
+    hub.until(lambda: "one:left" in names_of(hub), "camera", MINUTE)
+    hub.until(lambda: "wants another token" in station_of(hub, "two")["text"], "word of it", MINUTE)
+
+
+def test_what_is_no_page_is_said(make):
+    """A server that answers whatever it is asked with words of its own."""
+    with socket.create_server(("127.0.0.1", 0)) as server:
+        hub = make(page=False, cameras=[LEFT])
+        settings_of(hub.folder, ("odd", server.getsockname()[1]))
+        hub.start_page("--settings", "page.toml")
+        server.settimeout(60)
+        for _ in range(2):
+            client, _ = server.accept()
+            client.recv(65536)
+            client.sendall(b"HTTP/1.1 200 OK\r\nContent-Length: 28\r\n\r\n" + b"\0\0\0\x05\0\0\0\x0bhello" + b"and no JSON" + b"....")
+            client.close()
+    hub.until(lambda: station_of(hub, "odd")["level"] == "bad", "word of it", MINUTE)
+    assert hub.post("/api/keep", {"seconds": 1}).status == 200
+
+
+# -------------------------------------------------------------------------------------------- clocks
+
+
+def test_a_clock_that_is_off_is_warned_of_and_one_that_is_not_is_not(make):
+    north, south = make(page=False, cameras=[LEFT]), make(cameras=[LEFT])
+    north.start_spoilt()
+    north.spoil("clock", "3")
+    hub = make(page=False, cameras=[LEFT])
+    settings_of(hub.folder, ("north", north.port), ("south", south.port))
+    hub.start_page("--settings", "page.toml")
+    hub.until(lambda: ("clock", "north") in hub.alerts(), "warning", MINUTE)
+    found = station_of(hub, "north")
+    assert abs(found["offset_us"] - 3_000_000) <= found["error_us"] + 1000 and "ahead of this one" in found["text"]
+    hub.until(lambda: station_of(hub, "south")["offset_us"] is not None, "measure", MINUTE)
+    other = station_of(hub, "south")
+    assert abs(other["offset_us"]) <= other["error_us"] + 1000 and ("clock", "south") not in hub.alerts()
+    north.spoil("clock", "0")
+    hub.until(lambda: ("clock", "north") not in hub.alerts(), "end of the warning", 2 * MINUTE)
+
+
+def test_a_clock_is_off_only_where_that_is_certain():
+    clock = Clock()
+    assert clock.offset() is None and not clock.is_off()
+    # 30 ms ahead, in an answer that took 40 ms: it may be 10 ms.
+    clock.add(0, 50_000, 40_000)
+    assert clock.offset() == (30_000, 20_000) and not clock.is_off()
+    # The quickest answer counts.
+    clock.add(100_000, 131_000, 102_000)
+    assert clock.offset() == (30_000, 1_000) and clock.is_off()
+    exact = Clock()
+    exact.add(0, 20_000, 0)
+    assert not exact.is_off()
+    exact.add(0, -20_001, 0)
+    assert exact.samples.pop() and not exact.is_off()
+    behind = Clock()
+    behind.add(0, -20_001, 0)
+    assert behind.is_off()
+
+
+# -------------------------------------------------------------------------------------------- events
+
+
+def event(camera, since, until, number=None, tag=0):
+    """An event of one clip."""
+    clip = {"camera": camera, "id": 0, "first": 0, "from_us": since, "to_us": until, "frames": 101}
+    return {
+        "key": f"{camera}.0.0", "number": number, "from_us": since, "to_us": until, "tag": tag, "seconds": 1.0,
+        "cameras": [camera], "bytes": 1, "note": "", "fetched": False, "until_us": None, "lacks": [], "clips": [clip],
+    }
+
+
+def cameras_of(events, presses=None):
+    """The cameras of each joined event."""
+    return sorted(sorted(it["cameras"]) for it in joined(events, presses or Presses(9)))
+
+
+def test_events_of_one_span_are_one_and_others_are_not():
+    second = 1_000_000
+    near = [("", event("a", 0, 10 * second)), ("n", event("n:a", 50_000, 10 * second + 200_000))]
+    assert cameras_of(near) == [["a", "n:a"]]
+    assert are_near(near[0][1], near[1][1])
+    for other in (event("n:a", 2 * second, 10 * second), event("n:a", 0, 12 * second), event("n:a", 0, 10 * second, tag=7)):
+        assert cameras_of([near[0], ("n", other)]) == [["a"], ["n:a"]]
+    # Two of one station are two, however near.
+    assert cameras_of([near[0], ("", event("b", 0, 10 * second))]) == [["a"], ["b"]]
+
+
+def test_a_press_of_this_page_is_one_event_by_its_numbers_whatever_the_times():
+    presses = Presses(9)
+    presses.add([("", 5), ("n", 6)])
+    far = [("", event("a", 0, 10**7, 5)), ("n", event("n:a", 10**8, 10**9, 6)), ("s", event("s:a", 0, 10**7, 9))]
+    assert cameras_of(far, presses) == [["a", "n:a"], ["s:a"]]
+    presses = Presses(2)
+    for number in range(5):
+        presses.add([("", number), ("n", number)])
+    assert presses.of("", 4) and presses.of("", 0) is None
+
+
+# ------------------------------------------------------------------------------------------- settings
+
+
+@pytest.mark.parametrize(
+    "table, said",
+    [
+        ({}, "url of a"),
+        ({"url": "ftp://x/"}, "url of a"),
+        ({"url": "http:///x"}, "url of a"),
+        ({"url": "http://x/", "name": "a:b"}, "can't be a station's name"),
+        ({"url": "http://x/", "port": 1}, "url, token and name alone"),
+        ({"url": "http://x/", "token": "missing"}, "missing"),
+    ],
+)
+def test_a_wrong_station_is_refused_by_name(table, said):
+    with pytest.raises(BadSettings, match=re.escape(said)):
+        stations_of([table], "page.toml")
+
+
+def test_stations_have_names_of_their_own():
+    found = stations_of([{"url": "http://north.lab:8080/"}, {"url": "https://10.0.0.2"}], "page.toml")
+    assert [(it.name, it.url) for it in found] == [("north-lab", "http://north.lab:8080"), ("10-0-0-2", "https://10.0.0.2")]
+    with pytest.raises(BadSettings, match="is another one's"):
+        stations_of([{"url": "http://x:1/"}, {"url": "http://x:2/"}], "page.toml")
+    with pytest.raises(BadSettings, match="at most 16"):
+        stations_of([{"url": f"http://x{n}/"} for n in range(17)], "page.toml")
+
+
+def test_a_page_alone_says_its_clock_and_no_stations(shared):
+    assert abs(shared.ask("/api/clock").json()["now_us"] / 1e6 - time.time()) < 60
+    assert "stations" not in shared.status() and json.dumps(names_of(shared))

@@ -1,0 +1,749 @@
+"""Saved events in another place: each clip that a station keeps is copied by rclone, compared there,
+and only then released, where that is wished.
+
+A clip comes from the station's page byte for byte, with the times of its frames and its note. It goes
+into a folder of its own below `.incoming`, is compared there with what was sent, and then gets its
+name: so whatever has a name in the archive is whole. What fails is tried again for ever. The file of
+the state says what is archived; it is replaced whole, and the page and loop_mqtt read it."""
+import contextlib
+import datetime
+import fcntl
+import hashlib
+import json
+import os
+import queue
+import secrets
+import shutil
+import signal
+import subprocess
+import sys
+import tempfile
+import threading
+import time
+from dataclasses import asdict, dataclass, replace
+from pathlib import Path
+from urllib.parse import quote
+
+from .archive_page import Page, PageFault
+from .settings import BadSettings, Words, secret_in, words_of
+
+# How often the page is asked what is kept, and how often the state is written where nothing
+# changes, so that whoever reads it sees that this program runs.
+LOOK_SECONDS = 2.0
+BEAT_SECONDS = 10.0
+# The pause after a fault, at first and at most: it doubles each time.
+PAUSE_SECONDS, MOST_PAUSE_SECONDS = 2.0, 300.0
+# So many clips that were archived stay in the file of the state, the newest ones, beside those that
+# are still held.
+REMEMBERED = 500
+# Below what a copy arrives, and the files of each clip.
+INCOMING = ".incoming"
+KINDS = ("y4m", "csv", "json")
+# What rclone does itself about a network that fails: little, since this program tries again.
+PATIENT = ["--retries", "1", "--low-level-retries", "2", "--contimeout", "15s", "--timeout", "60s"]
+UNHASHED = "could not be checked"
+
+
+class Fault(Exception):
+    """Why a clip couldn't be archived or released, in a sentence."""
+
+
+class Stopped(Exception):
+    """The program is to end."""
+
+
+@dataclass(frozen=True)
+class Place:
+    """Where a camera's clips go, and whether they are released then."""
+
+    archive: str
+    is_released: bool
+
+
+@dataclass(frozen=True)
+class Settings:
+    """What the file says."""
+
+    url: str
+    token: str | None
+    state: Path
+    spool: Path
+    # rclone's own file, and how many bytes a second it may send, as rclone has it.
+    config: str | None
+    bandwidth: str | None
+    # Of all cameras, where there is one, and of single ones.
+    place: Place | None
+    places: dict[str, Place | None]
+
+    def place_of(self, camera: str) -> Place | None:
+        """Where a camera's clips go; none where they go nowhere."""
+        return self.places.get(camera, self.place)
+
+
+@dataclass(frozen=True)
+class Clip:
+    """A clip that is held: the numbers of its frames, its tag, the event's number where the page
+    knows it, and the times of its first and last frame in microseconds."""
+
+    camera: str
+    id: int
+    first: int
+    last: int
+    tag: int
+    event: int | None
+    since: int
+    until: int
+    note: str = ""
+
+    def words(self) -> str:
+        """In a line."""
+        return f"{self.camera} {self.id} {self.first}..{self.last}"
+
+    def front(self) -> str:
+        """How its files are called: two keeps of the same frames have two names."""
+        moment = datetime.datetime.fromtimestamp(self.since // 1_000_000, datetime.timezone.utc)
+        stamp = moment.strftime("%Y-%m-%dT%H-%M-%SZ")
+        number = self.event or self.tag
+        return f"{self.camera}_{stamp}_{self.first}-{self.last}_{self.id}_{number}"
+
+
+@dataclass(frozen=True)
+class Archived:
+    """A clip that is in the archive: its name there, what was sent, and whether it was released
+    since."""
+
+    clip: Clip
+    name: str
+    archive: str
+    bytes: int
+    sha256: str
+    time: float
+    is_released: bool = False
+
+    def as_object(self) -> dict:
+        """For JSON."""
+        found = asdict(self)
+        return found.pop("clip") | found
+
+
+def is_same(one: Clip, other: Clip) -> bool:
+    """Whether two are one clip. Ids are used again, also for the same frames: so the tag counts, and
+    the event's number, where both know it."""
+    alike = all(
+        getattr(one, word) == getattr(other, word)
+        for word in ("camera", "id", "first", "last", "tag", "since")
+    )
+    return alike and (None in (one.event, other.event) or one.event == other.event)
+
+
+def clip_of(found: dict) -> Clip:
+    """A clip as the page tells it. Its tag on the disk is one of the user's, or else its event's
+    number."""
+    tag = found["tag"] or found["event"] or 0
+    return Clip(
+        found["camera"],
+        found["id"],
+        found["first"],
+        found["last"],
+        tag,
+        found["event"],
+        found["from_us"],
+        found["to_us"],
+        found["note"],
+    )
+
+
+def archived_of(found: dict) -> Archived:
+    """An entry of the state."""
+    clip = Clip(**{word: found[word] for word in Clip.__dataclass_fields__})
+    words = {word: found[word] for word in Archived.__dataclass_fields__ if word != "clip"}
+    return Archived(clip, **words)
+
+
+# --------------------------------------------------------------------------------------- settings
+
+
+def place_in(words: Words, left_out: Place | None) -> Place | None:
+    """Where clips go, by a table's words."""
+    archive = words.text("archive", left_out.archive if left_out else None)
+    release = words.choice(
+        "release",
+        ("archived", "never"),
+        "archived" if left_out and left_out.is_released else "never",
+    )
+    if archive is None:
+        return None
+    if ":" not in archive and not archive.startswith("/"):
+        raise words.bad("archive", "a place such as REMOTE:folder, by the names of rclone's file")
+    return Place(archive.rstrip("/"), release == "archived")
+
+
+def read_settings(path: str) -> Settings:
+    """The settings of a file. What they name is looked at too, as far as it can be."""
+    words = words_of(path)
+    url = words.text("url", "http://127.0.0.1:8080/", r"https?://[^\s]+", "an address, http://..")
+    token = words.text("token", None)
+    state = words.text("state", os.path.join(os.environ.get("STATE_DIRECTORY", "."), "archive.json"))
+    spool = words.text("spool", os.environ.get("CACHE_DIRECTORY", f"{state}.spool"))
+    config, bandwidth = words.text("rclone_config", None), words.text(
+        "bandwidth", None, r"[0-9.]+[BKMGkmg]?(:[0-9.]+[BKMGkmg]?)?", "a rate such as 10M"
+    )
+    place, places = place_in(words, None), {}
+    for table in words.tables("camera"):
+        places[table.name("name")] = place_in(table, place)
+        table.end()
+    words.end()
+    if place is None and not any(places.values()):
+        raise BadSettings(f"{path}: archive is missing: a place such as REMOTE:folder")
+    if config and not os.access(config, os.R_OK):
+        raise BadSettings(f"{path}: rclone_config: {config} can't be read")
+    if not shutil.which("rclone"):
+        raise BadSettings("rclone isn't installed: sudo apt install rclone")
+    secret = secret_in(token, "token") if token else None
+    return Settings(url, secret, Path(state), Path(spool), config, bandwidth, place, places)
+
+
+# ------------------------------------------------------------------------------------------ rclone
+
+
+class Rclone:
+    """Runs rclone, and ends it with this program: what a killed one left under way would write on
+    beside the next try."""
+
+    def __init__(self, settings: Settings, stop: threading.Event) -> None:
+        self.settings, self.stop = settings, stop
+        self.features: dict[str, dict] = {}
+
+    def run(self, *words: str, is_told: bool = True) -> tuple[int, str, str]:
+        """Runs it, and answers its status and what it printed. Fault where it fails and that is to
+        be told."""
+        front = ["setpriv", "--pdeathsig", "KILL", "rclone", *PATIENT, "--stats", "0"]
+        if self.settings.config:
+            front += ["--config", self.settings.config]
+        with tempfile.TemporaryFile("w+") as out, tempfile.TemporaryFile("w+") as told:
+            done = subprocess.Popen(
+                [*front, *words], stdin=subprocess.DEVNULL, stdout=out, stderr=told
+            )
+            while done.poll() is None:
+                if self.stop.wait(0.02):
+                    done.kill()
+                    done.wait()
+                    raise Stopped
+            for file in (out, told):
+                file.seek(0)
+            answer, said = out.read(1 << 20), told.read(1 << 20)
+        if done.returncode and is_told:
+            raise Fault(f"rclone {words[0]}: {last_line(said) or f'status {done.returncode}'}")
+        return done.returncode, answer, said
+
+    def can(self, archive: str) -> dict:
+        """What a place can: its hashes, and whether it renames by itself."""
+        remote = archive.split(f"/{INCOMING}")[0]
+        if remote not in self.features:
+            _, answer, _ = self.run("backend", "features", remote)
+            self.features[remote] = json.loads(answer)
+        return self.features[remote]
+
+    def has(self, archive: str, name: str) -> bool:
+        """Whether a place has a file."""
+        status, _, said = self.run("lsjson", "--stat", f"{archive}/{name}", is_told=False)
+        if status not in (0, 3, 4):
+            raise Fault(f"rclone lsjson: {last_line(said) or f'status {status}'}")
+        return status == 0
+
+    def is_equal(self, sent: "Sent", place: str, names: list[str], is_quick: bool = False) -> bool:
+        """Whether files of a place are those that were sent, by `rclone check`: by their hashes, or,
+        where the place has none, by all their bytes; with `is_quick` by their lengths then. Each is
+        looked up by itself, however many there are."""
+        words = ["check", str(sent.folder), place, "--one-way", "--combined", "-", "--no-traverse"]
+        words += ["--files-from-raw", str(sent.listed(names))]
+        has_hashes = bool(self.can(place).get("Hashes"))
+        more = ["--size-only"] if is_quick else ["--download"]
+        _, answer, said = self.run(*words, *([] if has_hashes else more), is_told=False)
+        if UNHASHED in said and has_hashes:
+            _, answer, said = self.run(*words, "--download", is_told=False)
+        lines = set(answer.splitlines())
+        if any(line.startswith("!") for line in lines) or not lines:
+            raise Fault(f"rclone check: {last_line(said)}")
+        return lines == {f"= {name}" for name in names}
+
+
+def last_line(said: str) -> str:
+    """The last line of what was told, without its time."""
+    lines = [line for line in said.splitlines() if line.strip()]
+    return " ".join(lines[-1].split()[2:] if lines and lines[-1][:2] == "20" else lines[-1:])[:400]
+
+
+# ------------------------------------------------------------------------------------------- state
+
+
+class State:
+    """What is archived and what waits, in a file that is replaced whole. One program has it."""
+
+    def __init__(self, path: Path) -> None:
+        self.path, self.lock = path, threading.RLock()
+        self.archived: list[Archived] = []
+        # How many clips of a camera were archived, and since when each one waits.
+        self.counts: dict[str, int] = {}
+        self.since: list[tuple[Clip, float]] = []
+        # What may have been left below `.incoming`: places.
+        self.begun: list[str] = []
+        self.fault = ""
+        self.told: dict = {}
+        self.holder = open(f"{path}.lock", "w", encoding="ascii")
+        try:
+            fcntl.flock(self.holder, fcntl.LOCK_EX | fcntl.LOCK_NB)
+        except OSError:
+            raise BadSettings(f"state: {path}: another loop_archive has it") from None
+        self.load()
+
+    def load(self) -> None:
+        """Reads the file. One that can't be read is moved aside: what it said is compared anew."""
+        try:
+            found = json.loads(self.path.read_text(encoding="utf-8"))
+            self.archived = [archived_of(it) for it in found["archived"]]
+            self.counts = {it["name"]: int(it["archived"]) for it in found["cameras"]}
+            self.since = [
+                (Clip(**{word: it[word] for word in Clip.__dataclass_fields__}), it["waits_since"])
+                for it in found["waiting"]
+            ]
+            self.begun = [str(it) for it in found["begun"]]
+        except FileNotFoundError:
+            return
+        except (ValueError, KeyError, TypeError, OSError) as fault:
+            aside = f"{self.path}.unread"
+            os.replace(self.path, aside)
+            self.archived, self.counts, self.since, self.begun = [], {}, [], []
+            tell(f"{self.path} can't be read ({fault!r}), and is now {aside}: all is compared anew")
+
+    def entry(self, clip: Clip) -> Archived | None:
+        """The entry of a clip that is held."""
+        return next(
+            (it for it in self.archived if not it.is_released and is_same(it.clip, clip)), None
+        )
+
+    def change(self, old: Archived | None, new: Archived) -> None:
+        """An entry comes, or takes another one's place."""
+        with self.lock:
+            if old is None:
+                self.archived.append(new)
+                self.counts[new.clip.camera] = self.counts.get(new.clip.camera, 0) + 1
+            else:
+                self.archived[self.archived.index(old)] = new
+            self.write()
+
+    def write(self, is_synced: bool = True) -> None:
+        """Writes the file: a new one in the old one's place."""
+        with self.lock:
+            while len(self.archived) > REMEMBERED:
+                old = next((it for it in self.archived if it.is_released), None)
+                if old is None:
+                    break
+                self.archived.remove(old)
+            body = {
+                "time": time.time(),
+                "fault": self.fault,
+                "cameras": list(self.told.values()),
+                "waiting": [asdict(clip) | {"waits_since": at} for clip, at in self.since],
+                "begun": self.begun,
+                "archived": [it.as_object() for it in self.archived],
+            }
+            new = f"{self.path}.new"
+            with open(new, "w", encoding="utf-8") as file:
+                json.dump(body, file, ensure_ascii=False, indent=1)
+                file.flush()
+                if is_synced:
+                    os.fsync(file.fileno())
+            os.chmod(new, 0o640)
+            os.replace(new, self.path)
+            if is_synced:
+                folder = os.open(self.path.parent, os.O_RDONLY)
+                try:
+                    os.fsync(folder)
+                finally:
+                    os.close(folder)
+
+
+def tell(text: str) -> None:
+    """Prints a line, in which no sign does something to a terminal."""
+    line = "".join(sign if sign.isprintable() else ascii(sign)[1:-1] for sign in text)
+    print(line, flush=True)
+
+
+# ----------------------------------------------------------------------------------------- cameras
+
+
+@dataclass
+class Sent:
+    """A clip's files, ready to be sent: their folder, their name, and what they are."""
+
+    folder: Path
+    name: str
+    bytes: int
+    sha256: str
+
+    def names(self) -> list[str]:
+        """The names of the files."""
+        return [f"{self.name}.{kind}" for kind in KINDS]
+
+    def listed(self, names: list[str]) -> Path:
+        """A file beside the folder that lists some of them."""
+        path = self.folder.with_suffix(".names")
+        path.write_text("".join(f"{name}\n" for name in names), encoding="utf-8")
+        return path
+
+
+class Camera:
+    """A camera's clips, one after the other. A place that doesn't answer holds up no other
+    camera."""
+
+    def __init__(self, name: str, place: Place, all_: "Archive") -> None:
+        self.name, self.place, self.all = name, place, all_
+        self.state, self.rclone, self.page = all_.state, all_.rclone, all_.page
+        self.fault, self.told_fault, self.faults = "", "", 0
+        self.failed: list[tuple[Clip, int]] = []
+        self.thread = threading.Thread(target=self.run, name=name, daemon=True)
+
+    def run(self) -> None:
+        """Works until the program ends."""
+        with contextlib.suppress(Stopped):
+            while True:
+                work = self.all.wait_for(self.next_work)
+                try:
+                    work()
+                    self.failed = [it for it in self.failed if it[0] != self.at]
+                    self.faults, self.fault = 0, ""
+                except (Fault, PageFault, OSError) as fault:
+                    self.refuse(str(fault))
+                    self.all.pause(min(PAUSE_SECONDS * 2 ** (self.faults - 1), MOST_PAUSE_SECONDS))
+
+    def refuse(self, why: str) -> None:
+        """Something failed. The next clip is tried then, so that one that can't be archived holds
+        up none."""
+        self.fault, self.faults = f"{self.at.words()}: {why}", min(self.faults + 1, 20)
+        count = next((it[1] for it in self.failed if it[0] == self.at), 0)
+        self.failed = [it for it in self.failed if it[0] != self.at] + [(self.at, count + 1)]
+        if self.fault != self.told_fault:
+            tell(f"waits {self.fault}")
+        self.told_fault = self.fault
+        self.all.show()
+
+    def next_work(self):
+        """What is to be done next; none where nothing is."""
+        held = self.all.held_of(self.name)
+        works = []
+        for clip in held:
+            entry = self.state.entry(clip)
+            if entry is None:
+                works.append((clip, lambda clip=clip: self.archive(clip)))
+            elif entry.clip.note != clip.note:
+                works.append((clip, lambda clip=clip, it=entry: self.note(clip, it)))
+            elif self.place.is_released:
+                works.append((clip, lambda clip=clip, it=entry: self.release(clip, it)))
+        if not works:
+            return None
+        failed = dict(self.failed)
+        self.at, work = min(works, key=lambda it: (failed.get(it[0], 0), it[0].until, it[0].id))
+        return work
+
+    def archive(self, clip: Clip) -> None:
+        """Copies a clip, and compares it."""
+        with self.spool() as folder:
+            sent = self.fetch(clip, folder)
+            with self.all.lock_of(self.place.archive):
+                sent, is_there = self.named(clip, sent)
+                if not is_there:
+                    self.send(sent)
+        new = Archived(
+            clip, sent.name, self.place.archive, sent.bytes, sent.sha256, time.time()
+        )
+        self.state.change(None, new)
+        tell(f"archived {clip.words()} as {sent.name}")
+        self.all.show()
+
+    @contextlib.contextmanager
+    def spool(self):
+        """A folder for a clip's files, which is removed then."""
+        folder = self.all.settings.spool / f"{self.name}-{secrets.token_hex(4)}"
+        folder.mkdir(parents=True)
+        try:
+            yield folder
+        finally:
+            shutil.rmtree(folder, ignore_errors=True)
+            folder.with_suffix(".names").unlink(missing_ok=True)
+
+    def fetch(self, clip: Clip, folder: Path) -> Sent:
+        """Fetches a clip's files from the page: its frames, their times, and what it is."""
+        name, path = clip.front(), f"/api/clips/{quote(clip.camera)}/{clip.id}"
+        digest, count = hashlib.sha256(), 0
+        with open(folder / f"{name}.y4m", "wb") as file:
+            for piece in self.page.pieces(f"{path}.y4m?first={clip.first}"):
+                if self.all.stop.is_set():
+                    raise Stopped
+                file.write(piece)
+                digest.update(piece)
+                count += len(piece)
+        with open(folder / f"{name}.csv", "wb") as file:
+            table = b"".join(self.page.pieces(f"{path}.csv?first={clip.first}"))
+            file.write(table)
+        numbers = [int(line.split(b",")[0]) for line in table.splitlines()[1:]]
+        if numbers != list(range(clip.first, clip.last + 1)):
+            # It was released meanwhile, and another one has its id.
+            raise Fault("the page gives other frames by now")
+        sent = Sent(folder, name, count, digest.hexdigest())
+        self.write_words(clip, sent)
+        return sent
+
+    def write_words(self, clip: Clip, sent: Sent) -> None:
+        """Writes what the clip is, and its note."""
+        body = asdict(clip) | {"bytes": sent.bytes, "sha256": sent.sha256}
+        body |= {"from": iso(clip.since), "to": iso(clip.until)}
+        with open(sent.folder / f"{sent.name}.json", "w", encoding="utf-8") as file:
+            json.dump(body, file, ensure_ascii=False, indent=1)
+
+    def named(self, clip: Clip, sent: Sent) -> tuple[Sent, bool]:
+        """The clip under a name that nothing else has in the archive: its own, or, where another
+        keep has that, one with a number; and whether it stands there already."""
+        place, front = self.place.archive, sent.name
+        for number in range(1, 1000):
+            name = front if number == 1 else f"{front}-{number}"
+            if name != sent.name:
+                for kind in KINDS:
+                    os.rename(sent.folder / f"{sent.name}.{kind}", sent.folder / f"{name}.{kind}")
+                sent = replace(sent, name=name)
+            if not self.rclone.has(place, sent.names()[0]):
+                return sent, False
+            if self.rclone.is_equal(sent, place, sent.names()):
+                return sent, True
+        raise Fault(f"the archive has 999 others called {front}")
+
+    def send(self, sent: Sent) -> None:
+        """Copies the files into `.incoming`, compares them, and gives them their names."""
+        archive, limit = self.place.archive, self.all.settings.bandwidth
+        with self.all.incoming(archive) as place:
+            more = ["--bwlimit", limit] if limit else []
+            self.rclone.run("copyto", str(sent.folder), place, "--ignore-times", *more)
+            if not self.rclone.is_equal(sent, place, sent.names()):
+                raise Fault("the copy isn't what was sent")
+            self.move(sent, place, archive, sent.names())
+
+    def move(self, sent: Sent, place: str, archive: str, names: list[str]) -> None:
+        """Gives files their names. The frames come last: what has them has all."""
+        for name in reversed(names):
+            self.rclone.run("moveto", f"{place}/{name}", f"{archive}/{name}", "--ignore-times")
+        is_renamed = bool(self.rclone.can(archive)["Features"].get("Move"))
+        if not self.rclone.is_equal(sent, archive, names, is_quick=is_renamed):
+            for name in names:
+                self.rclone.run("deletefile", f"{archive}/{name}", is_told=False)
+            raise Fault("the copy was changed when it got its name")
+
+    def note(self, clip: Clip, entry: Archived) -> None:
+        """The note was changed: the archive's words are written anew."""
+        with self.spool() as folder, self.all.lock_of(entry.archive):
+            sent = Sent(folder, entry.name, entry.bytes, entry.sha256)
+            self.write_words(clip, sent)
+            with self.all.incoming(entry.archive) as place:
+                self.rclone.run("copyto", str(folder), place, "--ignore-times")
+                self.move(sent, place, entry.archive, sent.names()[-1:])
+        self.state.change(entry, replace(entry, clip=clip))
+
+    def release(self, clip: Clip, entry: Archived) -> None:
+        """Releases a clip that is archived: as it is held now, and as it was compared."""
+        held, _ = self.page.look()
+        if not any(is_same(it, clip) and it.note == entry.clip.note for it in held):
+            self.all.look()
+            return
+        self.page.release(clip.camera, clip.id, clip.first, clip.last, clip.tag)
+        self.state.change(entry, replace(entry, is_released=True))
+        tell(f"released {clip.words()}")
+        self.all.look()
+
+
+def iso(microseconds: int) -> str:
+    """A time, UTC."""
+    moment = datetime.datetime(1970, 1, 1) + datetime.timedelta(microseconds=microseconds)
+    return moment.isoformat(timespec="microseconds") + "Z"
+
+
+# ------------------------------------------------------------------------------------- the program
+
+
+class Archive:
+    """All of it: it asks the page what is kept, and gives each camera its work."""
+
+    def __init__(self, settings: Settings) -> None:
+        self.settings, self.stop = settings, threading.Event()
+        self.changed = threading.Condition()
+        settings.spool.mkdir(parents=True, exist_ok=True)
+        self.state = State(settings.state)
+        # What a program left that was killed.
+        for left in settings.spool.iterdir():
+            if left.is_dir():
+                shutil.rmtree(left, ignore_errors=True)
+            else:
+                left.unlink(missing_ok=True)
+        self.page = Page(settings.url, settings.token, clip_of)
+        self.rclone = Rclone(settings, self.stop)
+        self.cameras: dict[str, Camera] = {}
+        self.locks: dict[str, threading.Lock] = {}
+        # What was held at the last look, and at the last two.
+        self.seen: list[Clip] = []
+        self.held: list[Clip] = []
+        self.is_heard = False
+        # Where copies of this run arrive, for each archive, and what others left.
+        self.places: dict[str, str] = {}
+        self.left: queue.SimpleQueue[str] = queue.SimpleQueue()
+        for place in self.state.begun:
+            self.left.put(place)
+        self.written, self.state_fault = 0.0, ""
+
+    def lock_of(self, archive: str) -> threading.Lock:
+        """One copy at a time to a place, so that its bandwidth is bounded."""
+        with self.changed:
+            return self.locks.setdefault(archive, threading.Lock())
+
+    def held_of(self, camera: str) -> list[Clip]:
+        """A camera's clips, where the page answers."""
+        return [clip for clip in self.held if clip.camera == camera] if self.is_heard else []
+
+    def wait_for(self, found):
+        """Waits until there is something, and answers it."""
+        while not self.stop.is_set():
+            with self.changed:
+                if work := found():
+                    return work
+                self.changed.wait(LOOK_SECONDS)
+        raise Stopped
+
+    def pause(self, seconds: float) -> None:
+        """Waits."""
+        if self.stop.wait(seconds):
+            raise Stopped
+
+    @contextlib.contextmanager
+    def incoming(self, archive: str):
+        """A place below `.incoming` of an archive, that no other try writes to: what was under way
+        at a fault may still come."""
+        if archive not in self.places:
+            self.places[archive] = f"{archive}/{INCOMING}/{secrets.token_hex(8)}"
+            with self.state.lock:
+                self.state.begun.append(self.places[archive])
+                self.state.write()
+        try:
+            yield self.places[archive]
+        except BaseException:
+            self.left.put(self.places.pop(archive))
+            raise
+
+    def clean(self) -> None:
+        """Removes what was left below `.incoming`, each until that succeeds, without end."""
+        with contextlib.suppress(Stopped):
+            while True:
+                place = self.left.get()
+                while not self.is_gone(place):
+                    self.pause(MOST_PAUSE_SECONDS)
+                with self.state.lock:
+                    self.state.begun = [it for it in self.state.begun if it != place]
+                    self.state.write()
+
+    def is_gone(self, place: str) -> bool:
+        """Removes a place; answers whether it is gone."""
+        with self.lock_of(place.split(f"/{INCOMING}")[0]):
+            status, _, said = self.rclone.run("purge", place, is_told=False)
+        return status in (0, 3) or "not found" in said
+
+    def look(self) -> None:
+        """Asks the page what is held."""
+        try:
+            (held, read), fault = self.page.look(), ""
+        except PageFault as found:
+            held, read, fault = [], set(), str(found)
+        with self.changed:
+            if fault != self.state.fault and fault:
+                tell(fault)
+            self.state.fault, self.is_heard = fault, not fault
+            if not fault:
+                self.take(held, read)
+            self.changed.notify_all()
+        self.show()
+
+    def take(self, held: list[Clip], read: set[str]) -> None:
+        """What is held now of the cameras that were read: what is new waits, and what was released
+        since is told. What is seen twice has come to stay: a clip of an event that has just ended
+        may be the last but one."""
+        wanted = [clip for clip in held if self.settings.place_of(clip.camera)]
+        now, before = time.time(), self.state.since
+        with self.state.lock:
+            waiting = [clip for clip in wanted if self.state.entry(clip) is None]
+            gone = [
+                clip
+                for clip, _ in before
+                if clip.camera in read and not any(is_same(clip, it) for it in held)
+            ]
+            for clip in gone:
+                if not any(is_same(clip, it.clip) for it in self.state.archived):
+                    tell(f"gone {clip.words()}: it was released before it was archived")
+            self.state.since = [
+                (clip, next((at for it, at in before if is_same(it, clip)), now))
+                for clip in waiting
+            ] + [it for it in before if it[0].camera not in read]
+            # A clip that isn't held any more was released by somebody else.
+            for place, entry in enumerate(self.state.archived):
+                if entry.clip.camera in read and not any(is_same(entry.clip, it) for it in held):
+                    self.state.archived[place] = replace(entry, is_released=True)
+        self.held = [it for it in wanted if any(is_same(it, old) for old in self.seen)]
+        self.seen = wanted
+        for name in {clip.camera for clip in wanted} - set(self.cameras):
+            place = self.settings.place_of(name)
+            assert place is not None
+            self.cameras[name] = Camera(name, place, self)
+            self.cameras[name].thread.start()
+
+    def show(self) -> None:
+        """Writes how all stands, where that has changed or is old."""
+        with self.state.lock:
+            now, told = time.time(), {}
+            names = {*self.cameras, *self.settings.places, *self.state.counts}
+            for name in sorted(names):
+                if self.settings.place_of(name) is None:
+                    continue
+                times = [
+                    at
+                    for clip, at in self.state.since
+                    if clip.camera == name and self.state.entry(clip) is None
+                ]
+                camera = self.cameras.get(name)
+                told[name] = {
+                    "name": name,
+                    "waiting": len(times),
+                    "archived": self.state.counts.get(name, 0),
+                    "fault": camera.fault if camera else "",
+                    "behind_seconds": round(max(0.0, now - min(times)), 1) if times else 0.0,
+                }
+            is_old = now - self.written > BEAT_SECONDS
+            if is_old or (told, self.state.fault) != (self.state.told, self.state_fault):
+                self.state.told, self.state_fault, self.written = told, self.state.fault, now
+                self.state.write(is_synced=False)
+
+    def run(self) -> None:
+        """Works until it is told to end."""
+        threading.Thread(target=self.clean, daemon=True).start()
+        while not self.stop.is_set():
+            self.look()
+            self.stop.wait(LOOK_SECONDS)
+        for camera in self.cameras.values():
+            camera.thread.join(5)
+
+
+def main(path: str) -> int:
+    """Runs the program; answers its status."""
+    try:
+        archive = Archive(read_settings(path))
+    except (BadSettings, OSError) as fault:
+        print(f"loop_archive: {fault}", file=sys.stderr)
+        return 1
+    for number in (signal.SIGTERM, signal.SIGINT):
+        signal.signal(number, lambda *_: archive.stop.set())
+    tell(f"loop_archive: {archive.settings.url}")
+    archive.run()
+    return 0
