@@ -1,4 +1,4 @@
-# bash completion for loop_cli, loop_station, loop_page, store_info, store_picture and lapyrei-export
+# bash completion for loop_cli, loop_station, loop_page, loop_mqtt, loop_trigger, store_info, store_picture and lapyrei-export
 
 _loop_cli() {
     local word=${COMP_WORDS[COMP_CWORD]} command=${COMP_WORDS[1]}
@@ -63,6 +63,7 @@ _lapyrei_export() {
 complete -o filenames -F _loop_cli loop_cli
 complete -o filenames -F _loop_station loop_station
 complete -o filenames -F _loop_page loop_page
+complete -o filenames -F _loop_station loop_mqtt loop_trigger loop_archive
 complete -o filenames -F _store_info store_info
 complete -o filenames -F _store_picture store_picture
 complete -o filenames -F _lapyrei_export lapyrei-export
