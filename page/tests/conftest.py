@@ -1,5 +1,6 @@
 """What the tests share: a laboratory in a folder, with the station of fake_station.py and a
 page."""
+import contextlib
 import fcntl
 import http.client
 import json
@@ -22,9 +23,16 @@ sys.path[1:1] = map(str, PLACES)
 sys.dont_write_bytecode = True
 import lapyrei.layout  # noqa: E402,F401  Before tools/layout.py, which would take the one beside it.
 STATION = os.environ.get("FAKE_STATION") or str(HERE / "fake_station.py")
-# How much longer than on a machine that has time a test waits for something before it fails. What
-# has to be quick is measured by the test itself.
-PATIENCE = 4
+# How many seconds a test waits for a state before it fails, and a ring that holds minutes: no test
+# depends on how fast a machine is.
+LIMIT = 120
+ROOM = {"slots": 256, "segments": 64}
+# The page's bounds on what a busy machine may take long for. Tests of these bounds have a page
+# `as_it_is`.
+PATIENT = dict.fromkeys(
+    "REQUEST READ FRESH DISK PICTURE CHANGE ANSWER SILENT STILL FIND DELIVERY".split(), LIMIT
+)
+PATIENT = {f"{name}_SECONDS": seconds for name, seconds in PATIENT.items()} | {"ASK_SECONDS": 1}
 OWN = {"X-Loop-Page": "1", "Content-Type": "application/json"}
 CAMERAS = [{"name": "left", "pattern": "64x48 YM12 100:1"}, {"name": "right", "pattern": "33x21 GREY 50:1"}]
 
@@ -75,6 +83,25 @@ runpy.run_path({program!r}, run_name="__main__")
 """
 
 
+def until(reached, what):
+    """Waits for a state, and answers it."""
+    end = time.monotonic() + LIMIT
+    while not (found := reached()):
+        assert time.monotonic() < end, f"no {what} within {LIMIT} s"
+        time.sleep(0.05)
+    return found
+
+
+def is_head(found):
+    """Whether an answer's head is whole."""
+    return b"\r\n\r\n" in found
+
+
+def said(kind, **members):
+    """The order by which the station prints a line."""
+    return f"!print {json.dumps({'kind': kind} | members)}"
+
+
 class Answer:
     """What a server has answered."""
 
@@ -90,8 +117,13 @@ class Laboratory:
     """A folder with a configuration, a station that runs, and a page that does."""
 
     config = "station.toml"
+    until = staticmethod(until)
 
-    def __init__(self, folder, cameras=None, answers="pipe", orders=True, form="json"):
+    def __init__(
+        self, folder, cameras=None, answers="pipe", orders=True, form="json", as_it_is=False
+    ):
+        """`as_it_is` leaves the page its own bounds."""
+        self.bounds = {} if as_it_is else PATIENT
         self.folder, self.runs, self.station, self.page, self.port = Path(folder), [], None, None, 0
         self.token = None
         lines = ['orders = "orders"'] if orders else []
@@ -101,7 +133,7 @@ class Laboratory:
         lines += ['answers = "answers"'] if answers else []
         lines += [f'answers_form = "{form}"'] if answers and form else []
         for words in cameras or CAMERAS:
-            whole = {"source": "pattern", "store": f"{words['name']}.loop"} | words
+            whole = {"source": "pattern", "store": f"{words['name']}.loop"} | ROOM | words
             lines += ["[[camera]]", *(f"{key} = {json.dumps(value)}" for key, value in whole.items())]
         (self.folder / "station.toml").write_text("\n".join(lines) + "\n", encoding="utf-8")
 
@@ -136,14 +168,21 @@ class Laboratory:
 
     def start_limited(self, *words, **bounds):
         """Starts the page with other bounds, by their names in limits.py."""
-        path = [str(PROGRAM.resolve().parent), str(HERE.parent.parent / "tools")]
-        (self.folder / "limited.py").write_text(LIMITED.format(path=path, bounds=bounds, program=str(PROGRAM.resolve())))
-        return self.start_page(*words, program=["/usr/bin/python3", "-B", "limited.py"])
+        return self.start_page(*words, bounds=self.bounds | bounds)
 
-    def start_page(self, *words, program=None, **environment):
+    def program(self, bounds):
+        """The page's program, with other bounds."""
+        if not bounds:
+            return [str(PROGRAM)]
+        path = [str(PROGRAM.resolve().parent), str(HERE.parent.parent / "tools")]
+        text = LIMITED.format(path=path, bounds=bounds, program=str(PROGRAM.resolve()))
+        (self.folder / "limited.py").write_text(text)
+        return ["/usr/bin/python3", "-B", "limited.py"]
+
+    def start_page(self, *words, bounds=None, **environment):
         """Starts the page, and waits until it has looked at its cameras."""
         self.page = self.begin(
-            *(program or [str(PROGRAM)]),
+            *self.program(self.bounds if bounds is None else bounds),
             self.config,
             "--listen",
             "127.0.0.1:0",
@@ -156,11 +195,12 @@ class Laboratory:
         self.port = int(found[1])
         return self
 
-    def start_spoilt(self, *words):
-        """Starts the page so that its disk and its clock may become wrong."""
+    def start_spoilt(self, **bounds):
+        """Starts the page, with other bounds, so that its disk and its clock may become wrong."""
         (self.folder / "spoilt").mkdir()
         (self.folder / "spoilt" / "sitecustomize.py").write_text(SPOILT)
-        return self.start_page(*words, PYTHONPATH=str(self.folder / "spoilt"))
+        bounds = self.bounds | bounds
+        return self.start_page(bounds=bounds, PYTHONPATH=str(self.folder / "spoilt"))
 
     def spoil(self, name, text):
         """Makes a disk hang (`hangs`, a file's name), or the clock wrong (`clock`, by seconds); a
@@ -176,18 +216,14 @@ class Laboratory:
         """The kinds and cameras of the warnings."""
         return [(it["kind"], it["camera"]) for it in self.status()["alerts"]]
 
-    def until(self, reached, what, seconds=10):
-        """Waits for something, and answers it: for so many seconds on a machine that has time, and
-        for longer on one that is busy."""
-        end = time.monotonic() + seconds * PATIENCE
-        while time.monotonic() < end:
-            found = reached()
-            if found:
-                return found
-            time.sleep(0.05)
-        raise AssertionError(f"no {what} within {seconds} s")
+    def polled(self):
+        """Waits until the page has asked the station how it stands, and has its answer."""
+        count = self.polls()
+        # One may be under way, and the next is given once the one before it is heard.
+        self.until(lambda: self.status() and self.polls() > count + 2, "a poll")
+        return self
 
-    def ask(self, path, method="GET", body=None, headers=None, timeout=20):
+    def ask(self, path, method="GET", body=None, headers=None, timeout=LIMIT):
         """Asks the page for something."""
         connection = http.client.HTTPConnection("127.0.0.1", self.port, timeout=timeout)
         try:
@@ -197,30 +233,40 @@ class Laboratory:
         finally:
             connection.close()
 
-    def post(self, path, body, headers=None):
+    def post(self, path, body, headers=None, **more):
         """Asks the page for a change."""
-        return self.ask(path, "POST", json.dumps(body), OWN if headers is None else headers)
+        return self.ask(path, "POST", json.dumps(body), OWN if headers is None else headers, **more)
 
-    def raw(self, data, seconds=3):
-        """Sends bytes, and answers what comes until the server has nothing more."""
-        with socket.create_connection(("127.0.0.1", self.port), timeout=seconds) as client:
-            client.sendall(data)
-            found = b""
-            try:
-                while piece := client.recv(65536):
+    def raw(self, data, enough=lambda found: False):
+        """Sends bytes, and answers what comes until that is enough, or the connection ends."""
+        found = b""
+        with socket.create_connection(("127.0.0.1", self.port), timeout=LIMIT) as client:
+            with contextlib.suppress(ConnectionError):
+                client.sendall(data)
+                while not enough(found) and (piece := client.recv(65536)):
                     found += piece
-            except (TimeoutError, ConnectionError):
-                return found
-            return found
+        return found
 
-    def order(self, line):
-        """Gives the station an order, past the page."""
+    def order(self, *lines):
+        """Gives the station orders, past the page, all at once."""
         with open(self.folder / "orders", "w", encoding="utf-8") as pipe:
-            pipe.write(line + "\n")
+            pipe.write("".join(line + "\n" for line in lines))
+
+    def order_done(self, line):
+        """Gives the station an order, and waits until it is done."""
+        before = self.ordered().count(line)
+        self.order(line)
+        self.until(lambda: self.ordered().count(line) > before, line)
+        return self
+
+    def ordered(self):
+        """The orders that the station was given."""
+        path = self.folder / "ordered"
+        return path.read_text().splitlines() if path.exists() else []
 
     def say(self, kind, **members):
         """Has the station print a line."""
-        self.order(f"!print {json.dumps({'kind': kind} | members)}")
+        self.order(said(kind, **members))
 
     def told(self, *kinds):
         """The lines that the station has printed, of these kinds or of all."""
@@ -250,6 +296,12 @@ class Laboratory:
         assert answer.status == 200, answer.body
         return answer.json()["answers"][0]["clips"][0]
 
+    def stored(self, name="left"):
+        """The frames of a camera's store, by the layout alone."""
+        import layout
+
+        return layout.read_store(self.folder / f"{name}.loop").frames
+
     def text_of(self, name, clip):
         """A clip as YUV4MPEG2, by the layout alone."""
         import layout
@@ -262,7 +314,7 @@ class Laboratory:
         """Ends a program."""
         if run.poll() is None:
             run.send_signal(how)
-        run.wait(10)
+        run.wait(LIMIT)
 
     def close(self):
         """Ends all programs."""

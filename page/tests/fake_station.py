@@ -9,7 +9,7 @@ It films a pendulum into each camera's store of the configuration, in the size, 
 `!raw LINE`, which writes one as it is; `!pause CAMERA` and `!go CAMERA`, which stop and start its
 frames; `!mute`, after which nothing is answered any more; `!absent CAMERA WHY` and `!there CAMERA`,
 between which it has no store; `!source CAMERA WORDS`, which its status then says; `!behind CAMERA
-SECONDS`, the same; `!making CAMERA PERCENT`; `!hang CAMERA`, after which it answers no keep, whose
+SECONDS`, the same; `!making CAMERA PERCENT`; `!end CAMERA`, which ends its events that go on; `!hang CAMERA`, after which it answers no keep, whose
 answer never ends; and `!saving CAMERA`, whose clips can't be released. A camera's `scene` is what
 it films: a `pendulum`, also `warm` or `cold`, or a dark `beam`. What it prints is JSON everywhere,
 unless the configuration says otherwise of the answers; then it has words there that the page
@@ -142,7 +142,7 @@ class Film(layout.Ring):
     def catch_up(self) -> None:
         """Stores what came before an order, as the station does: on a busy machine frames are
         late."""
-        now, end = time.time() * 1e6, time.monotonic() + 5
+        now, end = time.time() * 1e6, time.monotonic() + 60
         while self.due <= now and time.monotonic() < end and self.film():
             pass
 
@@ -218,6 +218,8 @@ class Station:
         self.number = 0
         # Events that go on: camera, since, until, number, tag.
         self.growing: list[tuple[str, int, int, int, int]] = []
+        # The block to which each has grown.
+        self.grown: dict[tuple, int] = {}
 
     def say(self, line: dict, label: str | None = None) -> None:
         """Prints a line, with its time and its label."""
@@ -262,7 +264,9 @@ class Station:
             film, now = self.films[name], int(time.time() * 1e6)
             if now < until:
                 # As the station does it: block by block.
-                if film.next % film.geometry.slots == 0:
+                block = film.next // film.geometry.slots
+                if block != self.grown.setdefault(growing, block):
+                    self.grown[growing] = block
                     film.grow(since, now, event, tag)
                 continue
             self.growing.remove(growing)
@@ -276,10 +280,11 @@ class Station:
     def take(self, line: str) -> None:
         """Does an order."""
         label, order = LABELLED.fullmatch(line).groups()
+        if order.startswith("!"):
+            self.command(order[1:])
         with open("ordered", "a", encoding="utf-8") as ordered:
             ordered.write(order + "\n")
         if order.startswith("!"):
-            self.command(order[1:])
             return
         is_late = order.startswith("keep") and self.hanging
         for found in [*self.answer(order), *([{"kind": "done"}] if label and not is_late else [])]:
@@ -294,6 +299,9 @@ class Station:
             self.write(rest)
         elif verb == "mute":
             self.is_mute = True
+        elif verb == "end":
+            now = int(time.time() * 1e6)
+            self.growing = [(it[0], it[1], now if it[0] == rest else it[2], *it[3:]) for it in self.growing]
         elif verb in ("pause", "go"):
             self.films[rest].is_paused = verb == "pause"
         elif verb == "there":

@@ -2,7 +2,9 @@
 import io
 import json
 import re
+import signal
 import subprocess
+import time
 import zipfile
 
 import pytest
@@ -170,16 +172,18 @@ def test_an_event_has_each_note_once():
 
 
 def test_a_thousand_clips_are_soon_events():
-    import time
-
     clips = [
         clip(f"cam{name}", 100 * place, 100 * place + 60, id_=place, first=2000 * place)
         for name in range(16)
         for place in range(64)
     ]
-    start = time.process_time()
-    assert len(events_of(clips)) == 64
-    assert time.process_time() - start < 1
+    # By its own processor's seconds, the least of some tries: what is quadratic takes many.
+    took = []
+    while not took or (min(took) > 1 and len(took) < 5):
+        start = time.process_time()
+        assert len(events_of(clips)) == 64
+        took.append(time.process_time() - start)
+    assert min(took) < 1
 
 
 # ------------------------------------------------------------------------------------ over the page
@@ -277,41 +281,57 @@ def test_a_clip_of_another_beginning_is_in_no_zip(kept):
 
 @pytest.mark.parametrize("tag", [0, 7])
 def test_an_event_whose_end_lies_ahead_grows_and_keeps_its_note(make, tag):
-    more = {"tag": tag, "slots": 8, "segments": 32}
+    more = {"tag": tag, "slots": 64}
     lab = make(cameras=[{"name": name, "pattern": "33x21 GREY 25:1", **more} for name in ("left", "right")])
-    lab.filmed(30)
-    lab.order("@me keep 1 +3")
-    event = lab.until(lambda: lab.ask("/api/events").json()["events"], "event")[0]
-    assert event["cameras"] == ["left", "right"] and event["tag"] == tag and event["until_us"] > event["to_us"]
+    lab.filmed(30).filmed(30, "right")
+    lab.order("@me keep 1 +3600")
+
+    def begun():
+        found = lab.ask("/api/events").json()["events"]
+        return len(found) == 1 and found[0]["cameras"] == ["left", "right"] and found[0]
+
+    event = lab.until(begun, "event")
+    assert event["tag"] == tag and event["until_us"] > event["to_us"] + 3_000_000_000
     assert lab.post("/api/event/note", {"clips": named(event), "note": "run 7"}).status == 200
     seen = []
 
-    def ended():
+    def grown(since, until):
         (found,) = lab.ask("/api/events").json()["events"]
         seen.append(found)
-        # The station says it as soon as it is so, and the page looks then.
-        return found["until_us"] is None and found["seconds"] > 3.8
+        is_one = len(found["clips"]) == 2 and found["until_us"] == until
+        return is_one and found["to_us"] > since + 900_000 and found
 
-    lab.until(ended, "end")
-    lab.until(lambda: {it["note"] for it in lab.ask("/api/clips").json()["clips"]} == {"run 7"}, "note", 3)
-    last = seen[-1]
-    assert last["number"] == event["number"] and last["cameras"] == ["left", "right"] and len(last["clips"]) == 2
-    assert last["seconds"] < 4.3 and last["lacks"] == []
+    second = lab.until(lambda: grown(event["to_us"], event["until_us"]), "longer clips")
+    lab.until(lambda: lab.camera()["newest"][1] > second["to_us"] + 1_000_000, "more frames")
+    lab.order("!end left", "!end right")
+    last = lab.until(lambda: grown(second["to_us"], None), "end")
+    lab.until(lambda: {it["note"] for it in lab.ask("/api/clips").json()["clips"]} == {"run 7"}, "note")
+    assert last["cameras"] == ["left", "right"] and len(last["clips"]) == 2 and last["lacks"] == []
     assert {it["number"] for it in seen} == {event["number"]}
     news = [it["text"] for it in lab.status()["news"]]
     assert any("has ended, and all of it is kept" in text for text in news)
-    lab.page.terminate()
-    lab.page.wait(10)
+    lab.end(lab.page, signal.SIGTERM)
     lab.start_page()
     lab.until(lambda: [(it["cameras"], it["note"]) for it in lab.ask("/api/events").json()["events"]] == [(["left", "right"], "run 7")], "event")
 
 
+def whole_of(lab):
+    """The one event of a camera, once the page sees it as the station has told its end."""
+    (event,) = lab.ask("/api/events").json()["events"]
+    return [it["last"] for it in event["clips"]] == [lab.told("kept")[-1]["last"]] and event
+
+
 def test_an_event_that_has_grown_since_it_was_seen_is_released_and_noted_as_that(make):
-    lab = make(cameras=[{"name": "left", "pattern": "33x21 GREY 25:1", "slots": 8, "segments": 32}]).filmed(30)
-    lab.order("@me keep 1 +2")
-    old = named(lab.until(lambda: lab.ask("/api/events").json()["events"], "event")[0])
-    lab.until(lambda: lab.told("event_whole"), "end", 6)
-    lab.until(lambda: named(lab.ask("/api/events").json()["events"][0]) != old, "longer clip", 6)
+    lab = make(cameras=[{"name": "left", "pattern": "33x21 GREY 25:1", "slots": 64}]).filmed(30)
+    lab.order("@me keep 1 +3600")
+    seen = lab.until(lambda: lab.ask("/api/events").json()["events"], "event")[0]
+    old = named(seen)
+    # Its clip has another id after each second time that it grew.
+    lab.until(lambda: lab.ask("/api/events").json()["events"][0]["to_us"] > seen["to_us"], "longer clip")
+    lab.order("!end left")
+    lab.until(lambda: lab.ask("/api/events").json()["events"][0]["until_us"] is None, "end")
+    if named(lab.until(lambda: whole_of(lab), "whole event")) == old:
+        old = [dict(it, id=1 - it["id"]) for it in old]
     assert lab.post("/api/event/note", {"clips": old, "note": "run 7"}).status == 200
     assert lab.ask("/api/events").json()["events"][0]["note"] == "run 7"
     wrong = [dict(it, first=it["first"] + 1) for it in old]
@@ -327,8 +347,7 @@ def test_a_keep_of_cameras_with_other_tags_is_one_event(make):
     assert lab.post("/api/keep", {"seconds": 1}).status == 200
     (heard,) = lab.ask("/api/events").json()["events"]
     assert heard["cameras"] == ["left", "right"] and heard["number"] == lab.told("kept")[0]["event"]
-    lab.page.terminate()
-    lab.page.wait(10)
+    lab.end(lab.page, signal.SIGTERM)
     lab.start_page()
     lab.until(lambda: [(it["cameras"], it["number"]) for it in lab.ask("/api/events").json()["events"]] == [(["left", "right"], None)], "event")
 
@@ -425,13 +444,10 @@ def test_all_warnings_are_seen_in_one_request_and_none_that_came_meanwhile(make)
     lab.filmed()
     for name in ("left", "right"):
         lab.say("given_up", camera=name, frames=12, since="2026-11-22T15:38:00.123Z")
-    ids = lab.until(
-        lambda: [it["id"] for it in lab.status()["alerts"]] * (len(lab.status()["alerts"]) == 2),
-        "two",
-        3,
-    )
+    lab.until(lambda: len(lab.status()["alerts"]) == 2, "two")
+    ids = [it["id"] for it in lab.status()["alerts"]]
     lab.say("not_saved", camera="left", id=0, path="xyz", why="Exists")
-    lab.until(lambda: len(lab.status()["alerts"]) == 3, "three", 3)
+    lab.until(lambda: len(lab.status()["alerts"]) == 3, "three")
     assert lab.post("/api/seen", {"ids": ids}).status == 200
     assert [it["kind"] for it in lab.status()["alerts"]] == ["not saved"]
     for wrong in ([], "x", [None], ids, {}):

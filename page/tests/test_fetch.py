@@ -3,12 +3,12 @@ import io
 import socket
 import subprocess
 import threading
-import time
 import zipfile
 
 import layout
 import numpy
 import pytest
+from conftest import LIMIT
 from PIL import Image
 
 
@@ -206,8 +206,7 @@ def test_a_fetch_whose_frames_are_taken_away_breaks_off(make):
     with slow_client(lab, "/api/clips/left/0.y4m") as client:
         front = client.recv(4096)
         length = int(front.split(b"Content-Length: ")[1].split(b"\r\n")[0])
-        lab.order("release left 0")
-        time.sleep(1.5)
+        is_overwritten(lab)
         assert len(front) + len(all_of(client)) < length
 
 
@@ -218,16 +217,22 @@ def test_a_zip_whose_frames_are_taken_away_never_looks_whole(make):
     with slow_client(lab, "/api/clips/left/0.zip") as client:
         front = client.recv(4096)
         assert b"chunked" in front
-        lab.order("release left 0")
-        time.sleep(2)
+        is_overwritten(lab)
         assert not (front + all_of(client)).endswith(b"0\r\n\r\n")
+
+
+def is_overwritten(lab):
+    """Releases a clip past the page, and waits until none of its frames is held any more."""
+    last = lab.camera()["clips"][0][2]
+    lab.order("release left 0")
+    lab.until(lambda: (lab.camera().get("oldest") or [0])[0] > last, "other frames")
 
 
 def slow_client(lab, path):
     """A client that has asked for something, and into which little goes."""
     client = socket.socket()
     client.setsockopt(socket.SOL_SOCKET, socket.SO_RCVBUF, 4096)
-    client.settimeout(20)
+    client.settimeout(LIMIT)
     client.connect(("127.0.0.1", lab.port))
     client.sendall(f"GET {path} HTTP/1.1\r\nHost: localhost\r\n\r\n".encode())
     return client

@@ -1,12 +1,12 @@
 """Each bound holds. Most are tried with a smaller value than that of limits.py."""
 import asyncio
+import contextlib
 import json
 import os
 import socket
-import time
 
 import pytest
-from conftest import OWN, TOKEN, token_in
+from conftest import LIMIT, OWN, TOKEN, is_head, token_in
 from station_page.reader import Clip
 
 HEAD = "Host: localhost\r\nX-Loop-Page: 1\r\nContent-Type: application/json\r\n"
@@ -17,24 +17,18 @@ def asking(lab, path="/events", size=None):
     client = socket.socket()
     if size:
         client.setsockopt(socket.SOL_SOCKET, socket.SO_RCVBUF, size)
-    client.settimeout(10)
+    client.settimeout(LIMIT)
     client.connect(("127.0.0.1", lab.port))
     client.sendall(f"GET {path} HTTP/1.1\r\nHost: localhost\r\n\r\n".encode())
     return client
 
 
-def is_ended_within(client, seconds):
-    """Whether the server ends a connection in that time, and after how long."""
-    start = time.monotonic()
-    client.settimeout(seconds)
-    try:
+def ended(client):
+    """Waits until the server ends a connection."""
+    client.settimeout(LIMIT)
+    with contextlib.suppress(ConnectionError):
         while client.recv(1 << 16):
             pass
-    except TimeoutError:
-        return None
-    except ConnectionError:
-        pass
-    return time.monotonic() - start
 
 
 def test_open_pages_have_a_bound(make):
@@ -43,7 +37,7 @@ def test_open_pages_have_a_bound(make):
     assert all(client.recv(100).startswith(b"HTTP/1.1 200") for client in clients)
     assert asking(lab).recv(100).startswith(b"HTTP/1.1 503")
     clients[0].close()
-    lab.until(lambda: asking(lab).recv(100).startswith(b"HTTP/1.1 200"), "room for another page", 5)
+    lab.until(lambda: asking(lab).recv(100).startswith(b"HTTP/1.1 200"), "room for another page")
 
 
 def test_fetches_of_all_cameras_have_a_bound(make):
@@ -64,17 +58,15 @@ def test_a_request_that_is_not_whole_in_time_is_closed(make):
     half = socket.create_connection(("127.0.0.1", lab.port))
     half.sendall(b"GET / HTTP/1.1\r\nHost: local")
     for client in (half, nothing):
-        took = is_ended_within(client, 6)
-        assert took is not None and took < 5
+        ended(client)
 
 
 def test_a_body_that_does_not_come_in_time_is_refused(make):
     lab = make(page=False).start_limited(REQUEST_SECONDS=1)
-    start = time.monotonic()
-    found = lab.raw(f"POST /api/keep HTTP/1.1\r\n{HEAD}Content-Length: 40\r\n\r\n{{".encode(), 6)
-    assert found.startswith(b"HTTP/1.1 408") and time.monotonic() - start < 5
+    found = lab.raw(f"POST /api/keep HTTP/1.1\r\n{HEAD}Content-Length: 40\r\n\r\n{{".encode(), is_head)
+    assert found.startswith(b"HTTP/1.1 408")
     form = HEAD.replace("application/json", "application/x-www-form-urlencoded")
-    found = lab.raw(f"POST /sign-in HTTP/1.1\r\n{form}Content-Length: 40\r\n\r\nt".encode(), 6)
+    found = lab.raw(f"POST /sign-in HTTP/1.1\r\n{form}Content-Length: 40\r\n\r\nt".encode(), is_head)
     assert found.startswith(b"HTTP/1.1 408")
 
 
@@ -83,15 +75,14 @@ def test_a_client_that_reads_nothing_is_closed(make):
     lab.start_limited(READ_SECONDS=2).filmed(60).keep(2)
     with asking(lab, "/api/clips/left/0.y4m", 4096) as client:
         client.recv(100)
-        lab.until(lambda: b"loop_page_connections_late_total 1.0" in lab.ask("/metrics").body, "end of it", 10)
+        lab.until(lambda: b"loop_page_connections_late_total 1.0" in lab.ask("/metrics").body, "end of it")
 
 
 def test_orders_that_wait_have_a_bound(make):
     from concurrent.futures import ThreadPoolExecutor
 
     lab = make(page=False).start_limited(ORDERS=3, CHANGE_SECONDS=2).filmed()
-    lab.order("!mute")
-    time.sleep(0.2)
+    lab.order_done("!mute")
     with ThreadPoolExecutor(8) as pool:
         found = [it.json()["error"] for it in pool.map(lambda _: lab.post("/api/keep", {"seconds": 1}), range(8))]
     assert sum("Too many orders" in it for it in found) >= 4 and sum("hasn't answered" in it for it in found) >= 2
@@ -109,19 +100,27 @@ def test_a_film_that_is_too_large_is_refused_and_none_is_left(make):
 
 def test_films_that_wait_have_a_bound_and_one_that_nobody_reads_ends(make):
     lab = make(page=False, cameras=[{"name": "left", "pattern": "640x480 YM12 25:1"}])
-    lab.start_limited(FILMS_WAITING=2, FILM_IDLE_SECONDS=0.5).filmed(100)
+    # An ffmpeg that makes nothing before it is told to.
+    (lab.folder / "ffmpeg").write_text(
+        f'#!/bin/sh\nwhile [ ! -e "{lab.folder}/go" ]; do printf x; sleep 0.1; done\nexec /usr/bin/ffmpeg "$@"\n'
+    )
+    (lab.folder / "ffmpeg").chmod(0o755)
+    bounds = lab.bounds | {"FILMS_WAITING": 2, "FILM_IDLE_SECONDS": 0.5}
+    lab.start_page(bounds=bounds, PATH=f"{lab.folder}:{os.environ['PATH']}").filmed(100)
     clips = [lab.keep(second)["id"] for second in (3, 2, 1)]
     with asking(lab, f"/api/clips/left/{clips[0]}.mp4", 4096), asking(lab, f"/api/clips/left/{clips[1]}.mp4", 4096):
-        time.sleep(0.1)
+        lab.until(lambda: len(list(lab.folder.glob("loop_page.*/*.mp4"))) == 2, "two films")
         assert lab.ask(f"/api/clips/left/{clips[2]}.mp4").status == 503
-    lab.until(lambda: lab.ask(f"/api/clips/left/{clips[2]}.mp4").status == 200, "a film", 20)
+    lab.until(lambda: not list(lab.folder.glob("loop_page.*/*.mp4")), "end of both")
+    (lab.folder / "go").touch()
+    assert lab.ask(f"/api/clips/left/{clips[2]}.mp4").status == 200
 
 
 def test_films_that_are_remembered_have_a_bound(make):
     lab = make(page=False).start_limited(FILMS=2).filmed(100)
     for _ in range(4):
         assert lab.ask(f"/api/clips/left/{lab.keep()['id']}.mp4").status == 200
-    lab.until(lambda: len(list(lab.folder.glob("loop_page.*/*.mp4"))) == 2, "two films", 5)
+    lab.until(lambda: len(list(lab.folder.glob("loop_page.*/*.mp4"))) == 2, "two films")
 
 
 def test_a_part_of_a_film_that_is_made_waits_for_all_of_it(make):
@@ -208,11 +207,14 @@ def test_a_line_of_the_station_that_is_too_long_is_cut_and_the_next_one_is_whole
 
 def test_what_the_station_said_before_the_page_began_is_no_news(make):
     lab = make(station=False, page=False, answers="file")
-    (lab.folder / "answers").write_text("2026-11-22T15:38:00.123Z given up left 12 since 2026-11-22T15:38:00.123Z\n")
+    old = {"kind": "given_up", "camera": "left", "frames": 12, "since": "2026-11-22T15:38:00.123Z"}
+    (lab.folder / "answers").write_text(json.dumps(old) + "\n")
     lab.start_station()
     lab.start_page().filmed()
-    time.sleep(0.5)
-    assert not lab.alerts()
+    # What comes after it has been read.
+    lab.say("given_up", camera="right", frames=7, since="2026-11-22T15:38:00.123Z")
+    lab.until(lambda: lab.alerts(), "warning")
+    assert lab.alerts() == [("given up", "right")]
 
 
 def test_another_pipe_of_orders_that_takes_the_ones_place_is_used(make):
@@ -223,7 +225,7 @@ def test_another_pipe_of_orders_that_takes_the_ones_place_is_used(make):
     os.mkfifo(lab.folder / "orders")
     # An old station's pipe, which something still reads, is not the one of that name.
     lab.start_station()
-    lab.until(lambda: lab.post("/api/keep", {"camera": "left", "seconds": 1}).status == 200, "keep", 5)
+    lab.until(lambda: lab.post("/api/keep", {"camera": "left", "seconds": 1}).status == 200, "keep")
 
 
 def test_orders_go_to_the_pipe_of_that_name_though_the_old_one_is_still_read(tmp_path):
@@ -287,7 +289,7 @@ def test_how_a_camera_stands_is_said_by_the_stations_status(make):
         ("!behind left 7.5", "behind", "7.5 s of frames wait", "warn"),
     ):
         lab.order(order)
-        lab.until(lambda word=word: lab.camera()["kind"] == word, word, 12)
+        lab.until(lambda word=word: lab.camera()["kind"] == word, word)
         assert said in lab.camera()["state"] and lab.camera()["level"] == level
     assert ("other", "left") not in lab.alerts()
 
@@ -410,11 +412,11 @@ def test_a_token_of_another_user_is_refused(make):
 def test_after_a_station_has_ended_what_it_said_of_cameras_is_not_said_any_more(make):
     lab = make().filmed()
     lab.order("!absent left Busy")
-    lab.until(lambda: ("absent", "left") in lab.alerts(), "absence", 12)
+    lab.until(lambda: ("absent", "left") in lab.alerts(), "absence")
     lab.end(lab.station)
-    lab.until(lambda: lab.alerts() == [("station", None)], "the station's end alone", 5)
+    lab.until(lambda: lab.alerts() == [("station", None)], "the station's end alone")
     assert "another program" not in lab.camera()["state"] and "the station doesn't run" in lab.until(
-        lambda: "No new frame" in lab.camera()["state"] and lab.camera()["state"], "state", 5
+        lambda: "No new frame" in lab.camera()["state"] and lab.camera()["state"], "state"
     )
 
 

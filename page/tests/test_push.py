@@ -12,6 +12,7 @@ import types
 import layout
 import numpy
 import pytest
+from conftest import LIMIT, until
 from PIL import Image
 from station_page import limits, pictures
 from station_page.eye import Eye, Look, Moments, newest_in
@@ -24,7 +25,7 @@ class Open:
 
     def __init__(self, lab, size=None):
         self.lab = lab
-        self.connection = http.client.HTTPConnection("127.0.0.1", lab.port, timeout=10)
+        self.connection = http.client.HTTPConnection("127.0.0.1", lab.port, timeout=LIMIT)
         self.connection.request("GET", "/api/stream")
         self.answer = self.connection.getresponse()
         assert self.answer.status == 200
@@ -35,24 +36,24 @@ class Open:
         head, body = struct.unpack(">II", self.answer.read(8))
         return json.loads(self.answer.read(head)), self.answer.read(body)
 
-    def next(self, kind, fits=lambda head: True, seconds=8):
+    def next(self, kind, fits=lambda head: True):
         """The next message of a kind that fits."""
-        end = time.monotonic() + seconds
+        end = time.monotonic() + LIMIT
         while time.monotonic() < end:
             head, body = self.message()
             if head["kind"] == kind and fits(head):
                 return head, body
-        raise AssertionError(f"no {kind} within {seconds} s")
+        raise AssertionError(f"no {kind} within {LIMIT} s")
 
     def look(self, **view):
         """Looks at something else."""
         self.turn += 1
         return self.lab.post("/api/view", {"stream": self.id, "turn": self.turn, **view})
 
-    def picture(self, camera, seconds=8):
+    def picture(self, camera):
         """The next picture of a camera of the newest view."""
         return self.next(
-            "picture", lambda head: (head["camera"], head["turn"]) == (camera, self.turn), seconds
+            "picture", lambda head: (head["camera"], head["turn"]) == (camera, self.turn)
         )
 
     def close(self):
@@ -79,18 +80,23 @@ def test_one_answer_has_state_events_and_pictures_of_all_cameras(page):
         head, body = page.message()
         seen.setdefault(head["camera"] if head["kind"] == "picture" else head["kind"], body)
     assert {it["name"] for it in json.loads(seen["state"])["cameras"]} == {"left", "right"}
-    assert json.loads(seen["more"])["cameras"]["left"]["slots"] == 64
+    assert json.loads(seen["more"])["cameras"]["left"]["slots"] == 256
     assert size_of(seen["left"]) == (64, 48) and size_of(seen["right"]) == (33, 21)
 
 
 def test_at_least_five_pictures_of_each_camera_come_a_second(page):
-    page.picture("left"), page.picture("right")
-    start, seen = time.monotonic(), {"left": set(), "right": set()}
-    while time.monotonic() < start + 2:
-        head, _ = page.message()
-        if head["kind"] == "picture":
-            seen[head["camera"]].add(head["number"])
-    assert min(map(len, seen.values())) >= 10
+    """In one of many times of two seconds: a machine that is busy with others shows fewer."""
+
+    def is_quick():
+        page.picture("left"), page.picture("right")
+        start, seen = time.monotonic(), {"left": set(), "right": set()}
+        while time.monotonic() < start + 2:
+            head, _ = page.message()
+            if head["kind"] == "picture":
+                seen[head["camera"]].add(head["number"])
+        return min(map(len, seen.values())) >= 10
+
+    until(is_quick, "quick pictures")
 
 
 def test_a_moment_is_shown_and_then_the_newest_again(page, shared):
@@ -115,25 +121,26 @@ def test_only_the_cameras_that_are_looked_at_are_sent_as_wide_as_is_asked(make):
     page = Open(lab.filmed(5))
     page.look(cameras=["left"], width=100)
     assert size_of(page.picture("left")[1]) == (80, 60)
-    end = time.monotonic() + 1
-    while time.monotonic() < end:
+    count = 0
+    while count < 8:
         head, _ = page.message()
         assert (head.get("camera"), head.get("turn")) != ("right", page.turn)
+        count += head["kind"] == "picture"
     page.close()
 
 
 def test_what_is_played_goes_on_in_step_to_its_end(page, shared):
     shared.filmed(200)
     end = shared.camera()["newest"][1]
-    page.look(moment=end - 1_000_000, speed=1.0, until=end)
     start, moments = time.monotonic(), []
+    page.look(moment=end - 1_000_000, speed=0.25, until=end)
     while True:
         head, _ = page.next("moment", lambda head: head["turn"] == page.turn)
         moments.append(head["moment"])
         if head["over"]:
             break
-    assert 0.8 < time.monotonic() - start < 3 and moments == sorted(moments) and moments[-1] == end
-    assert len(moments) >= 8
+    assert time.monotonic() - start >= 4 and moments == sorted(moments) and moments[-1] == end
+    assert len(moments) >= 3
 
 
 def test_a_step_is_the_next_frame_of_whichever_camera_has_it(shared):
@@ -239,8 +246,12 @@ def test_a_stretch_is_for_the_eye_and_is_said(page):
     page.look(stretch={"right": [40, 60]})
     head, body = page.picture("right")
     assert head["stretch"] == [40, 60]
-    values = numpy.asarray(Image.open(io.BytesIO(body)))
-    assert values.min() < 5 and values.max() > 250 and numpy.asarray(plain).max() < 250
+    # Nearly all is black or white, and little of it was: by parts, since JPEG rounds.
+    ends = [
+        numpy.mean((values < 30) | (values > 225))
+        for values in (numpy.asarray(plain), numpy.asarray(Image.open(io.BytesIO(body))))
+    ]
+    assert ends[0] < 0.4 and ends[1] > 0.8, ends
     page.look(stretch={"right": "auto"})
     black, white = page.picture("right")[0]["stretch"]
     assert 0 <= black < white <= 255
@@ -329,16 +340,15 @@ def test_a_camera_whose_disk_hangs_stops_the_pictures_of_no_other_one(monkeypatc
             return name.encode()
 
         stream.picture = picture
-        found, start = [], time.monotonic()
-        for _ in range(5):
+        found = []
+        while len(found) < 5:
             found += await stream.pictures()
-        took = time.monotonic() - start
         let_go.set()
         await asyncio.wait(stream.tasks.values())
-        return found, count, took
+        return found, count
 
-    found, count, took = asyncio.run(look())
-    assert found == [b"right"] * 5 and count == {"left": 1, "right": 5} and took < 2
+    found, count = asyncio.run(look())
+    assert found == [b"right"] * 5 and count["left"] == 1 and count["right"] >= 5
 
 
 def test_pages_that_look_at_the_same_time_cost_one_picture():
@@ -395,7 +405,8 @@ def test_a_quick_network_changes_nothing():
 
 
 def test_a_client_that_reads_slowly_is_shown_what_is_new(make):
-    """60 kB a second: the pictures come seldom, and each is at most two seconds old."""
+    """60 kB a second: the pictures come seldom, and each is new when it comes: of those that came
+    last, most are of the last seconds that are stored."""
     import socket
 
     lab = make(
@@ -409,20 +420,24 @@ def test_a_client_that_reads_slowly_is_shown_what_is_new(make):
         client.setsockopt(socket.SOL_SOCKET, socket.SO_RCVBUF, 8192)
         client.connect(("127.0.0.1", lab.port))
         client.sendall(b"GET /api/stream HTTP/1.0\r\nHost: localhost\r\n\r\n")
-        data, ages, sizes, start = b"", [], [], time.monotonic()
-        while time.monotonic() < start + 12:
+        data, ages, sizes = b"", [], []
+
+        def is_new_and_small():
+            nonlocal data
             data += client.recv(6000)
-            time.sleep(0.1)
             if b"\r\n\r\n" in data and not ages:
                 data = data.split(b"\r\n\r\n", 1)[1] if data.startswith(b"HTTP") else data
             data, found = parted(data)
             for head, body in found:
                 if head["kind"] == "picture":
-                    ages.append(time.time() - head["time"] / 1e6)
+                    stored = moments_of(lab, head["camera"])[-1].time
+                    ages.append((stored - head["time"]) / 1e6)
                     sizes.append(len(body))
-    late = sorted(ages[len(ages) // 2 :])
-    assert len(ages) > 8 and late[len(late) // 2] < 2.5, (ages, sizes)
-    assert sizes[-1] < sizes[0]
+            # What waited at first has come.
+            return len(ages) > 12 and sorted(ages[-6:])[3] < 2.5 and sizes[-1] < sizes[0]
+
+        start = time.monotonic()
+        until(lambda: is_new_and_small() and time.monotonic() > start + 8, "new and small pictures")
 
 
 def parted(data):
@@ -448,7 +463,6 @@ def test_a_page_that_goes_away_leaves_nothing(make):
     lab.until(
         lambda: all(lab.post("/api/view", {"stream": it}).status == 404 for it in ids),
         "end of the streams",
-        5,
     )
 
 
@@ -464,13 +478,11 @@ def test_a_page_is_sent_nothing_once_its_session_has_ended(make):
     cookie = lab.ask("/sign-in", "POST", f"token={TOKEN}", form).headers["Set-Cookie"]
     inside = {"Cookie": cookie.split(";")[0]}
     assert lab.ask("/api/stream").status == 401
-    connection = http.client.HTTPConnection("127.0.0.1", lab.port, timeout=10)
+    connection = http.client.HTTPConnection("127.0.0.1", lab.port, timeout=LIMIT)
     connection.request("GET", "/api/stream", headers=inside)
     answer = connection.getresponse()
     assert answer.status == 200 and len(answer.read(8)) == 8
     origin = {"Origin": form["Origin"]}
     assert lab.ask("/sign-out", "POST", "", inside | origin).status == 303
-    start = time.monotonic()
-    while answer.read(4096):
-        assert time.monotonic() - start < 5
+    until(lambda: not answer.read(4096), "end of the stream")
     connection.close()

@@ -6,7 +6,7 @@ import socket
 import subprocess
 
 import pytest
-from conftest import OWN, PROGRAM, TOKEN, token_in
+from conftest import LIMIT, OWN, PROGRAM, TOKEN, is_head, token_in
 
 JSON = {"Content-Type": "application/json"}
 
@@ -167,7 +167,7 @@ def test_wrong_settings_are_told_and_nothing_is_served(make, words, said):
     for name, text in {"short": "abc", "unknown": "colour = 1", "wrong": 'on_alert = "mail"', "broken": "= ="}.items():
         (lab.folder / name).write_text(text)
         (lab.folder / name).chmod(0o600)
-    done = subprocess.run([PROGRAM, "station.toml", *words], cwd=lab.folder, capture_output=True, text=True, timeout=20)
+    done = subprocess.run([PROGRAM, "station.toml", *words], cwd=lab.folder, capture_output=True, text=True, timeout=LIMIT)
     assert done.returncode == 1 and said in done.stderr and "Traceback" not in done.stderr
 
 
@@ -183,7 +183,7 @@ def test_wrong_settings_are_told_and_nothing_is_served(make, words, said):
 )
 def test_wrong_configurations_are_told(tmp_path, text, said):
     (tmp_path / "station.toml").write_text(text)
-    done = subprocess.run([PROGRAM, "station.toml"], cwd=tmp_path, capture_output=True, text=True, timeout=20)
+    done = subprocess.run([PROGRAM, "station.toml"], cwd=tmp_path, capture_output=True, text=True, timeout=LIMIT)
     assert done.returncode == 1 and said in done.stderr
 
 
@@ -254,7 +254,7 @@ def test_a_body_that_is_too_large_is_refused(shared):
     ],
 )
 def test_requests_that_are_none_are_answered_or_closed(shared, data):
-    found = shared.raw(data)
+    found = shared.raw(data, is_head)
     assert found == b"" or found.split(b" ")[1][:1] == b"4"
     assert shared.ask("/healthz").status == 200
 
@@ -299,15 +299,16 @@ def test_metrics_are_read_by_their_own_library(shared):
     )
 
 
-def test_the_page_ends_at_once_when_it_is_told(make):
+def test_the_page_ends_when_it_is_told_whoever_is_connected(make):
     import signal
 
     lab = make()
     lab.filmed()
     held = [socket.create_connection(("127.0.0.1", lab.port)) for _ in range(5)]
     held[0].sendall(b"GET /events HTTP/1.1\r\nHost: localhost\r\n\r\n")
+    assert held[0].recv(100).startswith(b"HTTP/1.1 200")
     lab.page.send_signal(signal.SIGTERM)
-    assert lab.page.wait(5) == 0 and not [
+    assert lab.page.wait(LIMIT) == 0 and not [
         name for name in os.listdir(lab.folder) if name.startswith("loop_page.") and name != "loop_page.notes"
     ]
     for client in held:

@@ -12,7 +12,7 @@ import threading
 import time
 
 import pytest
-from conftest import OWN, PROGRAM, TOKEN, token_in
+from conftest import LIMIT, OWN, PROGRAM, TOKEN, is_head, token_in, until
 
 FORM = {"Content-Type": "application/x-www-form-urlencoded"}
 BEARER = {"Authorization": f"Bearer {TOKEN}"}
@@ -52,8 +52,9 @@ def test_a_body_that_is_packed_is_refused_and_not_unpacked(closed):
         head = f"POST /sign-in HTTP/1.1\r\nHost: a\r\nContent-Encoding: {encoding}\r\nContent-Length: {len(body)}\r\n\r\n"
         clients.append(socket.create_connection(("127.0.0.1", closed.port)))
         clients[-1].sendall(head.encode() + body)
-    closed.until(lambda: closed.ask("/healthz").status == 200, "answer")
-    time.sleep(0.5)
+    for client in clients:
+        client.settimeout(LIMIT)
+        assert client.recv(100).startswith(b"HTTP/1.1 4")
     assert memory(closed) < before + 40
     for encoding in ("gzip", "deflate", "x"):
         packed = BEARER | {"Content-Type": "application/json", "Content-Encoding": encoding}
@@ -88,8 +89,8 @@ def test_what_comes_after_an_upgrade_is_not_kept(make, head):
 
 
 def test_some_requests_over_one_connection_are_each_answered(shared):
-    found = shared.raw(b"GET /healthz HTTP/1.1\r\nHost: localhost\r\n\r\n" * 10, seconds=2)
-    assert found.count(b"HTTP/1.1 200 OK") == 10
+    data = b"GET /healthz HTTP/1.1\r\nHost: localhost\r\n\r\n" * 10
+    shared.raw(data, lambda found: found.count(b"HTTP/1.1 200 OK") == 10)
 
 
 # ----------------------------------------------------------------------- what would keep others out
@@ -124,7 +125,7 @@ def test_a_stranger_who_asks_again_and_again_stays_no_longer_for_it(closed):
 def test_a_connection_of_somebody_who_is_signed_in_stays_while_strangers_come(closed):
     import http.client
 
-    known = http.client.HTTPConnection("127.0.0.1", closed.port, timeout=10)
+    known = http.client.HTTPConnection("127.0.0.1", closed.port, timeout=LIMIT)
     known.auto_open = 0
     known.connect()
     clients = []
@@ -132,22 +133,23 @@ def test_a_connection_of_somebody_who_is_signed_in_stays_while_strangers_come(cl
         known.request("GET", "/api/journal", headers=BEARER)
         assert known.getresponse().read()
         clients += [socket.create_connection(("127.0.0.1", closed.port)) for _ in range(150)]
-        time.sleep(0.1)
+        # It comes after them.
+        assert closed.ask("/healthz").status == 200
     for client in [known, *clients]:
         client.close()
 
 
 def test_an_open_page_stays_while_strangers_come(closed):
     """The stream of somebody who is signed in is closed for nobody."""
-    stream = socket.create_connection(("127.0.0.1", closed.port), timeout=5)
+    stream = socket.create_connection(("127.0.0.1", closed.port), timeout=LIMIT)
     stream.sendall(f"GET /events HTTP/1.1\r\nHost: a\r\nAuthorization: Bearer {TOKEN}\r\n\r\n".encode())
     assert stream.recv(100).startswith(b"HTTP/1.1 200")
     clients = [socket.create_connection(("127.0.0.1", closed.port)) for _ in range(400)]
-    time.sleep(0.5)
-    end, heard = time.monotonic() + 3, 0
-    while time.monotonic() < end and heard < 3:
-        heard += stream.recv(1 << 20).count(b"data: ")
-    assert heard >= 3
+    assert closed.ask("/healthz").status == 200
+    heard = 0
+    while heard < 3:
+        assert (data := stream.recv(1 << 20))
+        heard += data.count(b"data: ")
     for client in clients:
         client.close()
 
@@ -204,7 +206,7 @@ def test_a_token_that_others_may_read_or_write_is_refused(make, mode, is_good):
         lab.start_page("--token", str(lab.folder / "token"))
         return
     words = [PROGRAM, "station.toml", "--listen", "127.0.0.1:0", "--token", "token"]
-    done = subprocess.run(words, cwd=lab.folder, capture_output=True, text=True, timeout=20)
+    done = subprocess.run(words, cwd=lab.folder, capture_output=True, text=True, timeout=LIMIT)
     assert done.returncode == 1 and "chmod o=,g-w" in done.stderr and TOKEN not in done.stderr
 
 
@@ -349,7 +351,8 @@ def test_clients_that_leave_early_and_requests_that_are_none_leave_no_traceback(
             client.setsockopt(socket.SOL_SOCKET, socket.SO_LINGER, b"\1\0\0\0\0\0\0\0")
             client.close()
     for data in (b"\0\0\r\n\r\n", b"GET\r\n\r\n", b"GET / HTTP/1.1\r\nHost: a\r\nContent-Length: x\r\n\r\n", b"POST /api/keep HTTP/1.1\r\nHost: localhost\r\nX-Loop-Page: 1\r\nContent-Type: application/json\r\nTransfer-Encoding: chunked\r\n\r\nzz\r\n"):
-        lab.raw(data, 1)
+        lab.raw(data, is_head)
+    # What went wrong may be told later.
     time.sleep(1)
     assert lab.ask("/healthz").status == 200
     text = log_of(lab)
@@ -359,7 +362,7 @@ def test_clients_that_leave_early_and_requests_that_are_none_leave_no_traceback(
 def test_a_host_in_a_requests_line_that_has_no_name_leaves_no_traceback(make):
     lab = make(station=False)
     for line in (b"GET http://a\xe9b/ HTTP/1.1", b"CONNECT a\xe9b:80 HTTP/1.1", b"CONNECT /api/a\xe9b HTTP/1.1", b"GET //a\xe9b/ HTTP/1.1", b"OPTIONS http://xn--\xff/ HTTP/1.1"):
-        found = lab.raw(line + b"\r\nHost: localhost\r\n\r\n", 1)
+        found = lab.raw(line + b"\r\nHost: localhost\r\n\r\n", is_head)
         assert not found or found[9:12] in (b"400", b"404", b"405"), found
     lab.until(lambda: lab.ask("/healthz").status == 200, "answer")
     assert "Traceback" not in log_of(lab)
@@ -389,7 +392,7 @@ def test_no_sign_of_a_request_reaches_a_terminal(make):
     lab.post("/api/note", {"camera": "left", "id": clip["id"], "note": "\x1b[2J\nloop_page: forged"})
     lab.post("/api/keep", {"camera": "left\x1b[31m\nx", "seconds": 1})
     lab.say("not_saved", camera="left", id=0, path="\x1b[31mx", why="Exists")
-    lab.until(lambda: lab.status()["alerts"], "warning", 3)
+    lab.until(lambda: lab.status()["alerts"], "warning")
     assert "\x1b" not in lab.status()["alerts"][0]["text"]
     text = log_of(lab)
     assert "note" in text and not re.search(r"[^\n -~\u00a0-\uffff]|\u202e|\x9b", text) and "\nloop_page: forged" not in text
@@ -447,9 +450,8 @@ def test_a_change_is_written_down_though_its_client_has_left(make):
     head = f"POST /api/keep HTTP/1.1\r\nHost: localhost\r\nX-Loop-Page: 1\r\nContent-Type: application/json\r\nContent-Length: {len(body)}\r\n\r\n"
     with socket.create_connection(("127.0.0.1", lab.port)) as client:
         client.sendall(head.encode() + body)
-        time.sleep(0.7)
-    assert not lab.journal()
-    lab.until(lambda: lab.journal(), "line", 10)
+        lab.until(lambda: any(line.startswith("keep") for line in lab.ordered()), "order")
+    lab.until(lambda: lab.journal(), "line")
     assert lab.journal()[0]["kind"] == "keep" and "hasn't answered" in lab.journal()[0]["text"]
 
 
@@ -460,7 +462,7 @@ def test_what_could_not_be_told_is_written_down(make):
     )
     lab.start_page("--settings", str(lab.folder / "page.toml")).filmed()
     lab.say("given_up", camera="left", frames=12, since="2026-11-22T15:38:00.123Z")
-    lab.until(lambda: len(lab.journal()) == 2, "two lines", 8)
+    lab.until(lambda: len(lab.journal()) == 2, "two lines")
     command, hook = lab.journal()
     assert command["kind"] == hook["kind"] == "not told"
     assert "on_alert failed: sh ended with 3: no server" in command["text"] and "12 of them" in command["text"]
@@ -474,21 +476,21 @@ def test_a_command_that_never_ends_is_ended_with_all_that_it_began(monkeypatch):
     from station_page.words import Event
 
     monkeypatch.setattr(limits, "DELIVERY_SECONDS", 0.5)
+    command = f"sleep 77.{os.getpid()}"
 
     async def work():
         journal = Journal()
-        alerts = Alerts(["sh", "-c", "sleep 77.25 & wait"], None, journal)
+        alerts = Alerts(["sh", "-c", f"{command} & wait"], None, journal)
         task = asyncio.create_task(alerts.deliver())
         alerts.add(Event("lost", "left", True, "x"))
-        for _ in range(100):
+        end = time.monotonic() + LIMIT
+        while not journal.entries and time.monotonic() < end:
             await asyncio.sleep(0.05)
-            if journal.entries:
-                break
         task.cancel()
         return journal.entries[0].text
 
     assert "longer than" in asyncio.run(work())
-    assert subprocess.run(["pgrep", "-f", "^sleep 77.25$"], capture_output=True).stdout == b""
+    until(lambda: not subprocess.run(["pgrep", "-f", f"^{command}$"], capture_output=True).stdout, "its end")
 
 
 def test_the_journal_has_bounds():
@@ -572,7 +574,7 @@ def test_a_fetch_too_many_of_a_camera_is_refused_and_another_camera_has_its_own(
     assert lab.ask("/api/clips/right/0.y4m").status == 200
     for client in clients:
         client.close()
-    lab.until(lambda: lab.ask("/api/clips/left/0.csv").status == 200, "fetch again", 30)
+    lab.until(lambda: lab.ask("/api/clips/left/0.csv").status == 200, "fetch again")
 
 
 def test_a_film_whose_frames_are_gone_is_none(tmp_path, monkeypatch):
@@ -651,19 +653,21 @@ def test_a_disk_that_hangs_holds_the_threads_of_its_own_camera_alone():
 
     async def work():
         one, two = Workers("one", 2, 4), Workers("two", 2, 4)
-        stuck = [asyncio.create_task(one.do(let_go.wait, 10)) for _ in range(4)]
+        stuck = [asyncio.create_task(one.do(let_go.wait, LIMIT)) for _ in range(4)]
         await asyncio.sleep(0.1)
         with pytest.raises(Unfit, match="disk doesn't answer"):
             await one.do(print)
         assert await two.do(lambda: 7) == 7
         assert (one.begun, two.begun) == (2, 1)
         with pytest.raises(Unfit):
-            await two.do(let_go.wait, 10, seconds=0.1)
+            await two.do(let_go.wait, LIMIT, seconds=0.1)
         with pytest.raises(ValueError):
             await two.do(int, "x")
         let_go.set()
         assert await asyncio.gather(*stuck) == [True] * 4
-        await asyncio.sleep(0.1)
-        assert (one.count, two.count) == (0, 0)
+        end = time.monotonic() + LIMIT
+        while (one.count, two.count) != (0, 0):
+            assert time.monotonic() < end
+            await asyncio.sleep(0.01)
 
     asyncio.run(work())

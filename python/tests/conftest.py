@@ -4,6 +4,7 @@ import os
 import random
 import subprocess
 import sys
+import time
 from pathlib import Path
 
 import pytest
@@ -23,8 +24,19 @@ import numpy as np  # noqa: E402
 if SOURCES != HERE.parent:
     sys.path[:] = [it for it in sys.path if os.path.realpath(it) != str(HERE.parent)]
 
+# How many seconds a test waits for a state before it fails: no test depends on how fast a machine
+# is.
+LIMIT = 120
 FORMATS = sorted(layout.DIVIDED)
 DAY = 1_764_182_400_000_000
+
+
+def until(reached, what):
+    """Waits for a state, and answers it."""
+    end = time.monotonic() + LIMIT
+    while not (found := reached()):
+        assert time.monotonic() < end, f"no {what} within {LIMIT} s"
+    return found
 
 
 def put(path, image):
@@ -110,6 +122,7 @@ def loop_cli():
         done = subprocess.run([path, *map(str, words)], capture_output=True, text=True, check=False)
         return done.returncode, done.stdout, done.stderr
 
+    run.path = path
     return run
 
 

@@ -11,7 +11,7 @@ import time
 import conftest
 import lapyrei
 import pytest
-from conftest import DAY, put, ring
+from conftest import DAY, LIMIT, put, ring
 from lapyrei import exports
 
 COMMAND = conftest.SOURCES / "lapyrei-export"
@@ -138,19 +138,25 @@ import sys, time
 sys.path[1:1] = {path!r}
 sys.dont_write_bytecode = True
 import lapyrei, lapyrei.command
-real = lapyrei.Part.pixels
+real, count = lapyrei.Part.pixels, 0
 def slow(*words):
+    global count
+    count += 1
     time.sleep(0.05)
     print("frame", file=sys.stdout, flush=True)
+    if count == {stop!r}:
+        sys.stdin.read()
     real(*words)
 lapyrei.Part.pixels = slow
 sys.exit(lapyrei.command.main({words!r}))
 """
 
 
-def slow(folder, *words, **more):
-    """The command, which takes 50 ms a frame and says so."""
-    program = SLOW.format(path=sys.path, words=list(words))
+def slow(folder, *words, stop=None, **more):
+    """The command, which takes 50 ms a frame and says so. At the frame `stop` it waits for the end
+    of its input."""
+    program = SLOW.format(path=sys.path, words=list(words), stop=stop)
+    more |= {"stdin": subprocess.PIPE} if stop else {}
 
     def heeds():
         # What a shell runs in the background ignores SIGINT, and under nohup SIGHUP: the command
@@ -166,17 +172,20 @@ def slow(folder, *words, **more):
 @pytest.mark.parametrize("number", [signal.SIGTERM, signal.SIGINT, signal.SIGHUP])
 @pytest.mark.parametrize("kind", ["h5", "mkv", "png"])
 def test_a_stop_leaves_nothing(folder, kind, number):
-    run = slow(folder, "left.loop", kind, stdout=subprocess.PIPE, stderr=subprocess.PIPE, text=True)
+    both = {"stdout": subprocess.PIPE, "stderr": subprocess.PIPE}
+    run = slow(folder, "left.loop", kind, stop=3, text=True, **both)
     for _ in range(3):
         assert run.stdout.readline() == "frame\n"
     assert [it for it in os.listdir(folder) if it.startswith(".left_")]
     run.send_signal(number)
-    run.communicate(timeout=20)
+    run.wait(LIMIT)
+    run.communicate()
     assert run.returncode == -number and os.listdir(folder) == ["left.loop"]
 
 
 def test_what_sigkill_leaves_is_hidden_and_is_removed_by_the_next_run(folder):
-    run = slow(folder, "left.loop", "h5", "-o", "out.h5", stdout=subprocess.PIPE, text=True)
+    words = ["left.loop", "h5", "-o", "out.h5"]
+    run = slow(folder, *words, stop=1, stdout=subprocess.PIPE, text=True)
     assert run.stdout.readline() == "frame\n"
     run.kill()
     run.communicate()
@@ -189,7 +198,7 @@ def test_a_long_work_shows_how_far_it_is_on_a_terminal(folder):
     ours, its = pty.openpty()
     run = slow(folder, "left.loop", "npy", "-o", "out", stdout=subprocess.DEVNULL, stderr=its)
     os.close(its)
-    text, end = b"", time.monotonic() + 20
+    text, end = b"", time.monotonic() + LIMIT
     while time.monotonic() < end:
         try:
             text += os.read(ours, 4096)
@@ -215,9 +224,8 @@ def test_a_long_work_shows_how_far_it_is_on_a_terminal(folder):
 
 def test_an_export_beside_the_ring_that_goes_on_is_refused(folder):
     """The frame that is next is overwritten while those before it are written."""
-    run = slow(
-        folder, "left.loop", "npy", stdout=subprocess.PIPE, stderr=subprocess.PIPE, text=True
-    )
+    both = {"stdout": subprocess.PIPE, "stderr": subprocess.PIPE}
+    run = slow(folder, "left.loop", "npy", stop=1, text=True, **both)
     assert run.stdout.readline() == "frame\n"
     it = ring(60, b"YM12", (16, 8))
     with open(folder / "left.loop", "r+b") as file:

@@ -96,6 +96,31 @@ def changed_page(name, old, new, place="page/station_page"):
     return make
 
 
+def changed_links(name, old, new):
+    """A copy of the programs that link stations, in which one file is changed: what makes it, from
+    a folder."""
+
+    def make(folder):
+        shutil.copytree(TOP / "several", folder / "several")
+        changed = changed_copy(f"several/station_links/{name}", old, new)(folder)
+        shutil.move(changed, folder / "several/station_links" / name)
+        return str(folder / "several/loop_archive")
+
+    return make
+
+
+def changed_alerts(old, new):
+    """A copy of the alerts in which something is changed: what makes it, from a folder."""
+
+    def make(folder):
+        shutil.copytree(TOP / "examples/prometheus", folder / "prometheus")
+        changed = changed_copy("examples/prometheus/alerts.yml", old, new)(folder)
+        shutil.move(changed, folder / "prometheus/alerts.yml")
+        return str(folder / "prometheus")
+
+    return make
+
+
 def changed_demo(old, new):
     """A copy of tools/demo in which something is changed, with all that it starts: what makes it,
     from a folder."""
@@ -847,6 +872,44 @@ KINDS = {
                 },
                 words=["-k", "comes_meanwhile"],
                 says="test_a_name_that_comes",
+            ),
+        ],
+    ),
+    "archive": Kind(
+        "archive_check",
+        [],
+        None,
+        [],
+        "kills loop_archive and the server amid copies of 200 events, fills its disk, slows it",
+        [
+            Wrong(
+                "a loop_archive that releases what it hasn't sent",
+                given={
+                    "LOOP_ARCHIVE": changed_links(
+                        "archive.py", "                if not is_there:\n", "                if 0:\n"
+                    )
+                },
+                words=["3"],
+                says="was released, and isn't in the archive",
+            ),
+        ],
+    ),
+    "prometheus": Kind(
+        "prometheus_check",
+        [],
+        [],
+        [],
+        "runs the tests of the alerts for Prometheus, and compares their numbers with the page's",
+        [
+            Wrong(
+                "an alert that comes too late",
+                given={"PROMETHEUS_FILES": changed_alerts("for: 30s", "for: 30m")},
+                says="alertname: StationAway|alertname:StationAway",
+            ),
+            Wrong(
+                "an alert of a number that no page gives",
+                given={"PROMETHEUS_FILES": changed_alerts("loop_archive_up", "loop_archive_on")},
+                says="no page gives loop_archive_on",
             ),
         ],
     ),

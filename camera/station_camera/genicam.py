@@ -1,0 +1,384 @@
+"""Cameras that speak GenICam (USB3 Vision, GigE Vision), by Debian's Aravis."""
+from __future__ import annotations
+
+import contextlib
+import time
+from fractions import Fraction
+from typing import Any, Callable, Iterator, NamedTuple
+
+import gi
+
+gi.require_version("Aravis", "0.8")
+from gi.repository import Aravis, GLib  # noqa: E402
+
+from . import samples  # noqa: E402
+from .clock import Clock  # noqa: E402
+from .counts import Counts, Lost  # noqa: E402
+from .words import Wanted  # noqa: E402
+
+# Aravis' own camera without hardware, whose frames have known pixels.
+FAKE = "Fake"
+MICRO = 1_000_000
+# What buffers may take while nobody reads, and how many they are at least and at most.
+BUFFER_ROOM, BUFFERS_LEAST, BUFFERS_MOST = 256_000_000, 8, 200
+# How long a wait for a frame is, after which silence a camera is asked whether it is there, and after
+# which one that is there is started again.
+POLL, SILENCE, STUCK = 0.2, 2.0, 10.0
+# How often the clocks are compared.
+CLOCK_EVERY = 60.0
+OK = Aravis.BufferStatus.SUCCESS
+# The names that streams have for what they count.
+COUNTED = {"resent": "n_resent_packets", "missing": "n_missing_packets", "starved": "n_underruns"}
+# Commands that write the camera's time into a feature, the feature, and the one that has its ticks a
+# second (GigE Vision 1, and the names that followed).
+LATCHES = (
+    ("TimestampLatch", "TimestampLatchValue", None),
+    ("GevTimestampControlLatch", "GevTimestampValue", "GevTimestampTickFrequency"),
+)
+
+
+class Gone(Exception):
+    """The camera has gone, or doesn't answer."""
+
+
+class Refused(Exception):
+    """The camera doesn't take what the file asks for."""
+
+
+class Found(NamedTuple):
+    """A camera that was found, and what it says of itself; `why` where it didn't."""
+
+    serial: str
+    name: str
+    protocol: str
+    address: str
+    formats: list[str] = []
+    largest: tuple[int, int] = (0, 0)
+    size: tuple[int, int] = (0, 0)
+    format: str = ""
+    rate: float = 0.0
+    most: float = 0.0
+    why: str = ""
+
+
+class Picture(NamedTuple):
+    """A whole frame as the camera gave it: its number, its time in the camera's nanoseconds, when it
+    began to arrive by the system's, and its bytes."""
+
+    number: int
+    stamp: int
+    arrival: int
+    width: int
+    height: int
+    padding: int
+    data: bytes
+
+
+def ids() -> Iterator[tuple[int, list[str]]]:
+    """The places of the cameras that are found, each with the words by which it is named."""
+    Aravis.update_device_list()
+    for place in range(Aravis.get_n_devices()):
+        words = (
+            Aravis.get_device_serial_nbr(place),
+            Aravis.get_device_id(place),
+            Aravis.get_device_physical_id(place),
+            Aravis.get_device_address(place),
+        )
+        yield place, [it for it in words if it]
+
+
+def device_of(serial: str) -> str | None:
+    """Aravis' word for the camera of a serial number, an identity, a MAC or an address, if it is there."""
+    if serial.startswith(FAKE):
+        Aravis.enable_interface(FAKE)
+    for place, words in ids():
+        if serial in words:
+            return Aravis.get_device_id(place)
+    return None
+
+
+def cameras(fake: bool = False) -> list[Found]:
+    """Every camera that is found."""
+    if fake:
+        Aravis.enable_interface(FAKE)
+    return [look_at(place) for place, _ in list(ids())]
+
+
+def look_at(place: int) -> Found:
+    """What a camera says of itself."""
+    vendor, model = Aravis.get_device_vendor(place), Aravis.get_device_model(place)
+    known = Found(
+        Aravis.get_device_serial_nbr(place) or Aravis.get_device_id(place),
+        f"{vendor} {model}",
+        Aravis.get_device_protocol(place) or "",
+        Aravis.get_device_address(place) or "",
+    )
+    try:
+        it = Aravis.Camera.new(Aravis.get_device_id(place))
+        return known._replace(
+            formats=list(it.dup_available_pixel_formats_as_strings()),
+            largest=tuple(it.get_sensor_size()),
+            size=tuple(it.get_region())[2:],
+            format=it.get_pixel_format_as_string(),
+            **rates(it),
+        )
+    except GLib.Error as fault:
+        return known._replace(why=fault.message)
+
+
+def rates(camera: Any) -> dict[str, float]:
+    """The rate of a camera, and its most, where it says them."""
+    if not camera.is_frame_rate_available():
+        return {}
+    return {"rate": camera.get_frame_rate(), "most": camera.get_frame_rate_bounds()[1]}
+
+
+class Camera:
+    """A camera that was opened and set as a file asks for."""
+
+    def __init__(
+        self, wanted: Wanted, tell: Callable[[str], None], identity: str | None = None
+    ) -> None:
+        self.wanted, self.tell, self.is_lost = wanted, tell, False
+        identity = identity or device_of(wanted.genicam)
+        if identity is None:
+            raise Gone(f"{wanted.genicam} isn't found")
+        with said("it can't be opened", Gone):
+            self.camera = Aravis.Camera.new(identity)
+        self.device = self.camera.get_device()
+        self.device.connect("control-lost", self._lose)
+        self._set()
+        with said("it doesn't say what it gives", Refused):
+            self.format = samples.format_of(self.camera.get_pixel_format_as_string())
+            _, _, self.width, self.height = self.camera.get_region()
+            self.payload = self.camera.get_payload()
+            self.rate = self._rate()
+
+    def _lose(self, _device: Any) -> None:
+        self.is_lost = True
+
+    def _set(self) -> None:
+        """Sets what the file asks for, features first, in the order of the file."""
+        it, wanted = self.camera, self.wanted
+        for name, value in wanted.features:
+            with said(f"FEATURE_{name}={value}", Refused):
+                self._feature(name, value)
+        if wanted.format:
+            with said(f"FORMAT={wanted.format}", Refused):
+                it.set_pixel_format_from_string(wanted.format)
+        if wanted.region:
+            with said("REGION", Refused):
+                self._region()
+        for key, value, call in (
+            ("EXPOSURE", wanted.exposure, self._exposure),
+            ("GAIN", wanted.gain, self._gain),
+            ("RATE", wanted.rate, self._frame_rate),
+            ("TRIGGER", wanted.trigger, self._trigger),
+            ("PACKET", wanted.packet, self._packet),
+        ):
+            if value is not None:
+                with said(f"{key}={value}", Refused):
+                    call(value)
+
+    def _feature(self, name: str, value: str) -> None:
+        """Sets a feature by its name; one without a value is a command."""
+        if not self.device.is_feature_available(name):
+            raise Refused(f"FEATURE_{name}: the camera has no such feature")
+        if not value:
+            self.device.execute_command(name)
+        else:
+            quoted = f'"{value}"' if " " in value else value
+            self.device.set_features_from_string(f"{name}={quoted}")
+
+    def _region(self) -> None:
+        """Sets the region, and sees that the camera took it."""
+        width, height, at = (
+            self.wanted.region.width,
+            self.wanted.region.height,
+            self.wanted.region.at,
+        )
+        most = self.camera.get_width_bounds()[1], self.camera.get_height_bounds()[1]
+        if width > most[0] or height > most[1]:
+            raise Refused(f"REGION={width}x{height}: the camera has {most[0]}x{most[1]} at most")
+        x, y = at or (0, 0)
+        self.camera.set_region(x, y, width, height)
+        took = tuple(self.camera.get_region())
+        if took != (x, y, width, height):
+            raise Refused(
+                f"REGION={width}x{height}+{x}+{y}: the camera takes {took[2]}x{took[3]}+{took[0]}+{took[1]}"
+            )
+
+    def _exposure(self, micros: float) -> None:
+        if self.camera.is_exposure_auto_available():
+            self.camera.set_exposure_time_auto(Aravis.Auto.OFF)
+        self.camera.set_exposure_time(micros)
+
+    def _gain(self, gain: float) -> None:
+        if self.camera.is_gain_auto_available():
+            self.camera.set_gain_auto(Aravis.Auto.OFF)
+        self.camera.set_gain(gain)
+
+    def _frame_rate(self, rate: Fraction) -> None:
+        # Beside a trigger the rate is only what the text says.
+        if self.wanted.trigger in (None, "off"):
+            self.camera.set_frame_rate(float(rate))
+
+    def _trigger(self, source: str) -> None:
+        if source == "off":
+            self.camera.clear_triggers()
+        else:
+            self.camera.set_trigger(source)
+
+    def _packet(self, size: int | str) -> None:
+        if not self.camera.is_gv_device():
+            raise Refused(f"PACKET={size} is for GigE Vision alone")
+        if size == "auto":
+            self.camera.gv_auto_packet_size()
+        else:
+            self.camera.gv_set_packet_size(size)
+
+    def _rate(self) -> Fraction:
+        """The rate of the frames: that of the file beside a trigger, else the camera's own."""
+        if self.wanted.trigger in (None, "off") and self.camera.is_frame_rate_available():
+            rate = self.camera.get_frame_rate()
+            asked = self.wanted.rate
+            if asked and abs(rate - asked) > asked / 20:
+                self.tell(f"RATE={self.wanted.rate_word}: the camera gives {rate:.6g} a second")
+            elif asked:
+                return asked
+            return Fraction(rate).limit_denominator(1000)
+        if not self.wanted.rate:
+            raise Refused(
+                "RATE is missing: the camera doesn't say how many frames a second it gives"
+            )
+        return self.wanted.rate
+
+    def latch(self) -> Callable[[], int] | None:
+        """What reads the camera's clock, in nanoseconds, where the camera can say it."""
+        for command, value, ticks in LATCHES:
+            if not all(
+                self.device.is_feature_available(it) for it in (command, value, ticks) if it
+            ):
+                continue
+            with contextlib.suppress(GLib.Error):
+                a_second = self.device.get_integer_feature_value(ticks) if ticks else 1_000_000_000
+
+                def read(command=command, value=value, a_second=a_second) -> int:
+                    self.device.execute_command(command)
+                    return self.device.get_integer_feature_value(value) * 1_000_000_000 // a_second
+
+                read()
+                return read
+        return None
+
+    def clock(self) -> Clock:
+        """The camera's clock, as the file wants it."""
+        return Clock(
+            self.wanted.clock, self.tell, None if self.wanted.clock == "arrival" else self.latch()
+        )
+
+    def buffers(self) -> int:
+        """How many buffers there are."""
+        return self.wanted.buffers or max(
+            BUFFERS_LEAST, min(BUFFERS_MOST, BUFFER_ROOM // self.payload)
+        )
+
+    def answers(self) -> bool:
+        """Whether the camera is there."""
+        try:
+            return not self.is_lost and self.camera.get_payload() > 0 and not self.is_lost
+        except GLib.Error:
+            return False
+
+    def film(self, counts: Counts, asked: Callable[[], bool]) -> Iterator[Picture]:
+        """The frames, as long as nobody asks for the end, whole ones alone. Gone where the camera goes."""
+        with said("it gives no stream", Gone):
+            stream = self.camera.create_stream(None, None)
+        if stream is None:
+            raise Gone("it gives no stream")
+        try:
+            for _ in range(self.buffers()):
+                stream.push_buffer(Aravis.Buffer.new_allocate(self.payload))
+            # What came before there were buffers is no loss.
+            before = {key: counts.whole[key] - count for key, count in counts_of(stream).items()}
+            with said("it doesn't begin", Gone):
+                self.camera.start_acquisition()
+            yield from self._frames(stream, counts, before, asked)
+        finally:
+            with contextlib.suppress(GLib.Error):
+                self.camera.stop_acquisition()
+
+    def _frames(
+        self, stream: Any, counts: Counts, before: dict[str, int], asked: Callable[[], bool]
+    ) -> Iterator[Picture]:
+        """The frames of a stream that has begun. `before` is what its counts are added to."""
+        lost = Lost()
+        heard = time.monotonic()
+        while not asked():
+            buffer = stream.timeout_pop_buffer(int(POLL * MICRO))
+            for key, count in counts_of(stream).items():
+                counts.set(key, count, before[key])
+            counts.look()
+            now = time.monotonic()
+            if buffer is None:
+                if self.is_lost or now - heard > SILENCE and not self.answers():
+                    raise Gone("it has gone")
+                if now - heard > STUCK and self.wanted.trigger in (None, "off"):
+                    raise Gone(f"it has given no frame for {STUCK:.0f} s")
+                continue
+            heard = now
+            if buffer.get_status() == Aravis.BufferStatus.CLEARED:
+                continue
+            try:
+                picture = self._picture(buffer, counts, lost)
+            finally:
+                stream.push_buffer(buffer)
+            if picture:
+                yield picture
+
+    def _picture(self, buffer: Any, counts: Counts, lost: Lost) -> Picture | None:
+        """The frame of a buffer, where it is whole and as it has to be."""
+        status = buffer.get_status()
+        if status == Aravis.BufferStatus.ABORTED:
+            return None
+        counts.add("lost", lost.before(buffer.get_frame_id()))
+        if status != OK:
+            counts.add("incomplete")
+            return None
+        data = buffer.get_data()
+        width, height = buffer.get_image_width(), buffer.get_image_height()
+        padding = buffer.get_image_padding()[0]
+        if (width, height) != (self.width, self.height):
+            raise Gone(f"its frames have {width}x{height} now, and had {self.width}x{self.height}")
+        if len(data) < samples.frame_bytes(self.format, width, height, padding):
+            counts.add("incomplete")
+            return None
+        return Picture(
+            buffer.get_frame_id(),
+            buffer.get_timestamp(),
+            buffer.get_system_timestamp(),
+            width,
+            height,
+            padding,
+            data,
+        )
+
+
+def counts_of(stream: Any) -> dict[str, int]:
+    """What the stream itself counts: packets of GigE Vision, and frames that found no buffer."""
+    names = {stream.get_info_name(it) for it in range(stream.get_n_infos())}
+    return {
+        key: stream.get_info_uint64_by_name(name) if name in names else 0
+        for key, name in COUNTED.items()
+    }
+
+
+@contextlib.contextmanager
+def said(what: str, kind: type[Exception]) -> Iterator[None]:
+    """A refusal of Aravis as one of ours, which says what was wanted."""
+    try:
+        yield
+    except GLib.Error as fault:
+        raise kind(f"{what}: {fault.message}") from None
+    except samples.UnknownFormat as fault:
+        raise Refused(str(fault)) from None

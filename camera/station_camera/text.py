@@ -1,0 +1,106 @@
+"""YUV4MPEG2: what a station reads. Samples of more than 8 bits have two bytes, the lower one first."""
+from __future__ import annotations
+
+import errno
+import fcntl
+import os
+from fractions import Fraction
+from typing import NamedTuple
+
+# The largest pipe that every user may have.
+PIPE = 1 << 20
+SET_PIPE_SIZE = 1031
+# The words of ffmpeg for what a store may hold, and YUV4MPEG2's.
+COLOURS = {"gray": "mono", "yuv420p": "420jpeg", "yuv422p": "422", "yuv444p": "444"}
+for _bits in (10, 12, 14, 16):
+    COLOURS[f"gray{_bits}le"] = f"mono{_bits}"
+for _bits in (10, 12, 16):
+    for _name in ("420", "422", "444"):
+        COLOURS[f"yuv{_name}p{_bits}le"] = f"{_name}p{_bits}"
+LARGEST_FRAME, LARGEST_SIDE = 16_777_216, 16_384
+
+
+class BadFrames(Exception):
+    """No store may have these frames."""
+
+
+class NobodyReads(Exception):
+    """The reader has gone."""
+
+
+class Form(NamedTuple):
+    """What frames are: their size in pixels, their colour in ffmpeg's words, and their rate."""
+
+    width: int
+    height: int
+    colour: str
+    rate: Fraction
+
+    def bytes_of_frame(self) -> int:
+        """The bytes of a frame: its planes, row by row, without padding."""
+        half, high = (self.width + 1) // 2, (self.height + 1) // 2
+        luma = self.width * self.height
+        chroma = {"gray": 0, "yuv420": half * high, "yuv422": half * self.height, "yuv444": luma}
+        return (luma + 2 * chroma[self.kind()]) * (2 if self.bits() > 8 else 1)
+
+    def kind(self) -> str:
+        """The colour without its bits."""
+        return "gray" if self.colour.startswith("gray") else self.colour[:6]
+
+    def bits(self) -> int:
+        """The bits of a sample."""
+        rest = self.colour.removesuffix("le").removeprefix(self.kind()).removeprefix("p")
+        return int(rest) if rest else 8
+
+    def check(self) -> None:
+        """Refuses what no store may have."""
+        if not (1 <= self.width <= LARGEST_SIDE and 1 <= self.height <= LARGEST_SIDE):
+            raise BadFrames(f"{self.width}x{self.height}: a side may have {LARGEST_SIDE} pixels")
+        if self.bytes_of_frame() > LARGEST_FRAME:
+            raise BadFrames(
+                f"a frame has {self.bytes_of_frame()} bytes, and a store takes {LARGEST_FRAME}: "
+                "choose a smaller region, or 8 bits"
+            )
+        if self.width % 2 and self.kind() in ("yuv420", "yuv422") and self.bits() > 8:
+            raise BadFrames(f"{self.colour} of an odd width, {self.width}, isn't recorded")
+
+    def header(self) -> bytes:
+        """The first line."""
+        rate = f"{self.rate.numerator}:{self.rate.denominator}"
+        return f"YUV4MPEG2 W{self.width} H{self.height} F{rate} Ip A0:0 C{COLOURS[self.colour]}\n".encode()
+
+
+class Text:
+    """A text that is written to a descriptor. A frame is written whole, or the reader has gone."""
+
+    def __init__(self, descriptor: int) -> None:
+        self.descriptor = descriptor
+        try:
+            fcntl.fcntl(descriptor, SET_PIPE_SIZE, PIPE)
+        except OSError:
+            # It is no pipe, or the user's pipes have their share already.
+            pass
+
+    def header(self, form: Form) -> None:
+        """Writes the first line."""
+        self._write([form.header()])
+
+    def frame(self, pixels, micros: int | None = None) -> None:
+        """Writes a frame, with the time of the camera where there is one, since 1970."""
+        line = b"FRAME\n" if micros is None else b"FRAME Xt=%d\n" % micros
+        self._write([line, pixels])
+
+    def _write(self, pieces: list) -> None:
+        """Writes all bytes of these pieces."""
+        rest = [memoryview(it).cast("B") for it in pieces]
+        while rest:
+            try:
+                done = os.writev(self.descriptor, rest)
+            except OSError as fault:
+                if fault.errno == errno.EPIPE:
+                    raise NobodyReads("nobody reads the frames any more") from None
+                raise
+            while rest and done >= len(rest[0]):
+                done -= len(rest.pop(0))
+            if rest:
+                rest[0] = rest[0][done:]
