@@ -6,6 +6,10 @@ from bench import HERE, Bench, now
 from conftest import until
 
 
+# One bench serves all tests here.
+pytestmark = pytest.mark.xdist_group("mqtt")
+
+
 @pytest.fixture(scope="module")
 def bench(module):
     """The bench of all tests here. Each leaves it as it was, and has ids and notes of its own."""

@@ -13,6 +13,10 @@ from conftest import SEVERAL, free_port, until
 UDP = free_port(socket.SOCK_DGRAM)
 
 
+# One bench serves all tests here.
+pytestmark = pytest.mark.xdist_group("keeps")
+
+
 @pytest.fixture(scope="module")
 def bench(module):
     """The bench of all tests here."""
