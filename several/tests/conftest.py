@@ -35,8 +35,8 @@ Laboratory = of_page().Laboratory
 import layout  # noqa: E402,F401  That of the tools, which the page's tests make known.
 # Rings that hold minutes, of small pictures.
 CAMERAS = [
-    {"name": "left", "pattern": "16x12 YM12 5:1", "segments": 32},
-    {"name": "right", "pattern": "12x9 GREY 5:1", "segments": 32},
+    {"name": "left", "pattern": "16x12 YM12 5:1", "slots": 64, "segments": 32},
+    {"name": "right", "pattern": "12x9 GREY 5:1", "slots": 64, "segments": 32},
 ]
 
 
