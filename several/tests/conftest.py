@@ -40,7 +40,7 @@ CAMERAS = [
 ]
 
 
-def until(reached, what, seconds=60):
+def until(reached, what, seconds=120):
     """Waits for a state, and answers it."""
     end = time.monotonic() + seconds
     while time.monotonic() < end:
