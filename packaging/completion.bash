@@ -1,4 +1,4 @@
-# bash completion for loop_cli, loop_station, loop_page, loop_camera, loop_setup, store_info, store_picture and lapyrei-export
+# bash completion for the programs and tools of Lapyrei
 
 _loop_cli() {
     local word=${COMP_WORDS[COMP_CWORD]} command=${COMP_WORDS[1]}
@@ -79,6 +79,7 @@ complete -o filenames -F _loop_station loop_station
 complete -o filenames -F _loop_page loop_page
 complete -o filenames -F _loop_camera loop_camera
 complete -F _loop_setup loop_setup
+complete -o filenames -F _loop_station loop_mqtt loop_trigger loop_archive
 complete -o filenames -F _store_info store_info
 complete -o filenames -F _store_picture store_picture
 complete -o filenames -F _lapyrei_export lapyrei-export

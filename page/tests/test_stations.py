@@ -1,6 +1,5 @@
 """Several stations in one console: one state, one press, one event; and one that doesn't answer."""
 import io
-import json
 import re
 import signal
 import socket
@@ -127,7 +126,7 @@ def test_one_press_keeps_the_same_span_on_all_and_is_one_event(three):
     assert len(set(orders)) == 1
     assert len(noted(hub, "run 7")) == 1 and len(event["clips"]) == 5
     for one in (north, south):
-        assert len(noted(one, "run 7")) == 1
+        one.until(lambda: len(noted(one, "run 7")) == 1, "event", MINUTE)
     # All begin and end within two frames of each other, whatever the machine does.
     for word in ("from_us", "to_us"):
         moments = [clip[word] for clip in event["clips"]]
@@ -150,19 +149,34 @@ def test_a_range_and_one_camera_alone_are_kept_where_they_are(three):
     assert hub.post("/api/release", {"camera": "left", "id": answer["clips"][0]["id"]}).status == 200
 
 
+def test_a_program_beside_it_asks_for_its_own_station_alone(three):
+    hub, north, _ = three
+    before = len(north.ask("/api/events").json()["events"])
+    own = hub.ask("/api/status?of=this").json()["cameras"]
+    assert [it["name"] for it in own] == ["left"]
+    kept = hub.post("/api/keep?of=this", {"seconds": 1, "note": "its own"}).json()["answers"]
+    assert [it["camera"] for it in kept] == ["left"]
+    events = hub.ask("/api/events?of=this").json()["events"]
+    assert events[0]["note"] == "its own"
+    assert all(it["cameras"] == ["left"] for it in events)
+    assert len(north.ask("/api/events").json()["events"]) == before
+
+
 def test_a_note_and_a_release_reach_each_station(three):
     hub, north, south = three
     _, event = kept_by(hub, 5, "soon")
     clips = [{key: it[key] for key in ("camera", "id", "first")} for it in event["clips"]]
     assert hub.post("/api/event/note", {"clips": clips, "note": "later"}).status == 200
-    assert [len(noted(one, "later")) for one in three] == [1, 1, 1]
+    for one in three:
+        one.until(lambda: [it["note"] for it in events_of(one)] == ["later"], "note", MINUTE)
     one = next(it for it in clips if it["camera"] == "south:top")
     assert hub.post("/api/note", one | {"note": "this one"}).status == 200
-    assert {it["note"] for it in south.ask("/api/clips").json()["clips"]} == {"later", "this one"}
+    south.until(lambda: {it["note"] for it in south.ask("/api/clips").json()["clips"]} == {"later", "this one"}, "notes", MINUTE)
     assert hub.post("/api/release", one).status == 200
     answer = hub.post("/api/event/release", {"clips": [it for it in clips if it != one]})
     assert answer.status == 200, answer.body
-    assert [it.ask("/api/clips").json()["clips"] for it in (north, south)] == [[], []]
+    for one in (north, south):
+        one.until(lambda: not one.ask("/api/clips").json()["clips"], "released clips", MINUTE)
     hub.until(lambda: not events_of(hub), "released event", MINUTE)
     assert "release" in [it["kind"] for it in north.journal()]
 
@@ -391,6 +405,7 @@ def test_stations_have_names_of_their_own():
         stations_of([{"url": f"http://x{n}/"} for n in range(17)], "page.toml")
 
 
-def test_a_page_alone_says_its_clock_and_no_stations(shared):
-    assert abs(shared.ask("/api/clock").json()["now_us"] / 1e6 - time.time()) < 60
-    assert "stations" not in shared.status() and json.dumps(names_of(shared))
+def test_a_page_alone_says_its_clock_and_no_stations(three):
+    _, north, _ = three
+    assert abs(north.ask("/api/clock").json()["now_us"] / 1e6 - time.time()) < 60
+    assert "stations" not in north.status() and names_of(north) == ["left", "top"]

@@ -35,12 +35,12 @@ Laboratory = of_page().Laboratory
 import layout  # noqa: E402,F401  That of the tools, which the page's tests make known.
 # Rings that hold minutes, of small pictures.
 CAMERAS = [
-    {"name": "left", "pattern": "16x12 YM12 5:1", "segments": 32},
-    {"name": "right", "pattern": "12x9 GREY 5:1", "segments": 32},
+    {"name": "left", "pattern": "16x12 YM12 5:1", "slots": 64, "segments": 32},
+    {"name": "right", "pattern": "12x9 GREY 5:1", "slots": 64, "segments": 32},
 ]
 
 
-def until(reached, what, seconds=60):
+def until(reached, what, seconds=120):
     """Waits for a state, and answers it."""
     end = time.monotonic() + seconds
     while time.monotonic() < end:
@@ -227,7 +227,6 @@ make_station = pytest.fixture(stations_in, name="make_station")
 begin = pytest.fixture(programs_in, name="begin")
 make_broker = pytest.fixture(brokers_in, name="make_broker")
 listen = pytest.fixture(listeners, name="listen")
-
 
 
 @pytest.fixture(scope="module")

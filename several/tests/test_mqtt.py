@@ -6,6 +6,10 @@ from bench import HERE, Bench, now
 from conftest import until
 
 
+# One bench serves all tests here.
+pytestmark = pytest.mark.xdist_group("mqtt")
+
+
 @pytest.fixture(scope="module")
 def bench(module):
     """The bench of all tests here. Each leaves it as it was, and has ids and notes of its own."""
@@ -81,9 +85,12 @@ def test_warnings_come_and_are_over(bench):
         found = [it for it in bench.heard("events") if it["camera"] == "left"]
         return [it for it in found if words.items() <= it.items()]
 
-    bench.station.order("!pause left")
-    found = until(lambda: left(is_bad=True, is_over=False), "warning")
-    until(lambda: bench.newest("cameras/left").get("level") == "bad", "state")
-    bench.station.order("!go left")
-    until(lambda: left(kind=found[0]["kind"], is_over=True), "end")
+    bench.station.say("all_locked", camera="left")
+    bench.station.order("!source left other geometry")
+    until(lambda: left(kind="locked", is_bad=True, is_over=False), "warning")
+    until(lambda: bench.newest("cameras/left").get("kind") == "other", "state")
+    bench.station.say("room_again", camera="left")
+    bench.station.order("!source left on")
+    until(lambda: left(kind="locked", is_over=True), "end")
+    until(lambda: left(kind="news", is_bad=False), "good news")
     until(lambda: bench.newest("cameras/left").get("level") == "good", "state")

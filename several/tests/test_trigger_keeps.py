@@ -13,6 +13,10 @@ from conftest import SEVERAL, free_port, until
 UDP = free_port(socket.SOCK_DGRAM)
 
 
+# One bench serves all tests here.
+pytestmark = pytest.mark.xdist_group("keeps")
+
+
 @pytest.fixture(scope="module")
 def bench(module):
     """The bench of all tests here."""
@@ -45,7 +49,8 @@ def packets(program, text):
 
 def udp(**more):
     """A trigger that UDP packets fire."""
-    words = {"name": '"shot"', "kind": '"udp"', "listen": f'"127.0.0.1:{UDP}"', "before": 2, "after": 1}
+    words = {"name": '"shot"', "kind": '"udp"', "listen": f'"127.0.0.1:{UDP}"'}
+    words |= {"before": 2, "after": 1}
     lines = (f"{word} = {value}" for word, value in (words | more).items())
     return "[[trigger]]\n" + "\n".join(lines) + "\n"
 
