@@ -1,5 +1,6 @@
 """Several stations in one console: one state, one press, one event; and one that doesn't answer."""
 import io
+import json
 import re
 import signal
 import socket
@@ -8,9 +9,10 @@ import zipfile
 
 import pytest
 from conftest import TOKEN, Laboratory, token_in
-from station_page.others import Clock
-from station_page.settings import BadSettings, stations_of
-from station_page.together import Presses, are_near, joined
+from station_page.others import Clock, Other
+from station_page.settings import BadSettings, OtherStation, stations_of
+from station_page.together import Presses, are_near, event_of, joined, more_of, state_of
+from station_page.words import Unfit
 from test_push import Open
 
 # Rings of minutes, so that nothing is overwritten on a slow machine.
@@ -181,6 +183,8 @@ def test_files_of_other_stations_come_as_they_are_there(three):
     newest = hub.ask("/api/cameras/north%3Aleft/newest.jpg")
     assert newest.status == 200 and newest.body[:2] == b"\xff\xd8" and int(newest.headers["X-Frame-Number"]) >= 30
     let_go(hub, event)
+    for key in ("north:left/../../metrics.0.0", "north:..%2Fx.0.0", "east:left.0.0", "none.0.0~north:left.0.0"):
+        assert hub.ask(f"/api/event.zip?clips={key}&what=csv").status == 404
     for wrong in ("north:left/../../healthz", "north:left/frames/x.jpg", "north:..%2F..%2Fhealthz/newest.jpg"):
         assert hub.ask(f"/api/cameras/{wrong}").status == 404
 
@@ -284,6 +288,42 @@ def test_what_is_no_page_is_said(make):
             client.close()
     hub.until(lambda: station_of(hub, "odd")["level"] == "bad", "word of it", MINUTE)
     assert hub.post("/api/keep", {"seconds": 1}).status == 200
+
+
+EVENT = {
+    "key": "left.0.0", "number": None, "from_us": 0, "to_us": 1, "seconds": 1.0, "bytes": 1, "tag": 0, "until_us": None,
+    "clips": [{"camera": "left", "id": 0, "first": 0, "from_us": 0, "to_us": 1, "frames": 2}],
+    "cameras": ["left"], "note": "", "fetched": False, "lacks": [],
+}
+
+
+@pytest.mark.parametrize(
+    "kind, told",
+    [
+        ("state", {}), ("state", []), ("state", {"cameras": [{}], "alerts": []}), ("state", {"cameras": [7], "alerts": []}),
+        ("state", {"cameras": [{"name": "left", "after": "1"}], "alerts": []}), ("state", {"cameras": [], "alerts": [{"id": "1", "text": ""}]}),
+        ("more", {"cameras": {"left": 1}}), ("more", {"cameras": []}), ("events", [{}]), ("events", 7), ("events", [EVENT | {"clips": []}]),
+        *(("events", [EVENT | {word: "1"}]) for word in ("from_us", "to_us", "seconds", "bytes", "tag", "number", "until_us", "fetched")),
+        *(("events", [{it: to for it, to in EVENT.items() if it != word}]) for word in EVENT),
+    ],
+)
+def test_what_another_station_says_is_taken_whole_or_not_at_all(kind, told):
+    other = Other(OtherStation("north", "http://127.0.0.1:1", None))
+    with pytest.raises(Unfit, match="isn't a station's page"):
+        other.take(kind, json.dumps(told).encode())
+    assert (other.state, other.more, other.events) == (None, {}, [])
+
+
+def test_what_another_station_says_is_taken():
+    other = Other(OtherStation("north", "http://127.0.0.1:1", None))
+    state = {"cameras": [{"name": "left"}], "alerts": [{"id": 3, "text": "dark", "camera": "left"}]}
+    for kind, told in (("state", state), ("events", [EVENT]), ("more", {"cameras": {"left": {"advice": ""}}})):
+        other.take(kind, json.dumps(told).encode())
+    found = state_of({"cameras": [], "alerts": []}, [other])
+    assert [it["name"] for it in found["cameras"]] == ["north:left"]
+    assert [(it["id"], it["text"]) for it in found["alerts"]] == [(10**9 + 3, "north: dark")]
+    assert more_of({"cameras": {}}, [other])["cameras"] == {"north:left": {"advice": ""}}
+    assert joined([("north", event_of(other, EVENT))], Presses(9))[0]["key"] == "north:left.0.0"
 
 
 # -------------------------------------------------------------------------------------------- clocks
