@@ -115,6 +115,11 @@ class Beside:
                     await self.other.ask("/api/view", {**self.view, "stream": self.id})
 
 
+def is_of_this(request: web.Request) -> bool:
+    """Whether a request is about this page's own station alone, as programs beside it want."""
+    return request.query.get("of") == "this"
+
+
 class Stations:
     """The other stations, and the addresses that are about them too."""
 
@@ -228,6 +233,8 @@ class Stations:
 
     async def status(self, request: web.Request) -> web.Response:
         """How all stands, once."""
+        if is_of_this(request):
+            return await self.page.status(request)
         await self.laboratory.fresh()
         found = state_of(self.laboratory.standing(), self.others)
         for camera in found["cameras"]:
@@ -254,6 +261,8 @@ class Stations:
 
     async def events(self, request: web.Request) -> web.Response:
         """All events."""
+        if is_of_this(request):
+            return await self.console.events(request)
         await self.laboratory.fresh()
         own = events_of(self.laboratory.clips(), self.laboratory.heard)
         return web.json_response({"events": self.joined(own)})
@@ -355,6 +364,8 @@ class Stations:
 
     async def keep(self, request: web.Request) -> web.Response:
         """Keeps one span: of one camera at its station, or of all at all of them."""
+        if is_of_this(request):
+            return await self.page.keep(request)
         camera, seconds, span, note = await self.page.asked_keep(request)
         if camera is not None and self.other_of(camera) is None:
             return await self.page.keep(request)

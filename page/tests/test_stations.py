@@ -151,6 +151,19 @@ def test_a_range_and_one_camera_alone_are_kept_where_they_are(three):
     assert hub.post("/api/release", {"camera": "left", "id": answer["clips"][0]["id"]}).status == 200
 
 
+def test_a_program_beside_it_asks_for_its_own_station_alone(three):
+    hub, north, _ = three
+    before = len(north.ask("/api/events").json()["events"])
+    own = hub.ask("/api/status?of=this").json()["cameras"]
+    assert [it["name"] for it in own] == ["left"]
+    kept = hub.post("/api/keep?of=this", {"seconds": 1, "note": "its own"}).json()["answers"]
+    assert [it["camera"] for it in kept] == ["left"]
+    events = hub.ask("/api/events?of=this").json()["events"]
+    assert events[0]["note"] == "its own"
+    assert all(it["cameras"] == ["left"] for it in events)
+    assert len(north.ask("/api/events").json()["events"]) == before
+
+
 def test_a_note_and_a_release_reach_each_station(three):
     hub, north, south = three
     _, event = kept_by(hub, 5, "soon")

@@ -7,6 +7,8 @@ import urllib.request
 # The seconds that an answer may take (a keep waits for a slow disk for 15), and its bytes.
 ANSWER_SECONDS = 25.0
 ANSWER_BYTES = 64 * 1024 * 1024
+# A page that shows other stations too is asked of its own one.
+OWN = "?of=this"
 
 
 class PageFault(Exception):
@@ -66,14 +68,14 @@ class Page:
 
     def status(self) -> dict:
         """How station and cameras stand."""
-        return self.look("/api/status", "cameras")
+        return self.look("/api/status" + OWN, "cameras")
 
     def events(self) -> list[dict]:
         """All events, the newest first."""
-        return self.look("/api/events", "events")["events"]
+        return self.look("/api/events" + OWN, "events")["events"]
 
     def keep(self, since: int, until: int, note: str, camera: str | None = None) \
             -> tuple[int, dict]:
         """Keeps a time, in microseconds since 1970, of one camera or of all."""
         body = {"from": since, "to": until, "note": note}
-        return self.ask("/api/keep", body | ({"camera": camera} if camera else {}))
+        return self.ask("/api/keep" + OWN, body | ({"camera": camera} if camera else {}))

@@ -101,6 +101,8 @@ def test_the_archive_is_told_and_each_clip_once(bench):
     archive(bench.folder, fault="no remote", archived=[clip, clip | {"path": "b.y4m"}])
     until(lambda: bench.newest("archive")["fault"] == "no remote", "fault")
     until(lambda: paths() == ["a.y4m", "b.y4m"], "clip")
+    # It is released, and still the same.
+    clip["is_released"] = True
     # One that is half written changes nothing.
     path.write_text('{"time": "2026-11-22T15:39:00Z", "cam')
     bench.restart()
