@@ -360,7 +360,11 @@ class State:
                 "time": time.time(),
                 "fault": self.fault,
                 "cameras": list(self.told.values()),
-                "waiting": [asdict(clip) | {"waits_since": at} for clip, at in self.since],
+                "waiting": [
+                    asdict(clip) | {"waits_since": at}
+                    for clip, at in self.since
+                    if self.entry(clip) is None
+                ],
                 "archived": [it.as_object() for it in self.archived],
             }
             archives = {it.name: it.archive for it in self.archived}

@@ -23,7 +23,7 @@ CAMERAS = [
     {"name": "right", "pattern": "33x21 YM12 20:1", "segments": 32, "slots": 128},
 ]
 # rclone is run some times for each clip, which takes long where other programs have the processors.
-PATIENCE = 180
+PATIENCE = 600
 LISTENS = re.compile(r"http://127\.0\.0\.1:(\d+)/")
 
 
