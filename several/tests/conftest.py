@@ -4,6 +4,7 @@ import contextlib
 import importlib.util
 import json
 import os
+import pty
 import socket
 import subprocess
 import sys
@@ -64,6 +65,28 @@ def stations_in(tmp_path):
     yield one
     for station in made:
         station.close()
+
+
+def pty_pair():
+    """Two ends of a serial line: a file that `put` writes to, and the path of the other end."""
+    near, far = pty.openpty()
+    os.set_blocking(near, False)
+    return near, far, os.ttyname(far)
+
+
+def put(near, raw):
+    """Writes to a serial line. Where nobody reads yet, and it is full, nothing comes of it."""
+    with contextlib.suppress(BlockingIOError):
+        return os.write(near, raw)
+    return 0
+
+
+def put_all(near, raw):
+    """Writes all of a text to a serial line that is read."""
+    end = time.monotonic() + 120
+    while raw and time.monotonic() < end:
+        raw = raw[put(near, raw):]
+        time.sleep(0.01)
 
 
 class Program:

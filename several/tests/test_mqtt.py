@@ -85,12 +85,17 @@ def test_warnings_come_and_are_over(bench):
         found = [it for it in bench.heard("events") if it["camera"] == "left"]
         return [it for it in found if words.items() <= it.items()]
 
-    bench.station.say("all_locked", camera="left")
+    # A warning that stays until somebody has seen it.
+    bench.station.say("given_up", camera="left", frames=3, since="2026-11-22T15:38:00Z")
     bench.station.order("!source left other geometry")
-    until(lambda: left(kind="locked", is_bad=True, is_over=False), "warning")
+    found = until(lambda: left(kind="given up", is_bad=True, is_over=False), "warning")
+    assert "frames were lost" in found[0]["text"]
     until(lambda: bench.newest("cameras/left").get("kind") == "other", "state")
     bench.station.say("room_again", camera="left")
+    ids = [it["id"] for it in bench.station.status()["alerts"] if it["kind"] == "given up"]
+    bench.station.post("/api/seen", {"ids": ids})
     bench.station.order("!source left on")
-    until(lambda: left(kind="locked", is_over=True), "end")
-    until(lambda: left(kind="news", is_bad=False), "good news")
+    until(lambda: left(kind="given up", is_over=True), "end")
+    news = until(lambda: [it for it in bench.heard("events") if it["kind"] == "news"], "news")
+    assert any("there is room again" in it["text"] for it in news) and not news[0]["is_bad"]
     until(lambda: bench.newest("cameras/left").get("level") == "good", "state")

@@ -1,13 +1,12 @@
 """loop_trigger's parts: levels that stay, causes that are gathered, sources, and words."""
 import os
-import pty
 import socket
 import sys
 import threading
 import types
 
 import pytest
-from conftest import free_port, layout, until
+from conftest import free_port, layout, pty_pair, put, put_all, until
 from station_links import levels, settings, sources, triggers
 
 SECOND = 1_000_000
@@ -164,15 +163,20 @@ def test_an_address_that_is_taken_is_a_fault(look):
 
 
 def test_a_line_of_a_serial_line_fires(look):
-    near, far = pty.openpty()
-    it = look("serial", device=os.ttyname(far), baud=115200, match="SHOT")
+    near, far, path = pty_pair()
+    it = look("serial", device=path, baud=115200, match="SHOT")
     # What came before it was opened is passed over.
-    until(lambda: os.write(near, b"SHOT 6\r\n") and it.fired, "cause")
-    os.write(near, b"idle\r\nSHOT 7\r\n" + b"x" * 3000 + b"SHOT\nSHOT 8")
+
+    def fired():
+        put(near, b"SHOT 6\r\n")
+        return it.fired
+
+    until(fired, "cause")
+    put_all(near, b"idle\r\nSHOT 7\r\n" + b"x" * 3000 + b"SHOT\nSHOT 8")
     until(lambda: "SHOT 7" in it.texts()[-1], "cause")
-    os.write(near, b" late\n")
+    put_all(near, b" late\n")
     until(lambda: "SHOT 8" in it.texts()[-1], "cause")
-    name = os.path.basename(os.ttyname(far))
+    name = os.path.basename(path)
     assert it.texts()[-2:] == [f"{name} says 'SHOT 7'", f"{name} says 'SHOT 8 late'"]
     os.close(near)
     until(lambda: it.faults, "fault")
