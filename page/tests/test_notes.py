@@ -1,10 +1,15 @@
 """Notes, keeps in sentences and events that go on, without a page."""
+import asyncio
+import collections
 import json
+from types import SimpleNamespace
 
 import pytest
 from station_page import kept, limits, spans
 from station_page.heard import Heard
+from station_page.laboratory import Laboratory
 from station_page.notes import Notes, NotesFault, tidy
+from station_page.orders import NoStation, Orders, Waiting
 from station_page.reader import Clip
 from station_page.words import read_line
 from test_right import kept_line, laboratory_of
@@ -136,10 +141,6 @@ def test_a_clip_of_an_event_that_never_grew_is_no_longer_one():
 
 
 def test_a_line_that_follows_some_that_are_none_is_read():
-    from types import SimpleNamespace
-
-    from station_page.orders import Orders
-
     told = []
     it = SimpleNamespace(unread=0, told=SimpleNamespace(on_unread=lambda: told.append("unread")), take=told.append)
     for raw in ["x", "x", '{"kind":"done"}', "x", "x", ""]:
@@ -147,3 +148,86 @@ def test_a_line_that_follows_some_that_are_none_is_read():
     assert [getattr(one, "kind", one) for one in told] == ["done"]
     Orders.hear(it, "x")
     assert told[-1] == "unread"
+
+
+# ------------------------------------------------------------------------ events whose end lies ahead
+
+
+def going_on():
+    """What was heard of an event with a tag of yours that goes on."""
+    heard = Heard()
+    heard.take(line("event_begun", event=NUMBER, **{"from": "1970-01-01T00:00:00Z", "to": "1970-01-01T00:02:00Z"}))
+    heard.take(kept_line("left", 0, 93, 217, NUMBER, tag=7))
+    return heard
+
+
+def test_a_note_goes_with_a_clip_that_grows_to_its_end(notes):
+    """The last look of it comes after the station has told its end."""
+    clips, heard = [clip(0, 93, 217, until=2)], going_on()
+    watched = SimpleNamespace(camera=SimpleNamespace(store="store"))
+    it = SimpleNamespace(growing={}, grown=set(), notes=notes, heard=heard, cameras={"left": watched})
+    it.clips_of, it.watched = lambda name: clips, it.cameras.get
+    it.put_notes = lambda *words: Laboratory.put_notes(it, *words)
+    it.put_notes([("left", clips[0])], "run 7")
+    for number, until in ((1, 3), (0, 4)):
+        clips[:] = [clip(number, 93, 100 * until, until=until)]
+        asyncio.run(Laboratory.carry_notes(it))
+        assert notes.of("store", clips[0]) == "run 7"
+    heard.take(line("event_whole", event=NUMBER, camera="left"))
+    asyncio.run(Laboratory.carry_notes(it))
+    clips[:] = [clip(1, 93, 900, until=9)]
+    asyncio.run(Laboratory.carry_notes(it))
+    assert notes.of("store", clips[0]) == "run 7" and not it.growing and not it.grown
+
+
+def test_a_clip_that_has_grown_is_the_only_one_of_its_first_frame():
+    clips = [clip(1, 93, 300), clip(2, 94, 300)]
+    it = SimpleNamespace(heard=going_on(), clips_of=lambda name: clips)
+    watched = SimpleNamespace(camera=SimpleNamespace(name="left"))
+    assert Laboratory.longer(it, watched, 93) is clips[0] and Laboratory.longer(it, watched, 95) is None
+    clips.append(clip(3, 93, 350))
+    assert Laboratory.longer(it, watched, 93) is None
+
+
+def test_a_clip_that_has_grown_is_released_by_the_id_that_it_has():
+    given, is_released = [], line("released", camera="left", id=1)
+
+    async def release():
+        async def nothing(*words, **more):
+            return [is_released]
+
+        orders = SimpleNamespace(has_answers=True, begin=lambda order: given.append(order) or "waiting", answer=nothing)
+        it = SimpleNamespace(fetching=collections.Counter(), releasing=set(), ordering=asyncio.Lock(), hurry=asyncio.Event())
+        it.orders, it.look_at = orders, nothing
+        it.watched = lambda name: SimpleNamespace(camera=SimpleNamespace(name=name))
+        it.clip = lambda *words: (None, None, None, clip(1, 93, 300))
+        return await Laboratory.release(it, "left", 0, 93), it.releasing
+
+    said, releasing = asyncio.run(release())
+    assert given == ["release left 1 93"] and "clip 1 is released" in said and not releasing
+
+
+def test_an_answer_to_somebody_else_is_no_event():
+    told = []
+    it = SimpleNamespace(waiting={}, told=SimpleNamespace(on_line=lambda line: None, on_event=told.append))
+    Orders.take(it, line("released", label="other", camera="left", id=1))
+    Orders.take(it, line("released", camera="left", id=2))
+    assert [one["id"] for one in told] == [2]
+
+
+def test_who_waits_for_a_station_that_has_ended_is_told_so(monkeypatch):
+    """The first time that its answers are looked at."""
+    monkeypatch.setattr(limits, "WATCH_SECONDS", 0)
+
+    async def wait():
+        orders = Orders(None, None, SimpleNamespace())
+        waiting = orders.waiting["x"] = Waiting("x")
+        task = asyncio.create_task(orders.watch())
+        for _ in range(100):
+            await asyncio.sleep(0)
+        task.cancel()
+        assert waiting.done.done()
+        with pytest.raises(NoStation, match="ended before it answered"):
+            waiting.done.result()
+
+    asyncio.run(wait())

@@ -16,7 +16,16 @@ from pathlib import Path
 
 TESTS = Path(__file__).resolve().parent
 TOP = TESTS.parent.parent
-FILES = ["words", "events", "keep", "right", "limits", "strangers", "push", "alerts"]
+# The tests without a page that ought to find what is wrong in a file.
+UNITS = {
+    "notes": ["notes", "limits"],
+    "heard": ["notes", "events", "right"],
+    "kept": ["notes", "keep", "right"],
+    "events": ["events"],
+    "words": ["words", "events"],
+    "laboratory": ["notes", "right"],
+    "orders": ["notes", "alerts"],
+}
 # What starts a page, or more.
 FIXTURES = {"make", "shared", "kept", "closed", "absent", "page"}
 
@@ -130,7 +139,7 @@ def main(names):
             continue
         with tempfile.TemporaryDirectory(prefix="wrong_bodies", dir="/var/tmp") as folder:
             program = copy_of(Path(folder), file, old, new)
-            plain = [f"page/tests/test_{it}.py" for it in FILES]
+            plain = [f"page/tests/test_{it}.py" for it in UNITS[file]]
             found = failed(program, "-p", "wrong_bodies", *plain)
             if not found and tests:
                 found = failed(program, "-k", tests, "page/tests")

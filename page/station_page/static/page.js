@@ -282,7 +282,7 @@ function room() {
 function roomWords(number, seconds) {
   if (number === null) return "";
   if (number === 0) return `no room for another event of ${length(seconds)}: release one`;
-  return `room for ${count(number, "more event").replace("more events", "more events")} of ${length(seconds)}`;
+  return `room for ${count(number, "more event")} of ${length(seconds)}`;
 }
 
 // ------------------------------------------------------------------------------------------------ press
