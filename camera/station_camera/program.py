@@ -7,7 +7,6 @@ import signal
 import sys
 import time
 import zlib
-from fractions import Fraction
 from pathlib import Path
 from typing import Any, NamedTuple
 
