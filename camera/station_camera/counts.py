@@ -11,6 +11,7 @@ WORDS = {
     "resent": ("packet resent", "packets resent"),
     "missing": ("packet missing", "packets missing"),
     "starved": ("frame without a buffer", "frames without a buffer"),
+    "astray": ("packet without a buffer", "packets without a buffer"),
 }
 EVERY = 1.0
 

@@ -28,8 +28,9 @@ POLL, SILENCE, STUCK = 0.2, 2.0, 10.0
 # How often the clocks are compared.
 CLOCK_EVERY = 60.0
 OK = Aravis.BufferStatus.SUCCESS
-# The names that streams have for what they count.
-COUNTED = {"resent": "n_resent_packets", "missing": "n_missing_packets", "starved": "n_underruns"}
+# The names that streams have for what they count. Those of GigE Vision count packets.
+COUNTED = {"resent": "n_resent_packets", "missing": "n_missing_packets"}
+UNDERRUNS = "n_underruns"
 # Commands that write the camera's time into a feature, the feature, and the one that has its ticks
 # a second (GigE Vision 1, and the names that followed).
 LATCHES = (
@@ -383,11 +384,12 @@ class Camera:
 
 
 def counts_of(stream: Any) -> dict[str, int]:
-    """What the stream itself counts: packets of GigE Vision, and frames that found no buffer."""
+    """What the stream itself counts: packets of GigE Vision, and what found no buffer, which are
+    packets there, and frames elsewhere."""
     names = {stream.get_info_name(it) for it in range(stream.get_n_infos())}
+    kinds = {**COUNTED, ("astray" if COUNTED["missing"] in names else "starved"): UNDERRUNS}
     return {
-        key: stream.get_info_uint64_by_name(name) if name in names else 0
-        for key, name in COUNTED.items()
+        key: stream.get_info_uint64_by_name(name) for key, name in kinds.items() if name in names
     }
 
 
