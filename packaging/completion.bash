@@ -1,4 +1,4 @@
-# bash completion for loop_cli, loop_station, loop_page, store_info, store_picture and lapyrei-export
+# bash completion for the programs and tools of Lapyrei
 
 _loop_cli() {
     local word=${COMP_WORDS[COMP_CWORD]} command=${COMP_WORDS[1]}
@@ -36,6 +36,20 @@ _loop_page() {
     esac
 }
 
+_loop_camera() {
+    local word=${COMP_WORDS[COMP_CWORD]}
+    case $word in
+        -*) mapfile -t COMPREPLY < <(compgen -W "--list --fake --to --frames --log --help --version" -- "$word") ;;
+        *) _loop_files "$word" ;;
+    esac
+}
+
+_loop_setup() {
+    local word=${COMP_WORDS[COMP_CWORD]}
+    mapfile -t COMPREPLY < <(compgen -W "--list --fake --remove --camera --source --format --size --rate --exposure --gain --bits \
+        --store-format --minutes --hours --keep --folder --page --no-page --no-picture --no-start --move-store --yes --help --version" -- "$word")
+}
+
 _store_info() {
     local word=${COMP_WORDS[COMP_CWORD]}
     COMPREPLY=()
@@ -63,6 +77,9 @@ _lapyrei_export() {
 complete -o filenames -F _loop_cli loop_cli
 complete -o filenames -F _loop_station loop_station
 complete -o filenames -F _loop_page loop_page
+complete -o filenames -F _loop_camera loop_camera
+complete -F _loop_setup loop_setup
+complete -o filenames -F _loop_station loop_mqtt loop_trigger loop_archive
 complete -o filenames -F _store_info store_info
 complete -o filenames -F _store_picture store_picture
 complete -o filenames -F _lapyrei_export lapyrei-export

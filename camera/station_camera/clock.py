@@ -1,5 +1,5 @@
-"""The camera's clock. It counts nanoseconds from a moment of its own, such as its start; what a frame
-is given is the time of day, in microseconds since 1970.
+"""The camera's clock. It counts nanoseconds from a moment of its own, such as its start; what a
+frame is given is the time of day, in microseconds since 1970.
 
 tied      the difference to the system's clock is measured at the start, and stays
 ptp       the camera's clock is set by PTP: the difference is whole seconds (0, or TAI's 37)
@@ -19,7 +19,8 @@ READS = 9
 
 
 class Clock:
-    """A camera's clock, tied or to be tied by its first frame. `latch` reads it, where the camera can."""
+    """A camera's clock, tied or to be tied by its first frame. `latch` reads it, where the camera
+    can."""
 
     def __init__(
         self,
@@ -35,7 +36,8 @@ class Clock:
             self._tie(*self._read(), "read from the camera")
 
     def _read(self) -> tuple[int, int]:
-        """The difference of the clocks, by the quickest of some readings, and how uncertain it is."""
+        """The difference of the clocks, by the quickest of some readings, and how uncertain it
+        is."""
         best = None
         for _ in range(READS):
             before = self.now()
@@ -53,18 +55,20 @@ class Clock:
             if abs(offset - whole) <= PTP_NEAR:
                 self.offset = whole
                 self.tell(
-                    f"times are the camera's, by PTP: {-whole // SECOND} s ahead of the system's clock"
+                    f"times are the camera's, by PTP: {-whole // SECOND} s ahead of the "
+                    f"system's clock"
                 )
                 return
             self.tell("the camera's clock isn't set by PTP: it is tied to the system's instead")
         self.offset = offset
         self.tell(
-            f"times are the camera's, tied to the system's clock: plus {offset // 1000} us, {how}{exact}"
+            f"times are the camera's, tied to the system's clock: plus {offset // 1000} us, "
+            f"{how}{exact}"
         )
 
     def micros(self, stamp: int, arrival: int) -> int | None:
-        """The time of a frame that the camera has stamped and that began to arrive then, or None where
-        it has no time of its own."""
+        """The time of a frame that the camera has stamped and that began to arrive then, or None
+        where it has no time of its own."""
         if self.mode == "arrival" or stamp <= 0:
             return None
         if self.offset is None:

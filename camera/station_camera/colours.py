@@ -110,6 +110,6 @@ class Converter:
     def end(self) -> None:
         """Lets ffmpeg end once it has given what it has."""
         self.run.stdin.close()
-        self.thread.join(10)
+        self.thread.join(60)
         self.run.kill()
         self.run.wait()

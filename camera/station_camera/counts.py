@@ -20,28 +20,35 @@ def said(counts: dict[str, int]) -> str:
     return ", ".join(
         f"{counts[key]} {words[counts[key] != 1]}"
         for key, words in WORDS.items()
-        if counts.get(key)
+        if counts.get(key, 0) > 0
     )
 
 
 class Lost:
-    """How many frames are missing, by the camera's own numbers. Those of GigE Vision have 16 bits, and
-    1 follows 65535; an incomplete frame has its number too."""
+    """How many frames are missing, by the camera's own numbers. Those of GigE Vision have 16 bits,
+    and 1 follows 65535; an incomplete frame has its number too, and may come after later ones."""
+
+    AROUND, LATE = 65535, 256
 
     def __init__(self) -> None:
         self.last: int | None = None
 
     def before(self, number: int) -> int:
-        """How many frames are missing before this one."""
-        last, self.last = self.last, number
-        if last is None or number == last:
+        """How many frames are missing before this one; -1 where it comes late, and was counted."""
+        if self.last is None:
+            self.last = number
             return 0
-        if number > last:
-            return number - last - 1
-        if last <= 65535 and last - number > 32768:
-            # Each count from `last` to 65535, and those from 1 on; 0 is used by some cameras.
-            return max(0, 65535 - last + number - 1)
-        return 0
+        step = number - self.last
+        if max(number, self.last) <= self.AROUND:
+            step %= self.AROUND
+            step -= self.AROUND if step > self.AROUND // 2 else 0
+        if step == 0:
+            return 0
+        if -self.LATE <= step < 0:
+            return -1
+        self.last = number
+        # Numbers that begin anew say nothing.
+        return max(0, step - 1)
 
 
 class Counts:
@@ -57,8 +64,8 @@ class Counts:
         self.next = now()
 
     def add(self, key: str, count: int = 1) -> None:
-        """Counts."""
-        self.whole[key] += count
+        """Counts; a frame that was counted as lost and comes late is taken off again."""
+        self.whole[key] = max(0, self.whole[key] + count)
 
     def set(self, key: str, count: int, since: int = 0) -> None:
         """Takes a count that another keeps, from `since` on."""

@@ -2,6 +2,7 @@
 from __future__ import annotations
 
 import contextlib
+import gc
 import time
 from fractions import Fraction
 from typing import Any, Callable, Iterator, NamedTuple
@@ -21,16 +22,16 @@ FAKE = "Fake"
 MICRO = 1_000_000
 # What buffers may take while nobody reads, and how many they are at least and at most.
 BUFFER_ROOM, BUFFERS_LEAST, BUFFERS_MOST = 256_000_000, 8, 200
-# How long a wait for a frame is, after which silence a camera is asked whether it is there, and after
-# which one that is there is started again.
+# How long a wait for a frame is, after which silence a camera is asked whether it is there, and
+# after which one that is there is started again.
 POLL, SILENCE, STUCK = 0.2, 2.0, 10.0
 # How often the clocks are compared.
 CLOCK_EVERY = 60.0
 OK = Aravis.BufferStatus.SUCCESS
 # The names that streams have for what they count.
 COUNTED = {"resent": "n_resent_packets", "missing": "n_missing_packets", "starved": "n_underruns"}
-# Commands that write the camera's time into a feature, the feature, and the one that has its ticks a
-# second (GigE Vision 1, and the names that followed).
+# Commands that write the camera's time into a feature, the feature, and the one that has its ticks
+# a second (GigE Vision 1, and the names that followed).
 LATCHES = (
     ("TimestampLatch", "TimestampLatchValue", None),
     ("GevTimestampControlLatch", "GevTimestampValue", "GevTimestampTickFrequency"),
@@ -62,8 +63,8 @@ class Found(NamedTuple):
 
 
 class Picture(NamedTuple):
-    """A whole frame as the camera gave it: its number, its time in the camera's nanoseconds, when it
-    began to arrive by the system's, and its bytes."""
+    """A whole frame as the camera gave it: its number, its time in the camera's nanoseconds, when
+    it began to arrive by the system's, and its bytes."""
 
     number: int
     stamp: int
@@ -88,7 +89,8 @@ def ids() -> Iterator[tuple[int, list[str]]]:
 
 
 def device_of(serial: str) -> str | None:
-    """Aravis' word for the camera of a serial number, an identity, a MAC or an address, if it is there."""
+    """Aravis' word for the camera of a serial number, an identity, a MAC or an address, if it is
+    there."""
     if serial.startswith(FAKE):
         Aravis.enable_interface(FAKE)
     for place, words in ids():
@@ -108,7 +110,7 @@ def look_at(place: int) -> Found:
     """What a camera says of itself."""
     vendor, model = Aravis.get_device_vendor(place), Aravis.get_device_model(place)
     known = Found(
-        Aravis.get_device_serial_nbr(place) or Aravis.get_device_id(place),
+        serial_of(place),
         f"{vendor} {model}",
         Aravis.get_device_protocol(place) or "",
         Aravis.get_device_address(place) or "",
@@ -124,6 +126,13 @@ def look_at(place: int) -> Found:
         )
     except GLib.Error as fault:
         return known._replace(why=fault.message)
+
+
+def serial_of(place: int) -> str:
+    """The word by which a file names a camera."""
+    if Aravis.get_device_protocol(place) == FAKE:
+        return Aravis.get_device_id(place)
+    return Aravis.get_device_serial_nbr(place) or Aravis.get_device_id(place)
 
 
 def rates(camera: Any) -> dict[str, float]:
@@ -146,7 +155,7 @@ class Camera:
         with said("it can't be opened", Gone):
             self.camera = Aravis.Camera.new(identity)
         self.device = self.camera.get_device()
-        self.device.connect("control-lost", self._lose)
+        self.heard = self.device.connect("control-lost", self._lose)
         self._set()
         with said("it doesn't say what it gives", Refused):
             self.format = samples.format_of(self.camera.get_pixel_format_as_string())
@@ -156,6 +165,13 @@ class Camera:
 
     def _lose(self, _device: Any) -> None:
         self.is_lost = True
+
+    def close(self) -> None:
+        """Gives the camera back, so that it can be opened anew."""
+        self.device.disconnect(self.heard)
+        self.device = self.camera = None
+        # What refers to itself would hold the camera.
+        gc.collect()
 
     def _set(self) -> None:
         """Sets what the file asks for, features first, in the order of the file."""
@@ -205,7 +221,8 @@ class Camera:
         took = tuple(self.camera.get_region())
         if took != (x, y, width, height):
             raise Refused(
-                f"REGION={width}x{height}+{x}+{y}: the camera takes {took[2]}x{took[3]}+{took[0]}+{took[1]}"
+                f"REGION={width}x{height}+{x}+{y}: the camera takes "
+                f"{took[2]}x{took[3]}+{took[0]}+{took[1]}"
             )
 
     def _exposure(self, micros: float) -> None:
@@ -291,7 +308,8 @@ class Camera:
             return False
 
     def film(self, counts: Counts, asked: Callable[[], bool]) -> Iterator[Picture]:
-        """The frames, as long as nobody asks for the end, whole ones alone. Gone where the camera goes."""
+        """The frames, as long as nobody asks for the end, whole ones alone. Gone where the camera
+        goes."""
         with said("it gives no stream", Gone):
             stream = self.camera.create_stream(None, None)
         if stream is None:
@@ -312,7 +330,7 @@ class Camera:
         self, stream: Any, counts: Counts, before: dict[str, int], asked: Callable[[], bool]
     ) -> Iterator[Picture]:
         """The frames of a stream that has begun. `before` is what its counts are added to."""
-        lost = Lost()
+        lost, stuck = Lost(), max(STUCK, 3 / float(self.rate))
         heard = time.monotonic()
         while not asked():
             buffer = stream.timeout_pop_buffer(int(POLL * MICRO))
@@ -323,8 +341,8 @@ class Camera:
             if buffer is None:
                 if self.is_lost or now - heard > SILENCE and not self.answers():
                     raise Gone("it has gone")
-                if now - heard > STUCK and self.wanted.trigger in (None, "off"):
-                    raise Gone(f"it has given no frame for {STUCK:.0f} s")
+                if now - heard > stuck and self.wanted.trigger in (None, "off"):
+                    raise Gone(f"it has given no frame for {stuck:.0f} s")
                 continue
             heard = now
             if buffer.get_status() == Aravis.BufferStatus.CLEARED:

@@ -1,12 +1,12 @@
 """The program loop_camera: its words, and a camera from its file to the text."""
 from __future__ import annotations
 
+import contextlib
 import os
 import signal
 import sys
 import time
 import zlib
-from fractions import Fraction
 from pathlib import Path
 from typing import Any, NamedTuple
 
@@ -151,30 +151,41 @@ class Film:
         from . import samples
 
         camera = genicam.Camera(self.wanted, self.tell)
+        try:
+            self._film(camera, samples, genicam.CLOCK_EVERY)
+        finally:
+            camera.close()
+
+    def _film(self, camera: Any, samples: Any, clock_every: float) -> None:
+        """Films with a camera that was opened."""
         form = form_of(camera)
         if self.form not in (None, form):
             # Another header is for another text: the service starts this program again.
             raise BadFrames(f"its frames are {shown(form)} now, and were {shown(self.form)}")
         clock, looked = camera.clock(), time.monotonic()
-        self.tell(
-            f"filming {self.wanted.genicam}: {shown(form)} of {camera.format.name}, {camera.buffers()} buffers"
-        )
+        what = f"{shown(form)} of {camera.format.name}, {camera.buffers()} buffers"
+        self.tell(f"filming {self.wanted.genicam}: {what}")
         self.last = ""
         if self.form is None:
             self.form = form
             self.out.header(form)
-        with_ffmpeg, make = converts(camera), samples.full if converts(camera) else samples.frame
-        give, end = self._sink(camera, form, with_ffmpeg)
+        with_ffmpeg = converts(camera)
+        make = samples.full if with_ffmpeg else samples.frame
         shift = {} if with_ffmpeg else {"to_8": self.wanted.bits == 8}
+        give, end = self._sink(camera, form, with_ffmpeg)
         try:
-            for it in camera.film(self.counts, self.asked):
-                micros = clock.micros(it.stamp, it.arrival)
-                self.log.write(it, micros)
-                give(make(camera.format, it.data, it.width, it.height, it.padding, **shift), micros)
-                self._count()
-                if time.monotonic() > looked + genicam.CLOCK_EVERY:
-                    clock.look(it.stamp, it.arrival)
-                    looked = time.monotonic()
+            with contextlib.closing(camera.film(self.counts, self.asked)) as pictures:
+                for it in pictures:
+                    micros = clock.micros(it.stamp, it.arrival)
+                    self.log.write(it, micros)
+                    give(
+                        make(camera.format, it.data, it.width, it.height, it.padding, **shift),
+                        micros,
+                    )
+                    self._count()
+                    if time.monotonic() > looked + clock_every:
+                        clock.look(it.stamp, it.arrival)
+                        looked = time.monotonic()
         finally:
             end()
 
@@ -228,8 +239,8 @@ def list_all(fake: bool) -> int:
             continue
         print(f"    {' '.join(it.formats)}")
         print(
-            f"    largest {it.largest[0]}x{it.largest[1]}; now {it.size[0]}x{it.size[1]} {it.format}"
-            + (f" {it.rate:g} a second of {it.most:g} at most" if it.most else "")
+            f"    largest {it.largest[0]}x{it.largest[1]}; now {it.size[0]}x{it.size[1]} "
+            f"{it.format}" + (f" {it.rate:g} a second of {it.most:g} at most" if it.most else "")
         )
     devices = []
     try:

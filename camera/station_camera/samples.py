@@ -1,4 +1,5 @@
-"""Pixel formats of GenICam (PFNC): grey and Bayer of 8 to 16 bits become samples of one or two bytes."""
+"""Pixel formats of GenICam (PFNC): grey and Bayer of 8 to 16 bits become samples of one or two
+bytes."""
 from __future__ import annotations
 
 import re
@@ -39,8 +40,8 @@ class Shorter(Exception):
 
 
 class Format(NamedTuple):
-    """A pixel format: its name, the bits of a sample, how samples are packed ('', 'p' or 'Packed'), and
-    ffmpeg's word for what isn't grey, once it is unpacked to 8 or 16 bits."""
+    """A pixel format: its name, the bits of a sample, how samples are packed ('', 'p' or
+    'Packed'), and ffmpeg's word for what isn't grey, once it is unpacked to 8 or 16 bits."""
 
     name: str
     bits: int
@@ -90,8 +91,8 @@ def sample_bytes(form: Format) -> int:
 
 
 def frame_bytes(form: Format, width: int, height: int, padding: int = 0) -> int:
-    """The bytes that a camera sends for a frame. Rows of packed samples follow one another without a
-    gap, unless the camera says that rows are padded."""
+    """The bytes that a camera sends for a frame. Rows of packed samples follow one another without
+    a gap, unless the camera says that rows are padded."""
     if padding or not form.packing:
         return (row_bytes(form, width) + padding) * height
     return row_bytes(form, width * height)
@@ -116,8 +117,8 @@ def unpack_lsb(data: np.ndarray, bits: int, count: int) -> np.ndarray:
 
 
 def unpack_pairs(data: np.ndarray, bits: int, count: int) -> np.ndarray:
-    """Two samples in three bytes, as GigE Vision's Mono10Packed and Mono12Packed have them: the upper 8
-    bits of each in a byte of its own, and their lower bits in the byte between."""
+    """Two samples in three bytes, as GigE Vision's Mono10Packed and Mono12Packed have them: the
+    upper 8 bits of each in a byte of its own, and their lower bits in the byte between."""
     groups, low = -(-count // 2), bits - 8
     whole = np.zeros(groups * 3, np.uint8)
     whole[: len(data)] = data[: groups * 3]
@@ -151,8 +152,8 @@ def samples(form: Format, data: bytes, width: int, height: int, padding: int = 0
 
 
 def frame(form: Format, data: bytes, width: int, height: int, padding: int = 0, to_8: bool = False):
-    """The bytes of a frame as a store has them: grey samples, Bayer as it is, or the camera's colours
-    for ffmpeg. With `to_8` the upper 8 bits of each sample."""
+    """The bytes of a frame as a store has them: grey samples, Bayer as it is, or the camera's
+    colours for ffmpeg. With `to_8` the upper 8 bits of each sample."""
     if not form.is_samples():
         if len(data) < frame_bytes(form, width, height, padding):
             raise Shorter(f"a frame of {width}x{height} {form.name} has {len(data)} bytes")
@@ -168,7 +169,8 @@ def frame(form: Format, data: bytes, width: int, height: int, padding: int = 0, 
 
 
 def full(form: Format, data: bytes, width: int, height: int, padding: int = 0):
-    """The bytes of a frame as ffmpeg takes it: Bayer of 10, 12 and 14 bits is shifted to the whole 16."""
+    """The bytes of a frame as ffmpeg takes it: Bayer of 10, 12 and 14 bits is shifted to the whole
+    16."""
     if not form.is_samples() or form.bits in (8, 16):
         return frame(form, data, width, height, padding)
     return samples(form, data, width, height, padding) << (16 - form.bits)

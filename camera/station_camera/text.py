@@ -1,4 +1,5 @@
-"""YUV4MPEG2: what a station reads. Samples of more than 8 bits have two bytes, the lower one first."""
+"""YUV4MPEG2: what a station reads. Samples of more than 8 bits have two bytes, the lower one
+first."""
 from __future__ import annotations
 
 import errno
@@ -67,7 +68,8 @@ class Form(NamedTuple):
     def header(self) -> bytes:
         """The first line."""
         rate = f"{self.rate.numerator}:{self.rate.denominator}"
-        return f"YUV4MPEG2 W{self.width} H{self.height} F{rate} Ip A0:0 C{COLOURS[self.colour]}\n".encode()
+        size, colour = f"W{self.width} H{self.height}", COLOURS[self.colour]
+        return f"YUV4MPEG2 {size} F{rate} Ip A0:0 C{colour}\n".encode()
 
 
 class Text:

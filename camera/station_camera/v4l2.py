@@ -1,4 +1,5 @@
-"""Cameras of Linux (V4L2). ffmpeg reads them, but not grey of 10, 12 and 14 bits, and v4l2-ctl does."""
+"""Cameras of Linux (V4L2). ffmpeg reads them, but not grey of 10, 12 and 14 bits, and v4l2-ctl
+does."""
 from __future__ import annotations
 
 import contextlib
@@ -167,7 +168,8 @@ def wait_for(device: str, tell: Callable[[str], None], asked: Callable[[], bool]
 
 
 def deep_words(wanted: Wanted) -> tuple[list[str], list[str]]:
-    """The commands of v4l2-ctl that set a camera and say what it took, and that write its frames."""
+    """The commands of v4l2-ctl that set a camera and say what it took, and that write its
+    frames."""
     start = ["v4l2-ctl", "-d", wanted.device]
     fourcc = wanted.device_format.upper().ljust(4)
     size = f"width={wanted.region.width},height={wanted.region.height},pixelformat={fourcc}"
@@ -194,7 +196,8 @@ def deep_form(wanted: Wanted, told: str) -> Form:
     took = int(size[1]), int(size[2])
     if took != asked or fourcc[1].strip().lower() != wanted.device_format.lower():
         raise Failed(
-            f"{wanted.device} takes {took[0]}x{took[1]} {fourcc[1].strip()}, and not what the file asks for"
+            f"{wanted.device} takes {took[0]}x{took[1]} {fourcc[1].strip()}, and not what the "
+            f"file asks for"
         )
     if int(row[1]) != 2 * took[0]:
         raise Failed(
@@ -209,7 +212,8 @@ def deep_form(wanted: Wanted, told: str) -> Form:
 def film_deep(
     wanted: Wanted, out: Text, tell: Callable[[str], None], asked: Callable[[], bool]
 ) -> None:
-    """Gives on the frames of a camera of deep samples until it goes, or somebody asks for the end."""
+    """Gives on the frames of a camera of deep samples until it goes, or somebody asks for the
+    end."""
     from .samples import format_of, frame
 
     settle, stream = deep_words(wanted)

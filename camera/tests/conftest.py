@@ -1,4 +1,5 @@
-"""What the tests share: loop_camera as it runs, a reader of its text, and Aravis' camera on loopback."""
+"""What the tests share: loop_camera as it runs, a reader of its text, and Aravis' camera on
+loopback."""
 import contextlib
 import fcntl
 import os
@@ -19,7 +20,7 @@ SETUP = os.environ.get("LOOP_SETUP") or str(HERE.parent / "loop_setup")
 sys.path[1:1] = [str(Path(PROGRAM).resolve().parent), str(TOP / "python")]
 sys.dont_write_bytecode = True
 # A state is waited for as long as a busy machine may take.
-PATIENCE = 60
+PATIENCE = 120
 # Two cameras on loopback would have one port: whoever starts one has this file locked.
 LOCK = Path(tempfile.gettempdir()) / "lapyrei-camera-port.lock"
 
@@ -34,8 +35,8 @@ def until(what, holds, seconds=PATIENCE):
 
 
 def parsed(data):
-    """The header of a text, its frames that are whole, each as its time and bytes, and the bytes that
-    are left. It shares nothing with what writes."""
+    """The header of a text, its frames that are whole, each as its time and bytes, and the bytes
+    that are left. It shares nothing with what writes."""
     line, _, rest = data.partition(b"\n")
     words = line.decode().split(" ")
     assert words[0] == "YUV4MPEG2"

@@ -17,6 +17,9 @@ from station_camera.counts import Counts, Lost
         ([7, 7], 0),
         ([500, 3, 4], 0),
         ([65534, 65535, 0, 1], 0),
+        ([65534, 1, 65535, 2], 0),
+        ([3, 6, 4, 7], 1),
+        ([5, 4, 6], -1),
     ],
 )
 def test_missing_numbers_are_lost_frames(numbers, missing):
@@ -36,7 +39,8 @@ def test_counts_are_told_once_a_second_and_at_the_end():
     time[0] += 0.9
     counts.look()
     assert told == [
-        "1 frame incomplete and dropped; since the start 0 frames given on, 1 frame incomplete and dropped"
+        "1 frame incomplete and dropped; since the start 0 frames given on, 1 frame "
+        "incomplete and dropped"
     ]
     time[0] += 0.1
     counts.frames = 7

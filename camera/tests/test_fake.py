@@ -1,11 +1,12 @@
-"""loop_camera over Aravis' camera without hardware, whose pixels are known by the frame's number."""
+"""loop_camera over Aravis' camera without hardware, whose pixels are known by the frame's
+number."""
 import os
 import subprocess
 import zlib
 
 import numpy as np
 import pytest
-from conftest import PROGRAM, parsed
+from conftest import PATIENCE, PROGRAM, parsed
 
 from station_camera import genicam, program, text, words
 
@@ -143,7 +144,7 @@ def test_a_reader_that_goes_ends_it_with_status_1(tmp_path):
     run.stdout.close()
     said = run.stderr.read().decode()
     run.stderr.close()
-    assert run.wait(60) == 1 and "nobody reads the frames any more" in said
+    assert run.wait(PATIENCE) == 1 and "nobody reads the frames any more" in said
 
 
 def test_a_pipe_is_written_where_that_is_asked(camera, tmp_path):
@@ -188,6 +189,6 @@ def test_the_list_has_every_camera():
     done = subprocess.run([PROGRAM, "--list", "--fake"], capture_output=True, text=True)
     assert done.returncode == 0
     lines = done.stdout.splitlines()
-    at = lines.index("GENICAM=1  Aravis Fake  Fake 0.0.0.0")
+    at = lines.index("GENICAM=Fake_1  Aravis Fake  Fake 0.0.0.0")
     assert "Mono8" in lines[at + 1].split() and "Mono16" in lines[at + 1].split()
     assert lines[at + 2].startswith("    largest 2048x2048; now 512x512 Mono8 25 a second of ")

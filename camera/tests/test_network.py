@@ -1,4 +1,5 @@
-"""loop_camera over a camera that speaks GigE Vision on loopback: lost packets, a camera that goes."""
+"""loop_camera over a camera that speaks GigE Vision on loopback: lost packets, a camera that
+goes."""
 import zlib
 
 import test_fake

@@ -53,7 +53,8 @@ def test_a_device_is_filmed_by_ffmpeg_with_todays_words(camera, tmp_path):
     it = camera(PLAIN, env=env)
     assert it.wait() == 0
     assert (tmp_path / "words").read_text() == (
-        "-nostdin -v error -f v4l2 -input_format yuyv422 -video_size 64x48 -framerate 30 -i /dev/null "
+        "-nostdin -v error -f v4l2 -input_format yuyv422 -video_size 64x48 -framerate 30 -i "
+        "/dev/null "
         "-pix_fmt yuv420p -f yuv4mpegpipe -\n"
     )
     assert it.text()[1] == [(None, b"ab")]
@@ -98,7 +99,8 @@ def test_deep_samples_come_from_v4l2_ctl(camera, tmp_path, bits, colour):
         ]
     assert found == [(None, it) for it in frames]
     assert (tmp_path / "words").read_text().splitlines() == [
-        "-d /dev/null --set-fmt-video=width=6,height=4,pixelformat=Y12  --set-parm=30 --get-fmt-video",
+        "-d /dev/null --set-fmt-video=width=6,height=4,pixelformat=Y12  --set-parm=30 "
+        "--get-fmt-video",
         "-d /dev/null --stream-mmap=4 --stream-to=-",
     ]
 

@@ -125,11 +125,10 @@ HOLE = 200_000
 # The bytes of pictures that are remembered of each camera.
 EYE_BYTES = 2 * 1024 * 1024
 # After how many seconds another station that says nothing doesn't answer, and how often it is tried
-# again; the connections to it, the bytes of a message of it, and how many steps of frames are taken
-# at once over several stations.
+# again; the bytes of a message of it, and how many steps of frames are taken at once over several
+# stations.
 AWAY_SECONDS = 5.0
 AGAIN_SECONDS = 1.0
-STATION_CONNECTIONS = 48
 MESSAGE_BYTES = 32 * 1024 * 1024
 STEPS = 50
 # By how many microseconds its clock may be off, and by how many answers that is reckoned.

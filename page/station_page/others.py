@@ -70,7 +70,8 @@ class Other:
             self.session = aiohttp.ClientSession(
                 headers=headers,
                 timeout=timeout,
-                connector=aiohttp.TCPConnector(limit=limits.STATION_CONNECTIONS),
+                # Streams of open pages take no order's place. Who asks this page is bounded.
+                connector=aiohttp.TCPConnector(limit=0),
                 cookie_jar=aiohttp.DummyCookieJar(),
                 auto_decompress=False,
             )
@@ -129,6 +130,8 @@ class Other:
                 self.fault = "it has ended its answer"
             except Unfit as unfit:
                 self.fault = str(unfit).removeprefix(f"{self.name}: ").rstrip(".")
+            except (KeyError, TypeError, ValueError):
+                self.fault = NO_PAGE
             self.version += 1
             await asyncio.sleep(limits.AGAIN_SECONDS)
 
@@ -170,21 +173,24 @@ class Other:
         try:
             told = json.loads(body)
             if kind == "state":
-                if not all(isinstance(it["name"], str) for it in told["cameras"]):
-                    raise ValueError
+                check_state(told)
                 self.state, self.heard, self.fault = told, time.monotonic(), ""
             elif kind == "more":
-                self.more = dict(told["cameras"])
+                if not all(isinstance(it, dict) for it in told["cameras"].values()):
+                    raise ValueError
+                self.more = told["cameras"]
             else:
-                self.events = [it for it in told if it["clips"]]
-        except (ValueError, KeyError, TypeError):
+                for event in told:
+                    check_event(event)
+                self.events = told
+        except (ValueError, KeyError, TypeError, AttributeError):
             raise self.away(NO_PAGE) from None
         self.version += 1
 
     async def measure(self) -> None:
         """Measures its clock, without end: at first quickly."""
         while True:
-            with contextlib.suppress(Unfit, KeyError, TypeError):
+            with contextlib.suppress(Unfit, KeyError, TypeError, ValueError):
                 asked = time.time_ns() // 1000
                 _, told = await self.ask("/api/clock", None, limits.AWAY_SECONDS)
                 self.clock.add(asked, int(told["now_us"]), time.time_ns() // 1000)
@@ -202,7 +208,7 @@ class Other:
         if waited := self.silent():
             fault = f": {self.fault}" if self.fault else ""
             level = "bad"
-            text = f"{self.name} hasn't answered for {words.seconds_words(waited)}{fault}."
+            text = f"{self.name} hasn't answered for {words.seconds_words(int(waited))}{fault}."
         elif self.clock.is_off() and offset:
             way = "ahead of" if offset[0] > 0 else "behind"
             level = "warn"
@@ -219,6 +225,31 @@ class Other:
         """Ends the connections."""
         if self.session:
             await self.session.close()
+
+
+def check_state(state: dict) -> None:
+    """Sees that a state has what this page makes something of."""
+    for camera in state["cameras"]:
+        if not isinstance(camera["name"], str) or not isinstance(camera.get("after") or 0, int):
+            raise ValueError
+    for alert in state["alerts"]:
+        if not isinstance(alert["id"], int) or not isinstance(alert["text"], str):
+            raise ValueError
+
+
+def check_event(event: dict) -> None:
+    """The same of an event."""
+    numbers = [event[word] for word in ("from_us", "to_us", "seconds", "bytes", "tag")]
+    numbers += [event[word] or 0 for word in ("number", "until_us")]
+    for clip in event["clips"]:
+        numbers += [clip[word] for word in ("id", "first", "from_us", "to_us", "frames")]
+        if not isinstance(clip["camera"], str):
+            raise ValueError
+    if not event["clips"] or not all(type(it) in (int, float) for it in numbers):
+        raise ValueError
+    texts = [event["key"], event["note"], *event["cameras"], *(it["camera"] for it in event["lacks"])]
+    if not all(isinstance(it, str) for it in texts) or not isinstance(event["fetched"], bool):
+        raise ValueError
 
 
 def why(fault: BaseException) -> str:

@@ -4,6 +4,7 @@ that doesn't answer is said, and holds up no other one."""
 import asyncio
 import contextlib
 import json
+import re
 import time
 import zipfile
 from collections.abc import AsyncIterator, Awaitable, Coroutine
@@ -112,6 +113,11 @@ class Beside:
             if self.id and self.view:
                 with contextlib.suppress(Unfit):
                     await self.other.ask("/api/view", {**self.view, "stream": self.id})
+
+
+def is_of_this(request: web.Request) -> bool:
+    """Whether a request is about this page's own station alone, as programs beside it want."""
+    return request.query.get("of") == "this"
 
 
 class Stations:
@@ -227,6 +233,8 @@ class Stations:
 
     async def status(self, request: web.Request) -> web.Response:
         """How all stands, once."""
+        if is_of_this(request):
+            return await self.page.status(request)
         await self.laboratory.fresh()
         found = state_of(self.laboratory.standing(), self.others)
         for camera in found["cameras"]:
@@ -253,6 +261,8 @@ class Stations:
 
     async def events(self, request: web.Request) -> web.Response:
         """All events."""
+        if is_of_this(request):
+            return await self.console.events(request)
         await self.laboratory.fresh()
         own = events_of(self.laboratory.clips(), self.laboratory.heard)
         return web.json_response({"events": self.joined(own)})
@@ -348,12 +358,14 @@ class Stations:
         if not isinstance(camera, str) or MARK not in camera:
             return None
         station, _, name = camera.partition(MARK)
-        if station not in self.by_name:
-            raise Unfit(404, "There is no station of that name.")
+        if station not in self.by_name or not re.fullmatch(NAME, name):
+            raise Unfit(404, "There is no camera of that name.")
         return self.by_name[station], name
 
     async def keep(self, request: web.Request) -> web.Response:
         """Keeps one span: of one camera at its station, or of all at all of them."""
+        if is_of_this(request):
+            return await self.page.keep(request)
         camera, seconds, span, note = await self.page.asked_keep(request)
         if camera is not None and self.other_of(camera) is None:
             return await self.page.keep(request)
@@ -514,6 +526,8 @@ class Stations:
         path += f"?{request.query_string}" if request.query_string else ""
         headers = {key: request.headers[key] for key in ASKED if key in request.headers}
         async with other.answer(path, None, headers) as found:
+            if found.status == 401:
+                raise other.away("it wants another token")
             response = web.StreamResponse(status=found.status)
             for key in TOLD:
                 if key in found.headers:
@@ -523,35 +537,18 @@ class Stations:
 
     async def zip(self, request: web.Request) -> web.StreamResponse:
         """An event as one zip, with the files of all its stations."""
-        query = request.query
-        clips = [it.rsplit(".", 2) for it in query.get("clips", "").split("~") if it]
-        if not any(MARK in it[0] for it in clips):
+        keys = [it for it in request.query.get("clips", "").split("~") if it]
+        if not any(MARK in it for it in keys):
             return await self.console.zip(request)
-        if len(clips) > limits.EVENT_CLIPS or any(len(it) != 3 for it in clips):
-            raise Unfit(400, "clips names clips as CAMERA.ID.FIRST, with ~ between them.")
-        parts = parts_in(query.get("what", "mp4,csv"))
-        if parts is None:
-            raise Unfit(400, "what is some of mp4, y4m, png and csv, with commas between them.")
-        files = [
-            (*(self.other_of(camera) or (self.this, camera)), part, number_in(id_, 64, "id"),
-             number_in(first, limits.NUMBERS_END, "first"))
-            for part in parts
-            for camera, id_, first in clips
-        ]
+        files = self.files_of(keys, request.query.get("what", "mp4,csv"))
         if self.page.fetches[EVENTS] >= limits.EVENT_FETCHES:
             raise Unfit(503, "Too many events are being fetched. Try again in a minute.")
-        event = next(
-            (it for it in self.joined([]) for clip in it["clips"]
-             if f"{clip['camera']}.{clip['id']}.{clip['first']}" in query["clips"].split("~")),
-            None,
-        )
-        since = event["from_us"] if event else time.time_ns() // 1000
+        since = self.since_of(set(keys))
+        name, progress = f"event_{stamp(since)}", Progress(len(files))
         response = web.StreamResponse(headers={"Content-Type": "application/zip"})
-        name = f"event_{stamp(since)}"
         response.headers["Content-Disposition"] = f'attachment; filename="{name}.zip"'
         self.page.dress(response)
-        progress = Progress(len(files))
-        if shown := query.get("as", "")[:40]:
+        if shown := request.query.get("as", "")[:40]:
             self.console.progress[shown] = progress
             while len(self.console.progress) > limits.PROGRESS:
                 self.console.progress.popitem(last=False)
@@ -560,6 +557,35 @@ class Stations:
             return await self.page.send(request, response, zipped(name, since, files, progress))
         finally:
             self.console.ended(shown, progress)
+
+    def files_of(self, keys: list[str], what: str) -> list[tuple]:
+        """The files of some clips: of each its station, its camera there, the part, and the clip's
+        id and first frame."""
+        clips, parts = [it.rsplit(".", 2) for it in keys], parts_in(what)
+        if len(clips) > limits.EVENT_CLIPS or any(len(it) != 3 for it in clips):
+            raise Unfit(400, "clips names clips as CAMERA.ID.FIRST, with ~ between them.")
+        if parts is None:
+            raise Unfit(400, "what is some of mp4, y4m, png and csv, with commas between them.")
+        return [
+            (
+                *(self.other_of(camera) or (self.this, self.laboratory.watched(camera).camera.name)),
+                part,
+                number_in(id_, limits.NUMBERS_END, "id"),
+                number_in(first, limits.NUMBERS_END, "first"),
+            )
+            for part in parts
+            for camera, id_, first in clips
+        ]
+
+    def since_of(self, keys: set[str]) -> int:
+        """When the event of some clips begins, as far as the other stations have said."""
+        known = [
+            clip["from_us"]
+            for event in self.joined([])
+            for clip in event["clips"]
+            if f"{clip['camera']}.{clip['id']}.{clip['first']}" in keys
+        ]
+        return min(known, default=time.time_ns() // 1000)
 
 
 async def pieces_of(found, other: Other) -> AsyncIterator[bytes]:

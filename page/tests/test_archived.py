@@ -4,8 +4,6 @@ import json
 import os
 
 import pytest
-from conftest import CAMERAS
-
 from station_page import limits
 from station_page.archived import Archive
 
@@ -82,7 +80,7 @@ def test_a_file_that_is_none_is_said(archive):
 
 
 def test_an_event_is_told_as_archived_once_all_its_clips_are(make):
-    laboratory = make(page=False, cameras=[it | {"segments": 32} for it in CAMERAS])
+    laboratory = make(page=False)
     path = laboratory.folder / "archive.json"
     written(path)
     (laboratory.folder / "page.toml").write_text('archive = "archive.json"\n')

@@ -9,15 +9,14 @@ import zipfile
 
 import pytest
 from conftest import TOKEN, Laboratory, token_in
-from station_page.others import Clock
-from station_page.settings import BadSettings, stations_of
-from station_page.together import Presses, are_near, joined
+from station_page.others import Clock, Other
+from station_page.settings import BadSettings, OtherStation, stations_of
+from station_page.together import Presses, are_near, event_of, joined, more_of, state_of
+from station_page.words import Unfit
 from test_push import Open
 
-# Rings of minutes, so that nothing is overwritten on a slow machine.
-LEFT = {"name": "left", "pattern": "64x48 YM12 20:1", "segments": 32}
-TOP = {"name": "top", "pattern": "33x21 GREY 20:1", "segments": 32}
-MINUTE = 15
+LEFT = {"name": "left", "pattern": "64x48 YM12 20:1"}
+TOP = {"name": "top", "pattern": "33x21 GREY 20:1"}
 
 
 def settings_of(folder, *stations):
@@ -37,7 +36,7 @@ def three_in(folder, made):
     hub, *others = made
     settings_of(hub.folder, *((it.folder.name, it.start_page().port) for it in others))
     hub.start_page("--settings", "page.toml")
-    hub.until(lambda: len(names_of(hub)) == 5, "cameras of all", MINUTE)
+    hub.until(lambda: len(names_of(hub)) == 5, "cameras of all")
     for it in others:
         it.filmed(60).filmed(60, "top")
     hub.filmed(60)
@@ -92,7 +91,7 @@ def kept_by(hub, count, note):
     assert answer.status == 200, answer.body
     found = hub.until(
         lambda: [it for it in noted(hub, note) if len(it["cameras"]) == count and it["until_us"] is None],
-        f"event of {count} cameras", MINUTE,
+        f"event of {count} cameras",
     )
     return answer.json()["answers"], found[0]
 
@@ -112,11 +111,13 @@ def test_the_cameras_of_all_stations_are_in_one_console(three):
     assert names_of(hub) == ["left", "north:left", "north:top", "south:left", "south:top"]
     found = {it["name"]: it for it in hub.status()["cameras"]}
     assert (found["north:top"]["width"], found["north:top"]["format"]) == (33, "GREY")
-    hub.until(lambda: all(it["level"] == "good" for it in hub.status()["cameras"]), "good cameras", MINUTE)
-    north.order("!pause top")
-    hub.until(lambda: {it["name"]: it["level"] for it in hub.status()["cameras"]}["north:top"] == "bad", "bad camera", MINUTE)
-    north.order("!go top")
-    hub.until(lambda: {it["name"]: it["level"] for it in hub.status()["cameras"]}["north:top"] == "good", "good camera", MINUTE)
+    stands = lambda: {it["name"]: it["level"] for it in hub.status()["cameras"]}  # noqa: E731
+    hub.until(lambda: set(stands().values()) == {"good"}, "good cameras")
+    north.order("!source top unusable")
+    hub.until(lambda: stands()["north:top"] == "bad", "bad camera")
+    assert stands()["south:top"] == "good"
+    north.order("!source top on")
+    hub.until(lambda: stands()["north:top"] == "good", "good camera")
 
 
 def test_one_press_keeps_the_same_span_on_all_and_is_one_event(three):
@@ -127,7 +128,7 @@ def test_one_press_keeps_the_same_span_on_all_and_is_one_event(three):
     assert len(set(orders)) == 1
     assert len(noted(hub, "run 7")) == 1 and len(event["clips"]) == 5
     for one in (north, south):
-        assert len(noted(one, "run 7")) == 1
+        one.until(lambda: len(noted(one, "run 7")) == 1, "event")
     # All begin and end within two frames of each other, whatever the machine does.
     for word in ("from_us", "to_us"):
         moments = [clip[word] for clip in event["clips"]]
@@ -140,7 +141,7 @@ def test_a_range_and_one_camera_alone_are_kept_where_they_are(three):
     moment = north.camera("top")["newest"][1]
     body = {"camera": "north:top", "from": moment - 2_000_000, "to": moment - 1_000_000, "note": "alone"}
     assert [it["camera"] for it in hub.post("/api/keep", body).json()["answers"]] == ["north:top"]
-    (event,) = hub.until(lambda: noted(hub, "alone"), "event", MINUTE)
+    (event,) = hub.until(lambda: noted(hub, "alone"), "event")
     assert event["cameras"] == ["north:top"] and not noted(south, "alone")
     let_go(hub, event)
     assert hub.post("/api/keep", {"camera": "east:top", "seconds": 1}).status == 404
@@ -150,20 +151,35 @@ def test_a_range_and_one_camera_alone_are_kept_where_they_are(three):
     assert hub.post("/api/release", {"camera": "left", "id": answer["clips"][0]["id"]}).status == 200
 
 
+def test_a_program_beside_it_asks_for_its_own_station_alone(three):
+    hub, north, _ = three
+    before = len(north.ask("/api/events").json()["events"])
+    own = hub.ask("/api/status?of=this").json()["cameras"]
+    assert [it["name"] for it in own] == ["left"]
+    kept = hub.post("/api/keep?of=this", {"seconds": 1, "note": "its own"}).json()["answers"]
+    assert [it["camera"] for it in kept] == ["left"]
+    events = hub.ask("/api/events?of=this").json()["events"]
+    assert events[0]["note"] == "its own"
+    assert all(it["cameras"] == ["left"] for it in events)
+    assert len(north.ask("/api/events").json()["events"]) == before
+
+
 def test_a_note_and_a_release_reach_each_station(three):
     hub, north, south = three
     _, event = kept_by(hub, 5, "soon")
     clips = [{key: it[key] for key in ("camera", "id", "first")} for it in event["clips"]]
     assert hub.post("/api/event/note", {"clips": clips, "note": "later"}).status == 200
-    assert [len(noted(one, "later")) for one in three] == [1, 1, 1]
+    for one in three:
+        one.until(lambda: [it["note"] for it in events_of(one)] == ["later"], "note")
     one = next(it for it in clips if it["camera"] == "south:top")
     assert hub.post("/api/note", one | {"note": "this one"}).status == 200
-    assert {it["note"] for it in south.ask("/api/clips").json()["clips"]} == {"later", "this one"}
+    south.until(lambda: {it["note"] for it in south.ask("/api/clips").json()["clips"]} == {"later", "this one"}, "notes")
     assert hub.post("/api/release", one).status == 200
     answer = hub.post("/api/event/release", {"clips": [it for it in clips if it != one]})
     assert answer.status == 200, answer.body
-    assert [it.ask("/api/clips").json()["clips"] for it in (north, south)] == [[], []]
-    hub.until(lambda: not events_of(hub), "released event", MINUTE)
+    for one in (north, south):
+        one.until(lambda: not one.ask("/api/clips").json()["clips"], "released clips")
+    hub.until(lambda: not events_of(hub), "released event")
     assert "release" in [it["kind"] for it in north.journal()]
 
 
@@ -180,6 +196,8 @@ def test_files_of_other_stations_come_as_they_are_there(three):
     newest = hub.ask("/api/cameras/north%3Aleft/newest.jpg")
     assert newest.status == 200 and newest.body[:2] == b"\xff\xd8" and int(newest.headers["X-Frame-Number"]) >= 30
     let_go(hub, event)
+    for key in ("north:left/../../metrics.0.0", "north:..%2Fx.0.0", "east:left.0.0", "none.0.0~north:left.0.0"):
+        assert hub.ask(f"/api/event.zip?clips={key}&what=csv").status == 404
     for wrong in ("north:left/../../healthz", "north:left/frames/x.jpg", "north:..%2F..%2Fhealthz/newest.jpg"):
         assert hub.ask(f"/api/cameras/{wrong}").status == 404
 
@@ -187,7 +205,7 @@ def test_files_of_other_stations_come_as_they_are_there(three):
 def test_one_zip_has_the_files_of_all_stations(three):
     hub, north, _ = three
     _, event = kept_by(hub, 5, "zip")
-    answer = hub.ask(f"/api/event.zip?clips={event['key']}&what=y4m,csv,png&as=me", timeout=60)
+    answer = hub.ask(f"/api/event.zip?clips={event['key']}&what=y4m,csv,png&as=me")
     assert answer.status == 200
     found = zipfile.ZipFile(io.BytesIO(answer.body))
     assert found.testzip() is None
@@ -204,13 +222,13 @@ def test_a_page_is_sent_pictures_of_all_stations(three):
     hub, north, _ = three
     page = Open(hub)
     for camera in ("left", "north:left", "south:top"):
-        page.next("picture", lambda head: head["camera"] == camera, 60)
+        page.next("picture", lambda head, camera=camera: head["camera"] == camera)
     assert page.look(cameras=["north:top"]).status == 200
-    head, body = page.picture("north:top", 60)
+    head, body = page.picture("north:top")
     assert head["live"] and body[:2] == b"\xff\xd8"
     moment = north.camera("top")["newest"][1] - 1_000_000
     page.look(cameras=["north:top"], moment=moment)
-    head, _ = page.next("picture", lambda head: head["camera"] == "north:top" and not head["live"], 60)
+    head, _ = page.next("picture", lambda head: head["camera"] == "north:top" and not head["live"])
     assert head["time"] <= moment
     assert page.look(cameras=["east:top"]).status == 404
     page.close()
@@ -230,7 +248,7 @@ def test_a_step_is_the_next_frame_of_whichever_station_has_it(three):
 def test_warnings_of_all_stations_are_seen_at_their_own(three):
     hub, north, _ = three
     north.say("given_up", camera="top", frames=3, since="2026-11-22T15:38:00.123Z")
-    alert = hub.until(lambda: [it for it in hub.status()["alerts"] if it["camera"] == "north:top"], "warning", MINUTE)[0]
+    alert = hub.until(lambda: [it for it in hub.status()["alerts"] if it["camera"] == "north:top"], "warning")[0]
     assert hub.post("/api/seen", {"ids": [alert["id"]]}).status == 200
     assert not north.alerts()
 
@@ -242,8 +260,8 @@ def test_a_station_that_does_not_answer_is_said_and_holds_up_no_other(own_three)
     hub, north, south = own_three
     for note, how in (("stands still", signal.SIGSTOP), ("is gone", signal.SIGKILL)):
         north.page.send_signal(how)
-        hub.until(lambda: station_of(hub, "north")["level"] == "bad", "word of it", MINUTE)
-        hub.until(lambda: ("away", "north") in hub.alerts(), "warning", MINUTE)
+        hub.until(lambda: station_of(hub, "north")["level"] == "bad", "word of it")
+        hub.until(lambda: ("away", "north") in hub.alerts(), "warning")
         cameras = {it["name"]: it for it in hub.status()["cameras"]}
         assert cameras["north:left"]["kind"] == "away" and "hasn't answered" in cameras["north:left"]["state"]
         assert cameras["south:left"]["kind"] != "away"
@@ -253,8 +271,8 @@ def test_a_station_that_does_not_answer_is_said_and_holds_up_no_other(own_three)
         assert refused["camera"] == "north" and refused["text"]
         north.page.send_signal(signal.SIGCONT)
         if how == signal.SIGSTOP:
-            hub.until(lambda: station_of(hub, "north")["level"] != "bad", "station that is back", MINUTE)
-            hub.until(lambda: ("away", "north") not in hub.alerts(), "end of the warning", MINUTE)
+            hub.until(lambda: station_of(hub, "north")["level"] != "bad", "station that is back")
+            hub.until(lambda: ("away", "north") not in hub.alerts(), "end of the warning")
 
 
 def test_a_wrong_token_is_said_and_the_right_one_lets_in(make, tmp_path):
@@ -265,8 +283,8 @@ def test_a_wrong_token_is_said_and_the_right_one_lets_in(make, tmp_path):
     settings_of(hub.folder, ("one", other.port, f'token = "{token_in(tmp_path)}"'),
                 ("two", other.port, f'token = "{token_in(wrong, TOKEN[::-1])}"'))
     hub.start_page("--settings", "page.toml")
-    hub.until(lambda: "one:left" in names_of(hub), "camera", MINUTE)
-    hub.until(lambda: "wants another token" in station_of(hub, "two")["text"], "word of it", MINUTE)
+    hub.until(lambda: "one:left" in names_of(hub), "camera")
+    hub.until(lambda: "wants another token" in station_of(hub, "two")["text"], "word of it")
 
 
 def test_what_is_no_page_is_said(make):
@@ -281,8 +299,44 @@ def test_what_is_no_page_is_said(make):
             client.recv(65536)
             client.sendall(b"HTTP/1.1 200 OK\r\nContent-Length: 28\r\n\r\n" + b"\0\0\0\x05\0\0\0\x0bhello" + b"and no JSON" + b"....")
             client.close()
-    hub.until(lambda: station_of(hub, "odd")["level"] == "bad", "word of it", MINUTE)
+    hub.until(lambda: station_of(hub, "odd")["level"] == "bad", "word of it")
     assert hub.post("/api/keep", {"seconds": 1}).status == 200
+
+
+EVENT = {
+    "key": "left.0.0", "number": None, "from_us": 0, "to_us": 1, "seconds": 1.0, "bytes": 1, "tag": 0, "until_us": None,
+    "clips": [{"camera": "left", "id": 0, "first": 0, "from_us": 0, "to_us": 1, "frames": 2}],
+    "cameras": ["left"], "note": "", "fetched": False, "lacks": [],
+}
+
+
+@pytest.mark.parametrize(
+    "kind, told",
+    [
+        ("state", {}), ("state", []), ("state", {"cameras": [{}], "alerts": []}), ("state", {"cameras": [7], "alerts": []}),
+        ("state", {"cameras": [{"name": "left", "after": "1"}], "alerts": []}), ("state", {"cameras": [], "alerts": [{"id": "1", "text": ""}]}),
+        ("more", {"cameras": {"left": 1}}), ("more", {"cameras": []}), ("events", [{}]), ("events", 7), ("events", [EVENT | {"clips": []}]),
+        *(("events", [EVENT | {word: "1"}]) for word in ("from_us", "to_us", "seconds", "bytes", "tag", "number", "until_us", "fetched")),
+        *(("events", [{it: to for it, to in EVENT.items() if it != word}]) for word in EVENT),
+    ],
+)
+def test_what_another_station_says_is_taken_whole_or_not_at_all(kind, told):
+    other = Other(OtherStation("north", "http://127.0.0.1:1", None))
+    with pytest.raises(Unfit, match="isn't a station's page"):
+        other.take(kind, json.dumps(told).encode())
+    assert (other.state, other.more, other.events) == (None, {}, [])
+
+
+def test_what_another_station_says_is_taken():
+    other = Other(OtherStation("north", "http://127.0.0.1:1", None))
+    state = {"cameras": [{"name": "left"}], "alerts": [{"id": 3, "text": "dark", "camera": "left"}]}
+    for kind, told in (("state", state), ("events", [EVENT]), ("more", {"cameras": {"left": {"advice": ""}}})):
+        other.take(kind, json.dumps(told).encode())
+    found = state_of({"cameras": [], "alerts": []}, [other])
+    assert [it["name"] for it in found["cameras"]] == ["north:left"]
+    assert [(it["id"], it["text"]) for it in found["alerts"]] == [(10**9 + 3, "north: dark")]
+    assert more_of({"cameras": {}}, [other])["cameras"] == {"north:left": {"advice": ""}}
+    assert joined([("north", event_of(other, EVENT))], Presses(9))[0]["key"] == "north:left.0.0"
 
 
 # -------------------------------------------------------------------------------------------- clocks
@@ -295,14 +349,14 @@ def test_a_clock_that_is_off_is_warned_of_and_one_that_is_not_is_not(make):
     hub = make(page=False, cameras=[LEFT])
     settings_of(hub.folder, ("north", north.port), ("south", south.port))
     hub.start_page("--settings", "page.toml")
-    hub.until(lambda: ("clock", "north") in hub.alerts(), "warning", MINUTE)
+    hub.until(lambda: ("clock", "north") in hub.alerts(), "warning")
     found = station_of(hub, "north")
     assert abs(found["offset_us"] - 3_000_000) <= found["error_us"] + 1000 and "ahead of this one" in found["text"]
-    hub.until(lambda: station_of(hub, "south")["offset_us"] is not None, "measure", MINUTE)
+    hub.until(lambda: station_of(hub, "south")["offset_us"] is not None, "measure")
     other = station_of(hub, "south")
     assert abs(other["offset_us"]) <= other["error_us"] + 1000 and ("clock", "south") not in hub.alerts()
     north.spoil("clock", "0")
-    hub.until(lambda: ("clock", "north") not in hub.alerts(), "end of the warning", 2 * MINUTE)
+    hub.until(lambda: ("clock", "north") not in hub.alerts(), "end of the warning")
 
 
 def test_a_clock_is_off_only_where_that_is_certain():
@@ -391,6 +445,7 @@ def test_stations_have_names_of_their_own():
         stations_of([{"url": f"http://x{n}/"} for n in range(17)], "page.toml")
 
 
-def test_a_page_alone_says_its_clock_and_no_stations(shared):
-    assert abs(shared.ask("/api/clock").json()["now_us"] / 1e6 - time.time()) < 60
-    assert "stations" not in shared.status() and json.dumps(names_of(shared))
+def test_a_page_alone_says_its_clock_and_no_stations(three):
+    _, north, _ = three
+    assert abs(north.ask("/api/clock").json()["now_us"] / 1e6 - time.time()) < 60
+    assert "stations" not in north.status() and names_of(north) == ["left", "top"]

@@ -1,11 +1,11 @@
-"""Saved events in another place: each clip that a station keeps is copied by rclone, compared there,
-and only then released, where that is wished.
+"""Saved events in another place: each clip that a station keeps is copied by rclone, compared
+there, and only then released, where that is wished.
 
-A clip comes from the station's page byte for byte, with the times of its frames and its note. It goes
-into a folder of its own below `.incoming`, is compared there with what was sent, and then the folder
-gets its name: so whatever has a name in the archive is whole. What fails is tried again for ever.
-The file of the state says what is archived; it is replaced whole, and the page and loop_mqtt read
-it."""
+A clip comes from the station's page byte for byte, with the times of its frames and its note. It
+goes into a folder of its own below `.incoming`, is compared there with what was sent, and then the
+folder gets its name: so whatever has a name in the archive is whole. What fails is tried again for
+ever. The file of the state says what is archived; it is replaced whole, and the page and loop_mqtt
+read it."""
 import contextlib
 import datetime
 import fcntl
@@ -122,14 +122,15 @@ class Archived:
     is_released: bool = False
 
     def as_object(self) -> dict:
-        """For JSON."""
+        """For JSON. The place isn't told: rclone's words for one may have a password in them."""
         found = asdict(self)
+        del found["archive"]
         return found.pop("clip") | found
 
 
 def is_same(one: Clip, other: Clip) -> bool:
-    """Whether two are one clip. Ids are used again, also for the same frames: so the tag counts, and
-    the event's number, where both know it."""
+    """Whether two are one clip. Ids are used again, also for the same frames: so the tag counts,
+    and the event's number, where both know it."""
     alike = all(
         getattr(one, word) == getattr(other, word)
         for word in ("camera", "id", "first", "last", "tag", "since")
@@ -154,11 +155,12 @@ def clip_of(found: dict) -> Clip:
     )
 
 
-def archived_of(found: dict) -> Archived:
-    """An entry of the state."""
+def archived_of(found: dict, places: dict[str, str]) -> Archived:
+    """An entry of the state, and the place where it is, by its name."""
     clip = Clip(**{word: found[word] for word in Clip.__dataclass_fields__})
-    words = {word: found[word] for word in Archived.__dataclass_fields__ if word != "clip"}
-    return Archived(clip, **words)
+    told = [it for it in Archived.__dataclass_fields__ if it not in ("clip", "archive")]
+    archive = places.get(found["name"], "")
+    return Archived(clip, archive=archive, **{word: found[word] for word in told})
 
 
 # --------------------------------------------------------------------------------------- settings
@@ -184,7 +186,8 @@ def read_settings(path: str) -> Settings:
     words = words_of(path)
     url = words.text("url", "http://127.0.0.1:8080/", r"https?://[^\s]+", "an address, http://..")
     token = words.text("token", None)
-    state = words.text("state", os.path.join(os.environ.get("STATE_DIRECTORY", "."), "archive.json"))
+    folder = os.environ.get("STATE_DIRECTORY", ".")
+    state = words.text("state", os.path.join(folder, "archive.json"))
     spool = words.text("spool", os.environ.get("CACHE_DIRECTORY", f"{state}.spool"))
     config, bandwidth = words.text("rclone_config", None), words.text(
         "bandwidth", None, r"[0-9.]+[BKMGkmg]?(:[0-9.]+[BKMGkmg]?)?", "a rate such as 10M"
@@ -260,9 +263,9 @@ class Rclone:
         self, sent: "Sent", place: str, names: list[str], is_quick: bool = False
     ) -> set[str]:
         """What `rclone check` says of each file, whether a place has it as it was sent: `=` and its
-        name, `*` where it is another one, `+` where it isn't there. It goes by hashes, or, where the
-        place has none, by all bytes; with `is_quick` by lengths then. Each is looked up by itself,
-        however many there are."""
+        name, `*` where it is another one, `+` where it isn't there. It goes by hashes, or, where
+        the place has none, by all bytes; with `is_quick` by lengths then. Each is looked up by
+        itself, however many there are."""
         words = ["check", str(sent.folder), place, "--one-way", "--combined", "-", "--no-traverse"]
         words += ["--files-from-raw", str(sent.listed(names))]
         has_hashes = bool(self.can(place).get("Hashes"))
@@ -296,6 +299,8 @@ class State:
         self.since: list[tuple[Clip, float]] = []
         # What may have been left below `.incoming`: places.
         self.begun: list[str] = []
+        # What is written of places, in a file beside the other, which nobody else may read.
+        self.places: dict = {}
         self.fault = ""
         self.told: dict = {}
         self.holder = open(f"{path}.lock", "w", encoding="ascii")
@@ -309,13 +314,16 @@ class State:
         """Reads the file. One that can't be read is moved aside: what it said is compared anew."""
         try:
             found = json.loads(self.path.read_text(encoding="utf-8"))
-            self.archived = [archived_of(it) for it in found["archived"]]
+            with contextlib.suppress(FileNotFoundError):
+                self.places = json.loads(Path(f"{self.path}.places").read_text(encoding="utf-8"))
+                self.begun = [str(it) for it in self.places["begun"]]
+            places = self.places.get("archives", {})
+            self.archived = [archived_of(it, places) for it in found["archived"]]
             self.counts = {it["name"]: int(it["archived"]) for it in found["cameras"]}
             self.since = [
                 (Clip(**{word: it[word] for word in Clip.__dataclass_fields__}), it["waits_since"])
                 for it in found["waiting"]
             ]
-            self.begun = [str(it) for it in found["begun"]]
         except FileNotFoundError:
             return
         except (ValueError, KeyError, TypeError, OSError) as fault:
@@ -352,24 +360,37 @@ class State:
                 "time": time.time(),
                 "fault": self.fault,
                 "cameras": list(self.told.values()),
-                "waiting": [asdict(clip) | {"waits_since": at} for clip, at in self.since],
-                "begun": self.begun,
+                "waiting": [
+                    asdict(clip) | {"waits_since": at}
+                    for clip, at in self.since
+                    if self.entry(clip) is None
+                ],
                 "archived": [it.as_object() for it in self.archived],
             }
-            new = f"{self.path}.new"
-            with open(new, "w", encoding="utf-8") as file:
-                json.dump(body, file, ensure_ascii=False, indent=1)
-                file.flush()
-                if is_synced:
-                    os.fsync(file.fileno())
-            os.chmod(new, 0o640)
-            os.replace(new, self.path)
-            if is_synced:
-                folder = os.open(self.path.parent, os.O_RDONLY)
-                try:
-                    os.fsync(folder)
-                finally:
-                    os.close(folder)
+            archives = {it.name: it.archive for it in self.archived}
+            places = {"begun": list(self.begun), "archives": archives}
+            if places != self.places:
+                put(f"{self.path}.places", places, 0o600, is_synced)
+                self.places = places
+            put(str(self.path), body, 0o640, is_synced)
+
+
+def put(path: str, body: dict, mode: int, is_synced: bool) -> None:
+    """Writes a file: a new one in the old one's place."""
+    new = f"{path}.new"
+    with open(new, "w", encoding="utf-8") as file:
+        os.fchmod(file.fileno(), mode)
+        json.dump(body, file, ensure_ascii=False, indent=1)
+        file.flush()
+        if is_synced:
+            os.fsync(file.fileno())
+    os.replace(new, path)
+    if is_synced:
+        folder = os.open(Path(path).parent, os.O_RDONLY)
+        try:
+            os.fsync(folder)
+        finally:
+            os.close(folder)
 
 
 def tell(text: str) -> None:
@@ -421,8 +442,11 @@ class Camera:
                     work()
                     self.failed = [it for it in self.failed if it[0] != self.at]
                     self.faults, self.fault = 0, ""
-                except (Fault, PageFault, OSError) as fault:
-                    self.refuse(str(fault))
+                except Stopped:
+                    raise
+                except Exception as fault:
+                    is_known = isinstance(fault, (Fault, PageFault, OSError))
+                    self.refuse(str(fault) if is_known else repr(fault))
                     self.all.pause(min(PAUSE_SECONDS * 2 ** (self.faults - 1), MOST_PAUSE_SECONDS))
 
     def refuse(self, why: str) -> None:
@@ -547,11 +571,12 @@ class Camera:
 
     def note(self, clip: Clip, entry: Archived) -> None:
         """The note was changed: the archive's words are written anew."""
-        with self.spool() as folder, self.all.lock_of(entry.archive):
+        archive = entry.archive or self.place.archive
+        with self.spool() as folder, self.all.lock_of(archive):
             sent = Sent(folder, entry.name, entry.bytes, entry.sha256)
             self.write_words(clip, sent)
-            with self.all.incoming(entry.archive) as place:
-                name, there = sent.names()[-1], f"{entry.archive}/{entry.name}"
+            with self.all.incoming(archive) as place:
+                name, there = sent.names()[-1], f"{archive}/{entry.name}"
                 self.rclone.run("copyto", str(folder / name), f"{place}/{name}", "--ignore-times")
                 self.rclone.run("moveto", f"{place}/{name}", f"{there}/{name}", "--ignore-times")
                 if not self.rclone.is_equal(sent, there, [name]):
@@ -734,7 +759,10 @@ class Archive:
             is_old = now - self.written > BEAT_SECONDS
             if is_old or (told, self.state.fault) != (self.state.told, self.state_fault):
                 self.state.told, self.state_fault, self.written = told, self.state.fault, now
-                self.state.write(is_synced=False)
+                try:
+                    self.state.write(is_synced=False)
+                except OSError as fault:
+                    tell(f"{self.state.path} can't be written: {fault.strerror}")
 
     def run(self) -> None:
         """Works until it is told to end."""

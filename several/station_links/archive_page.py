@@ -64,14 +64,15 @@ class Page:
 
     def look(self) -> tuple[list, set[str]]:
         """The clips that are held of events that are over, and the cameras whose stores the page
-        reads: of others nothing is known. The events are asked for before and after: one that
+        reads: of others nothing is known, and those of other stations, which have a colon in their
+        names, are for programs beside these. The events are asked for before and after: one that
         begins or ends meanwhile goes on."""
         try:
             before = self.going_on()
             clips = self.json("/api/clips")["clips"]
             cameras = self.json("/api/status")["cameras"]
             is_on = before | self.going_on()
-            read = {it["name"] for it in cameras if "clips" in it}
+            read = {it["name"] for it in cameras if "clips" in it and ":" not in it["name"]}
             return [
                 self.clip_of(it)
                 for it in clips

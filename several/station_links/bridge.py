@@ -263,9 +263,15 @@ class Bridge:
         state = {key: value for key, value in found.items() if key != "archived"}
         self.states.set(f"{self.base}/archive", {"station": self.words.station} | state)
         for clip in found["archived"]:
-            key = json.dumps(clip, sort_keys=True)
             one = clip if isinstance(clip, dict) else {"clip": clip}
-            self.tell_once([f"archived {key}"], "archived", self.dressed(one))
+            self.tell_once([archived_key(one)], "archived", self.dressed(one))
+
+
+def archived_key(clip: dict) -> str:
+    """By what a clip that was archived is known. Whether it is released may change."""
+    words = ("camera", "id", "first", "last", "tag", "since", "path", "clip")
+    found = {word: clip[word] for word in words if word in clip}
+    return f"archived {json.dumps(found, sort_keys=True)}"
 
 
 def keys_of(event: dict) -> list[str]:

@@ -1,5 +1,6 @@
 """Keeps that are given to a station's page: a page or station that isn't there is waited for, and
-what was asked for is written down, so that it is done after a restart."""
+what was asked for is done once: it is looked for by the mark in its note, where an answer was
+lost."""
 import threading
 import time
 
@@ -42,6 +43,8 @@ class Doer:
             try:
                 return self.kept(keep, is_again)
             except (PageFault, NotNow) as fault:
+                # The page may have done it, and been lost before its answer came.
+                is_again = is_again or isinstance(fault, PageFault)
                 if time.monotonic() > end:
                     return {"kept": False, "refused": "NoPage", "text": str(fault)}
                 if not waits:

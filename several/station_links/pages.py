@@ -4,9 +4,12 @@ import json
 import urllib.error
 import urllib.request
 
-# The seconds that an answer may take (a keep waits for a slow disk for 15), and its bytes.
+# The seconds that an answer may take, that of a keep, which waits for a slow disk, and its bytes.
 ANSWER_SECONDS = 25.0
+KEEP_SECONDS = 150.0
 ANSWER_BYTES = 64 * 1024 * 1024
+# A page that shows other stations too is asked of its own one.
+OWN = "?of=this"
 
 
 class PageFault(Exception):
@@ -31,13 +34,15 @@ class Page:
         # No proxy of the environment stands between.
         self.opener = urllib.request.build_opener(urllib.request.ProxyHandler({}), NoRedirect())
 
-    def ask(self, path: str, body: dict | None = None) -> tuple[int, dict]:
+    def ask(
+        self, path: str, body: dict | None = None, seconds: float | None = None
+    ) -> tuple[int, dict]:
         """What is answered to a question, or to a change where there is a body: the status, and the
         object."""
         data = None if body is None else json.dumps(body).encode()
         request = urllib.request.Request(self.url + path, data, self.headers)
         try:
-            with self.opener.open(request, timeout=self.seconds) as answer:
+            with self.opener.open(request, timeout=seconds or self.seconds) as answer:
                 return answer.status, self.object_in(answer.read(ANSWER_BYTES))
         except urllib.error.HTTPError as fault:
             with fault:
@@ -66,14 +71,15 @@ class Page:
 
     def status(self) -> dict:
         """How station and cameras stand."""
-        return self.look("/api/status", "cameras")
+        return self.look("/api/status" + OWN, "cameras")
 
     def events(self) -> list[dict]:
         """All events, the newest first."""
-        return self.look("/api/events", "events")["events"]
+        return self.look("/api/events" + OWN, "events")["events"]
 
     def keep(self, since: int, until: int, note: str, camera: str | None = None) \
             -> tuple[int, dict]:
         """Keeps a time, in microseconds since 1970, of one camera or of all."""
         body = {"from": since, "to": until, "note": note}
-        return self.ask("/api/keep", body | ({"camera": camera} if camera else {}))
+        more = {"camera": camera} if camera else {}
+        return self.ask("/api/keep" + OWN, body | more, KEEP_SECONDS)

@@ -193,7 +193,7 @@ class Triggers:
         else:
             self.tell(f"{keep.id} NOT kept: {found.get('refused', '')} {found['text']}")
 
-    # ------------------------------------------------------------------------- to whom they are given
+    # ------------------------------------------------------------------ to whom they are given
 
     def work(self) -> None:
         """Gives the keeps to the page, one after the other."""
@@ -205,7 +205,8 @@ class Triggers:
                 self.done(keep, found)
 
     def publish(self) -> None:
-        """Gives the keeps to stations by MQTT. The broker is waited for; loop_mqtt answers there."""
+        """Gives the keeps to stations by MQTT, where loop_mqtt answers. The broker is waited
+        for."""
         for keep, _ in self.all_keeps():
             found = {"id": keep.id, "from": keep.since, "to": keep.until, "note": keep.note}
             found |= {"camera": keep.camera} if keep.camera else {}

@@ -59,7 +59,10 @@ class Bench:
 
     def answer(self, id_):
         """Waits for an order's answer."""
-        return until(lambda: [it for it in self.answers(id_) if "kept" in it], f"answer to {id_}")[0]
+        def found():
+            return [it for it in self.answers(id_) if "kept" in it]
+
+        return until(found, f"answer to {id_}")[0]
 
     def events(self, words):
         """The events of the page whose note has some words."""

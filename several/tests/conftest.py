@@ -4,6 +4,7 @@ import contextlib
 import importlib.util
 import json
 import os
+import pty
 import socket
 import subprocess
 import sys
@@ -35,12 +36,12 @@ Laboratory = of_page().Laboratory
 import layout  # noqa: E402,F401  That of the tools, which the page's tests make known.
 # Rings that hold minutes, of small pictures.
 CAMERAS = [
-    {"name": "left", "pattern": "16x12 YM12 5:1", "segments": 32},
-    {"name": "right", "pattern": "12x9 GREY 5:1", "segments": 32},
+    {"name": "left", "pattern": "16x12 YM12 5:1", "slots": 64, "segments": 32},
+    {"name": "right", "pattern": "12x9 GREY 5:1", "slots": 64, "segments": 32},
 ]
 
 
-def until(reached, what, seconds=60):
+def until(reached, what, seconds=120):
     """Waits for a state, and answers it."""
     end = time.monotonic() + seconds
     while time.monotonic() < end:
@@ -64,6 +65,28 @@ def stations_in(tmp_path):
     yield one
     for station in made:
         station.close()
+
+
+def pty_pair():
+    """Two ends of a serial line: a file that `put` writes to, and the path of the other end."""
+    near, far = pty.openpty()
+    os.set_blocking(near, False)
+    return near, far, os.ttyname(far)
+
+
+def put(near, raw):
+    """Writes to a serial line. Where nobody reads yet, and it is full, nothing comes of it."""
+    with contextlib.suppress(BlockingIOError):
+        return os.write(near, raw)
+    return 0
+
+
+def put_all(near, raw):
+    """Writes all of a text to a serial line that is read."""
+    end = time.monotonic() + 120
+    while raw and time.monotonic() < end:
+        raw = raw[put(near, raw):]
+        time.sleep(0.01)
 
 
 class Program:
@@ -227,7 +250,6 @@ make_station = pytest.fixture(stations_in, name="make_station")
 begin = pytest.fixture(programs_in, name="begin")
 make_broker = pytest.fixture(brokers_in, name="make_broker")
 listen = pytest.fixture(listeners, name="listen")
-
 
 
 @pytest.fixture(scope="module")

@@ -3,9 +3,9 @@ released only then."""
 import json
 import os
 import re
+import shutil
 import signal
 import stat
-import subprocess
 import sys
 from pathlib import Path
 
@@ -23,7 +23,7 @@ CAMERAS = [
     {"name": "right", "pattern": "33x21 YM12 20:1", "segments": 32, "slots": 128},
 ]
 # rclone is run some times for each clip, which takes long where other programs have the processors.
-PATIENCE = 180
+PATIENCE = 600
 LISTENS = re.compile(r"http://127\.0\.0\.1:(\d+)/")
 
 
@@ -62,6 +62,11 @@ class Dav:
     def notes(self):
         """The notes of what is in the archive, by name."""
         return {name[:-5]: json.loads(text)["note"] for name, text in self.files("json").items()}
+
+    def times(self):
+        """When each file was written."""
+        found = (self.folder / "kept").glob("*/*")
+        return {path: path.stat().st_mtime_ns for path in found if path.is_file()}
 
     def incoming(self):
         """What lies below `.incoming`."""
@@ -136,7 +141,7 @@ def note(station, clip, text):
     until(lambda: station.post("/api/note", body).status == 200, "note")
 
 
-# ----------------------------------------------------------------------------- what is in the archive
+# --------------------------------------------------------------------------- what is in the archive
 
 
 def test_each_clip_is_in_the_archive_byte_for_byte(station, dav, make):
@@ -146,13 +151,15 @@ def test_each_clip_is_in_the_archive_byte_for_byte(station, dav, make):
     wanted = {}
     for clip in clips_of(station):
         stamp = re.sub(r"\.\d+Z", "Z", clip["from"]).replace(":", "-")
-        name = f"{clip['camera']}_{stamp}_{clip['first']}-{clip['last']}_{clip['id']}_{clip['event']}"
+        name = f"{clip['camera']}_{stamp}_{clip['first']}-{clip['last']}"
+        name += f"_{clip['id']}_{clip['event']}"
         wanted[name] = clip
         assert dav.files()[f"{name}.y4m"] == station.text_of(clip["camera"], clip)
         lines = dav.files("csv")[f"{name}.csv"].decode().splitlines()[1:]
-        assert [int(line.split(",")[0]) for line in lines] == list(range(clip["first"], clip["last"] + 1))
+        numbers = [int(line.split(",")[0]) for line in lines]
+        assert numbers == list(range(clip["first"], clip["last"] + 1))
         words = json.loads(dav.files("json")[f"{name}.json"])
-        assert [words[it] for it in ("camera", "from", "to", "note")] == [clip[it] for it in ("camera", "from", "to", "note")]
+        assert all(words[it] == clip[it] for it in ("camera", "from", "to", "note"))
     assert len(wanted) == len(dav.files()) == 2 and "run 7" in dav.notes().values()
     assert not dav.incoming()
 
@@ -213,7 +220,7 @@ def test_an_event_that_goes_on_is_archived_once_it_is_over(make_station, dav, be
     station = make_station(cameras=[CAMERAS[0] | {"after": 12}]).filmed()
     archive = Archive(station, begin, archive=dav.place(), release="archived").start()
     station.order("keep left 1")
-    until(lambda: any(it["until_us"] for it in station.ask("/api/events").json()["events"]), "event")
+    until(lambda: station.told("event_begun"), "event")
     archive.has(1)
     until(lambda: not clips_of(station), "release")
     (whole,) = station.told("event_whole")
@@ -222,7 +229,7 @@ def test_an_event_that_goes_on_is_archived_once_it_is_over(make_station, dav, be
     assert f"_{kept['first']}-{kept['last']}_" in name
 
 
-# ------------------------------------------------------------------------------------- what goes wrong
+# ---------------------------------------------------------------------------------- what goes wrong
 
 
 def test_what_was_under_way_when_it_was_killed_is_archived_once(station, dav, make):
@@ -260,7 +267,7 @@ exec {rclone} "$@"
 def spoilt(folder, verb, body):
     """A folder with an rclone that does something else at a verb."""
     folder.mkdir()
-    real = subprocess.run(["which", "rclone"], capture_output=True, text=True, check=True).stdout.strip()
+    real = shutil.which("rclone")
     path = folder / "rclone"
     path.write_text(RCLONE.format(verb=verb, body=body, rclone=real))
     path.chmod(path.stat().st_mode | stat.S_IXUSR)
@@ -272,7 +279,8 @@ def test_a_copy_that_is_wrong_is_never_released(station, dav, make, tmp_path, ki
     """A server that changes one byte of what it was sent: of the same length, so that only what is
     compared tells."""
     clip = station.keep(1)
-    body = f"for it in {dav.folder}/kept/.incoming/*/*/*.{kind}; do printf x | dd of=$it bs=1 seek=90 conv=notrunc 2>/dev/null; done"
+    change = "printf x | dd of=$it bs=1 seek=90 conv=notrunc 2>/dev/null"
+    body = f"for it in {dav.folder}/kept/.incoming/*/*/*.{kind}; do {change}; done"
     wrong = spoilt(tmp_path / "wrong", "check", body)
     archive = make(release="archived").start(path=wrong)
     until(lambda: "isn't what was sent" in archive.camera()["fault"], "fault")
@@ -294,7 +302,8 @@ def test_a_copy_that_changes_with_its_name_is_never_released(station, dav, make,
 
 def test_a_full_server_is_said_and_waited_for(station, dav, make, tmp_path):
     station.keep(1)
-    full = spoilt(tmp_path / "full", "copyto", "test -e full && echo 'no space left on device' >&2 && exit 1")
+    body = "test -e full && echo 'no space left on device' >&2 && exit 1"
+    full = spoilt(tmp_path / "full", "copyto", body)
     (station.folder / "full").touch()
     archive = make(release="archived").start(path=full)
     until(lambda: "no space left" in archive.camera()["fault"], "fault")
@@ -309,9 +318,11 @@ def test_a_camera_whose_place_fails_holds_up_no_other(station, dav, begin):
     station.keep(1)
     assert station.post("/api/keep", {"camera": "right", "seconds": 1}).status == 200
     archive = Archive(station, begin)
-    text = '[[camera]]\nname = "left"\narchive = ":webdav,url=\'http://127.0.0.1:1\',vendor=\'other\':kept"\n'
-    text += f'[[camera]]\nname = "right"\narchive = {json.dumps(dav.place())}\nrelease = "archived"\n'
-    archive.path.write_text(f'url = "http://127.0.0.1:{station.port}"\nstate = "{archive.state}"\n{text}')
+    away = ":webdav,url='http://127.0.0.1:1',vendor='other':kept"
+    text = f'url = "http://127.0.0.1:{station.port}"\nstate = "{archive.state}"\n'
+    text += f'[[camera]]\nname = "left"\narchive = {json.dumps(away)}\n'
+    text += f'[[camera]]\nname = "right"\narchive = {json.dumps(dav.place())}\n'
+    archive.path.write_text(text + 'release = "archived"\n')
     archive.run = begin(SEVERAL / "loop_archive", archive.path)
     until(lambda: [it["camera"] for it in clips_of(station)] == ["left"], "release of right")
     until(lambda: archive.camera("left")["fault"], "fault of left")
@@ -324,27 +335,37 @@ def test_what_somebody_else_releases_before_it_is_archived_is_told(station, dav,
     archive = make().start()
     until(lambda: archive.camera().get("waiting") == 1, "waiting clip")
     station.post("/api/release", {"camera": "left", "id": clip["id"]})
-    until(lambda: f"gone left {clip['id']} {clip['first']}..{clip['last']}" in archive.run.printed(), "word of it")
+    line = f"gone left {clip['id']} {clip['first']}..{clip['last']}"
+    until(lambda: line in archive.run.printed(), "word of it")
 
 
 def test_a_clip_that_has_become_another_is_not_released_by_its_id(station):
     clip = station.keep(1)
-    wrong = {"camera": "left", "id": clip["id"], "first": clip["first"], "last": clip["last"] + 1, "tag": 1}
+    wrong = {"camera": "left", "id": clip["id"], "first": clip["first"], "tag": 1}
+    wrong["last"] = clip["last"] + 1
     assert station.post("/api/release", wrong).status == 409
     event = clips_of(station)[0]["event"]
     assert station.post("/api/release", wrong | {"last": clip["last"]}).status == 409
     assert station.post("/api/release", wrong | {"last": clip["last"], "tag": event}).status == 200
 
 
+def test_what_all_may_read_does_not_name_the_place(station, make):
+    """rclone's words for a place may have a password in them."""
+    station.keep(1)
+    archive = make().start().has(1)
+    assert "webdav" not in archive.state.read_text() and "kept" not in archive.state.read_text()
+    assert stat.S_IMODE((archive.state.parent / "archive.json.places").stat().st_mode) == 0o600
+
+
 def test_a_state_that_cannot_be_read_is_compared_anew(station, dav, make):
     station.keep(1)
     archive = make().start().has(1)
     archive.run.end()
-    before = {path: path.stat().st_mtime_ns for path in (dav.folder / "kept").glob("*/*") if path.is_file()}
+    before = dav.times()
     archive.state.write_text("{")
     archive.start().has(1)
     assert "can't be read" in archive.run.printed()
-    assert before == {path: path.stat().st_mtime_ns for path in (dav.folder / "kept").glob("*/*") if path.is_file()}
+    assert before == dav.times() and before
 
 
 def test_a_page_that_does_not_run_is_said(station, dav, make):
@@ -354,7 +375,7 @@ def test_a_page_that_does_not_run_is_said(station, dav, make):
     assert archive.run.end(signal.SIGTERM) == 0
 
 
-# ------------------------------------------------------------------------------------------ its file
+# ---------------------------------------------------------------------------------------- its file
 
 
 @pytest.mark.parametrize(

@@ -6,6 +6,10 @@ from bench import HERE, Bench, now
 from conftest import until
 
 
+# One bench serves all tests here.
+pytestmark = pytest.mark.xdist_group("mqtt")
+
+
 @pytest.fixture(scope="module")
 def bench(module):
     """The bench of all tests here. Each leaves it as it was, and has ids and notes of its own."""
@@ -81,9 +85,17 @@ def test_warnings_come_and_are_over(bench):
         found = [it for it in bench.heard("events") if it["camera"] == "left"]
         return [it for it in found if words.items() <= it.items()]
 
-    bench.station.order("!pause left")
-    found = until(lambda: left(is_bad=True, is_over=False), "warning")
-    until(lambda: bench.newest("cameras/left").get("level") == "bad", "state")
-    bench.station.order("!go left")
-    until(lambda: left(kind=found[0]["kind"], is_over=True), "end")
+    # A warning that stays until somebody has seen it.
+    bench.station.say("given_up", camera="left", frames=3, since="2026-11-22T15:38:00Z")
+    bench.station.order("!source left other geometry")
+    found = until(lambda: left(kind="given up", is_bad=True, is_over=False), "warning")
+    assert "frames were lost" in found[0]["text"]
+    until(lambda: bench.newest("cameras/left").get("kind") == "other", "state")
+    bench.station.say("room_again", camera="left")
+    ids = [it["id"] for it in bench.station.status()["alerts"] if it["kind"] == "given up"]
+    bench.station.post("/api/seen", {"ids": ids})
+    bench.station.order("!source left on")
+    until(lambda: left(kind="given up", is_over=True), "end")
+    news = until(lambda: [it for it in bench.heard("events") if it["kind"] == "news"], "news")
+    assert any("there is room again" in it["text"] for it in news) and not news[0]["is_bad"]
     until(lambda: bench.newest("cameras/left").get("level") == "good", "state")

@@ -10,6 +10,10 @@ from bench import HERE, Bench
 from conftest import until
 
 
+# One bench serves all tests here.
+pytestmark = pytest.mark.xdist_group("lost")
+
+
 @pytest.fixture(scope="module")
 def bench(module):
     """The bench of all tests here. Each leaves it as it was, and has ids and notes of its own."""
@@ -101,10 +105,13 @@ def test_the_archive_is_told_and_each_clip_once(bench):
     archive(bench.folder, fault="no remote", archived=[clip, clip | {"path": "b.y4m"}])
     until(lambda: bench.newest("archive")["fault"] == "no remote", "fault")
     until(lambda: paths() == ["a.y4m", "b.y4m"], "clip")
+    # It is released, and still the same.
+    clip["is_released"] = True
     # One that is half written changes nothing.
     path.write_text('{"time": "2026-11-22T15:39:00Z", "cam')
     bench.restart()
-    archive(bench.folder, fault="full", archived=[clip, clip | {"path": "b.y4m"}, clip | {"path": "c"}])
+    clips = [clip, clip | {"path": "b.y4m"}, clip | {"path": "c"}]
+    archive(bench.folder, fault="full", archived=clips)
     until(lambda: bench.newest("archive")["fault"] == "full", "fault")
     until(lambda: paths()[-1] == "c", "clip")
     assert paths() == ["a.y4m", "b.y4m", "c"]

@@ -1,10 +1,11 @@
 """loop_mqtt's words: its settings, what an order may say, and which states are told."""
 import json
+import re
 import subprocess
 
 import pytest
-from conftest import SEVERAL, until
-from station_links import asked, bridge, settings, standing
+from conftest import SEVERAL, TOP, until
+from station_links import asked, bridge, settings, standing, triggers
 
 
 @pytest.mark.parametrize(
@@ -118,7 +119,8 @@ def test_a_broker_may_want_tls_and_a_user(make_broker, begin, listen, tmp_path):
     make = "openssl req -x509 -newkey ec -pkeyopt ec_paramgen_curve:prime256v1 -nodes -days 9"
     names = "-subj /CN=broker -addext subjectAltName=IP:127.0.0.1 -keyout key.pem -out ca.pem"
     subprocess.run(f"{make} {names}".split(), cwd=tmp_path, check=True, capture_output=True)
-    subprocess.run(["mosquitto_passwd", "-c", "-b", "users", "one", "its word"], cwd=tmp_path, check=True)
+    passwords = ["mosquitto_passwd", "-c", "-b", "users", "one", "its word"]
+    subprocess.run(passwords, cwd=tmp_path, check=True)
     files = {word: tmp_path / name for word, name in
              (("cafile", "ca.pem"), ("certfile", "ca.pem"), ("keyfile", "key.pem"),
               ("password_file", "users"))}
@@ -131,5 +133,18 @@ def test_a_broker_may_want_tls_and_a_user(make_broker, begin, listen, tmp_path):
         f'password = "word"\nport = {broker.port}\n'
     )
     begin(SEVERAL / "loop_mqtt", "a.toml")
-    it = listen(broker.port, username_pw_set=("one", "its word"), tls_set=(str(tmp_path / "ca.pem"),))
+    more = {"username_pw_set": ("one", "its word"), "tls_set": (str(tmp_path / "ca.pem"),)}
+    it = listen(broker.port, **more)
     until(lambda: it.newest("lapyrei/a/state").get("level") == "bad", "state")
+
+
+def test_the_examples_are_read(tmp_path, monkeypatch):
+    monkeypatch.chdir(tmp_path)
+    assert bridge.read_words(str(TOP / "examples" / "mqtt.toml")).station == "hall"
+    text = (TOP / "examples" / "door.trigger").read_text()
+    (tmp_path / "a.trigger").write_text(text)
+    assert len(triggers.read_words("a.trigger").triggers) == 1
+    # Each word that is commented out is one, too.
+    words = re.sub(r"(?m)^#(?=\w+ = |\[\[)", "", text).replace("\ntoken", "\n#token")
+    (tmp_path / "a.trigger").write_text(words + "\n[broker]\n")
+    assert len(triggers.read_words("a.trigger").triggers) == 3

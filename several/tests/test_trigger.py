@@ -1,13 +1,12 @@
 """loop_trigger's parts: levels that stay, causes that are gathered, sources, and words."""
 import os
-import pty
 import socket
 import sys
 import threading
 import types
 
 import pytest
-from conftest import free_port, layout, until
+from conftest import free_port, layout, pty_pair, put, put_all, until
 from station_links import levels, settings, sources, triggers
 
 SECOND = 1_000_000
@@ -135,7 +134,8 @@ def look():
 def test_a_packet_fires(look):
     port = free_port(socket.SOCK_DGRAM)
     it = look("udp", listen=f"127.0.0.1:{port}", match="^fire", **{"from": ["127.0.0.0/8"]})
-    other = look("udp", listen=f"127.0.0.1:{free_port(socket.SOCK_DGRAM)}", **{"from": ["10.0.0.1"]})
+    away = f"127.0.0.1:{free_port(socket.SOCK_DGRAM)}"
+    other = look("udp", listen=away, **{"from": ["10.0.0.1"]})
     with socket.socket(socket.AF_INET, socket.SOCK_DGRAM) as sender:
         def send(raw, to):
             sender.sendto(raw, ("127.0.0.1", to))
@@ -163,15 +163,20 @@ def test_an_address_that_is_taken_is_a_fault(look):
 
 
 def test_a_line_of_a_serial_line_fires(look):
-    near, far = pty.openpty()
-    it = look("serial", device=os.ttyname(far), baud=115200, match="SHOT")
+    near, far, path = pty_pair()
+    it = look("serial", device=path, baud=115200, match="SHOT")
     # What came before it was opened is passed over.
-    until(lambda: os.write(near, b"SHOT 6\r\n") and it.fired, "cause")
-    os.write(near, b"idle\r\nSHOT 7\r\n" + b"x" * 3000 + b"SHOT\nSHOT 8")
+
+    def fired():
+        put(near, b"SHOT 6\r\n")
+        return it.fired
+
+    until(fired, "cause")
+    put_all(near, b"idle\r\nSHOT 7\r\n" + b"x" * 3000 + b"SHOT\nSHOT 8")
     until(lambda: "SHOT 7" in it.texts()[-1], "cause")
-    os.write(near, b" late\n")
+    put_all(near, b" late\n")
     until(lambda: "SHOT 8" in it.texts()[-1], "cause")
-    name = os.path.basename(os.ttyname(far))
+    name = os.path.basename(path)
     assert it.texts()[-2:] == [f"{name} says 'SHOT 7'", f"{name} says 'SHOT 8 late'"]
     os.close(near)
     until(lambda: it.faults, "fault")
@@ -332,25 +337,31 @@ def test_a_store_that_is_missing_or_has_no_such_region_is_a_fault(tmp_path, look
 # ----------------------------------------------------------------------------------------- words
 
 
+A = '[[trigger]]\nname = "a"\n'
+GPIO = A + 'kind = "gpio"\nline = 1\n'
+UDP = A + 'kind = "udp"\nlisten = "127.0.0.1:1"\n'
+PICTURE = A + 'kind = "picture"\nstore = "x"\n'
+
+
 @pytest.mark.parametrize(
     "text, why",
     [
         ("", r"no \[\[trigger\]\]"),
         ('[[trigger]]\nkind = "udp"', "trigger 1: name is missing"),
-        ('[[trigger]]\nname = "a"\nkind = "bell"', "kind isn't one of gpio, serial, udp"),
-        ('[[trigger]]\nname = "a"\nkind = "udp"', "listen is missing"),
-        ('[[trigger]]\nname = "a"\nkind = "udp"\nlisten = "x:1"', "'x' does not appear to be"),
-        ('[[trigger]]\nname = "a"\nkind = "udp"\nlisten = "127.0.0.1:0"', "listen isn't"),
-        ('[[trigger]]\nname = "a"\nkind = "udp"\nlisten = "127.0.0.1:1"\nmatch = "("', "match isn't"),
-        ('[[trigger]]\nname = "a"\nkind = "udp"\nlisten = "127.0.0.1:1"\nbefore = 0', "before isn't"),
-        ('[[trigger]]\nname = "a"\nkind = "gpio"\nline = 1\nedge = "up"', "edge isn't one of"),
-        ('[[trigger]]\nname = "a"\nkind = "serial"\ndevice = "x"\nbuad = 1', "unknown words: buad"),
-        ('[[trigger]]\nname = "a"\nkind = "picture"\nstore = "x"', "one of above, below and motion"),
-        ('[[trigger]]\nname = "a"\nkind = "picture"\nstore = "x"\nabove = 2', "above isn't a number"),
-        ('[[trigger]]\nname = "a"\nkind = "picture"\nstore = "x"\nabove = 0.5\nregion = [1]', "region"),
-        ('[[trigger]]\nname = "a"\nkind = "mqtt"\ntopic = "x"', r"\[broker\] is missing"),
-        ('stations = "all"\n[[trigger]]\nname = "a"\nkind = "gpio"\nline = 1', r"\[broker\] is missing"),
-        ('[[trigger]]\nname = "a"\nkind = "gpio"\nline = 1\n' * 2, "two triggers have one name"),
+        (A + 'kind = "bell"', "kind isn't one of gpio, serial, udp"),
+        (A + 'kind = "udp"', "listen is missing"),
+        (A + 'kind = "udp"\nlisten = "x:1"', "'x' does not appear to be"),
+        (A + 'kind = "udp"\nlisten = "127.0.0.1:0"', "listen isn't"),
+        (UDP + 'match = "("', "match isn't"),
+        (UDP + 'before = 0', "before isn't"),
+        (A + 'kind = "gpio"\nline = 1\nedge = "up"', "edge isn't one of"),
+        (A + 'kind = "serial"\ndevice = "x"\nbuad = 1', "unknown words: buad"),
+        (PICTURE, "one of above, below and motion"),
+        (PICTURE + 'above = 2', "above isn't a number"),
+        (PICTURE + 'above = 0.5\nregion = [1]', "region"),
+        (A + 'kind = "mqtt"\ntopic = "x"', r"\[broker\] is missing"),
+        ('stations = "all"\n' + GPIO, r"\[broker\] is missing"),
+        (GPIO * 2, "two triggers have one name"),
     ],
 )
 def test_bad_words_are_named(tmp_path, text, why):

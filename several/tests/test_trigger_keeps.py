@@ -1,16 +1,19 @@
 """loop_trigger beside a station with its page, and by MQTT: what happens is kept, with its cause
 in the event's note."""
 import os
-import pty
 import signal
 import socket
 import time
 
 import pytest
 from bench import Bench
-from conftest import SEVERAL, free_port, until
+from conftest import SEVERAL, free_port, pty_pair, put, until
 
 UDP = free_port(socket.SOCK_DGRAM)
+
+
+# One bench serves all tests here.
+pytestmark = pytest.mark.xdist_group("keeps")
 
 
 @pytest.fixture(scope="module")
@@ -45,19 +48,25 @@ def packets(program, text):
 
 def udp(**more):
     """A trigger that UDP packets fire."""
-    words = {"name": '"shot"', "kind": '"udp"', "listen": f'"127.0.0.1:{UDP}"', "before": 2, "after": 1}
+    words = {"name": '"shot"', "kind": '"udp"', "listen": f'"127.0.0.1:{UDP}"'}
+    words |= {"before": 2, "after": 1}
     lines = (f"{word} = {value}" for word, value in (words | more).items())
     return "[[trigger]]\n" + "\n".join(lines) + "\n"
 
 
 def test_a_packet_and_a_serial_line_keep_with_their_cause(bench, trigger):
-    near, far = pty.openpty()
+    near, far, path = pty_pair()
     serial = '[[trigger]]\nname = "plc"\nkind = "serial"\nbefore = 2\nafter = 0\ncamera = "left"\n'
-    program = trigger(udp() + f'{serial}device = "{os.ttyname(far)}"\nmatch = "GO"\n')
+    program = trigger(udp() + f'{serial}device = "{path}"\nmatch = "GO"\n')
     packets(program, "one")
     event = until(lambda: bench.events("UDP from 127.0.0.1 'one'"), "event")[0]
     assert event["note"].startswith("shot: ") and event["cameras"] == ["left", "right"]
-    until(lambda: os.write(near, b"GO 5\n") and "GO 5" in program.printed(), "line")
+
+    def fired():
+        put(near, b"GO 5\n")
+        return "GO 5" in program.printed()
+
+    until(fired, "line")
     found = until(lambda: bench.events("plc: "), "event")[0]
     assert "says 'GO 5'" in found["note"] and found["cameras"] == ["left"]
     program.end(signal.SIGTERM)

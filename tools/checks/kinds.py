@@ -96,7 +96,7 @@ def changed_page(name, old, new, place="page/station_page"):
     return make
 
 
-def changed_links(name, old, new):
+def changed_links(name, old, new, program="loop_archive"):
     """A copy of the programs that link stations, in which one file is changed: what makes it, from
     a folder."""
 
@@ -104,7 +104,7 @@ def changed_links(name, old, new):
         shutil.copytree(TOP / "several", folder / "several")
         changed = changed_copy(f"several/station_links/{name}", old, new)(folder)
         shutil.move(changed, folder / "several/station_links" / name)
-        return str(folder / "several/loop_archive")
+        return str(folder / "several" / program)
 
     return make
 
@@ -886,11 +886,44 @@ KINDS = {
                 "a loop_archive that releases what it hasn't sent",
                 given={
                     "LOOP_ARCHIVE": changed_links(
-                        "archive.py", "                if not is_there:\n", "                if 0:\n"
+                        "archive.py",
+                        "                if not is_there:\n",
+                        "                if 0:\n",
                     )
                 },
                 words=["3"],
                 says="was released, and isn't in the archive",
+            ),
+        ],
+    ),
+    "several": Kind(
+        "several_check",
+        [],
+        None,
+        ["LOOP_STATION"],
+        "presses for three stations by a page and by MQTT, cuts one off, kills the broker",
+        [
+            Wrong(
+                "a loop_mqtt that keeps the time of its own clock",
+                given={
+                    "LOOP_MQTT": changed_links(
+                        "pages.py",
+                        '"from": since, "to": until,',
+                        '"from": since - 9_000_000, "to": until - 3_000_000,',
+                        "loop_mqtt",
+                    )
+                },
+                says="the times differ by",
+            ),
+            Wrong(
+                "a loop_mqtt that forgets what it has told",
+                given={
+                    "LOOP_MQTT": changed_links(
+                        "told.py", "            return key in self.keys\n",
+                        "            return False\n", "loop_mqtt",
+                    )
+                },
+                says="and told",
             ),
         ],
     ),

@@ -313,6 +313,11 @@ impl Station {
         }
     }
 
+    // A keep of before a kill goes on.
+    fn goes_on(&mut self, keep: Waiting) {
+        self.judge.put(&mut self.keeps, keep);
+    }
+
     // Clips that are to be saved, and aren't being saved, are asked for.
     fn save_unsaved(&mut self, camera: &Camera) {
         if camera.saves {
@@ -632,13 +637,19 @@ impl World {
 
     // The events that the file has go on.
     fn events_go_on(&mut self) {
-        let (alloc, now) = (self.station.alloc, self.station.now);
-        for noted in self.station.noted.as_slice() {
-            if let Some(camera) = self.cameras.get(noted.camera) {
-                let keep = Waiting::new(alloc, camera, noted, 0, 0, true, now);
-                self.station.judge.put(&mut self.station.keeps, keep);
+        for place in 0..self.station.noted.len() {
+            if let Some(keep) = self.keep_of(place) {
+                self.station.goes_on(keep);
             }
         }
+    }
+
+    // The keep of an event that the file has, with what it has locked by now.
+    fn keep_of(&self, place: usize) -> Option<Waiting> {
+        let noted = self.station.noted.get(place)?;
+        let camera = self.cameras.get(noted.camera)?;
+        let (alloc, now) = (self.station.alloc, self.station.now);
+        Some(Waiting::new(alloc, camera, noted, 0, 0, true, now))
     }
 
     // Clips that are to be saved, and aren't being saved, are asked for.

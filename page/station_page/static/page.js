@@ -151,7 +151,7 @@ function troubles() {
     if (camera.level !== "good") list.push({ level: camera.level, camera: camera.name, text: camera.state, advice: more[camera.name]?.advice || "" });
   }
   for (const station of standing.stations || []) {
-    if (station.level !== "good") list.push({ level: station.level, text: station.text, advice: `docs/page.md, \u201cSeveral stations\u201d. Its own page is ${station.url}/` });
+    if (station.level !== "good") list.push({ level: station.level, text: station.text, advice: `docs/several.md says more. Its own page is ${station.url}/` });
   }
   if (standing.archive?.text) list.push({ level: "warn", text: standing.archive.text, advice: "Events are kept here until they are archived. docs/several.md says how loop_archive is set up." });
   if (standing.notes_fault) list.push({ level: "warn", text: standing.notes_fault, advice: "Notes aren't written until then. Clips are kept nevertheless." });

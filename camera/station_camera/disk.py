@@ -1,0 +1,77 @@
+"""The disk below the stores, measured; and what a store takes of it."""
+from __future__ import annotations
+
+import os
+import shutil
+import tempfile
+import time
+from fractions import Fraction
+from pathlib import Path
+from typing import NamedTuple
+
+from .text import Form
+
+# What is written for the measurement, and for how long at most.
+PIECE, MOST, SECONDS = 4 << 20, 256 << 20, 3.0
+SYNCS = 20
+# The station's rule for a store: its segments and slots, and the bytes that aren't pixels.
+SLOTS, SEGMENTS_MOST, SLOTS_MOST = 64, 64, 256
+HEADER, SEGMENT_HEAD, SLOT_HEAD = 2560, 512, 32
+# So much of the room that is free isn't taken.
+SPARE = 0.1
+PROPOSED = (1, 2, 5, 10, 20, 30, 60, 120, 240, 480, 720)
+
+
+class Disk(NamedTuple):
+    """A disk: bytes a second, how long a sync takes in milliseconds, mostly and at worst, and the
+    bytes that are free."""
+
+    bandwidth: float
+    sync: float
+    worst: float
+    free: int
+
+
+def measured(folder: Path) -> Disk:
+    """Measures the disk of a folder, by a file that is removed again."""
+    room = shutil.disk_usage(folder).free
+    with tempfile.NamedTemporaryFile(dir=folder, prefix=".loop_setup.") as file:
+        piece, done, begun = os.urandom(PIECE), 0, time.monotonic()
+        while done < min(MOST, room // 4) and time.monotonic() < begun + SECONDS:
+            done += os.write(file.fileno(), piece)
+        os.fdatasync(file.fileno())
+        bandwidth = done / (time.monotonic() - begun)
+        times = []
+        for _ in range(SYNCS):
+            before = time.monotonic()
+            os.pwrite(file.fileno(), piece[:4096], 0)
+            os.fdatasync(file.fileno())
+            times.append(1000 * (time.monotonic() - before))
+    return Disk(bandwidth, sorted(times)[SYNCS // 2], max(times), room)
+
+
+def store_bytes(form: Form, minutes: float) -> int | None:
+    """The bytes of the store that the station makes for so many minutes, or None where none holds
+    so many frames."""
+    frames = -(-Fraction(minutes) * 60 * form.rate // 1)
+    slots = max(SLOTS, -(-int(frames) // (SEGMENTS_MOST - 1)))
+    if slots > SLOTS_MOST:
+        return None
+    segments = max(2, -(-int(frames) // slots) + 1)
+    return HEADER + segments * (SEGMENT_HEAD + slots * (SLOT_HEAD + form.bytes_of_frame()))
+
+
+def proposals(form: Form, disk: Disk) -> list[tuple[int, int]]:
+    """Minutes, each with what its store takes, that fit the disk and a store."""
+    found = [(minutes, store_bytes(form, minutes)) for minutes in PROPOSED]
+    return [(minutes, size) for minutes, size in found if size and size < disk.free * (1 - SPARE)]
+
+
+def needs(form: Form) -> float:
+    """The bytes a second that a camera brings."""
+    return float(form.bytes_of_frame() * form.rate)
+
+
+def gigabytes(count: float) -> str:
+    """Bytes in words."""
+    return f"{count / 1e9:.1f} GB" if count >= 1e8 else f"{count / 1e6:.1f} MB"

@@ -1,0 +1,495 @@
+"""What loop_setup does: from a camera that is plugged in to a recording."""
+from __future__ import annotations
+
+import argparse
+import os
+import sys
+import tempfile
+import time
+import tomllib
+from fractions import Fraction
+from pathlib import Path
+from typing import Any, NamedTuple
+
+from . import disk, found, pictures, samples, services, v4l2, words, written
+from .ask import Ask, Stopped
+from .found import Offer
+from .text import BadFrames, Form
+from .words import BadFile
+
+# Whether the station knows `times_from = "source"`: the camera's own times become the frames'.
+STATION_KNOWS_TIMES_FROM = False
+# How long the first frame is waited for.
+FIRST_FRAME = 60.0
+KEEP = 30
+
+
+class Paths(NamedTuple):
+    """Where things are."""
+
+    cameras: Path
+    config: Path
+    orders: Path
+    answers: Path
+    pipes: Path
+    stores: Path
+    page: Path
+    token: Path
+
+    def pipe(self, name: str) -> Path:
+        """The pipe of a camera."""
+        return self.pipes / f"{name}.y4m"
+
+
+def paths_below(root: str) -> Paths:
+    """The paths of the package, below another root for a trial."""
+    top = Path(root)
+    etc, run, lib = top / "etc/lapyrei", top / "run", top / "var/lib/loop_station"
+    return Paths(
+        etc,
+        etc / "station.toml",
+        run / "loop_station/orders",
+        run / "loop_station/answers",
+        run / "loop_camera",
+        lib,
+        etc / "page.toml",
+        etc / "page.token",
+    )
+
+
+def parser() -> argparse.ArgumentParser:
+    """The options."""
+    it = argparse.ArgumentParser(prog="loop_setup", add_help=False, allow_abbrev=False)
+    for word in ("--list", "--fake", "--yes", "--no-start", "--no-picture", "--move-store"):
+        it.add_argument(word, action="store_true")
+    for word in (
+        "--remove",
+        "--camera",
+        "--source",
+        "--format",
+        "--size",
+        "--rate",
+        "--exposure",
+        "--gain",
+        "--store-format",
+        "--minutes",
+        "--hours",
+        "--keep",
+        "--folder",
+    ):
+        it.add_argument(word)
+    it.add_argument("--bits", choices=["8"])
+    it.add_argument("--root", default="/")
+    it.add_argument("--page", action=argparse.BooleanOptionalAction)
+    return it
+
+
+class Setup:
+    """A run of the program."""
+
+    def __init__(self, given: argparse.Namespace, ask: Ask, tell=print) -> None:
+        self.given, self.ask, self.tell = given, ask, tell
+        self.paths = paths_below(given.root)
+
+    def config(self) -> str:
+        """The text of station.toml, or of none."""
+        return self.paths.config.read_text(encoding="utf-8") if self.paths.config.exists() else ""
+
+    def cameras(self) -> list[dict[str, Any]]:
+        """The cameras of station.toml."""
+        return written.table_of(self.config(), self.paths.config).get("camera", [])
+
+    def remove(self, name: str) -> None:
+        """Takes a camera out of station.toml. Its store stays."""
+        text = written.without_camera(self.config(), name, self.paths.config)
+        if text is None:
+            raise Stopped(f"{self.paths.config} has no camera {name}")
+        store = next((it.get("store") for it in self.cameras() if it.get("name") == name), None)
+        self._write(self.paths.config, text)
+        file = self.paths.cameras / f"{name}.camera"
+        if file.exists():
+            old = written.free(file, "removed")
+            file.rename(old)
+            self.tell(f"{file} is {old} now")
+        if not self.given.no_start:
+            services.run("disable", "--now", f"loop_camera@{name}.service")
+            if services.is_active("loop_station.service"):
+                # A station without a camera doesn't begin.
+                left = written.table_of(text, self.paths.config).get("camera")
+                services.run("restart" if left else "stop", "loop_station.service")
+        self.tell(
+            f"{name} is removed; its store stays: {self.paths.stores / (store or name + '.loop')}"
+        )
+
+    def choose(self) -> Offer:
+        """The camera."""
+        offers = found.offers(self.given.fake, self.tell)
+        if source := self.given.source:
+            real = os.path.realpath(source)
+            for it in offers:
+                if source == it.word or it.kind == "device" and os.path.realpath(it.word) == real:
+                    return it
+            raise Stopped(
+                f"no camera {source} is found; there are: "
+                f"{', '.join(it.word for it in offers) or 'none'}"
+            )
+        if not offers:
+            raise Stopped(
+                "no camera is found: look at its cable, its power, and at dmesg; for one of "
+                "GigE Vision at "
+                "the addresses of both sides (ip addr)"
+            )
+        return offers[self.ask.one_of("Cameras that were found:", [it.line() for it in offers])]
+
+    def settings(self, it: Offer, old: dict[str, str]) -> dict[str, Any]:
+        """The words of NAME.camera. What its old file said for the same camera is proposed."""
+        if it.why or not it.formats:
+            raise Stopped(f"{it.name} {it.why or 'has no format that is read'}")
+        given = self.given
+        key = "FORMAT" if it.kind == "genicam" else "DEVICE_FORMAT"
+        first = old.get(key) or it.format
+        at = it.formats.index(first) if first in it.formats else 0
+        format = given.format or it.formats[self.ask.one_of("Formats:", it.formats, at)]
+        if format not in it.formats:
+            raise Stopped(f"--format {format}: it gives {' '.join(it.formats)}")
+        if it.kind == "genicam":
+            return self._genicam(it, format, old)
+        return self._device(it, format, old)
+
+    def _genicam(self, it: Offer, format: str, old: dict[str, str]) -> dict[str, Any]:
+        """The words of a GenICam camera."""
+        size = self.ask.text(
+            "Size, of the sensor's {}x{}".format(*it.largest),
+            old.get("REGION") or "{}x{}".format(*it.largest),
+            self.given.size,
+            self._wrong_size,
+        )
+        rate = self.ask.text(
+            f"Frames a second, of {it.most:g} at most" if it.most else "Frames a second",
+            old.get("RATE") or f"{it.rate or 25:g}",
+            self.given.rate,
+            self._wrong_rate,
+        )
+        return {
+            "GENICAM": it.word,
+            "REGION": size,
+            "FORMAT": format,
+            "RATE": rate,
+            "EXPOSURE": self.given.exposure or old.get("EXPOSURE"),
+            "GAIN": self.given.gain or old.get("GAIN"),
+            "BITS": self.given.bits or old.get("BITS"),
+            "STORE_FORMAT": self.given.store_format or old.get("STORE_FORMAT"),
+        }
+
+    def _device(self, it: Offer, format: str, old: dict[str, str]) -> dict[str, Any]:
+        """The words of a V4L2 camera."""
+        sizes = [f"{width}x{height}" for width, height in it.sizes[format]]
+        at = sizes.index(old["SIZE"]) if old.get("SIZE") in sizes else 0
+        size = self.given.size or sizes[self.ask.one_of("Sizes:", sizes, at)]
+        width, height = (
+            (int(side) for side in size.split("x")) if not self._wrong_size(size) else (0, 0)
+        )
+        rates = it.rates.get((format, width, height)) or []
+        proposed = old.get("RATE") or (rates[0] if rates else "30")
+        rate = self.ask.text(
+            f"Frames a second, of {' '.join(rates) or 'any'}",
+            proposed,
+            self.given.rate,
+            self._wrong_rate,
+        )
+        stored = None if format in v4l2.DEEP else v4l2.STORED.get(format, "yuv420p")
+        return {
+            "DEVICE": it.word,
+            "DEVICE_FORMAT": format,
+            "SIZE": size,
+            "RATE": rate,
+            "STORE_FORMAT": self.given.store_format or old.get("STORE_FORMAT") or stored,
+            "BITS": self.given.bits or old.get("BITS"),
+        }
+
+    def _wrong_size(self, word: str) -> str | None:
+        try:
+            words.region_of(word, "size")
+        except BadFile as fault:
+            return str(fault)
+        return None
+
+    def _wrong_rate(self, word: str) -> str | None:
+        try:
+            words.rate_of(word)
+        except BadFile as fault:
+            return str(fault)
+        return None
+
+    def picture(self, content: str, name: str, values: dict[str, Any]) -> Form | None:
+        """Takes a picture, and answers what its frames are."""
+        unit = f"loop_camera@{name}.service"
+        stops = not self.given.no_start and services.is_active(unit)
+        if stops:
+            self.tell(f"stopping {unit} for a moment: it has the camera")
+            services.run("stop", unit)
+        folder = Path(self.given.folder or tempfile.mkdtemp(prefix="loop_setup."))
+        folder.chmod(0o755) if not self.given.folder else folder.mkdir(parents=True, exist_ok=True)
+        try:
+            taken = pictures.take(content, name, folder)
+        except pictures.Failed as fault:
+            if stops:
+                services.run("start", unit)
+            raise Stopped(f"{name}: {fault}") from None
+        came = f", {taken.rate:.3g} a second came" if taken.rate else ""
+        self.tell(
+            f"a picture is in {taken.path}: {taken.form.width}x{taken.form.height} "
+            f"{taken.form.colour}{came}"
+        )
+        return taken.form
+
+    def minutes(self, form: Form) -> float:
+        """How much the store is to hold."""
+        self.paths.stores.mkdir(parents=True, exist_ok=True)
+        self.tell(f"measuring the disk of {self.paths.stores}")
+        it = disk.measured(self.paths.stores)
+        self.tell(
+            f"it writes {it.bandwidth / 1e6:.0f} MB a second, a sync takes {it.sync:.1f} ms "
+            f"({it.worst:.0f} at most), "
+            f"{disk.gigabytes(it.free)} are free; the camera brings "
+            f"{disk.needs(form) / 1e6:.1f} MB a second"
+        )
+        if disk.needs(form) > it.bandwidth / 2:
+            self.tell("that is much for this disk: choose fewer or smaller frames, or another disk")
+        offers = disk.proposals(form, it)
+        if not offers:
+            raise Stopped(
+                f"{self.paths.stores} has no room for a minute of these frames: make room, or "
+                f"choose smaller ones"
+            )
+        if self.given.minutes or self.given.hours:
+            try:
+                minutes = float(self.given.minutes or 60 * float(self.given.hours))
+            except ValueError:
+                raise Stopped(
+                    f"{self.given.minutes or self.given.hours} is no number of minutes or hours"
+                ) from None
+            size = disk.store_bytes(form, minutes) if 0 < minutes < 1e6 else None
+            if not size:
+                raise Stopped(
+                    f"{minutes:g} minutes: a store holds {offers[-1][0]} at most of these frames"
+                )
+        else:
+            lines = [f"{minutes} minutes, {disk.gigabytes(size)}" for minutes, size in offers]
+            near = min(range(len(offers)), key=lambda place: abs(offers[place][0] - 5))
+            minutes, size = offers[self.ask.one_of("How much is kept:", lines, near)]
+        if size > it.free:
+            self.tell(
+                f"{disk.gigabytes(size)} are more than is free, unless an old store of this "
+                f"camera goes"
+            )
+        self.tell(f"the store takes {disk.gigabytes(size)}")
+        return minutes
+
+    def station(self, name: str, minutes: float, is_genicam: bool) -> tuple[str, Path]:
+        """The new text of station.toml, and the path of the store."""
+        old = next((it for it in self.cameras() if it.get("name") == name), {})
+        store = old.get("store", f"{name}.loop")
+        clips = self.paths.stores / "clips"
+        values = {
+            "source": str(self.paths.pipe(name)),
+            "store": store,
+            "minutes": minutes,
+            "keep": int(self.given.keep or old.get("keep", KEEP)),
+        }
+        if STATION_KNOWS_TIMES_FROM:
+            values["times_from"] = "source" if is_genicam else None
+        heads = {
+            "orders": str(self.paths.orders),
+            "answers": str(self.paths.answers),
+            "answers_form": "json",
+            "saves": str(clips),
+        }
+        return (
+            written.with_camera(self.config(), name, values, heads, self.paths.config),
+            self.paths.stores / store,
+        )
+
+    def old_store(self, store: Path, form: Form, minutes: float) -> None:
+        """A store of other frames, or of another size, is moved away where that is wanted: it
+        stays."""
+        it = services.store_at(store)
+        if it is None:
+            return
+        wide = form.width * (2 if form.bits() > 8 else 1)
+        sides = it.geometry.width, it.geometry.height, it.geometry.size
+        same = sides == (wide, form.height, form.bytes_of_frame())
+        rate = Fraction(it.geometry.num, it.geometry.den)
+        wanted = disk.store_bytes(form, minutes)
+        if same and rate == form.rate and abs(it.geometry.disk_size() - wanted) <= wanted / 20:
+            return
+        what = "has other frames" if not same or rate != form.rate else "has another size"
+        if self.ask.yes(
+            f"{store} {what}. Move it away, so that a new one is made? It stays, beside",
+            True,
+            True if self.given.move_store else None,
+        ):
+            moved = written.free(store, time.strftime("%Y-%m-%dT%H-%M-%SZ", time.gmtime()))
+            if not self.given.no_start and services.is_active("loop_station.service"):
+                services.run("stop", "loop_station.service")
+            for path in (store, store.with_name(store.name + ".events")):
+                if path.exists():
+                    path.rename(moved.with_name(moved.name + path.name.removeprefix(store.name)))
+            self.tell(f"{store} is {moved} now")
+        else:
+            self.tell(
+                f"{store} {what}: "
+                + ("it keeps its size" if same else "the station will say `other geometry`")
+            )
+
+    def page(self) -> str | None:
+        """The page's address, once it runs, where it is wanted."""
+        if not self.ask.yes("See the cameras in a browser, by loop_page?", True, self.given.page):
+            return None
+        if services.token(self.paths.token):
+            self.tell(f"the page's token is made: {self.paths.token}")
+        listen = "127.0.0.1:8080"
+        if self.paths.page.exists():
+            try:
+                listen = tomllib.loads(self.paths.page.read_text(encoding="utf-8")).get(
+                    "listen", listen
+                )
+            except tomllib.TOMLDecodeError as fault:
+                raise Stopped(f"{self.paths.page}: {fault}") from None
+        return f"http://{listen}/"
+
+    def start(self, name: str, store: Path, page: str | None) -> None:
+        """Starts the services, and waits for the first frame."""
+        before = services.store_at(store)
+        seen = before.next if before is not None else 0
+        units = ["loop_station.service", f"loop_camera@{name}.service"] + (
+            ["loop_page.service"] if page else []
+        )
+        services.run("daemon-reload")
+        services.run("enable", *units)
+        # Each reads its file when it begins. A stop stores what waits.
+        for unit in units:
+            services.run("restart", unit)
+        self.tell(f"started: {', '.join(units)}; waiting for a stored frame")
+        following = services.wait_for_frame(store, seen, FIRST_FRAME)
+        if following is None:
+            raise Stopped(
+                f"no frame was stored in {FIRST_FRAME:.0f} s: journalctl -u loop_station -u "
+                f"loop_camera@{name}"
+            )
+        self.tell(f"{name} records: frame {following - 1} is in {store}")
+        self.tell(f"keep what has just happened: echo keep {name} >{self.paths.orders}")
+
+    def _write(self, path: Path, text: str) -> None:
+        """Writes a file, and tells where the old one is."""
+        old = written.replace(path, text)
+        self.tell(f"{path} is written" + (f"; the old one is {old}" if old else ""))
+
+    def run(self) -> None:
+        """All of it."""
+        if self.given.remove:
+            self.remove(self.given.remove)
+            if not self.given.camera:
+                return
+        offer = self.choose()
+        proposed = (
+            next((it["name"] for it in self.cameras() if self._is_of(it, offer)), None)
+            or self._free_name()
+        )
+        name = self.ask.text("Its name", proposed, self.given.camera, written.wrong_name)
+        file = self.paths.cameras / f"{name}.camera"
+        content = file.read_text(encoding="utf-8") if file.exists() else ""
+        old = words.lines_of(content) if content else {}
+        if offer.word not in (old.get("GENICAM"), old.get("DEVICE")):
+            old = {}
+        values = self.settings(offer, old)
+        made = written.camera_file(values, content)
+        # What loop_camera refuses isn't written.
+        wanted = words.wanted(made)
+        form = None if self.given.no_picture else self.picture(made, name, values)
+        form = form or expected(wanted)
+        form.check()
+        minutes = self.minutes(form)
+        text, store = self.station(name, minutes, offer.kind == "genicam")
+        self._write(file, made)
+        self.old_store(store, form, minutes)
+        self._write(self.paths.config, text)
+        page = self.page()
+        if self.given.no_start:
+            self.tell("nothing was started (--no-start)")
+        else:
+            self.start(name, store, page)
+        if page:
+            self.tell(f"the page: {page}  its token: sudo cat {self.paths.token}")
+
+    def _is_of(self, camera: dict[str, Any], offer: Offer) -> bool:
+        """Whether a camera of station.toml is this one."""
+        file = self.paths.cameras / f"{camera.get('name')}.camera"
+        try:
+            said = words.lines_of(file.read_text(encoding="utf-8"))
+        except (OSError, BadFile):
+            return False
+        return offer.word in (said.get("GENICAM"), said.get("DEVICE"))
+
+    def _free_name(self) -> str:
+        """A name that no camera has."""
+        taken = {it.get("name") for it in self.cameras()}
+        return next(
+            it
+            for it in ["left", "right", *(f"camera{number}" for number in range(3, 99))]
+            if it not in taken
+        )
+
+
+def expected(wanted: words.Wanted) -> Form:
+    """What the frames will be, where no picture is taken."""
+    size = wanted.region
+    if size is None or wanted.rate is None:
+        raise Stopped("without a picture the size and the rate have to be given")
+    if wanted.device:
+        bits = v4l2.DEEP.get(wanted.device_format, 8)
+        plain = wanted.store_format or "yuv420p"
+    else:
+        format = samples.format_of(wanted.format)
+        bits = format.bits
+        plain = wanted.store_format or ("gray" if format.is_samples() else "yuv420p")
+    deep = (
+        bits > 8
+        and not wanted.bits
+        and plain == "gray"
+        or wanted.device
+        and bits > 8
+        and not wanted.bits
+    )
+    return Form(size.width, size.height, f"gray{bits}le" if deep else plain, wanted.rate)
+
+
+def main(given_words: list[str], doc: str, ask: Ask | None = None) -> int:
+    """Reads the words; returns the status."""
+    try:
+        given = parser().parse_args(given_words)
+    except SystemExit:
+        return 2
+
+    def tell(line: str) -> None:
+        print(line, flush=True)
+
+    if given.list:
+        from .program import list_all
+
+        return list_all(given.fake)
+    if os.geteuid() and given.root == "/":
+        print(
+            "loop_setup: it writes into /etc/lapyrei and starts services: sudo loop_setup",
+            file=sys.stderr,
+        )
+        return 1
+    try:
+        Setup(given, ask or Ask(given.yes), tell).run()
+    except (Stopped, services.Failed, BadFile, BadFrames, OSError) as fault:
+        print(f"loop_setup: {fault}", file=sys.stderr)
+        return 1
+    except KeyboardInterrupt:
+        print("\nloop_setup: ended", file=sys.stderr)
+        return 1
+    return 0

@@ -1,0 +1,56 @@
+#!/usr/bin/python3
+"""A TANGO device that keeps: a server of Debian's python3-tango beside a station's page. The
+command `Keep` locks so many seconds before it on all cameras, and answers what was kept; `State` is
+how the station stands.
+
+    tango_keep.py hall                        with a database, in which the device is registered
+    tango_keep.py hall -nodb -port 10000 -dlist lab/lapyrei/hall
+"""
+import json
+import urllib.error
+import urllib.request
+
+from tango import AttrWriteType, DevState
+from tango.server import Device, attribute, command, device_property
+
+
+class LapyreiKeep(Device):
+    """A station's button."""
+
+    page = device_property(dtype=str, default_value="http://127.0.0.1:8080")
+    token = device_property(dtype=str, default_value="")
+    note = attribute(dtype=str, access=AttrWriteType.READ_WRITE)
+
+    def init_device(self):
+        super().init_device()
+        self.words = "TANGO"
+
+    def read_note(self):
+        return self.words
+
+    def write_note(self, words):
+        self.words = words
+
+    def ask(self, path, body=None):
+        head = {"X-Loop-Page": "1", "Content-Type": "application/json"}
+        if self.token:
+            head["Authorization"] = f"Bearer {open(self.token).readline().strip()}"
+        data = None if body is None else json.dumps(body).encode()
+        try:
+            return json.load(urllib.request.urlopen(
+                urllib.request.Request(self.page + path, data, head), timeout=25))
+        except urllib.error.HTTPError as fault:
+            return json.load(fault)
+
+    @command(dtype_in=int, dtype_out=str)
+    def Keep(self, seconds):
+        found = self.ask("/api/keep", {"seconds": seconds, "note": self.words})
+        return found.get("error") or " ".join(it["text"] for it in found["answers"])
+
+    def dev_state(self):
+        level = self.ask("/api/status")["station"][0]
+        return DevState.ON if level == "good" else DevState.ALARM
+
+
+if __name__ == "__main__":
+    LapyreiKeep.run_server()
