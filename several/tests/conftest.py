@@ -229,7 +229,6 @@ make_broker = pytest.fixture(brokers_in, name="make_broker")
 listen = pytest.fixture(listeners, name="listen")
 
 
-
 @pytest.fixture(scope="module")
 def module(tmp_path_factory):
     """All these makers for a whole module, since a page needs seconds to begin on a busy machine:
