@@ -62,8 +62,9 @@ def read_beside(path, enough):
 def test_no_frame_is_torn_beside_a_writer(tmp_path):
     path = tmp_path / "a.loop"
     with writing(path, (640, 480), 3, 1) as count:
-        enough = lambda whole, _: len(whole) >= 200 and len(set(whole)) >= 50  # noqa: E731
-        whole, torn, gone = read_beside(path, enough)
+        whole, torn, gone = read_beside(
+            path, lambda whole, _: len(whole) >= 200 and len(set(whole)) >= 50
+        )
     print(f"{len(whole)} frames read beside {count[0]} stored: {len(torn)} torn, {gone} gone")
     assert not torn
 
