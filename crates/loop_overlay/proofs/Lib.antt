@@ -1,3 +1,2 @@
 mod WriteOver
-mod LogCalls
 mod OverlayImages

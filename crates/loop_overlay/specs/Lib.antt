@@ -1,4 +1,3 @@
 pub mod Layers
-pub mod Log
 pub mod Parts
 pub mod Sound

@@ -12,9 +12,8 @@ use std::time::{Clock, Duration};
 struct Known {
     camera: Camera,
     tally: Tally,
-    // Why the source is unusable, if it is, and the number of that cause: another one has another.
+    // Why the source is unusable, if it is.
     unusable: &'static str,
-    cause: u32,
     // What the source's header said last. The size of its ring means nothing.
     offered: Option<Geometry>,
     // The geometry of the store.
@@ -42,7 +41,6 @@ impl Life {
                 camera: Camera::new(),
                 tally: Tally::new(),
                 unusable: "",
-                cause: 0,
                 offered: None,
                 wanted: None,
                 place: None,
@@ -116,18 +114,14 @@ impl Life {
     /// The source gives what no store takes, by the name of the fault.
     pub fn set_unusable<R: Wait>(&self, rt: &R, why: &'static str) {
         let mut known = self.known.lock(rt);
-        if known.unusable != why {
-            known.unusable = why;
-            known.cause = known.cause.wrapping_add(1);
-        }
+        known.unusable = why;
         // Nothing follows.
         let _act = happens(&mut known, Event::Source(SourceEvent::Unusable));
     }
 
-    /// Why the source is unusable, and the number of that cause.
-    pub fn unusable<R: Wait>(&self, rt: &R) -> (&'static str, u32) {
-        let known = self.known.lock(rt);
-        (known.unusable, known.cause)
+    /// Why the source is unusable.
+    pub fn unusable<R: Wait>(&self, rt: &R) -> &'static str {
+        self.known.lock(rt).unusable
     }
 
     /// Looks at this time whether the source is silent: open, with nothing to read.

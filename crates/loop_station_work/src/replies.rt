@@ -6,7 +6,7 @@ use crate::life::source_name;
 use crate::state::CameraState;
 use loop_desk::{Kept, Outline};
 use loop_script::Listing;
-use loop_station_core::{Keep, Run, kept_answer, shortfall_of};
+use loop_station_core::{Keep, Run, shortfall_of};
 use loop_station_words::{CameraStatus, Lines};
 use loop_store::StoreFault;
 use std::io;
@@ -26,8 +26,7 @@ pub(crate) fn tell_kept(
     lines: &mut Lines,
 ) -> io::Result<()> {
     let name = state.config.name.as_str();
-    let answer = kept_answer(kept.clips.len(), kept.fault.is_some(), is_whole);
-    if answer.none {
+    if kept.clips.is_empty() && kept.fault.is_none() {
         lines.kept_none(name, keep.event)?;
     }
     tell_clips(state, keep, found, lines)?;
@@ -37,10 +36,10 @@ pub(crate) fn tell_kept(
     if let Some(fault) = kept.fault {
         lines.refused(name, fault)?;
     }
-    if answer.held {
+    if is_whole && !kept.clips.is_empty() {
         tell_shortfall(state, keep, until, runs, lines)?;
     }
-    if answer.begun {
+    if !is_whole {
         lines.event_begun(keep.event, keep.since, keep.until)?;
     }
     Ok(())

@@ -299,7 +299,6 @@ fn fault_name(fault: Y4mFault) -> &'static str {
         Y4mFault::NotY4m => "NotY4m",
         Y4mFault::BadHeader => "BadHeader",
         Y4mFault::UnsupportedColour => "UnsupportedColour",
-        Y4mFault::OddWidth => "OddWidth",
         Y4mFault::UnsupportedInterlace => "UnsupportedInterlace",
         Y4mFault::Truncated => "Truncated",
         Y4mFault::Read => "Read",

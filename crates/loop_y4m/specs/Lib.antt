@@ -1,4 +1,3 @@
-pub mod Depths
 pub mod Header
 pub mod Stream
 pub mod Text

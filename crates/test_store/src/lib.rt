@@ -21,8 +21,6 @@ mod asserts;
 #[cfg(test)]
 mod common;
 #[cfg(test)]
-mod deep;
-#[cfg(test)]
 mod exporting;
 #[cfg(test)]
 mod fakes;
