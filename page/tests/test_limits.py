@@ -410,7 +410,7 @@ def test_a_token_of_another_user_is_refused(make):
 
 
 def test_after_a_station_has_ended_what_it_said_of_cameras_is_not_said_any_more(make):
-    lab = make().filmed()
+    lab = make(as_it_is=True).filmed()
     lab.order("!absent left Busy")
     lab.until(lambda: ("absent", "left") in lab.alerts(), "absence")
     lab.end(lab.station)

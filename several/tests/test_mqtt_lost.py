@@ -82,8 +82,13 @@ def test_what_was_kept_without_a_broker_is_told_once(bench):
     until(lambda: "is lost" in bench.program.printed(), "that the broker is lost")
     bench.station.keep(note="quiet 1")
     bench.station.keep(note="quiet 2")
+    # The listener is there first: this broker keeps nothing for those who come later.
+    bench.program.run.send_signal(signal.SIGSTOP)
     bench.listener.messages.clear()
+    bench.listener.ready.clear()
     assert bench.broker.start()
+    assert bench.listener.ready.wait(120)
+    bench.program.run.send_signal(signal.SIGCONT)
     until(lambda: len(bench.kept("quiet")) == 2, "what was kept meanwhile")
     # The states are there again, too: this broker has forgotten all.
     until(lambda: bench.newest("cameras/left").get("kind"), "state")
