@@ -275,8 +275,10 @@ def archived_key(clip: dict) -> str:
 
 
 def keys_of(event: dict) -> list[str]:
-    """By what an event's clips are known as long as they stay: a clip that grows has another id."""
-    return [f"clip {it['camera']} {it['first']} {it['from_us']}" for it in event["clips"]]
+    """By what an event's clips are known as long as they stay: a clip that grows has another id, and
+    two events may have the same frames."""
+    number = event["number"] or event["tag"]
+    return [f"clip {number} {it['camera']} {it['first']} {it['from_us']}" for it in event["clips"]]
 
 
 def checked(path: str, tell) -> Bridge:

@@ -148,3 +148,13 @@ def test_the_examples_are_read(tmp_path, monkeypatch):
     words = re.sub(r"(?m)^#(?=\w+ = |\[\[)", "", text).replace("\ntoken", "\n#token")
     (tmp_path / "a.trigger").write_text(words + "\n[broker]\n")
     assert len(triggers.read_words("a.trigger").triggers) == 3
+
+
+def test_two_events_of_the_same_frames_are_two():
+    def keys(number, *clips):
+        return bridge.keys_of({"number": number, "tag": 0, "clips": clips})
+
+    clip = {"camera": "left", "id": 4, "first": 69, "from_us": 7}
+    assert keys(1, clip) != keys(2, clip)
+    # A clip that grows has another id.
+    assert keys(1, clip) == keys(1, clip | {"id": 5})
