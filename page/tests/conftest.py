@@ -117,6 +117,8 @@ class Laboratory:
     """A folder with a configuration, a station that runs, and a page that does."""
 
     config = "station.toml"
+    # Bounds of the page beside its own ones.
+    bounds: dict = {}
     until = staticmethod(until)
 
     def __init__(
