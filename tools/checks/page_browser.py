@@ -255,8 +255,14 @@ def by_keys(browser, lab, shots):
 
     browser.keys(Keys.ARROW_LEFT)
     browser.until(lambda: browser.text("#large-ago") != "live" and large() > 0, "frame of a key")
-    time.sleep(0.3)
-    before = large()
+
+    def settled():
+        """The frame that is shown large, once it stays for a second."""
+        found = large()
+        time.sleep(1)
+        return large() == found and found
+
+    before = browser.until(settled, "frame that stays")
     for keys, step in (
         (Keys.ARROW_LEFT, -1),
         (Keys.ARROW_RIGHT, 1),
