@@ -96,8 +96,10 @@ def value(it: Any) -> str:
     """A value as TOML has it."""
     if isinstance(it, bool):
         return str(it).lower()
-    if isinstance(it, (int, float)):
-        return f"{it:g}"
+    if isinstance(it, int):
+        return str(it)
+    if isinstance(it, float):
+        return str(int(it)) if it.is_integer() else repr(it)
     return '"' + str(it).replace("\\", "\\\\").replace('"', '\\"') + '"'
 
 
