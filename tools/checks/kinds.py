@@ -678,7 +678,7 @@ KINDS = {
                     )
                 },
                 words=["--quick", "tests"],
-                says="test_yuv4mpeg2_is_byte_for_byte",
+                says="test_(yuv4mpeg2_is_byte_for_byte|the_zip_has_all_of_each_camera)",
             ),
             Wrong(
                 "a page that doesn't look again whether a frame is still there",
