@@ -101,12 +101,15 @@ def test_at_least_five_pictures_of_each_camera_come_a_second(page):
 
 def test_a_moment_is_shown_and_then_the_newest_again(page, shared):
     newest = shared.camera()["newest"]
-    assert page.look(moment=newest[1] - 300_000).status == 200
-    for name in ("left", "right"):
+    moment, names = newest[1] - 300_000, ("left", "right")
+    until(lambda: all(shared.stored(it)[-1].time > moment for it in names), "frames after it")
+    assert page.look(moment=moment).status == 200
+    for name in names:
         head, _ = page.picture(name)
-        assert not head["live"] and 0 <= newest[1] - 300_000 - head["time"] < 30_000
+        times = [it.time for it in shared.stored(name) if it.time <= moment]
+        assert not head["live"] and head["time"] == max(times)
     assert page.look().status == 200
-    assert page.picture("left")[0]["time"] > newest[1] - 300_000
+    assert page.picture("left")[0]["time"] > moment
 
 
 def test_where_a_camera_had_no_frame_that_is_said(page):
