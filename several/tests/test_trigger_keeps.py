@@ -94,6 +94,8 @@ def test_a_keep_waits_for_the_page_also_over_a_kill(bench, trigger):
     until(lambda: "waits: The page" in program.printed(), "that it waits")
     program.end()
     bench.station.start_page("--listen", f"127.0.0.1:{bench.station.port}")
+    # A page that can't read a store yet writes no note, and says so.
+    until(lambda: all(it.get("newest") for it in bench.station.status()["cameras"]), "frames")
     program = trigger(udp(name='"late"'), "late")
     until(lambda: bench.events("waited for"), "event")
     until(lambda: " kept: " in program.printed(), "answer")
