@@ -19,8 +19,8 @@ pub(crate) fn desk_of<D: Disk + Drop>(
         return Err(anyhow!("the store has to be opened again"));
     }
     let DeskLimits { pending, group, .. } = limits;
-    if group == 0 || group > 8 || pending == 0 || pending > 64 {
-        return Err(anyhow!("1 to 8 frames a group, and 1 to 64 that wait"));
+    if group == 0 || group > 64 || pending == 0 || pending > 64 {
+        return Err(anyhow!("1 to 64 frames a group, and 1 to 64 that wait"));
     }
     match Desk::new(alloc, store, limits) {
         Ok(desk) => Ok(desk),

@@ -33,10 +33,10 @@
 //!
 //! opens the store in a file and lists its frames and clips, ROUNDS times;
 //!
-//!     record PATH FRAMES RUN
+//!     record PATH FRAMES RUN GROUP
 //!
-//! opens the store in a file once, appends FRAMES frames one by one, and prints the number after each once it is
-//! stored. Each byte of frame N is (N % 251 + RUN % 251 * 7) % 251;
+//! opens the store in a file once, appends FRAMES frames in groups of GROUP, fewer where a block ends, and prints the
+//! number after each group once it is stored. Each byte of frame N is (N % 251 + RUN % 251 * 7) % 251;
 //!
 //!     lane PATH GROUP GROUPS
 //!

@@ -13,7 +13,7 @@ use std::fs::File;
 use std::rt::Files;
 
 // The most frames of a group.
-const MAX_GROUP: usize = 8;
+const MAX_GROUP: usize = 64;
 
 /// The geometry that the next words name, of one frame a second.
 pub(crate) fn geometry(words: &mut Args) -> Result<Geometry>
@@ -175,17 +175,47 @@ fn footage(number: u64, run: u32) -> u8 {
     ((number % 251 + u64::from(run % 251) * 7) % 251) as u8
 }
 
-// Appends a frame this many times, and prints the number after it each time.
+// A group of this many frames of a run, from this number on.
+fn footage_of(
+    alloc: Global,
+    geometry: &Geometry,
+    first: u64,
+    count: u32,
+    run: u32,
+) -> Result<Vec<Frame>, AllocError>
+    requires { IsTrue (is_good geometry.now) }
+    ensures { IfOk result (λ group. All (λ frame. length frame.bytes.items ≡ frame_bytes geometry.now) group.items) }
+{
+    let mut group = Vec::new(alloc);
+    for place in 0..count {
+        let byte = footage(first.wrapping_add(u64::from(place)), run);
+        group.push(Frame {
+            sequence: 0,
+            flags: 0x2000,
+            timestamp: 0,
+            bytes: vec![in alloc; byte; geometry.frame_bytes() as usize]?,
+        })?;
+    }
+    Ok(group)
+}
+
+// Appends so many frames in groups of this many, fewer where a block ends, and prints the next number after each group.
 fn record_frames<D: Disk + Drop>(
     rt: &HostRuntime,
     store: &mut Store<D>,
     frames: u32,
     run: u32,
+    most: u32,
 ) -> Result<()> {
+    let mut left = frames;
     for _ in 0..frames {
-        let byte = footage(store.next(), run);
-        let frame = group_of(rt.alloc(), &store.geometry(), 1, byte)?;
-        append_groups(store, &frame, 1)?;
+        let count = left.min(most).min(store.room());
+        if count == 0 {
+            break;
+        }
+        let group = footage_of(rt.alloc(), &store.geometry(), store.next(), count, run)?;
+        append_groups(store, &group, 1)?;
+        left -= count;
         let next = store.next();
         println!(rt; "next {next}")?;
     }
@@ -197,6 +227,7 @@ pub(crate) fn record(rt: &HostRuntime, words: &mut Args) -> Result<()> {
     let path = path(words)?;
     let frames = number(words)?;
     let run = number(words)?;
+    let most = number(words)?;
     let mut store = open_file(rt, rt.alloc(), &path)?;
-    record_frames(rt, &mut store, frames, run)
+    record_frames(rt, &mut store, frames, run, most)
 }

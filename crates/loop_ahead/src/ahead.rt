@@ -89,12 +89,6 @@ impl<D: Disk + Drop, A: Allocator> Disk for AheadDisk<D, A> {
         self.failures.note(outcome)
     }
 
-    fn write_at(&mut self, at: u64, bytes: &[u8]) -> Result<(), DiskFault> {
-        self.window.held = 0;
-        let outcome = self.inner.write_at(at, bytes);
-        self.failures.note(outcome)
-    }
-
     fn write_rows(&mut self, at: u64, rows: &[&[u8]]) -> Result<(), DiskFault> {
         self.window.held = 0;
         let outcome = self.inner.write_rows(at, rows);

@@ -89,7 +89,7 @@ OutlineRefuses d fault =
 pub record IsDesk {D A : Type 0} (store : Seen D) (limits : DeskLimits) (buffer : Buffer (Frame A)) : Type 0 where
   pub capacity : buffer.capacity ≡ limits.pending
   pub most : (1 ≤ limits.pending) × (limits.pending ≤ 64)
-  pub group : (1 ≤ limits.group) × (limits.group ≤ 8)
+  pub group : (1 ≤ limits.group) × (limits.group ≤ 64)
   pub few : length buffer.items ≤ limits.pending
   pub numbers : store.next + length buffer.items ≤ last_number (ring_of store.geometry)
   pub sizes : All (λ frame. length frame.bytes.items ≡ frame_bytes store.geometry) buffer.items

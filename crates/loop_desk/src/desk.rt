@@ -62,7 +62,7 @@ impl<D: Disk + Drop, A: Allocator + Copy> Desk<D, A> {
     /// kept. If memory is refused, the store comes back.
     pub fn new(alloc: A, store: Store<D, A>, limits: DeskLimits) -> Result<Self, Store<D, A>>
         requires pending { (1 ≤ limits.pending) × (limits.pending ≤ 64) }
-        requires group { (1 ≤ limits.group) × (limits.group ≤ 8) }
+        requires group { (1 ≤ limits.group) × (limits.group ≤ 64) }
         ensures made { IfOk result (λ desk. desk ≡ record { store = store; pending = []; limits = limits }) }
         ensures refused { IfErr result (λ back. back ≡ store) }
     {
@@ -179,7 +179,7 @@ impl<D: Disk + Drop, A: Allocator> Desk<D, A> {
     }
 
     /// Stores the first frames that wait, all or none: as many as a group may have and the block of the next number has
-    /// room for. It takes no memory and copies no pixel but into the group.
+    /// room for. It takes no memory and copies no pixel.
     ///
     /// If nothing waits, it makes no call of the disk. `MustReopen` comes before that; all else is as `Store::append`
     /// has it. A refusal keeps every frame that waits.

@@ -19,7 +19,7 @@ pub(crate) fn append_first<D: Disk + Drop, A: Allocator>(
     count: usize,
 ) -> Result<u64, StoreFault>
     requires there { count ≤ length frames.now }
-    requires group { (1 ≤ count) × (count ≤ 8) }
+    requires group { (1 ≤ count) × (count ≤ 64) }
     requires room { store.old.next % store.old.geometry.slots + count ≤ store.old.geometry.slots }
     requires sizes { All (λ frame. length frame.bytes.items ≡ frame_bytes store.old.geometry) frames.now }
     ensures goes { Goes D.medium store.old store.new (appended (pictures (take count frames.now)) result ∷ []) }

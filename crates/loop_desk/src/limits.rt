@@ -8,7 +8,7 @@ use std::alloc::{Allocator, Global};
 pub struct DeskLimits {
     /// How many frames may wait: 1 to 64.
     pub pending: u32,
-    /// How many frames one flush stores at most: 1 to 8.
+    /// How many frames one flush stores at most: 1 to 64.
     pub group: u32,
     /// How many calls one session of a recorder takes: 1 to 1,000,000. It doesn't bind the desk itself.
     pub calls: u32,

@@ -37,16 +37,6 @@ pub trait Disk {
         ensures fault { IfErr result (λ fault. fault ≡ Read) }
         ensures called { Called (medium self.old) (medium self.new) (failed_call result) };
 
-    /// Writes the bytes from `at` on. Until a sync, a crash may leave any bytes in their place.
-    /// After a failure their place may hold any bytes.
-    fn write_at(&mut self, at: u64, bytes: &[u8]) -> Result<(), DiskFault>
-        requires { at + length bytes.now ≤ (medium self.old).size }
-        ensures disk { (medium self.old).honest → Writes at bytes.now (medium self.old) (medium self.new) result }
-        ensures each { harsh self.old
-            → harsh self.new × OnOk result (LeavesEachTorn at (length bytes.now) (medium self.old) (medium self.new)) }
-        ensures fault { IfErr result (λ fault. fault ≡ Write) }
-        ensures called { Called (medium self.old) (medium self.new) (failed_call result) };
-
     /// Writes rows of bytes from `at` on, one after the other: one write of all their bytes.
     fn write_rows(&mut self, at: u64, rows: &[&[u8]]) -> Result<(), DiskFault>
         requires { at + length (joined rows.now) ≤ (medium self.old).size }
@@ -56,6 +46,19 @@ pub trait Disk {
             × OnOk result (LeavesEachTorn at (length (joined rows.now)) (medium self.old) (medium self.new)) }
         ensures fault { IfErr result (λ fault. fault ≡ Write) }
         ensures called { Called (medium self.old) (medium self.new) (failed_call result) };
+
+    /// Writes the bytes from `at` on. Until a sync, a crash may leave any bytes in their place.
+    /// After a failure their place may hold any bytes.
+    fn write_at(&mut self, at: u64, bytes: &[u8]) -> Result<(), DiskFault>
+        requires { at + length bytes.now ≤ (medium self.old).size }
+        ensures disk { (medium self.old).honest → Writes at bytes.now (medium self.old) (medium self.new) result }
+        ensures each { harsh self.old
+            → harsh self.new × OnOk result (LeavesEachTorn at (length bytes.now) (medium self.old) (medium self.new)) }
+        ensures fault { IfErr result (λ fault. fault ≡ Write) }
+        ensures called { Called (medium self.old) (medium self.new) (failed_call result) }
+    {
+        self.write_rows(at, &[bytes])
+    }
 
     /// After it, a crash leaves what a read gives. After a failure nothing is settled.
     fn sync(&mut self) -> Result<(), DiskFault>

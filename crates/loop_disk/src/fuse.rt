@@ -96,26 +96,6 @@ impl<D: Disk> Disk for FuseDisk<D> {
         self.failures.note(outcome)
     }
 
-    fn write_at(&mut self, at: u64, bytes: &[u8]) -> Result<(), DiskFault>
-        requires { at + length bytes.now ≤ (D.medium self.old.inner).size }
-        ensures disk { (D.medium self.old.inner).honest
-            → Writes at bytes.now (⟦<FuseDisk<D> as Disk>⟧.medium self.old)
-            (⟦<FuseDisk<D> as Disk>⟧.medium self.new) result }
-        ensures which { FailsOrPasses D.medium (self.old.left == 0) self.old.inner self.new.inner result }
-        ensures left { self.new.left ≡ self.old.left - 1 }
-        ensures each { D.harsh self.old.inner
-            → D.harsh self.new.inner
-            × OnOk result (LeavesEachTorn at (length bytes.now) (⟦<FuseDisk<D> as Disk>⟧.medium self.old)
-            (⟦<FuseDisk<D> as Disk>⟧.medium self.new)) }
-        ensures fault { IfErr result (λ fault. fault ≡ Write) }
-        ensures called { Called (⟦<FuseDisk<D> as Disk>⟧.medium self.old) (⟦<FuseDisk<D> as Disk>⟧.medium self.new)
-            (failed_call result) }
-    {
-        self.admit(DiskFault::Write)?;
-        let outcome = self.inner.write_at(at, bytes);
-        self.failures.note(outcome)
-    }
-
     fn write_rows(&mut self, at: u64, rows: &[&[u8]]) -> Result<(), DiskFault>
         requires { at + length (joined rows.now) ≤ (D.medium self.old.inner).size }
         ensures disk { (D.medium self.old.inner).honest

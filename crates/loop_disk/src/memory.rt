@@ -87,27 +87,6 @@ impl<A: Allocator> Disk for MemDisk<A> {
     }
 
     /// It never fails. A crash may then leave any bytes in the range.
-    fn write_at(&mut self, at: u64, bytes: &[u8]) -> Result<(), DiskFault>
-        requires { at + length bytes.now ≤ (⟦<MemDisk<A> as Disk>⟧.medium self.old).size }
-        ensures always { IsOk result }
-        ensures disk { (⟦<MemDisk<A> as Disk>⟧.medium self.old).honest
-            → Writes at bytes.now (⟦<MemDisk<A> as Disk>⟧.medium self.old)
-            (⟦<MemDisk<A> as Disk>⟧.medium self.new) result }
-        ensures each { ⟦<MemDisk<A> as Disk>⟧.harsh self.old
-            → ⟦<MemDisk<A> as Disk>⟧.harsh self.new
-            × OnOk result (LeavesEachTorn at (length bytes.now) (⟦<MemDisk<A> as Disk>⟧.medium self.old)
-            (⟦<MemDisk<A> as Disk>⟧.medium self.new)) }
-        ensures fault { IfErr result (λ fault. fault ≡ Write) }
-        ensures called { Called (⟦<MemDisk<A> as Disk>⟧.medium self.old) (⟦<MemDisk<A> as Disk>⟧.medium self.new)
-            (failed_call result) }
-    {
-        let event = Event::Wrote(&self.bytes, at, bytes.len());
-        self.past = self.past.after(&event);
-        put(&mut self.bytes, at, bytes);
-        Ok(())
-    }
-
-    /// It never fails. A crash may then leave any bytes in the range.
     fn write_rows(&mut self, at: u64, rows: &[&[u8]]) -> Result<(), DiskFault>
         requires { at + length (joined rows.now) ≤ (⟦<MemDisk<A> as Disk>⟧.medium self.old).size }
         ensures always { IsOk result }

@@ -127,41 +127,6 @@ impl<D: Disk> Disk for OnceDisk<D> {
         self.failures.note(outcome)
     }
 
-    fn write_at(&mut self, at: u64, bytes: &[u8]) -> Result<(), DiskFault>
-        requires { at + length bytes.now ≤ (D.medium self.old.inner).size }
-        ensures disk { (D.medium self.old.inner).honest
-            → Writes at bytes.now (⟦<OnceDisk<D> as Disk>⟧.medium self.old)
-            (⟦<OnceDisk<D> as Disk>⟧.medium self.new) result }
-        ensures which { (is_due self.old.left ≡ false
-            → Called (D.medium self.old.inner) (D.medium self.new.inner) (failed_call result))
-            × (is_due self.old.left ≡ true
-            → IsErr result × (self.old.torn ≡ None → self.new.inner ≡ self.old.inner)) }
-        ensures kept { (D.medium self.old.inner).honest → is_due self.old.left ≡ true → (keep : ℕ)
-            → self.old.torn ≡ Some keep
-            → IsTorn (D.harsh self.old.inner) at bytes.now keep (D.medium self.old.inner)
-            (D.medium self.new.inner) result }
-        ensures next { (self.new.left ≡ left_after self.old.left) × (self.new.torn ≡ self.old.torn) }
-        ensures each { D.harsh self.old.inner
-            → D.harsh self.new.inner
-            × OnOk result (LeavesEachTorn at (length bytes.now) (⟦<OnceDisk<D> as Disk>⟧.medium self.old)
-            (⟦<OnceDisk<D> as Disk>⟧.medium self.new)) }
-        ensures fault { IfErr result (λ fault. fault ≡ Write) }
-        ensures called { Called (⟦<OnceDisk<D> as Disk>⟧.medium self.old) (⟦<OnceDisk<D> as Disk>⟧.medium self.new)
-            (failed_call result) }
-    {
-        if !self.counts_down() {
-            let outcome = self.inner.write_at(at, bytes);
-            return self.failures.note(outcome);
-        }
-        if let Some(keep) = self.torn {
-            // Dropped: this write fails in any case, and that is what it answers.
-            match tear(&mut self.inner, at, bytes, keep) {
-                Ok(()) | Err(_) => (),
-            }
-        }
-        self.fail(DiskFault::Write)
-    }
-
     fn write_rows(&mut self, at: u64, rows: &[&[u8]]) -> Result<(), DiskFault>
         requires { at + length (joined rows.now) ≤ (D.medium self.old.inner).size }
         ensures disk { (D.medium self.old.inner).honest

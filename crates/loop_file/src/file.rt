@@ -142,12 +142,6 @@ impl<F: OpenFile + FileExt + Drop> Disk for FileDisk<F> {
         }
     }
 
-    fn write_at(&mut self, at: u64, bytes: &[u8]) -> Result<(), DiskFault> {
-        self.given = Given::none();
-        let outcome = self.file.write_all_at(bytes, at);
-        self.answer(outcome, DiskFault::Write)
-    }
-
     fn write_rows(&mut self, at: u64, rows: &[&[u8]]) -> Result<(), DiskFault> {
         // The rows end on the disk, so their places are u64s, as its size is.
         let _size = self.size;

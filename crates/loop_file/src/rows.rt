@@ -10,7 +10,7 @@ const PAGE: usize = 4096;
 
 // How many bytes of short rows are put together. A function that takes more than 24 KiB of the stack may be compiled
 // wrongly (docs/working.md, "A fault of the compiler").
-const TOGETHER: usize = 12 * 1024;
+const TOGETHER: usize = 8 * 1024;
 
 // Memory for these, and for what completes the last page.
 type RowMemory = [u8; TOGETHER + PAGE];
@@ -57,7 +57,7 @@ fn parts(at: u64, row: &[u8]) -> (&[u8], &[u8], &[u8])
 
 // Puts bytes into the memory, after so many that it holds.
 fn hold(memory: &mut RowMemory, held: usize, bytes: &[u8])
-    requires { held + length bytes.now ≤ 16384 }
+    requires { held + length bytes.now ≤ 12288 }
 {
     memory[held..held + bytes.len()].copy_from_slice(bytes);
 }

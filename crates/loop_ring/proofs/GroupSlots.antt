@@ -54,37 +54,37 @@ slots_more count heads bodies head body l m =
 
 -- the rows with those of the next slot
 pub rows_more : (p : ℕ) (rows : List (Bor (List ℕ))) (heads : List (List ℕ)) (bodies : List (Bor (List ℕ)))
-    (a d : Bor (List ℕ)) → p < 8 → length rows ≡ 16 → length heads ≡ 8 → length bodies ≡ 8 → a.now ≡ get_or heads p []
+    (a d : Bor (List ℕ)) → p < 64 → length rows ≡ 128 → length heads ≡ 64 → length bodies ≡ 64 → a.now ≡ get_or heads p []
     → joined (take (2 * p) rows) ≡ first_slots p heads bodies
     → joined (take (2 * (p + 1)) (set (set rows (2 * p) a) (2 * p + 1) (get_or bodies p d)))
     ≡ first_slots (p + 1) heads bodies
-rows_more p rows heads bodies a d low sixteen eight eight' is so_far =
+rows_more p rows heads bodies a d low rows_long heads_long bodies_long is so_far =
     let b = get_or bodies p d in
     let one = set rows (2 * p) a in
     let next : 2 * (p + 1) ≡ 2 * p + 1 + 1 = omega arith in
     ap (λ (k : ℕ). joined (take k (set one (2 * p + 1) b))) next
-    ∙ ap joined (take_more_set one (2 * p + 1) b (omega (arith, length-set rows (2 * p) a, sixteen, low)))
+    ∙ ap joined (take_more_set one (2 * p + 1) b (omega (arith, length-set rows (2 * p) a, rows_long, low)))
     ∙ flat_map-append (λ row. row.now) (take (2 * p + 1) one) (b ∷ [])
-    ∙ (λ i. joined (take_more_set rows (2 * p) a (omega (arith, sixteen, low)) i) ++ append-nil b.now i)
+    ∙ (λ i. joined (take_more_set rows (2 * p) a (omega (arith, rows_long, low)) i) ++ append-nil b.now i)
     ∙ (λ i. flat_map-append (λ row. row.now) (take (2 * p) rows) (a ∷ []) i ++ b.now)
     ∙ (λ i. so_far i ++ append-nil a.now i ++ b.now)
     ∙ (λ i. first_slots p heads bodies ++ is i ++ b.now)
     ∙ append_assoc (first_slots p heads bodies) (get_or heads p []) b.now
-    ∙ sym (slots_on p heads bodies d (omega (arith, eight, low)) (omega (arith, eight', low)))
+    ∙ sym (slots_on p heads bodies d (omega (arith, heads_long, low)) (omega (arith, bodies_long, low)))
 
 -- a group with one frame more
 pub gained : (n limit first count : ℕ) (heads : List (List ℕ)) (bodies : List (Bor (List ℕ))) (times : List ℕ)
     (head : List ℕ) (body : Bor (List ℕ)) (p : Picture) → IsGrouped n limit first count heads bodies times
-    → count < limit → length heads ≡ 8 → length bodies ≡ 8 → FitsSlot (first + count) p → length p.bytes ≡ n
+    → count < limit → length heads ≡ 64 → length bodies ≡ 64 → FitsSlot (first + count) p → length p.bytes ≡ n
     → head ++ body.now ≡ slot_bytes (first + count) p
     → Gains n first count (first_slots count heads bodies)
     (first_slots (count + 1) (set heads count head) (set bodies count body)) p
-gained n limit first count heads bodies times head body p kept l eight eight' fits size is = record {
+gained n limit first count heads bodies times head body p kept l heads_long bodies_long fits size is = record {
   fits = fits;
   size = size;
   long = kept.long;
   slots = kept.slots;
   behind =
-      slots_more count heads bodies head body (omega (arith, l, kept.most, eight)) (omega (arith, l, kept.most, eight'))
+      slots_more count heads bodies head body (omega (arith, l, kept.most, heads_long)) (omega (arith, l, kept.most, bodies_long))
       ∙ ap (λ (b : List ℕ). first_slots count heads bodies ++ b) is;
 }

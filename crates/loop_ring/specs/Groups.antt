@@ -27,7 +27,7 @@ first_slots count heads bodies = flat_map (λ slot. slot.0 ++ slot.1.now) (zip (
 pub record IsGrouped (size limit first count : ℕ) (heads : List (List ℕ)) (bodies : List (Bor (List ℕ)))
     (times : List ℕ) : Type 0 where
   pub few : count ≤ limit
-  pub most : limit ≤ 8
+  pub most : limit ≤ 64
   pub fits : size < 2 ^ 32
   pub long : length (first_slots count heads bodies) ≡ count * (32 + size)
   pub slots : slots_in size (first_slots count heads bodies) count

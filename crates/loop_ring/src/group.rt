@@ -14,7 +14,7 @@ use std::alloc::Allocator;
 use std::marker::Model;
 
 /// The most frames that one commit takes.
-pub const MAX_GROUP: usize = 8;
+pub const MAX_GROUP: usize = 64;
 
 /// The most rows of a group's slots: for each frame the head and the bytes.
 pub(crate) const MAX_ROWS: usize = 2 * MAX_GROUP;
@@ -52,7 +52,7 @@ impl<'a> Group<'a> {
         requires { IsTrue (is_good geometry.now) }
         ensures { result ≡ record {
           size = frame_bytes geometry.now;
-          limit = min 8 geometry.now.slots;
+          limit = min 64 geometry.now.slots;
           first = first;
           frames = [];
         } }
@@ -96,7 +96,7 @@ impl<'a> Group<'a> {
     /// How many frames it has.
     pub fn len(&self) -> usize
         ensures count { result ≡ length self.now.frames }
-        ensures few { result ≤ 8 }
+        ensures few { result ≤ 64 }
     {
         self.count
     }
@@ -134,7 +134,7 @@ fn rows_of<'b>(
     bodies: &[&'b [u8]; MAX_GROUP],
     count: usize,
 ) -> [&'b [u8]; MAX_ROWS]
-    requires { count ≤ 8 }
+    requires { count ≤ 64 }
     ensures { joined (take (2 * count) result) ≡ first_slots count heads.now bodies.now }
 {
     let mut rows: [&'b [u8]; MAX_ROWS] = [&[]; MAX_ROWS];

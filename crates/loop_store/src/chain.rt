@@ -22,7 +22,7 @@ pub fn format_and_append<D: Disk + Drop, A: Allocator + Copy>(
     frames: &[Frame<A>],
 ) -> Result<Store<D, A>, StoreFault>
     requires some { 1 ≤ length frames.now }
-    requires few { length frames.now ≤ 8 }
+    requires few { length frames.now ≤ 64 }
     requires room { length frames.now ≤ geometry.slots }
     requires sizes { All (λ frame. length frame.bytes.items ≡ frame_bytes geometry) frames.now }
     ensures { IfOk result (λ store. Stands D.medium store (record {

@@ -151,7 +151,7 @@ impl<D: Disk + Drop, A: Allocator> Store<D, A> {
 }
 
 impl<D: Disk + Drop, A: Allocator> Store<D, A> {
-    /// Stores a group of 1 to 8 frames after the others, all or none, and returns the number of the first. Each has as
+    /// Stores a group of 1 to 64 frames after the others, all or none, and returns the number of the first. Each has as
     /// many bytes as the geometry says, and they fit into the block of the next number, as `room` says. A caller that
     /// isn't proved to ensure this uses loop_desk's `Desk`, which refuses a frame of another size. Where that block
     /// has to be begun and every segment holds one, a block goes first: the least one that isn't locked by a clip and
@@ -165,7 +165,7 @@ impl<D: Disk + Drop, A: Allocator> Store<D, A> {
     /// and two more where one goes first.
     pub fn append(&mut self, frames: &[Frame<A>]) -> Result<u64, StoreFault>
         requires some { 1 ≤ length frames.now }
-        requires few { length frames.now ≤ 8 }
+        requires few { length frames.now ≤ 64 }
         requires room { self.old.next % self.old.geometry.slots + length frames.now ≤ self.old.geometry.slots }
         requires sizes { All (λ frame. length frame.bytes.items ≡ frame_bytes self.old.geometry) frames.now }
         ensures goes { Goes D.medium self.old self.new (appended (pictures frames.now) result ∷ []) }

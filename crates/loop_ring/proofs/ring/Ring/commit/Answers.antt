@@ -13,13 +13,13 @@ use Rattle.loop_ring.specs.Writes.{HasNoStray, slots_in, slots_of}
 use Rattle.loop_ring.proofs.Commits.{AreGates, IsGroup, IsReady, slots_end, commit_moments, commit_ok, CanCommit, commit_stray_done, is_group}
 use Rattle.loop_ring.proofs.ring.Ring.commit.Goals as goal
 
-abbrev gates_8 : List ℕ
-gates_8 = replicate 8 165
+abbrev all_gates : List ℕ
+all_gates = replicate 64 165
 
-are_gates : (count : ℕ) → count ≤ 8 → AreGates count (take count gates_8)
+are_gates : (count : ℕ) → count ≤ 64 → AreGates count (take count all_gates)
 are_gates count le = record {
-  size = omega (arith, le, length-take count gates_8);
-  open_all = λ i l. get_or-take count gates_8 i 0 l ∙ get_or-replicate 8 i 165 0 (omega (arith, l, le));
+  size = omega (arith, le, length-take count all_gates);
+  open_all = λ i l. get_or-take count all_gates i 0 l ∙ get_or-replicate 64 i 165 0 (omega (arith, l, le));
 }
 
 can_commit : (g : Geometry) (j first count : ℕ) (bytes old : List ℕ) → IsTrue (is_good g) → j < g.segments → 1 ≤ count
@@ -39,9 +39,9 @@ can_commit g j first count bytes old good l some room size whole_disk whole stra
     }
 
 ready : (g : Geometry) (j first number count : ℕ) (frames : List Picture) (bytes : List ℕ) (at gate : ℕ)
-    (old : List ℕ) → count ≤ 8 → CanCommit g j first count bytes old → IsGroup g number frames bytes count
+    (old : List ℕ) → count ≤ 64 → CanCommit g j first count bytes old → IsGroup g number frames bytes count
     → at ≡ slot_at g j first → gate ≡ gate_at g j first
-    → IsReady g j first number frames at gate bytes (take count gates_8) old
+    → IsReady g j first number frames at gate bytes (take count all_gates) old
 ready g j first number count frames bytes at gate old few can group at_is gate_is = record {
   at_is = at_is;
   gate_is = gate_is;
@@ -51,7 +51,7 @@ ready g j first number count frames bytes at gate old few can group at_is gate_i
         subst (λ (n : ℕ). slots_in (frame_bytes g) bytes n ≡ slots_of (frame_bytes g) number frames) group.count_is
         group.slots;
   };
-  gates_are = subst (λ (n : ℕ). AreGates n (take count gates_8)) group.count_is (are_gates count few);
+  gates_are = subst (λ (n : ℕ). AreGates n (take count all_gates)) group.count_is (are_gates count few);
   can = subst (λ (n : ℕ). CanCommit g j first n bytes old) group.count_is can;
 }
 
@@ -85,7 +85,7 @@ store_rows_in_turn-requires-clause-gate g c =
     omega (
       arith,
       c.gate_at-gate.ensures,
-      length-take c.len-count.result gates_8,
+      length-take c.len-count.result all_gates,
       c.requires.extent,
       c.requires.room,
       c.len-count.ensures.count,
@@ -110,7 +110,7 @@ returns g c =
     (omega (arith, c.requires.some, c.len-count.ensures.count)) (omega (arith, c.requires.room, c.len-count.ensures.count)) size
     ((g.met.D.Disk.sound c.args.disk.now honest).length_is ∙ c.requires.extent) (c.requires.tail honest).0 (c.requires.tail honest).1 in
     let made : (honest : old.honest) → IsReady h j c.args.first_slot c.args.group.now.first frames c.slot_at-at.result
-    c.gate_at-gate.result bytes (take n gates_8) old.bytes = λ honest.
+    c.gate_at-gate.result bytes (take n all_gates) old.bytes = λ honest.
     ready h j c.args.first_slot c.args.group.now.first n frames bytes c.slot_at-at.result c.gate_at-gate.result
     old.bytes c.len-count.ensures.few (can honest) group c.slot_at-at.ensures c.gate_at-gate.ensures in record {
       moments = λ honest. commit_moments _ _ _ _ _ _ _ _ _ _ _ _ (made honest) (c.store_rows_in_turn.ensures.disk honest);
