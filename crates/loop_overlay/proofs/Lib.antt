@@ -1,2 +1,3 @@
 mod WriteOver
+mod LogCalls
 mod OverlayImages

@@ -1,3 +1,4 @@
 pub mod Layers
+pub mod Log
 pub mod Parts
 pub mod Sound

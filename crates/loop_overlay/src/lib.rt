@@ -1,14 +1,23 @@
-//! A disk over another that is never written to: what is written stays in memory, and reads see it.
+//! Disks over bytes that they never write to: what is written stays in memory, and reads see it.
 //!
-//! `overlay` has the disk, which lies over any other; `overlaid_write` has the writes that it holds in memory. In
-//! contracts its bytes are those of the disk beneath with these writes over them, the first one first, and each call
-//! leaves the disk beneath as it was. It is for looking at a recording without a write, and for trials that must
-//! change nothing: when it is dropped, its writes are gone. `specs/Layers` has the definitions, `proofs/` the lemmas.
+//! `overlay` has a disk that lies over any other; `overlaid_write` has the writes that it holds in memory. In contracts
+//! its bytes are those of the disk beneath with these writes over them, the first one first, and each call leaves the
+//! disk beneath as it was. It is for looking at a recording without a write, and for trials that must change nothing:
+//! when it is dropped, its writes are gone.
 //!
-//! docs/store.md says why it is so.
+//! `log` has a disk over bytes that writes down each write and each sync, so that whoever has these bytes in a file makes
+//! them there. `carry` makes them on another disk: its contract says that a crash at any moment leaves what one of the
+//! log's disk might have left.
+//!
+//! `specs/Layers` and `specs/Log` have the definitions, `proofs/` the lemmas. docs/store.md and docs/disk-model.md say why
+//! it is so.
 #![tactic(auto)]
 
+mod carry;
+mod log;
 mod overlaid_write;
 mod overlay;
 
+pub use carry::carry_out;
+pub use log::{LogDisk, PAGE, Wanted};
 pub use overlay::OverlayDisk;

@@ -24,17 +24,25 @@ impl<A: Allocator> Model for OverlaidWrite<A> {
 
 impl<A: Allocator> OverlaidWrite<A> {
     // Lays the write over a buffer that holds a disk's bytes from `at` on.
-    fn lay(&self, at: u64, buf: &mut [u8])
+    fn lay_over(&self, at: u64, buf: &mut [u8])
         ensures { (image : List ℕ) → IsBufferOf at image buf.old → IsBufferOf at (laid_on image self.now) buf.new }
     {
-        let to = self.at.saturating_sub(at) as usize;
-        let from = at.saturating_sub(self.at) as usize;
-        if to >= buf.len() || from >= self.bytes.len() {
-            return;
-        }
-        let count = (buf.len() - to).min(self.bytes.len() - from);
-        put(buf, to, &self.bytes[from..from + count]);
+        lay(self.at, &self.bytes, at, buf);
     }
+}
+
+/// Lays bytes that were written at `from` over a buffer that holds a disk's bytes from `at` on.
+pub(crate) fn lay(from: u64, bytes: &[u8], at: u64, buf: &mut [u8])
+    ensures { (image : List ℕ) → IsBufferOf at image buf.old
+        → IsBufferOf at (laid_on image (record { at = from; bytes = bytes.now })) buf.new }
+{
+    let to = from.saturating_sub(at) as usize;
+    let skipped = at.saturating_sub(from) as usize;
+    if to >= buf.len() || skipped >= bytes.len() {
+        return;
+    }
+    let count = (buf.len() - to).min(bytes.len() - skipped);
+    put(buf, to, &bytes[skipped..skipped + count]);
 }
 
 // Puts bytes in their place.
@@ -50,7 +58,7 @@ pub(crate) fn lay_all<A: Allocator>(writes: &[OverlaidWrite<A>], at: u64, buf: &
     ensures { (image : List ℕ) → IsBufferOf at image buf.old → IsBufferOf at (laid writes.now image) buf.new }
 {
     for write in writes {
-        write.lay(at, buf);
+        write.lay_over(at, buf);
     }
 }
 

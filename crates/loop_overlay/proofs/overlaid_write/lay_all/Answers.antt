@@ -7,9 +7,9 @@ use Rattle.loop_overlay.proofs.overlaid_write.lay_all.Goals as goal
 
 pub loop-write-preserved : goal.loop-write-preserved
 loop-write-preserved g c = λ image part.
-    subst (λ (l : List ℕ). IsBufferOf c.args.at l c.lay.new.buf)
+    subst (λ (l : List ℕ). IsBufferOf c.args.at l c.lay_over.new.buf)
     (sym (laid_next c.args.writes.now c.loop-write.write-index c.write-item.result image c.loop-write-test.true c.write-item.is))
-    (c.lay.ensures _ (c.loop-write.invariant image part))
+    (c.lay_over.ensures _ (c.loop-write.invariant image part))
 
 pub returns : goal.returns
 returns g c = λ image part.
