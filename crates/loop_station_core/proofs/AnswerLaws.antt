@@ -1,57 +1,58 @@
 -- An order is answered once.
-use Rattle.std.proofs.Common.{◌≡◌, ℕ, ◌+◌, Bool, true, false, not, List, [], ◌∷◌, Option, Some, None, zero, suc, is_some, slice_get, slice_set, if◌then◌else◌, arith, refl}
+use Rattle.std.proofs.Common.{◌≡◌, ℕ, Bool, true, false, List, [], ◌∷◌, Option, Some, None, zero, suc, is_some, slice_get, if◌then◌else◌, arith, refl}
 use Rattle.std.proofs.lemmas.Grind.{common_steps}
-use Rattle.std.specs.List.{position}
 use Rattle.loop_station_core.specs.Answers.{answers_of, given_by, gives, is_whole}
 
 -- where each camera has answered, each has
-all-true : (given : List Bool) (place : ℕ) (x : Bool) → is_whole given ≡ true → slice_get given place ≡ Some x → x ≡ true
-all-true [] place x h e = grind (arith, common_steps)
-all-true (false ∷ bs) place x h e = grind (arith, common_steps)
-all-true (true ∷ bs) zero x h e = grind (arith, common_steps)
-all-true (true ∷ bs) (suc k) x h e =
-    let rest : is_whole bs ≡ true = grind (arith, common_steps) in
-    let at : slice_get bs k ≡ Some x = grind (arith, common_steps) in
-    all-true bs k x rest at
+all-there : {L : Type 0} (given : List (Option L)) (place : ℕ) (o : Option L) → is_whole given ≡ true
+    → slice_get given place ≡ Some o → is_some o ≡ true
+all-there [] place o h e = grind (arith, common_steps)
+all-there (None ∷ os) place o h e = grind (arith, common_steps)
+all-there (Some l ∷ os) zero o h e = grind (arith, common_steps)
+all-there (Some l ∷ os) (suc k) o h e =
+    let rest : is_whole os ≡ true = grind (arith, common_steps) in
+    let at : slice_get os k ≡ Some o = grind (arith, common_steps) in
+    all-there os k o rest at
 
 -- and a further answer changes nothing
-all-given : (given : List Bool) (place : ℕ) → is_whole given ≡ true → gives given place ≡ (given, false)
-all-given given place h = at (slice_get given place) refl where
-  at : (o : Option Bool) → slice_get given place ≡ o → gives given place ≡ (given, false)
+all-given : {L : Type 0} (given : List (Option L)) (place : ℕ) (l : L) → is_whole given ≡ true
+    → gives given place l ≡ (given, false)
+all-given {L = L} given place l h = at (slice_get given place) refl where
+  at : (o : Option (Option L)) → slice_get given place ≡ o → gives given place l ≡ (given, false)
   at None e = grind (arith, common_steps)
-  at (Some true) e = grind (arith, common_steps)
-  at (Some false) e = let t = all-true given place false h e in grind (arith, common_steps)
+  at (Some x) e = let t = all-there given place x h e in grind (arith, common_steps)
 
-whole-stays : (given : List Bool) (places : List ℕ) → is_whole given ≡ true
-    → (answers_of given places ≡ 0) × (is_whole (given_by given places) ≡ true)
+whole-stays : {L : Type 0} (given : List (Option L)) (answers : List (ℕ × L)) → is_whole given ≡ true
+    → (answers_of given answers ≡ 0) × (is_whole (given_by given answers) ≡ true)
 whole-stays given [] h = (refl, h)
-whole-stays given (place ∷ places) h =
-    let same = all-given given place h in
-    let rest = whole-stays given places h in
+whole-stays given (a ∷ answers) h =
+    let same = all-given given a.0 a.1 h in
+    let rest = whole-stays given answers h in
     grind (arith, common_steps)
 
 -- an answer that isn't the last one leaves the order open, and the last one makes it whole
-step-says : (given : List Bool) (place : ℕ) → is_whole given ≡ false → (gives given place).1 ≡ is_whole (gives given place).0
-step-says given place h = grind (arith, common_steps)
+step-says : {L : Type 0} (given : List (Option L)) (place : ℕ) (l : L) → is_whole given ≡ false
+    → (gives given place l).1 ≡ is_whole (gives given place l).0
+step-says given place l h = grind (arith, common_steps)
 
 -- the same of the answers from a second one on
-then-once : (given : List Bool) (place : ℕ) (places : List ℕ) → is_whole given ≡ false
-    → (is_whole (gives given place).0 ≡ false → answers_of (gives given place).0 places
-    ≡ (if is_whole (given_by (gives given place).0 places) then 1 else 0))
-    → answers_of given (place ∷ places) ≡ (if is_whole (given_by given (place ∷ places)) then 1 else 0)
-then-once given place places h more = at (is_whole (gives given place).0) refl where
-  at : (b : Bool) → is_whole (gives given place).0 ≡ b
-      → answers_of given (place ∷ places) ≡ (if is_whole (given_by given (place ∷ places)) then 1 else 0)
+then-once : {L : Type 0} (given : List (Option L)) (a : ℕ × L) (answers : List (ℕ × L)) → is_whole given ≡ false
+    → (is_whole (gives given a.0 a.1).0 ≡ false → answers_of (gives given a.0 a.1).0 answers
+    ≡ (if is_whole (given_by (gives given a.0 a.1).0 answers) then 1 else 0))
+    → answers_of given (a ∷ answers) ≡ (if is_whole (given_by given (a ∷ answers)) then 1 else 0)
+then-once given a answers h more = at (is_whole (gives given a.0 a.1).0) refl where
+  at : (b : Bool) → is_whole (gives given a.0 a.1).0 ≡ b
+      → answers_of given (a ∷ answers) ≡ (if is_whole (given_by given (a ∷ answers)) then 1 else 0)
   at true e =
-      let says = step-says given place h in
-      let rest = whole-stays (gives given place).0 places e in
+      let says = step-says given a.0 a.1 h in
+      let rest = whole-stays (gives given a.0 a.1).0 answers e in
       grind (arith, common_steps)
   at false e =
-      let says = step-says given place h in
+      let says = step-says given a.0 a.1 h in
       let rest = more e in
       grind (arith, common_steps)
 
-pub answered-once : (given : List Bool) (places : List ℕ) → is_whole given ≡ false
-    → answers_of given places ≡ (if is_whole (given_by given places) then 1 else 0)
+pub answered-once : {L : Type 0} (given : List (Option L)) (answers : List (ℕ × L)) → is_whole given ≡ false
+    → answers_of given answers ≡ (if is_whole (given_by given answers) then 1 else 0)
 answered-once given [] h = grind (arith, common_steps)
-answered-once given (place ∷ places) h = then-once given place places h (answered-once (gives given place).0 places)
+answered-once given (a ∷ answers) h = then-once given a answers h (answered-once (gives given a.0 a.1).0 answers)

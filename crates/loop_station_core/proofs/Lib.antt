@@ -4,4 +4,8 @@ pub mod FrameLaws
 pub mod GapLaws
 pub mod KeepLaws
 pub mod LineLaws
+pub mod MarkLaws
 pub mod SaveLaws
+pub mod SearchLaws
+pub mod TextLaws
+pub mod TimeLaws

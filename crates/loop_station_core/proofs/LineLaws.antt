@@ -1,14 +1,15 @@
 -- Lines say what is so, once.
-use Rattle.std.proofs.Common.{◌≡◌, ℕ, ◌+◌, ◌-◌, ◌≤◌, ◌==◌, ◌||◌, ◌&&◌, Bool, true, false, List, [], ◌∷◌, Option, Some, None, IfSome, arith, refl, nat_lt, if◌then◌else◌}
+use Rattle.std.proofs.Common.{◌≡◌, ℕ, ◌+◌, ◌-◌, ◌/◌, ◌≤◌, ◌==◌, ◌||◌, ◌&&◌, Bool, true, false, List, [], ◌∷◌, Option, Some, None, IfSome, arith, refl, nat_lt, if◌then◌else◌}
 use Rattle.std.proofs.lemmas.Grind.{common_steps}
-use Rattle.loop_station_core.specs.Laws.{Alternate, StaysLost, IsSo, frames_in, locked_lines, told_in}
-use Rattle.loop_station_core.specs.Telling.{is_missing, known_after, lines_of, same_source, source_line, told_behind, told_locked, told_lost, told_nearly, told_source, told_store, told_waited}
+use Rattle.loop_station_core.specs.Laws.{Alternate, StaysLost, IsSo, frames_in, is_measured, locked_lines, syncs_in, told_in}
+use Rattle.loop_station_core.specs.Telling.{is_missing, known_after, lines_of, same_source, source_line, told_behind, told_locked, told_lost, told_making, told_nearly, told_slow, told_source, told_store, told_syncs, told_unusable, told_waited}
 use Rattle.loop_station_core.specs.declared.changes.SourceSeen.{SourceSeen}
 use Rattle.loop_station_core.specs.declared.changes.SourceSeen.TheVariants.{Missing, Silent, Other, Unusable, On}
 use Rattle.loop_station_core.specs.declared.changes.StoreSeen.{StoreSeen}
-use Rattle.loop_station_core.specs.declared.changes.StoreSeen.TheVariants.{Unknown, Open, Absent, Stopped}
+use Rattle.loop_station_core.specs.declared.changes.StoreSeen.TheVariants.{Unknown, Open, Absent, Making, Stopped}
+use Rattle.loop_station_core.specs.declared.changes.DiskSeen.{DiskSeen}
 use Rattle.loop_station_core.specs.declared.changes.Change.{Change}
-use Rattle.loop_station_core.specs.declared.changes.Change.TheVariants.{StoreAbsent}
+use Rattle.loop_station_core.specs.declared.changes.Change.TheVariants.{StoreAbsent, SourceUnusable, Made}
 use Rattle.loop_station_core.specs.declared.changes.LostTold.{LostTold}
 use Rattle.loop_station_core.specs.declared.changes.WaitTold.{WaitTold}
 use Rattle.loop_station_core.specs.declared.changes.Seen.{Seen}
@@ -42,19 +43,28 @@ store-at s Unknown Unknown early e = tt
 store-at s Unknown Open early e = tt
 store-at s Unknown (Absent why) early e = tt
 store-at s Unknown Stopped early e = tt
+store-at s Unknown (Making p) early e = tt
 store-at s Stopped Unknown early e = tt
 store-at s Stopped Open early e = tt
 store-at s Stopped (Absent why) early e = tt
 store-at s Stopped Stopped early e = tt
+store-at s Stopped (Making p) early e = tt
+store-at s (Making p) Unknown early e = tt
+store-at s (Making p) Open early e = tt
+store-at s (Making p) (Absent why) early e = tt
+store-at s (Making p) Stopped early e = tt
+store-at s (Making p) (Making q) early e = tt
 store-at s Open Unknown early e = e
 store-at s Open Open early e = tt
 store-at s Open (Absent why) early e = e
 store-at s Open Stopped early e = e
+store-at s Open (Making p) early e = e
 store-at s (Absent cause) Unknown early e = or-none ((cause == 0) && early) Unknown (Absent cause) s (Some (StoreAbsent cause)) (λ h. e)
 store-at s (Absent cause) Open early e = or-none ((cause == 0) && early) Open (Absent cause) s (Some (StoreAbsent cause)) (λ h. e)
 store-at s (Absent cause) (Absent why) early e =
     or-none ((why == cause) || ((cause == 0) && early)) (Absent why) (Absent cause) s (Some (StoreAbsent cause)) (λ h. e)
 store-at s (Absent cause) Stopped early e = or-none ((cause == 0) && early) Stopped (Absent cause) s (Some (StoreAbsent cause)) (λ h. e)
+store-at s (Absent cause) (Making p) early e = or-none ((cause == 0) && early) (Making p) (Absent cause) s (Some (StoreAbsent cause)) (λ h. e)
 
 lost-so : (s : Seen) (known : LostTold) → IfSome (told_lost known s.lost s.now s.stopping).1 (IsSo s)
 lost-so s known = grind (arith, common_steps)
@@ -75,10 +85,43 @@ waited-so : (s : Seen) (known : WaitTold) (waited : Option ℕ) → IfSome (told
 waited-so s known (Some since) = grind (arith, common_steps)
 waited-so s known None = grind (arith, common_steps)
 
+unusable-at : (s : Seen) (x : SourceSeen) (known : Option ℕ) → s.source ≡ x → IfSome (told_unusable known x s.unusable).1 (IsSo s)
+unusable-at s Unusable None e = (e, refl)
+unusable-at s Unusable (Some why) e =
+    or-none (why == s.unusable) (Some why) (Some s.unusable) s (Some (SourceUnusable s.unusable)) (λ h. (e, refl))
+unusable-at s Missing None e = tt
+unusable-at s Missing (Some why) e = tt
+unusable-at s Silent None e = tt
+unusable-at s Silent (Some why) e = tt
+unusable-at s Other None e = tt
+unusable-at s Other (Some why) e = tt
+unusable-at s On None e = tt
+unusable-at s On (Some why) e = tt
+
+making-at : (s : Seen) (x : StoreSeen) (known : Option ℕ) → s.store ≡ x → IfSome (told_making known x).1 (IsSo s)
+making-at s (Making percent) None e = e
+making-at s (Making percent) (Some quarter) e =
+    or-none (quarter == percent / 25) (Some quarter) (Some (percent / 25)) s (Some (Made percent)) (λ h. e)
+making-at s Unknown None e = tt
+making-at s Unknown (Some quarter) e = tt
+making-at s Open None e = tt
+making-at s Open (Some quarter) e = tt
+making-at s (Absent why) None e = tt
+making-at s (Absent why) (Some quarter) e = tt
+making-at s Stopped None e = tt
+making-at s Stopped (Some quarter) e = tt
+
+syncs-so : (s : Seen) (known : Bool) → IfSome (told_syncs known s.disk) (IsSo s)
+syncs-so s known = grind (arith, common_steps)
+
+slow-so : (s : Seen) (known : Bool) → IfSome (told_slow known s.disk) (IsSo s)
+slow-so s known = grind (arith, common_steps)
+
 pub lines-so : (r : Reported) (s : Seen) → let lines = lines_of r s in
     IfSome lines.source (IsSo s) × IfSome lines.store (IsSo s) × IfSome lines.given_up (IsSo s)
     × IfSome lines.locked (IsSo s) × IfSome lines.nearly (IsSo s) × IfSome lines.behind (IsSo s)
-    × IfSome lines.waited (IsSo s)
+    × IfSome lines.waited (IsSo s) × IfSome lines.unusable (IsSo s) × IfSome lines.making (IsSo s)
+    × IfSome lines.syncs (IsSo s) × IfSome lines.slow (IsSo s)
 lines-so r s = (
   source-so s r.source (nat_lt s.now r.soon),
   store-at s s.store r.store (nat_lt s.now r.soon) refl,
@@ -87,7 +130,34 @@ lines-so r s = (
   nearly-so s r.nearly,
   behind-so s r.behind,
   waited-so s r.waited s.waited,
+  unusable-at s s.source r.unusable refl,
+  making-at s s.store r.making refl,
+  syncs-so s r.disk,
+  slow-so s r.disk,
 )
+
+-- once the disk is told, it isn't told again
+told-never : (r : Reported) (seen : List Seen) → r.disk ≡ true → syncs_in r seen ≡ 0
+told-never r [] h = refl
+told-never r (s ∷ ss) h =
+    let rest = told-never (known_after r s) ss (grind (arith, common_steps)) in
+    grind (arith, common_steps)
+
+-- a disk that isn't measured isn't told
+not-yet : (r : Reported) (s : Seen) → r.disk ≡ false → s.disk ≡ None → (known_after r s).disk ≡ false
+not-yet r s h e = grind (arith, common_steps)
+
+pub disk-told-once : (r : Reported) (seen : List Seen) → r.disk ≡ false
+    → syncs_in r seen ≡ (if is_measured seen then 1 else 0)
+disk-told-once r [] h = refl
+disk-told-once r (s ∷ ss) h = at s.disk refl (λ e. disk-told-once (known_after r s) ss (not-yet r s h e)) where
+  at : (d : Option DiskSeen) → s.disk ≡ d
+      → (s.disk ≡ None → syncs_in (known_after r s) ss ≡ (if is_measured ss then 1 else 0))
+      → syncs_in r (s ∷ ss) ≡ (if is_measured (s ∷ ss) then 1 else 0)
+  at None e more = let rest = more e in grind (arith, common_steps)
+  at (Some d) e more =
+      let rest = told-never (known_after r s) ss (grind (arith, common_steps)) in
+      grind (arith, common_steps)
 
 -- a look tells what it then knows
 told-here : (r : Reported) (s : Seen) → r.lost.frames ≤ s.lost

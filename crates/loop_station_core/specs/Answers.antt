@@ -1,25 +1,27 @@
--- Which cameras have answered an order.
-use Rattle.std.specs.Prelude.{ℕ, ◌+◌, Bool, true, false, not, List, [], ◌∷◌, Option, Some, None, is_some, slice_get, slice_set, if◌then◌else◌}
+-- Which cameras have answered an order, and what.
+use Rattle.std.specs.Prelude.{ℕ, ◌+◌, Bool, false, not, List, [], ◌∷◌, Option, Some, None, is_some, slice_get, slice_set, if◌then◌else◌}
 use Rattle.std.specs.List.{position}
 
 -- each camera has answered
-abbrev pub is_whole : List Bool → Bool
-is_whole given = not (is_some (position (λ b. not b) given))
+abbrev pub is_whole : {L : Type 0} → List (Option L) → Bool
+is_whole given = not (is_some (position (λ o. not (is_some o)) given))
+
+-- there is a camera at a place, and it hasn't answered
+abbrev pub is_open : {L : Type 0} → List (Option L) → ℕ → Bool
+is_open given place = elim (slice_get given place) [ None ↦ false | Some o ↦ not (is_some o) ]
 
 -- the camera at a place answers, and whether the order is answered by that; a second answer counts for nothing
-abbrev pub gives : List Bool → ℕ → List Bool × Bool
-gives given place = elim (slice_get given place) [
-  | None ↦ (given, false)
-  | Some true ↦ (given, false)
-  | Some false ↦ (slice_set given place true, is_whole (slice_set given place true))
-]
+abbrev pub gives : {L : Type 0} → List (Option L) → ℕ → L → List (Option L) × Bool
+gives given place answer = if is_open given place
+    then (slice_set given place (Some answer), is_whole (slice_set given place (Some answer)))
+    else (given, false)
 
 -- after the cameras at some places have answered
-abbrev pub given_by : List Bool → List ℕ → List Bool
+abbrev pub given_by : {L : Type 0} → List (Option L) → List (ℕ × L) → List (Option L)
 given_by given [] = given
-given_by given (place ∷ places) = given_by (gives given place).0 places
+given_by given (a ∷ answers) = given_by (gives given a.0 a.1).0 answers
 
 -- how often the order is answered by that
-abbrev pub answers_of : List Bool → List ℕ → ℕ
+abbrev pub answers_of : {L : Type 0} → List (Option L) → List (ℕ × L) → ℕ
 answers_of given [] = 0
-answers_of given (place ∷ places) = (if (gives given place).1 then 1 else 0) + answers_of (gives given place).0 places
+answers_of given (a ∷ answers) = (if (gives given a.0 a.1).1 then 1 else 0) + answers_of (gives given a.0 a.1).0 answers

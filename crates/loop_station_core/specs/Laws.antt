@@ -1,10 +1,13 @@
 -- What holds over any list of events.
-use Rattle.std.specs.Prelude.{ℕ, ◌+◌, ◌-◌, ◌*◌, ◌^◌, ◌≡◌, ◌≤◌, ◌<◌, Bool, true, false, List, [], ◌∷◌, Option, Some, None, IfSome, is_some, if◌then◌else◌}
+use Rattle.std.specs.Prelude.{ℕ, ◌+◌, ◌-◌, ◌*◌, ◌^◌, ◌≡◌, ◌≤◌, ◌<◌, Bool, true, false, List, [], ◌∷◌, zero, suc, Option, Some, None, IfSome, is_some, option_map, if◌then◌else◌}
+use Rattle.std.specs.List.{list_any}
 use Rattle.loop_station_core.specs.Answers.{answers_of, given_by, is_whole}
 use Rattle.loop_station_core.specs.Cameras.{lived}
 use Rattle.loop_station_core.specs.Frames.{Step, after, all_of, come_in, no_frames}
 use Rattle.loop_station_core.specs.Gaps.{AreWithin, gaps, missing}
 use Rattle.loop_station_core.specs.Keeps.{AreInOrder, EachTurn, HasTimesOf, IsRight, IsTimely}
+use Rattle.loop_station_core.specs.Search.{has_gap, mark_at, most, told, turn}
+use Rattle.loop_station_core.specs.Texts.{AllThreeCame, FirstCame, after_steps}
 use Rattle.loop_station_core.specs.Saving.{Places, is_read, left_by, wanted}
 use Rattle.loop_station_core.specs.Telling.{known_after, lines_of, told_locked}
 use Rattle.loop_station_core.specs.declared.camera.Camera.{Camera}
@@ -15,11 +18,14 @@ use Rattle.loop_station_core.specs.declared.keep.Keep.{Keep}
 use Rattle.loop_station_core.specs.declared.keep.Look.{Look}
 use Rattle.loop_station_core.specs.declared.runs.Run.{Run}
 use Rattle.loop_station_core.specs.declared.saves.Save.{Save}
-use Rattle.loop_station_core.specs.declared.changes.SourceSeen.TheVariants.{Missing, Silent, On}
-use Rattle.loop_station_core.specs.declared.changes.StoreSeen.TheVariants.{Open, Absent}
+use Rattle.loop_station_core.specs.declared.search.Search.{Search}
+use Rattle.loop_station_core.specs.declared.search.SearchTurn.TheVariants.{Read, Gap as SearchGap, Again, Over}
+use Rattle.loop_station_core.specs.declared.text.TextStep.TheVariants.{SyncText, SyncName, Saved}
+use Rattle.loop_station_core.specs.declared.changes.SourceSeen.TheVariants.{Missing, Silent, Unusable, On}
+use Rattle.loop_station_core.specs.declared.changes.StoreSeen.TheVariants.{Open, Absent, Making}
 use Rattle.loop_station_core.specs.declared.changes.Seen.{Seen}
 use Rattle.loop_station_core.specs.declared.changes.Change.{Change}
-use Rattle.loop_station_core.specs.declared.changes.Change.TheVariants.{SourceOn, SourceMissing, SourceSilent, StoreOpen, StoreAbsent, GivenUp, AllLocked, RoomAgain, NearlyAllLocked, Behind, CaughtUp, Waited}
+use Rattle.loop_station_core.specs.declared.changes.Change.TheVariants.{SourceOn, SourceMissing, SourceSilent, StoreOpen, StoreAbsent, GivenUp, AllLocked, RoomAgain, NearlyAllLocked, Behind, CaughtUp, Waited, SourceUnusable, Made, Syncs, TooSlow}
 use Rattle.loop_station_core.specs.declared.changes.Reported.{Reported}
 
 -- Each frame that came is stored, lost, at the desk, or on its way to it.
@@ -58,13 +64,33 @@ IsSo s NearlyAllLocked = s.room * 5 ≤ s.blocks
 IsSo s (Behind micros) = micros ≡ s.behind
 IsSo s CaughtUp = s.behind < 500000
 IsSo s (Waited micros since) = 100000 ≤ micros
+IsSo s (SourceUnusable why) = (s.source ≡ Unusable) × (why ≡ s.unusable)
+IsSo s (Made percent) = s.store ≡ Making percent
+IsSo s (Syncs micros) = option_map (λ d. d.sync) s.disk ≡ Some micros
+IsSo s (TooSlow micros frames) = (option_map (λ d. d.sync) s.disk ≡ Some micros)
+    × IfSome s.disk (λ d. frames * d.rate_den < d.rate_num)
 
 -- Each line says what was so when it was seen.
 abbrev pub LinesAreSo : Type 0
 LinesAreSo = (r : Reported) (s : Seen) → let lines = lines_of r s in
     IfSome lines.source (IsSo s) × IfSome lines.store (IsSo s) × IfSome lines.given_up (IsSo s)
     × IfSome lines.locked (IsSo s) × IfSome lines.nearly (IsSo s) × IfSome lines.behind (IsSo s)
-    × IfSome lines.waited (IsSo s)
+    × IfSome lines.waited (IsSo s) × IfSome lines.unusable (IsSo s) × IfSome lines.making (IsSo s)
+    × IfSome lines.syncs (IsSo s) × IfSome lines.slow (IsSo s)
+
+-- how many lines of some looks say how fast the disk is
+abbrev pub syncs_in : Reported → List Seen → ℕ
+syncs_in r [] = 0
+syncs_in r (s ∷ ss) = (if is_some (lines_of r s).syncs then 1 else 0) + syncs_in (known_after r s) ss
+
+-- the disk was measured at one of some looks
+abbrev pub is_measured : List Seen → Bool
+is_measured ss = list_any (λ s. is_some s.disk) ss
+
+-- How fast a disk is, is told once: at the first look at which it is measured.
+abbrev pub DisksAreToldOnce : Type 0
+DisksAreToldOnce = (r : Reported) (seen : List Seen) → r.disk ≡ false
+    → syncs_in r seen ≡ (if is_measured seen then 1 else 0)
 
 -- how many frames a line says are lost
 abbrev pub frames_in : Option Change → ℕ
@@ -129,5 +155,49 @@ SilentSourcesWait = (c : Camera) (events : List Event) → c.silent ≡ false
 
 -- An order that isn't answered yet is answered once, when the last of its cameras answers, in whatever order they do.
 abbrev pub OrdersAreAnsweredOnce : Type 0
-OrdersAreAnsweredOnce = (given : List Bool) (places : List ℕ) → is_whole given ≡ false
-    → answers_of given places ≡ (if is_whole (given_by given places) then 1 else 0)
+OrdersAreAnsweredOnce = (given : List (Option ℕ)) (answers : List (ℕ × ℕ)) → is_whole given ≡ false
+    → answers_of given answers ≡ (if is_whole (given_by given answers) then 1 else 0)
+
+-- how a search of a clip goes on, whose frames have these times
+abbrev pub goes_on : (ℕ → ℕ) → Search → Search
+goes_on time s = elim (turn s).1 [
+  | Read n ↦ told s (time n)
+  | SearchGap from to ↦ (turn s).0
+  | Again ↦ (turn s).0
+  | Over ↦ s
+]
+
+-- after so many turns
+abbrev pub searched : (ℕ → ℕ) → ℕ → Search → Search
+searched time zero s = s
+searched time (suc turns) s = searched time turns (goes_on time s)
+
+-- a search of the frames from one number to another
+abbrev pub search_of : (ℕ → ℕ) → ℕ → ℕ → ℕ → Search
+search_of time period a b = record {
+  period = period;
+  from = mark_at time a;
+  to = mark_at time b;
+  end = mark_at time b;
+}
+
+-- A gap that a search finds lies between two frames with consecutive numbers, and more time than that of a frame passes
+-- there: by half a period more, and a quarter of a second in all.
+abbrev pub FoundGapsAreSo : Type 0
+FoundGapsAreSo = (time : ℕ → ℕ) (period a b turns from to : ℕ) → a ≤ b
+    → let s = searched time turns (search_of time period a b) in
+    (turn s).1 ≡ SearchGap from to
+    → (from ≡ time s.from.number) × (to ≡ time (s.from.number + 1)) × (period + most period < to - from)
+
+-- A stretch in which a frame is missing is looked into, where no frame comes earlier than a period after the one before.
+abbrev pub GapsAreLookedFor : Type 0
+GapsAreLookedFor = (time : ℕ → ℕ) (period a b n : ℕ) → ((k : ℕ) → time k + period ≤ time (suc k))
+    → a ≤ n → n < b → time n + period + most period < time (suc n)
+    → has_gap period (mark_at time a) (mark_at time b) ≡ true
+
+-- A text is told to be saved only where its bytes were synced, then its name was given, and then its folder was synced;
+-- and it has its name only once its bytes are synced.
+abbrev pub SavedTextsAreThere : Type 0
+SavedTextsAreThere = (replaces : Bool) (steps : List Bool)
+    → (after_steps SyncText replaces steps ≡ Saved → AllThreeCame steps)
+    × (after_steps SyncText replaces steps ≡ SyncName → FirstCame steps)

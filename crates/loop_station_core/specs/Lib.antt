@@ -2,7 +2,13 @@ pub mod Answers
 pub mod Cameras
 pub mod Frames
 pub mod Gaps
+pub mod Growth
 pub mod Keeps
 pub mod Laws
+pub mod Marks
 pub mod Saving
+pub mod Search
+pub mod Still
 pub mod Telling
+pub mod Texts
+pub mod Timing

@@ -1,12 +1,13 @@
 -- Which lines about a camera follow from what is seen of it.
-use Rattle.std.specs.Prelude.{◌≡◌, ℕ, ◌+◌, ◌-◌, ◌*◌, ◌^◌, ◌==◌, ◌&&◌, ◌||◌, Bool, true, false, not, Option, Some, None, unwrap_or, min, nat_lt, nat_le, if◌then◌else◌}
+use Rattle.std.specs.Prelude.{◌≡◌, ℕ, ◌+◌, ◌-◌, ◌*◌, ◌/◌, ◌^◌, ◌==◌, ◌&&◌, ◌||◌, Bool, true, false, not, Option, Some, None, is_some, unwrap_or, max, min, nat_lt, nat_le, if◌then◌else◌}
 use Rattle.loop_station_core.specs.declared.changes.SourceSeen.{SourceSeen}
 use Rattle.loop_station_core.specs.declared.changes.SourceSeen.TheVariants.{Missing, Silent, Other, Unusable, On}
 use Rattle.loop_station_core.specs.declared.changes.StoreSeen.{StoreSeen}
-use Rattle.loop_station_core.specs.declared.changes.StoreSeen.TheVariants.{Unknown, Open, Absent}
+use Rattle.loop_station_core.specs.declared.changes.StoreSeen.TheVariants.{Unknown, Open, Absent, Making}
 use Rattle.loop_station_core.specs.declared.changes.Seen.{Seen}
+use Rattle.loop_station_core.specs.declared.changes.DiskSeen.{DiskSeen}
 use Rattle.loop_station_core.specs.declared.changes.Change.{Change}
-use Rattle.loop_station_core.specs.declared.changes.Change.TheVariants.{SourceOn, SourceMissing, SourceSilent, StoreOpen, StoreAbsent, GivenUp, AllLocked, RoomAgain, NearlyAllLocked, Behind, CaughtUp, Waited}
+use Rattle.loop_station_core.specs.declared.changes.Change.TheVariants.{SourceOn, SourceMissing, SourceSilent, StoreOpen, StoreAbsent, GivenUp, AllLocked, RoomAgain, NearlyAllLocked, Behind, CaughtUp, Waited, SourceUnusable, Made, Syncs, TooSlow}
 use Rattle.loop_station_core.specs.declared.changes.Changes.{Changes}
 use Rattle.loop_station_core.specs.declared.changes.LostTold.{LostTold}
 use Rattle.loop_station_core.specs.declared.changes.WaitTold.{WaitTold}
@@ -105,6 +106,38 @@ told_waited known None now stopping = elim known.since [
   | Some since ↦ if nat_lt (now - known.last) 1000000 && not stopping then (known, None) else wait_is_over known since
 ]
 
+-- The cause that is known of an unusable source, and its line: for each other cause, and again once its frames could be
+-- had meanwhile.
+abbrev pub told_unusable : Option ℕ → SourceSeen → ℕ → Option ℕ × Option Change
+told_unusable None Unusable why = (Some why, Some (SourceUnusable why))
+told_unusable (Some known) Unusable why =
+    if known == why then (Some known, None) else (Some why, Some (SourceUnusable why))
+told_unusable known Missing why = (known, None)
+told_unusable known _ why = (None, None)
+
+-- how many quarters of a store are known to be made, and the line: for each other quarter
+abbrev pub told_making : Option ℕ → StoreSeen → Option ℕ × Option Change
+told_making None (Making percent) = (Some (percent / 25), Some (Made percent))
+told_making (Some known) (Making percent) =
+    if known == percent / 25 then (Some known, None) else (Some (percent / 25), Some (Made percent))
+told_making known _ = (None, None)
+
+-- the line for a disk that is measured, unless there was one
+abbrev pub told_syncs : Bool → Option DiskSeen → Option Change
+told_syncs false (Some d) = Some (Syncs d.sync)
+told_syncs _ _ = None
+
+-- how many frames a second a disk takes: so many by each flush, which syncs twice
+abbrev pub disk_frames : DiskSeen → ℕ
+disk_frames d = d.group * 500000 / max d.sync 1
+
+-- the line for a disk that takes fewer than its source gives, unless it was measured before
+abbrev pub told_slow : Bool → Option DiskSeen → Option Change
+told_slow false (Some d) = if nat_lt (disk_frames d * d.rate_den) d.rate_num
+    then Some (TooSlow d.sync (disk_frames d))
+    else None
+told_slow _ _ = None
+
 -- all that is known of a camera after it was seen, and the lines
 abbrev pub known_after : Reported → Seen → Reported
 known_after r s = let early = nat_lt s.now r.soon in record {
@@ -116,6 +149,9 @@ known_after r s = let early = nat_lt s.now r.soon in record {
   nearly = (told_nearly r.nearly s.room s.blocks).0;
   behind = (told_behind r.behind s.behind).0;
   waited = (told_waited r.waited s.waited s.now s.stopping).0;
+  unusable = (told_unusable r.unusable s.source s.unusable).0;
+  making = (told_making r.making s.store).0;
+  disk = r.disk || is_some s.disk;
 }
 
 abbrev pub lines_of : Reported → Seen → Changes
@@ -127,6 +163,10 @@ lines_of r s = let early = nat_lt s.now r.soon in record {
   nearly = (told_nearly r.nearly s.room s.blocks).1;
   behind = (told_behind r.behind s.behind).1;
   waited = (told_waited r.waited s.waited s.now s.stopping).1;
+  unusable = (told_unusable r.unusable s.source s.unusable).1;
+  making = (told_making r.making s.store).1;
+  syncs = told_syncs r.disk s.disk;
+  slow = told_slow r.disk s.disk;
 }
 
 -- before a camera was ever seen
@@ -140,10 +180,14 @@ nothing_known now = record {
   nearly = false;
   behind = 0;
   waited = record { since = None; last = 0; told = 0 };
+  unusable = None;
+  making = None;
+  disk = false;
 }
 
 -- the line of a kind, in their order
 abbrev pub IsAt : Changes → ℕ → Option Change → Type 0
 IsAt c kind line = (kind ≡ 0 → line ≡ c.source) × (kind ≡ 1 → line ≡ c.store) × (kind ≡ 2 → line ≡ c.given_up)
     × (kind ≡ 3 → line ≡ c.locked) × (kind ≡ 4 → line ≡ c.nearly) × (kind ≡ 5 → line ≡ c.behind)
-    × (kind ≡ 6 → line ≡ c.waited)
+    × (kind ≡ 6 → line ≡ c.waited) × (kind ≡ 7 → line ≡ c.unusable) × (kind ≡ 8 → line ≡ c.making)
+    × (kind ≡ 9 → line ≡ c.syncs) × (kind ≡ 10 → line ≡ c.slow)

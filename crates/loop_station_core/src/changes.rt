@@ -1,7 +1,7 @@
 //! Which lines about a camera follow from what is seen of it.
 
 ghost use Rattle.std.specs.Prelude.{◌≡◌};
-ghost use Rattle.loop_station_core.specs.Telling.{IsAt, known_after, lines_of, nothing_known, same_source, told_behind, told_locked, told_lost, told_nearly, told_source, told_store, told_waited, wait_goes_on, wait_is_over};
+ghost use Rattle.loop_station_core.specs.Telling.{IsAt, disk_frames, known_after, lines_of, nothing_known, same_source, told_behind, told_locked, told_lost, told_making, told_nearly, told_slow, told_source, told_store, told_syncs, told_unusable, told_waited, wait_goes_on, wait_is_over};
 
 // From this many microseconds after the program began on, a source or a store that isn't there is told.
 const COMES_SOON: u64 = 1_000_000;
@@ -23,11 +23,17 @@ const LONG_WAIT: u64 = 1_000_000;
 
 const SHORT_WAIT: u64 = 100_000;
 
+// A store that is being made is told anew after so many percent.
+const QUARTER: u32 = 25;
+
+// A flush syncs twice: half of the microseconds of a second.
+const FLUSHED_A_SECOND: u64 = 500_000;
+
 /// The cause of a store that isn't there because its source hasn't come yet.
 pub const NOT_THERE_YET: u32 = 0;
 
 /// How many kinds of changes there are.
-pub const KINDS: usize = 7;
+pub const KINDS: usize = 11;
 
 /// What is seen of a camera's source.
 #[derive(Clone, Copy, PartialEq, Eq)]
@@ -53,8 +59,22 @@ pub enum StoreSeen {
     Open,
     /// It isn't there; the number is its cause (`NOT_THERE_YET`, or any other).
     Absent(u32),
+    /// It is being made; the number is how much of it is there, in percent.
+    Making(u32),
     /// The program ends.
     Stopped,
+}
+
+/// What is known of a store's disk.
+#[derive(Clone, Copy)]
+pub struct DiskSeen {
+    /// How many microseconds a sync takes.
+    pub sync: u64,
+    /// How many frames a flush stores at most, by two syncs.
+    pub group: u32,
+    /// How many frames the store's source gives: so many in so many seconds.
+    pub rate_num: u32,
+    pub rate_den: u32,
 }
 
 /// What is seen of a camera at a time.
@@ -63,7 +83,11 @@ pub struct Seen {
     /// The time, in microseconds since 1970.
     pub now: u64,
     pub source: SourceSeen,
+    /// The cause for which no store can have the source's frames, as a number; it means nothing where they can.
+    pub unusable: u32,
     pub store: StoreSeen,
+    /// The store's disk, once it is measured.
+    pub disk: Option<DiskSeen>,
     /// How many frames are lost since the program began.
     pub lost: u64,
     /// Each block is locked.
@@ -107,6 +131,18 @@ pub enum Change {
         /// Since when.
         since: u64,
     },
+    /// The number is its cause.
+    SourceUnusable(u32),
+    /// So much of the store is made, in percent.
+    Made(u32),
+    /// A sync of the disk takes so many microseconds.
+    Syncs(u64),
+    TooSlow {
+        /// How many microseconds a sync takes.
+        micros: u64,
+        /// How many frames a second the disk takes at most.
+        frames: u64,
+    },
 }
 
 /// The changes that are told at a time: at most one of each kind.
@@ -119,6 +155,10 @@ pub struct Changes {
     pub nearly: Option<Change>,
     pub behind: Option<Change>,
     pub waited: Option<Change>,
+    pub unusable: Option<Change>,
+    pub making: Option<Change>,
+    pub syncs: Option<Change>,
+    pub slow: Option<Change>,
 }
 
 impl Changes {
@@ -134,6 +174,10 @@ impl Changes {
             4 => self.nearly,
             5 => self.behind,
             6 => self.waited,
+            7 => self.unusable,
+            8 => self.making,
+            9 => self.syncs,
+            10 => self.slow,
             _ => None,
         }
     }
@@ -174,6 +218,12 @@ pub struct Reported {
     // How far behind the disk was told to be; 0 where it isn't.
     behind: u64,
     waited: WaitTold,
+    // The cause of an unusable source.
+    unusable: Option<u32>,
+    // How many quarters of the store are made, while it is made.
+    making: Option<u32>,
+    // How fast the disk is.
+    disk: bool,
 }
 
 impl Reported {
@@ -198,6 +248,9 @@ impl Reported {
                 last: 0,
                 told: 0,
             },
+            unusable: None,
+            making: None,
+            disk: false,
         }
     }
 
@@ -205,11 +258,9 @@ impl Reported {
     pub fn next(self, seen: &Seen) -> (Reported, Changes)
         ensures { result ≡ (known_after self seen.entry.now, lines_of self seen.entry.now) }
     {
-        let is_early = seen.now < self.soon;
-        let (source, source_change) = next_source(self.source, seen.source, is_early);
-        let (store, store_change) = next_store(self.store, seen.store, is_early);
+        let (source, source_change) = next_source(self.source, seen.source, seen.now < self.soon);
+        let (store, store_change) = next_store(self.store, seen.store, seen.now < self.soon);
         let (lost, given_up) = next_lost(self.lost, seen.lost, seen.now, seen.stopping);
-        let locked = next_locked(self.locked, seen.locked);
         let (nearly, nearly_change) = next_nearly(self.nearly, seen.room, seen.blocks);
         let (behind, behind_change) = next_behind(self.behind, seen.behind);
         let (waited, waited_change) = next_waited(
@@ -218,6 +269,8 @@ impl Reported {
             seen.now,
             seen.stopping,
         );
+        let (unusable, unusable_change) = next_unusable(self.unusable, seen.source, seen.unusable);
+        let (making, making_change) = next_making(self.making, seen.store);
         let reported = Reported {
             soon: self.soon,
             source,
@@ -227,15 +280,22 @@ impl Reported {
             nearly,
             behind,
             waited,
+            unusable,
+            making,
+            disk: self.disk || seen.disk.is_some(),
         };
         let changes = Changes {
             source: source_change,
             store: store_change,
             given_up,
-            locked,
+            locked: next_locked(self.locked, seen.locked),
             nearly: nearly_change,
             behind: behind_change,
             waited: waited_change,
+            unusable: unusable_change,
+            making: making_change,
+            syncs: next_syncs(self.disk, seen.disk),
+            slow: next_slow(self.disk, seen.disk),
         };
         (reported, changes)
     }
@@ -279,7 +339,7 @@ fn next_store(told: StoreSeen, seen: StoreSeen, is_early: bool) -> (StoreSeen, O
     ensures { result ≡ told_store told seen is_early }
 {
     match (told, seen) {
-        (_, StoreSeen::Unknown | StoreSeen::Stopped) => (told, None),
+        (_, StoreSeen::Unknown | StoreSeen::Making(_) | StoreSeen::Stopped) => (told, None),
         (StoreSeen::Open, StoreSeen::Open) => (told, None),
         (_, StoreSeen::Open) => (seen, Some(Change::StoreOpen)),
         (StoreSeen::Absent(why), StoreSeen::Absent(cause)) if why == cause => (told, None),
@@ -411,4 +471,62 @@ fn next_waited(
         return (told, None);
     }
     is_over(told, since)
+}
+
+// No store can have the source's frames: told for each other cause, and again once they could be had meanwhile.
+fn next_unusable(told: Option<u32>, source: SourceSeen, why: u32) -> (Option<u32>, Option<Change>)
+    ensures { result ≡ told_unusable told source why }
+{
+    match (source, told) {
+        (SourceSeen::Unusable, Some(known)) if known == why => (told, None),
+        (SourceSeen::Unusable, _) => (Some(why), Some(Change::SourceUnusable(why))),
+        (SourceSeen::Missing, _) => (told, None),
+        (SourceSeen::On | SourceSeen::Silent | SourceSeen::Other, _) => (None, None),
+    }
+}
+
+// A store is being made: told for each further quarter.
+fn next_making(told: Option<u32>, store: StoreSeen) -> (Option<u32>, Option<Change>)
+    ensures { result ≡ told_making told store }
+{
+    let StoreSeen::Making(percent) = store else {
+        return (None, None);
+    };
+    let quarter = percent / QUARTER;
+    match told {
+        Some(known) if known == quarter => (told, None),
+        _ => (Some(quarter), Some(Change::Made(percent))),
+    }
+}
+
+// How fast the disk is, once that is known.
+fn next_syncs(told: bool, disk: Option<DiskSeen>) -> Option<Change>
+    ensures { result ≡ told_syncs told disk }
+{
+    match disk {
+        Some(disk) if !told => Some(Change::Syncs(disk.sync)),
+        _ => None,
+    }
+}
+
+// How many frames a second a disk takes at most.
+fn frames_a_second(disk: DiskSeen) -> u64
+    ensures { result ≡ disk_frames disk }
+{
+    u64::from(disk.group) * FLUSHED_A_SECOND / disk.sync.max(1)
+}
+
+// The disk is too slow for the source's rate.
+fn next_slow(told: bool, disk: Option<DiskSeen>) -> Option<Change>
+    ensures { result ≡ told_slow told disk }
+{
+    let disk = disk?;
+    let frames = frames_a_second(disk);
+    if told || frames.saturating_mul(u64::from(disk.rate_den)) >= u64::from(disk.rate_num) {
+        return None;
+    }
+    Some(Change::TooSlow {
+        micros: disk.sync,
+        frames,
+    })
 }

@@ -1,10 +1,27 @@
 //! What holds over any list of events. Each function does nothing: its contract is the law.
 
-ghost use Rattle.loop_station_core.specs.Laws.{FilmingsGoOn, FramesAddUp, GapsAddUp, KeepsAreRight, LinesAreSo, LockedLinesAlternate, LostAreToldOnce, OrdersAreAnsweredOnce, ReadClipsWait, ReleasesAreFree, SilentSourcesWait, StopsAreForGood};
+ghost use Rattle.loop_station_core.specs.Laws.{DisksAreToldOnce, FilmingsGoOn, FoundGapsAreSo, FramesAddUp, GapsAddUp, GapsAreLookedFor, KeepsAreRight, LinesAreSo, LockedLinesAlternate, LostAreToldOnce, OrdersAreAnsweredOnce, ReadClipsWait, ReleasesAreFree, SavedTextsAreThere, SilentSourcesWait, StopsAreForGood};
+ghost use Rattle.loop_station_core.specs.Marks.{MarksAreRead};
+ghost use Rattle.loop_station_core.specs.Timing.{GapsAreToldApart, TimesRise};
 
 /// Each frame that came is stored, lost, at the desk, or on its way to it.
 pub fn frames_add_up()
     ensures { FramesAddUp }
+{}
+
+/// The time of each frame is later than that of the frame before, whatever its source says.
+pub fn times_rise()
+    ensures { TimesRise }
+{}
+
+/// Between two gaps that are told lies a second, or more.
+pub fn gaps_are_told_apart()
+    ensures { GapsAreToldApart }
+{}
+
+/// Bits and lateness are read back from a mark.
+pub fn marks_are_read()
+    ensures { MarksAreRead }
 {}
 
 /// At looks that come one after the other, a keep locks what its line asks for, and only once each frame that had come
@@ -17,6 +34,21 @@ pub fn keeps_are_right()
 /// What is held of a time, and its gaps, are all of it.
 pub fn gaps_add_up()
     ensures { GapsAddUp }
+{}
+
+/// A gap that a search of a clip finds lies between two frames with consecutive numbers, and is long.
+pub fn found_gaps_are_so()
+    ensures { FoundGapsAreSo }
+{}
+
+/// A stretch in which a frame is missing is looked into, where frames come no faster than at their rate.
+pub fn gaps_are_looked_for()
+    ensures { GapsAreLookedFor }
+{}
+
+/// A text is told to be saved only once its bytes, its name and its folder are on the disk, in this order.
+pub fn saved_texts_are_there()
+    ensures { SavedTextsAreThere }
 {}
 
 /// A clip is released by the end of a save only where no other save reads it.
@@ -37,6 +69,11 @@ pub fn lines_are_so()
 /// Each lost frame is told once: by the end all are, and none twice.
 pub fn lost_are_told_once()
     ensures { LostAreToldOnce }
+{}
+
+/// How fast a disk is, is told once: at the first look at which it is measured.
+pub fn disks_are_told_once()
+    ensures { DisksAreToldOnce }
 {}
 
 /// After 'all locked' comes 'room again', and the other way round.

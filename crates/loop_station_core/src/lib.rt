@@ -4,32 +4,53 @@
 //! - `tally`: what is counted of a camera's frames; each that came is on its way, at the desk, stored, or lost;
 //! - `camera`: whether a camera is filmed, when a filming ends and what follows, and the state of its source;
 //! - `keep`: when a keep locks, of which times, and when it is done; the numbers of events;
+//! - `growth`: which lines answer a keep, and what is done of an event whose end lies ahead;
 //! - `runs`: what of a keep's time is held, and the gaps in it; which clips lie within longer ones;
+//! - `search`: which frames of a clip are looked at to find where some are missing;
 //! - `saves`: places of saves: which begins, which waits, and which clips are read meanwhile;
-//! - `replies`: when an order is answered, by as many cameras as it means;
+//! - `text`: the steps by which the text of a save gets its name;
+//! - `replies`: the answers of the cameras that an order means, and when it is answered;
+//! - `still`: whether the program stood still;
+//! - `marks`: what stands in a frame's flags: its bits, and whether it came late;
+//! - `timing`: the times that a source says of its frames, and the gaps between them;
 //! - `changes`: which lines about a camera follow from what is seen of it;
 //! - `laws`: what holds over any list of events, each law the contract of a function that does nothing.
 //!
-//! Each call is a step of the model in `specs`: `Frames` for tallies, `Cameras`, `Keeps`, `Gaps` for runs,
-//! `Saving`, `Answers` for replies, `Telling` for lines. `Laws` says what follows of it: frames add up; a keep locks only the times of its line, and only once
-//! each frame that had come before that line is at the desk or lost, or every block is locked, or no frame has made
-//! progress for a minute; what is held of a time and its gaps are all of it; a clip that a save reads isn't released;
+//! Each call is a step of the model in `specs`: `Frames` for tallies, `Cameras`, `Keeps`, `Growth`, `Gaps` for runs,
+//! `Search`, `Saving`, `Texts`, `Answers` for replies, `Telling` for lines, `Still`. `Laws` says what follows of it:
+//! frames add up; a keep locks only the times of its line, and only once each frame that had come before that line is
+//! at the desk or lost, or every block is locked, or no frame has made progress for a minute; what is held of a time
+//! and its gaps are all of it; a clip that a save reads isn't released; a text is told as saved once it is on the disk;
 //! a line says what was so, and each lost frame is told once.
 #![tactic(auto)]
 
 mod camera;
 mod changes;
+mod growth;
 mod keep;
 pub mod laws;
+mod marks;
 mod replies;
 mod runs;
 mod saves;
+mod search;
+mod still;
 mod tally;
+mod text;
+mod timing;
 
 pub use camera::{Act, Camera, Event, FilmingEvent, SourceEvent};
-pub use changes::{Change, Changes, KINDS, NOT_THERE_YET, Reported, Seen, SourceSeen, StoreSeen};
+pub use changes::{
+    Change, Changes, DiskSeen, KINDS, NOT_THERE_YET, Reported, Seen, SourceSeen, StoreSeen,
+};
+pub use growth::{EventEnd, GrowthTurn, KeptAnswer, event_end, kept_answer, next_growth};
 pub use keep::{Keep, KeepTurn, Numbers, bounds, is_too_far, next_turn};
+pub use marks::{bits_of, came_late, is_late, mark};
 pub use replies::Replies;
 pub use runs::{ClipSpan, Gap, Run, Shortfall, is_covered, shortfall_of};
 pub use saves::{Asked, Cancelled, Ended, SaveKey, Saves, StoppedSave};
+pub use search::{Mark, Search, SearchTurn};
+pub use still::stood_still;
 pub use tally::Tally;
+pub use text::{TextStep, next_text_step};
+pub use timing::{Arrival, Stamped, Timing};

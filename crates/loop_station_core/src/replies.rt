@@ -1,45 +1,72 @@
-//! Which cameras have answered an order.
+//! The answers of cameras to an order, which stay together.
 
-ghost use Rattle.std.specs.Prelude.{◌≡◌, false, not, replicate, IfOk};
+ghost use Rattle.std.specs.Prelude.{◌≡◌, ◌<◌, Some, None, IsTrue, is_some, length, not, replicate, slice_set, IfOk};
 ghost use Rattle.std.specs.List.{position};
-ghost use Rattle.loop_station_core.specs.Answers.{gives};
+ghost use Rattle.loop_station_core.specs.Answers.{gives, is_open};
 
 use std::alloc::{AllocError, Global};
+use std::mem;
 
-/// An order that some cameras have to answer, by their places among those that it means.
+/// An order that some cameras have to answer, by their places among those that it means, and what each has answered.
 #[derive(Drop)]
-pub struct Replies {
-    given: Vec<bool>,
+pub struct Replies<L: Drop> {
+    given: Vec<Option<L>>,
 }
 
 // The first camera that hasn't answered.
-fn missing(given: &[bool]) -> Option<usize>
-    ensures { result ≡ position (λ b. not b) given.now }
+fn missing<L: Drop>(given: &[Option<L>]) -> Option<usize>
+    ensures { result ≡ position (λ o. not (is_some o)) given.now }
 {
-    given.iter().position(|is_given| !*is_given)
+    given.iter().position(|answer| !answer.is_some())
 }
 
-impl Replies {
+// Whether there is a camera at a place, and it hasn't answered.
+fn is_open<L: Drop>(given: &[Option<L>], place: usize) -> bool
+    ensures open { result ≡ is_open given.now place }
+    ensures bound { IsTrue result → place < length given.now }
+{
+    match given.get(place) {
+        Some(answer) => !answer.is_some(),
+        None => false,
+    }
+}
+
+// The camera at a place has answered.
+fn put<L: Drop>(given: &mut Vec<Option<L>>, place: usize, answer: L)
+    requires { place < length given.old.items }
+    ensures { given.new.items ≡ slice_set given.old.items place (Some answer) }
+{
+    given[place] = Some(answer);
+}
+
+impl<L: Drop> Replies<L> {
     /// No camera of so many has answered.
-    pub fn new(alloc: Global, cameras: usize) -> Result<Replies, AllocError>
-        ensures { IfOk result (λ r. r.given.items ≡ replicate cameras false) }
+    pub fn new(alloc: Global, cameras: usize) -> Result<Replies<L>, AllocError>
+        ensures { IfOk result (λ r. r.given.items ≡ replicate cameras None) }
     {
         let mut given = Vec::with_capacity(alloc, cameras)?;
         for _ in 0..cameras {
-            given.push(false)?;
+            given.push(None)?;
         }
         Ok(Replies { given })
     }
 
-    /// The camera at a place has answered. Whether the order is answered by that: it was the last one that hadn't. A second
-    /// answer of a camera counts for nothing.
-    pub fn give(&mut self, place: usize) -> bool
-        ensures { (self.new.given.items, result) ≡ gives self.old.given.items place }
+    /// The camera at a place has answered. Whether the order is answered by that: it was the last one that hadn't. A
+    /// second answer of a camera is dropped.
+    pub fn give(&mut self, place: usize, answer: L) -> bool
+        ensures { (self.new.given.items, result) ≡ gives self.old.given.items place answer }
     {
-        if place >= self.given.len() || self.given[place] {
+        if !is_open(&self.given, place) {
             return false;
         }
-        self.given[place] = true;
+        put(&mut self.given, place, answer);
         missing(&self.given).is_none()
+    }
+
+    /// What each camera has answered, in their order. Nothing is left.
+    pub fn take(&mut self, alloc: Global) -> Vec<Option<L>>
+        ensures { result.items ≡ self.old.given.items }
+    {
+        mem::replace(&mut self.given, Vec::new(alloc))
     }
 }

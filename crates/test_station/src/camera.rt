@@ -5,8 +5,8 @@ use crate::random::Random;
 use crate::store::Store;
 use crate::told::Told;
 use loop_station_core::{
-    Act, Camera as Life, Event, FilmingEvent, NOT_THERE_YET, Seen, SourceEvent, SourceSeen,
-    StoreSeen, Tally,
+    Act, Camera as Life, DiskSeen, Event, FilmingEvent, NOT_THERE_YET, Seen, SourceEvent,
+    SourceSeen, StoreSeen, Tally,
 };
 use std::alloc::Global;
 
@@ -73,6 +73,11 @@ pub struct Camera {
     pub progress: u64,
     pub moves: u64,
     pub source: SourceSeen,
+    // The cause of an unusable source, and what is known of the disk.
+    unusable: u32,
+    measured: Option<DiskSeen>,
+    // So much of the store is made, in percent, while it is.
+    making: Option<u32>,
     pub tally: Tally,
     /// What the station decides of it, and whether each act was right.
     life: Life,
@@ -106,6 +111,9 @@ impl Camera {
             progress: now,
             moves: 0,
             source: SourceSeen::Missing,
+            unusable: 0,
+            measured: None,
+            making: None,
             tally: Tally::new(),
             life: Life::new(),
             acts: true,
@@ -159,12 +167,33 @@ impl Camera {
     }
 
     /// The store is opened again, if it is time. Whether it is open.
-    pub fn is_there(&mut self, now: u64) -> bool {
+    pub fn is_there(&mut self, random: &mut Random, now: u64) -> bool {
         if !self.open && self.again <= now {
             self.open = true;
+            self.making = None;
+            if self.measured.is_none() {
+                self.measured = Some(DiskSeen {
+                    sync: random.below(400_000),
+                    group: random.seconds(64).saturating_add(1),
+                    rate_num: random.seconds(200),
+                    rate_den: random.seconds(3).saturating_add(1),
+                });
+            }
             self.happens(FilmingEvent::Begin, Act::GoOn);
         }
         self.open
+    }
+
+    /// A store that isn't there is being made, and is further each time.
+    pub fn makes(&mut self, random: &mut Random) {
+        if self.open || self.before > 0 {
+            return;
+        }
+        let made = match self.making {
+            Some(percent) => percent.saturating_add(random.seconds(30)),
+            None => 0,
+        };
+        self.making = Some(made.min(100));
     }
 
     /// Frames come to the desk; where it is full they wait, or are given up.
@@ -257,11 +286,13 @@ impl Camera {
 
     /// The source goes, one way or another.
     pub fn source_goes(&mut self, random: &mut Random) {
-        self.source = match random.below(5) {
+        self.source = match random.below(7) {
             0 | 1 => SourceSeen::Missing,
             2 | 3 => SourceSeen::Silent,
-            _ => SourceSeen::Other,
+            4 => SourceSeen::Other,
+            _ => SourceSeen::Unusable,
         };
+        self.unusable = random.seconds(3);
     }
 
     /// The disk fails, if the store is open: desk and queue are given up, and the store is opened again later.
@@ -307,6 +338,8 @@ impl Camera {
         self.open = false;
         self.again = now.saturating_add(random.below(1_000_000));
         self.locked = false;
+        self.making = None;
+        self.measured = None;
         self.progress = now;
         self.tally = Tally::new();
         self.life = Life::new();
@@ -425,12 +458,15 @@ impl Camera {
         Seen {
             now,
             source: self.life.source_seen(),
-            store: match (self.open, self.before) {
+            unusable: self.unusable,
+            store: match (self.open, self.making) {
                 (true, _) => StoreSeen::Open,
                 (false, _) if stopping => StoreSeen::Stopped,
-                (false, 0) => StoreSeen::Absent(NOT_THERE_YET),
-                (false, _) => StoreSeen::Absent(3),
+                (false, Some(percent)) => StoreSeen::Making(percent),
+                (false, None) if self.before == 0 => StoreSeen::Absent(NOT_THERE_YET),
+                (false, None) => StoreSeen::Absent(3),
             },
+            disk: self.measured,
             lost: self.tally.lost(),
             locked: self.open && self.life.locked,
             behind: self.tally.behind().saturating_mul(self.period),

@@ -4,7 +4,10 @@ use crate::camera::Camera;
 use crate::judge::Judge;
 use crate::saving::Saving;
 use crate::store::{Clip, MOST_CLIPS, Pieces};
-use loop_station_core::{ClipSpan, Keep, KeepTurn, Run, is_covered, next_turn, shortfall_of};
+use loop_station_core::{
+    ClipSpan, EventEnd, GrowthTurn, Keep, KeepTurn, Run, event_end, is_covered, kept_answer,
+    next_growth, next_turn, shortfall_of,
+};
 use std::alloc::Global;
 
 // How many microseconds a keep waits at most while no frame makes progress.
@@ -26,11 +29,40 @@ pub struct Waiting {
     // How often a frame had made progress when it was last looked at, and when one was last seen to.
     moves: u64,
     moved: u64,
+    /// Its order, and the camera's place among those that the order means.
+    pub order: u64,
+    pub place: usize,
+    /// It is answered, and goes on.
+    pub grows: bool,
+    // Clips of it that a longer one covers.
+    covered: Vec<u32>,
+    // It is locked to its end.
+    is_done: bool,
+    // A clip was refused.
+    refused: bool,
+}
+
+/// An event that goes on, as its file has it.
+#[derive(Clone, Copy)]
+pub struct Noted {
+    pub camera: usize,
+    pub event: u64,
+    pub since: u64,
+    pub until: u64,
 }
 
 impl Waiting {
-    /// The keep of an event whose line was read now.
-    pub fn new(camera: &Camera, event: u64, since: u64, until: u64, now: u64) -> Waiting {
+    /// The keep of an event whose line was read now; `grows`: it was answered before, and goes on.
+    pub fn new(
+        alloc: Global,
+        camera: &Camera,
+        noted: &Noted,
+        order: u64,
+        place: usize,
+        grows: bool,
+        now: u64,
+    ) -> Waiting {
+        let (event, since, until) = (noted.event, noted.since, noted.until);
         let come = camera.come(until.min(now));
         let came = camera.frames.len();
         Waiting {
@@ -44,12 +76,54 @@ impl Waiting {
             block: None,
             moves: camera.moves,
             moved: now,
+            order,
+            place,
+            grows,
+            covered: Vec::new(alloc),
+            is_done: false,
+            refused: false,
         }
     }
 
-    /// The program has begun again.
-    pub fn begins(&mut self, camera: &Camera, now: u64) {
-        *self = Waiting::new(camera, self.event, self.since, self.until, now);
+    /// As the file of events has it.
+    pub fn noted(&self) -> Noted {
+        Noted {
+            camera: self.camera,
+            event: self.event,
+            since: self.since,
+            until: self.until,
+        }
+    }
+
+    /// What is done of it next, once it grows.
+    pub fn growth(&self, judge: &mut Judge, now: u64, stopping: bool) -> GrowthTurn {
+        let covered = !self.covered.is_empty();
+        let turn = next_growth(covered, self.is_done, stopping, now, self.until);
+        let later = stopping && now < self.until;
+        judge.holds(
+            match turn {
+                GrowthTurn::Release => covered,
+                GrowthTurn::End => !covered && self.is_done,
+                GrowthTurn::Leave => !covered && !self.is_done && later,
+                GrowthTurn::Keep => !covered && !self.is_done && !later,
+            },
+            "covered clips go first; then an event ends, is left at a stop, or goes on",
+        );
+        turn
+    }
+
+    /// A clip that a longer one covers is released, unless a save reads it.
+    pub fn release_covered(&mut self, judge: &mut Judge, camera: &mut Camera, saving: &Saving) {
+        if let Some(id) = self.covered.pop() {
+            if !saving.is_read(judge, self.camera, id) {
+                camera.store.unlock(id);
+            }
+        }
+    }
+
+    /// It is locked to its end.
+    pub fn ends(&mut self) {
+        self.is_done = true;
     }
 
     /// Lets the core decide what it does now, and judges that.
@@ -153,13 +227,12 @@ impl Waiting {
         );
     }
 
-    /// Locks what is held of its time up to a time, and releases the event's clips that lie within the new ones.
+    /// Locks what is held of its time up to a time. The event's clips that lie within the new ones are to be released.
     pub fn lock(
-        &self,
+        &mut self,
         alloc: Global,
         judge: &mut Judge,
         camera: &mut Camera,
-        saving: &Saving,
         until: u64,
     ) -> Pieces {
         let pieces = camera.store.pieces(alloc, judge, self.since, until);
@@ -167,25 +240,20 @@ impl Waiting {
         for span in pieces.spans.as_slice() {
             if camera.store.holds_span(judge, self.event, *span) {
                 judge.put(&mut locked, *span);
+            } else {
+                self.refused = true;
             }
         }
         for id in 0..MOST_CLIPS {
             if let Some(clip) = camera.store.clip(id) {
-                self.release_old(judge, camera, saving, &clip, locked.as_slice());
+                self.cover(judge, &clip, locked.as_slice());
             }
         }
         pieces
     }
 
-    // A clip, judged: one of the event is released where it lies within a new one.
-    fn release_old(
-        &self,
-        judge: &mut Judge,
-        camera: &mut Camera,
-        saving: &Saving,
-        clip: &Clip,
-        locked: &[ClipSpan],
-    ) {
+    // A clip, judged: one of the event is to be released where it lies within a new one.
+    fn cover(&mut self, judge: &mut Judge, clip: &Clip, locked: &[ClipSpan]) {
         let span = ClipSpan {
             from: clip.from,
             to: clip.to,
@@ -195,13 +263,40 @@ impl Waiting {
             covered == lies_within(span, locked),
             "a clip is covered where it lies within a new one",
         );
-        if clip.event == self.event
-            && covered
-            && !is_among(span, locked)
-            && !saving.is_read(judge, self.camera, clip.id)
-        {
-            camera.store.unlock(clip.id);
+        if clip.event == self.event && covered && !is_among(span, locked) {
+            judge.put(&mut self.covered, clip.id);
         }
+    }
+
+    /// With how many lines it is answered, of so many clips and gaps; `whole`: nothing of its time lies ahead.
+    pub fn answer(&self, judge: &mut Judge, clips: usize, gaps: u64, whole: bool) -> u64 {
+        let answer = kept_answer(clips, self.refused, whole);
+        judge.holds(
+            answer.none == (clips < 1 && !self.refused)
+                && answer.held == (clips > 0 && whole)
+                && answer.begun != whole,
+            "a keep is answered by what it has locked",
+        );
+        let held = if answer.held && gaps > 0 {
+            gaps.saturating_add(1)
+        } else {
+            0
+        };
+        (clips as u64)
+            .saturating_add(u64::from(answer.none))
+            .saturating_add(u64::from(self.refused))
+            .saturating_add(u64::from(answer.begun))
+            .saturating_add(held)
+    }
+
+    /// How its event is told to have ended is right.
+    pub fn judge_end(&self, judge: &mut Judge, gaps: u64) {
+        let right = match event_end(self.refused, gaps < 1) {
+            EventEnd::Whole => !self.refused && gaps < 1,
+            EventEnd::Refused => self.refused,
+            EventEnd::Gaps => !self.refused && gaps > 0,
+        };
+        judge.holds(right, "an event is told as whole where it is");
     }
 }
 

@@ -2,7 +2,7 @@
 
 use crate::judge::Judge;
 use loop_station_core::{
-    Change, Changes, KINDS, NOT_THERE_YET, Reported, Seen, SourceSeen, StoreSeen,
+    Change, Changes, DiskSeen, KINDS, NOT_THERE_YET, Reported, Seen, SourceSeen, StoreSeen,
 };
 
 /// What was told of a camera since the program began, as its lines have it.
@@ -24,6 +24,10 @@ pub struct Told {
     waits: Option<u64>,
     waited: u64,
     waited_told: u64,
+    // The cause of an unusable source, the quarters of a store that is made, and whether the disk's speed was told.
+    unusable: Option<u32>,
+    making: Option<u32>,
+    disk: bool,
 }
 
 impl Told {
@@ -43,6 +47,9 @@ impl Told {
             waits: None,
             waited: 0,
             waited_told: 0,
+            unusable: None,
+            making: None,
+            disk: false,
         }
     }
 
@@ -60,6 +67,9 @@ impl Told {
         self.behind = judge_behind(judge, self.behind, seen.behind, changes.behind);
         self.judge_lost(judge, seen, changes.given_up);
         self.judge_waits(judge, seen, changes.waited);
+        self.unusable = judge_unusable(judge, self.unusable, seen, changes.unusable);
+        self.making = judge_making(judge, self.making, seen.store, changes.making);
+        self.disk = judge_disk(judge, self.disk, seen.disk, &changes);
     }
 
     // Each lost frame is told once, a second after others at the latest.
@@ -190,7 +200,10 @@ fn judge_store(
     line: Option<Change>,
 ) -> StoreSeen {
     let soon = early && seen == StoreSeen::Absent(NOT_THERE_YET);
-    let quiet = seen == StoreSeen::Unknown || seen == StoreSeen::Stopped || soon;
+    let quiet = matches!(
+        seen,
+        StoreSeen::Unknown | StoreSeen::Making(_) | StoreSeen::Stopped
+    ) || soon;
     if quiet || known == seen {
         judge.holds(line.is_none(), "a store that hasn't changed has no line");
         return known;
@@ -251,4 +264,88 @@ fn judge_behind(judge: &mut Judge, known: u64, seen: u64, line: Option<Change>) 
         "behind is told from a second on and when it has doubled, and that it is below half a second",
     );
     next
+}
+
+// An unusable source is told for each other cause, and again once its frames could be had. The cause that is known then.
+fn judge_unusable(
+    judge: &mut Judge,
+    known: Option<u32>,
+    seen: &Seen,
+    line: Option<Change>,
+) -> Option<u32> {
+    let next = match seen.source {
+        SourceSeen::Unusable => Some(seen.unusable),
+        SourceSeen::Missing => known,
+        SourceSeen::On | SourceSeen::Silent | SourceSeen::Other => None,
+    };
+    let due = seen.source == SourceSeen::Unusable && known != next;
+    let right = match line {
+        None => !due,
+        Some(Change::SourceUnusable(why)) => due && why == seen.unusable,
+        _ => false,
+    };
+    judge.holds(right, "an unusable source is told once for each cause");
+    next
+}
+
+// A store that is made is told once for each quarter. The quarter that is known then.
+fn judge_making(
+    judge: &mut Judge,
+    known: Option<u32>,
+    seen: StoreSeen,
+    line: Option<Change>,
+) -> Option<u32> {
+    let StoreSeen::Making(percent) = seen else {
+        judge.holds(line.is_none(), "a store is made only while it is");
+        return None;
+    };
+    let quarter = match percent {
+        0..=24 => 0,
+        25..=49 => 1,
+        50..=74 => 2,
+        75..=99 => 3,
+        _ => 4,
+    };
+    let right = match line {
+        None => known == Some(quarter),
+        Some(Change::Made(made)) => known != Some(quarter) && made == percent,
+        _ => false,
+    };
+    judge.holds(right, "a store that is made is told once for each quarter");
+    Some(quarter)
+}
+
+// How fast the disk is, is told once, and then whether it is too slow. Whether it was told then.
+fn judge_disk(judge: &mut Judge, known: bool, seen: Option<DiskSeen>, changes: &Changes) -> bool {
+    let Some(disk) = seen else {
+        judge.holds(
+            changes.syncs.is_none() && changes.slow.is_none(),
+            "a disk is told once it is measured",
+        );
+        return known;
+    };
+    let told = match changes.syncs {
+        None => known,
+        Some(Change::Syncs(micros)) => !known && micros == disk.sync,
+        _ => false,
+    };
+    judge.holds(told, "how fast a disk is, is told once");
+    // A flush of so many frames takes two syncs.
+    let flush = disk.sync.max(1).saturating_mul(2);
+    let second = u64::from(disk.group).saturating_mul(1_000_000);
+    let frames = second.checked_div(flush).unwrap_or(0);
+    let wanted = u64::from(disk.rate_num);
+    let slow = frames.saturating_mul(u64::from(disk.rate_den)) < wanted;
+    let right = match changes.slow {
+        None => known || !slow,
+        Some(
+            Change::TooSlow {
+                micros,
+                frames: most,
+            },
+        ) => { !known && slow && micros == disk.sync && most == frames }
+        _ => false,
+    };
+    judge.holds(right, "a disk that is too slow for its source is told once");
+    true
 }

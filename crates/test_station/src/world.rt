@@ -1,11 +1,16 @@
 //! The whole station in simulation, step by step.
 
+use crate::answers::Answers;
 use crate::camera::{Camera, Disk};
 use crate::judge::Judge;
-use crate::keeping::{Waiting, judge_shortfall};
+use crate::keeping::{Noted, Waiting, judge_shortfall};
 use crate::random::Random;
 use crate::saving::{Asking, Saving, key_of};
-use loop_station_core::{KeepTurn, Numbers, SourceSeen, bounds, is_too_far};
+use crate::searching::search;
+use crate::texts::Texts;
+use loop_station_core::{
+    GrowthTurn, KeepTurn, Numbers, SourceSeen, bounds, is_too_far, stood_still,
+};
 use std::alloc::{AllocError, Global};
 
 // When a simulation begins, in microseconds since 1970.
@@ -25,6 +30,8 @@ const FEW_KEEPS: usize = 4;
 pub struct Counts {
     pub keeps: u64,
     pub answered: u64,
+    // How many are to be answered, less those that a kill has ended.
+    due: u64,
     pub saves: u64,
     pub saved: u64,
     pub lines: u64,
@@ -37,6 +44,7 @@ impl Counts {
         Counts {
             keeps: 0,
             answered: 0,
+            due: 0,
             saves: 0,
             saved: 0,
             lines: 0,
@@ -53,6 +61,10 @@ pub struct Station {
     pub judge: Judge,
     now: u64,
     keeps: Vec<Waiting>,
+    // The events that go on, as their file has them.
+    noted: Vec<Noted>,
+    answers: Answers,
+    pub texts: Texts,
     saving: Saving,
     places: usize,
     // A disk that doesn't work as it should works again by one of so many throws.
@@ -72,13 +84,18 @@ impl Station {
         } else {
             random.place(3).saturating_add(1)
         };
+        let mut judge = Judge::new();
+        let texts = Texts::new(alloc, &mut judge);
         Ok(Station {
             alloc,
             slowness: random.between(1, 6),
             random,
-            judge: Judge::new(),
+            judge,
             now: BEGIN,
             keeps: Vec::new(alloc),
+            noted: Vec::new(alloc),
+            answers: Answers::new(alloc),
+            texts,
             saving: Saving::new(alloc, places)?,
             places,
             folder: true,
@@ -98,6 +115,26 @@ impl Station {
         };
         let passed = self.random.below(most);
         self.now = self.now.saturating_add(passed);
+        let up = self.random.below(most);
+        let longer = passed.max(up);
+        let still = if longer > 1_100_000 {
+            Some(longer)
+        } else {
+            None
+        };
+        self.judge.holds(
+            stood_still(100_000, passed, up) == still,
+            "that the program stood still is told where it did, for as long",
+        );
+    }
+
+    // A search in a clip, and a step of a text.
+    fn texts_and_clips(&mut self) {
+        if self.random.one_in(10) {
+            let found = search(self.alloc, &mut self.random, &mut self.judge);
+            self.counts.lines = self.counts.lines.saturating_add(found);
+        }
+        self.texts.step(&mut self.random, &mut self.judge);
     }
 
     // A step of a camera.
@@ -147,7 +184,9 @@ impl Station {
 
     // A turn of a desk's thread: frames come to the desk, the keeps have their turns, and the desk is flushed.
     fn desk_turns(&mut self, camera: &mut Camera, stopping: bool) {
-        if camera.is_there(self.now) {
+        if !camera.is_there(&mut self.random, self.now) {
+            camera.makes(&mut self.random);
+        } else {
             camera.brings(&mut self.random, &mut self.judge, self.now);
             self.keeps_turn(camera, stopping);
             camera.flush(&mut self.random, &mut self.judge, self.now);
@@ -159,8 +198,8 @@ impl Station {
         let mut at = 0usize;
         for _ in 0..self.keeps.len() {
             if self.keep_turns(at, camera, stopping) && at < self.keeps.len() {
-                let keep = self.keeps.remove(at);
-                self.keep_ends(camera, &keep);
+                let mut keep = self.keeps.remove(at);
+                self.keep_ends(camera, &mut keep);
             } else {
                 at = at.saturating_add(1);
             }
@@ -175,29 +214,108 @@ impl Station {
         if keep.camera != camera.place {
             return false;
         }
+        if !keep.grows {
+            return self.keep_begins(at, camera, stopping);
+        }
+        match keep.growth(&mut self.judge, self.now, stopping) {
+            GrowthTurn::Release => {
+                keep.release_covered(&mut self.judge, camera, &self.saving);
+                false
+            }
+            GrowthTurn::End => true,
+            GrowthTurn::Leave => false,
+            GrowthTurn::Keep => {
+                self.keep_grows(at, camera, stopping);
+                false
+            }
+        }
+    }
+
+    // A keep that isn't answered yet has its turn. Whether it is done.
+    fn keep_begins(&mut self, at: usize, camera: &mut Camera, stopping: bool) -> bool {
+        let Some(keep) = self.keeps.get_mut(at) else {
+            return false;
+        };
         let until = match keep.turn(&mut self.judge, camera, self.now, stopping) {
             KeepTurn::Part { until } => until,
             KeepTurn::Wait => return false,
             KeepTurn::Whole => return true,
         };
         camera.flush_all(&mut self.random, &mut self.judge, self.now);
-        let _pieces = keep.lock(self.alloc, &mut self.judge, camera, &self.saving, until);
+        let pieces = keep.lock(self.alloc, &mut self.judge, camera, until);
+        keep.grows = true;
+        let lines = keep.answer(&mut self.judge, pieces.spans.len(), 0, false);
+        let (order, place) = (keep.order, keep.place);
+        self.answer(order, place, lines);
         false
     }
 
-    // A keep is done: what is there is locked and answered, and saved by itself where its camera is so.
-    fn keep_ends(&mut self, camera: &mut Camera, keep: &Waiting) {
+    // An event whose end lay ahead has a turn: what has come of it is locked.
+    fn keep_grows(&mut self, at: usize, camera: &mut Camera, stopping: bool) {
+        let Some(keep) = self.keeps.get_mut(at) else {
+            return;
+        };
+        let until = match keep.turn(&mut self.judge, camera, self.now, stopping) {
+            KeepTurn::Part { until } => until,
+            KeepTurn::Wait => return,
+            KeepTurn::Whole => {
+                keep.ends();
+                keep.until
+            }
+        };
         camera.flush_all(&mut self.random, &mut self.judge, self.now);
+        let _pieces = keep.lock(self.alloc, &mut self.judge, camera, until);
+    }
+
+    // A camera answers an order with so many lines.
+    fn answer(&mut self, order: u64, place: usize, lines: u64) {
+        let printed = self.answers.give(&mut self.judge, order, place, lines);
+        self.counts.lines = self.counts.lines.saturating_add(printed);
+    }
+
+    // A keep is done: what is there is locked and answered, or its event is told to be over; its clips are saved by
+    // themselves where its camera is so.
+    fn keep_ends(&mut self, camera: &mut Camera, keep: &mut Waiting) {
         let until = keep.until.min(self.now);
-        let pieces = keep.lock(self.alloc, &mut self.judge, camera, &self.saving, until);
+        let pieces = if keep.grows {
+            camera
+                .store
+                .pieces(self.alloc, &mut self.judge, keep.since, until)
+        } else {
+            camera.flush_all(&mut self.random, &mut self.judge, self.now);
+            keep.lock(self.alloc, &mut self.judge, camera, until)
+        };
         let runs = pieces.runs.as_slice();
         let gaps = judge_shortfall(self.alloc, &mut self.judge, keep, runs, camera.period);
-        self.counts.lines = self.counts.lines.saturating_add(1).saturating_add(gaps);
+        if keep.grows {
+            keep.judge_end(&mut self.judge, gaps);
+            let told = gaps.saturating_add(1);
+            self.counts.lines = self.counts.lines.saturating_add(told);
+        } else {
+            let lines = keep.answer(&mut self.judge, runs.len(), gaps, true);
+            self.answer(keep.order, keep.place, lines);
+        }
         self.counts.answered = self.counts.answered.saturating_add(1);
         if camera.saves {
             camera.store.mark_event(keep.event);
         }
         self.save_unsaved(camera);
+    }
+
+    // The file of events is written: those that go on now are in it.
+    fn note(&mut self) {
+        self.noted.clear();
+        for keep in self.keeps.as_slice() {
+            if keep.grows {
+                let noted = keep.noted();
+                self.judge.put(&mut self.noted, noted);
+            }
+        }
+    }
+
+    // A keep of before a kill goes on.
+    fn goes_on(&mut self, keep: Waiting) {
+        self.judge.put(&mut self.keeps, keep);
     }
 
     // Clips that are to be saved, and aren't being saved, are asked for.
@@ -338,11 +456,22 @@ impl Station {
         let event = self.number();
         let all = self.random.one_in(3);
         let only = self.random.place(cameras.len());
+        let count = if all { cameras.len() } else { 1 };
+        let labelled = self.random.one_in(2);
+        let order = self.answers.ask(&mut self.judge, count, labelled);
         for camera in cameras {
             if all || camera.place == only {
-                let keep = Waiting::new(camera, event, since, until, self.now);
+                let noted = Noted {
+                    camera: camera.place,
+                    event,
+                    since,
+                    until,
+                };
+                let place = if all { camera.place } else { 0 };
+                let keep = Waiting::new(self.alloc, camera, &noted, order, place, false, self.now);
                 self.judge.put(&mut self.keeps, keep);
                 self.counts.keeps = self.counts.keeps.saturating_add(1);
+                self.counts.due = self.counts.due.saturating_add(1);
             }
         }
     }
@@ -401,16 +530,29 @@ impl Station {
             Ok(saving) => self.saving = saving,
             Err(_) => self.judge.holds(false, "there is memory"),
         }
+        self.answers.drop_all();
+        self.texts.cut(&mut self.random, &mut self.judge);
+        self.keeps.clear();
+        self.counts.due = self.counts.answered.saturating_add(self.noted.len() as u64);
     }
 
-    // Each keep is answered once, and each save has ended.
+    // Each keep is answered once, but for those whose end lies ahead; and each save has ended.
     fn judge_end(&mut self) {
-        self.judge
-            .holds(self.keeps.is_empty(), "each keep is answered");
+        let left = self.keeps.len() as u64;
+        let ahead = self
+            .keeps
+            .iter()
+            .all(|keep| keep.grows && keep.until > self.now);
         self.judge.holds(
-            self.counts.answered == self.counts.keeps,
+            ahead,
+            "each keep is answered, and ends unless its end lies ahead",
+        );
+        self.judge.holds(
+            self.counts.answered.saturating_add(left) == self.counts.due,
             "each keep is answered once",
         );
+        self.judge
+            .holds(self.answers.is_empty(), "each order is answered");
         self.judge.holds(self.saving.len() == 0, "each save ends");
         self.saving.stop(&mut self.judge);
     }
@@ -456,6 +598,8 @@ impl World {
             0..=49 => self.save_goes_on(),
             50..=69 => self.station.keeps_ordered(self.cameras.as_slice()),
             70 if self.station.random.one_in(8) => self.kill(),
+            71..=90 => self.station.note(),
+            91..=120 => self.station.texts_and_clips(),
             _ => self.camera_step(),
         }
     }
@@ -487,12 +631,25 @@ impl World {
         for camera in self.cameras.iter_mut() {
             camera.begins(&mut self.station.random, now);
         }
-        for keep in self.station.keeps.iter_mut() {
-            if let Some(camera) = self.cameras.get(keep.camera) {
-                keep.begins(camera, now);
+        self.events_go_on();
+        self.save_unsaved();
+    }
+
+    // The events that the file has go on.
+    fn events_go_on(&mut self) {
+        for place in 0..self.station.noted.len() {
+            if let Some(keep) = self.keep_of(place) {
+                self.station.goes_on(keep);
             }
         }
-        self.save_unsaved();
+    }
+
+    // The keep of an event that the file has, with what it has locked by now.
+    fn keep_of(&self, place: usize) -> Option<Waiting> {
+        let noted = self.station.noted.get(place)?;
+        let camera = self.cameras.get(noted.camera)?;
+        let (alloc, now) = (self.station.alloc, self.station.now);
+        Some(Waiting::new(alloc, camera, noted, 0, 0, true, now))
     }
 
     // Clips that are to be saved, and aren't being saved, are asked for.

@@ -1,5 +1,5 @@
-use Rattle.std.proofs.Common.{◌≡◌, false, replicate}
+use Rattle.std.proofs.Common.{◌≡◌, None, replicate}
 use Rattle.loop_station_core.proofs.replies.Replies.new.Given as goal
 
 abbrev pub invariant-loop : goal.invariant-loop
-invariant-loop l = l.given.items ≡ replicate l.counter false
+invariant-loop g l = l.given.items ≡ replicate l.counter None

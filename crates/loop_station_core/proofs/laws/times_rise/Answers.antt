@@ -1,0 +1,5 @@
+use Rattle.loop_station_core.proofs.TimeLaws.{rise}
+use Rattle.loop_station_core.proofs.laws.times_rise.Goals as goal
+
+pub returns : goal.returns
+returns c = rise

@@ -1,0 +1,25 @@
+-- What is answered to a keep, and what is done of an event whose end lies ahead.
+use Rattle.std.specs.Prelude.{ℕ, ◌==◌, ◌&&◌, Bool, not, nat_lt, if◌then◌else◌}
+use Rattle.loop_station_core.specs.declared.growth.KeptAnswer.{KeptAnswer}
+use Rattle.loop_station_core.specs.declared.growth.GrowthTurn.{GrowthTurn}
+use Rattle.loop_station_core.specs.declared.growth.GrowthTurn.TheVariants.{Release, End, Leave, Keep}
+use Rattle.loop_station_core.specs.declared.growth.EventEnd.{EventEnd}
+use Rattle.loop_station_core.specs.declared.growth.EventEnd.TheVariants.{Whole, Refused, Gaps}
+
+-- that nothing is held, unless more was refused; what is missing of a time that is over, where some is held; or that
+-- the end lies ahead
+abbrev pub answer_of : ℕ → Bool → Bool → KeptAnswer
+answer_of clips refused whole = record {
+  none = (clips == 0) && not refused;
+  held = whole && not (clips == 0);
+  begun = not whole;
+}
+
+-- clips that a longer one covers go first; then it is over, or left to the next start, or its keep has a turn
+abbrev pub turn_of : Bool → Bool → Bool → ℕ → ℕ → GrowthTurn
+turn_of covered done stopping now until = if covered then Release
+    else (if done then End else (if stopping && nat_lt now until then Leave else Keep))
+
+-- a refusal is told before gaps
+abbrev pub end_of : Bool → Bool → EventEnd
+end_of refused held = if refused then Refused else (if held then Whole else Gaps)

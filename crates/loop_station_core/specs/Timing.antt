@@ -1,0 +1,92 @@
+-- The times of frames that their source says, and the gaps between them.
+use Rattle.std.specs.Prelude.{◌≡◌, ◌<◌, ◌≤◌, ℕ, ◌+◌, ◌-◌, ◌/◌, ◌^◌, ◌&&◌, ◌||◌, Bool, true, false, not, List, [], ◌∷◌, Option, Some, None, IfSome, is_none, is_some, min, nat_lt, nat_le, if◌then◌else◌}
+use Rattle.loop_station_core.specs.declared.timing.Arrival.{Arrival}
+use Rattle.loop_station_core.specs.declared.timing.Stamped.{Stamped}
+use Rattle.loop_station_core.specs.declared.timing.Timing.{Timing}
+
+-- the time that its source says, or else when it came
+abbrev pub said_or_now : Arrival → ℕ
+said_or_now a = elim a.said [
+  | Some time ↦ time
+  | None ↦ a.now
+]
+
+-- a time, or a microsecond after the last one where it isn't later
+abbrev pub later : Option ℕ → ℕ → ℕ
+later None time = time
+later (Some last) time = if nat_le time last then min (last + 1) (2 ^ 64 - 1) else time
+
+-- the time that its source says isn't later than the last one
+abbrev pub is_back : Option ℕ → Option ℕ → Bool
+is_back (Some last) (Some said) = nat_le said last
+is_back _ _ = false
+
+abbrev pub goes_back : Timing → Arrival → Bool
+goes_back t a = is_back t.last a.said
+
+-- the gap before a time, if it is longer than one and a half of a frame's time
+abbrev pub gap_since : Bool → Option ℕ → ℕ → ℕ → Option ℕ
+gap_since streams None time period = None
+gap_since streams (Some last) time period =
+    if streams && (nat_lt 0 period && nat_lt (min (period + period / 2) (2 ^ 64 - 1)) (time - last))
+    then Some (time - last) else None
+
+abbrev pub gap_of : Timing → ℕ → ℕ → Option ℕ
+gap_of t time period = gap_since t.streams t.last time period
+
+-- a gap is told unless one was told less than a second before
+abbrev pub tells : Option ℕ → Option ℕ → ℕ → Bool
+tells None told now = false
+tells (Some gap) None now = true
+tells (Some gap) (Some told) now = nat_le 1000000 (now - told)
+
+abbrev pub is_told : Timing → Option ℕ → ℕ → Bool
+is_told t gap now = tells gap t.told now
+
+abbrev pub counted : ℕ → Option ℕ → ℕ
+counted gaps gap = if is_some gap then min (gaps + 1) (2 ^ 64 - 1) else gaps
+
+-- what is known after a frame with this time and this gap before it, and what is told
+abbrev pub stepped : Timing → Arrival → ℕ → Option ℕ → Timing × Stamped
+stepped t a time gap = (
+  record {
+    last = Some time;
+    streams = true;
+    gaps = counted t.gaps gap;
+    told = if is_told t gap a.now then Some a.now else t.told;
+    back = t.back || goes_back t a;
+    untimed = t.untimed || is_none a.said;
+  },
+  record {
+    time = time;
+    back = goes_back t a && not t.back;
+    untimed = is_none a.said && not t.untimed;
+    gap = if is_told t gap a.now then gap else None;
+  },
+)
+
+-- the same after a frame that has come
+abbrev pub step : Timing → Arrival → Timing × Stamped
+step t a =
+    let time = later t.last (said_or_now a) in
+    stepped t a time (gap_of t time a.period)
+
+-- what is known after frames that have come
+abbrev pub timed_by : Timing → List Arrival → Timing
+timed_by t [] = t
+timed_by t (a ∷ more) = timed_by (step t a).0 more
+
+-- each frame's time is later than that of the frame before, as long as there are later ones
+abbrev pub EachLater : Timing → List Arrival → Type 0
+EachLater t [] = Unit {0}
+EachLater t (a ∷ more) =
+    IfSome t.last (λ last. last < 2 ^ 64 - 1 → last < (step t a).1.time) × EachLater (step t a).0 more
+
+-- Times rise, whatever a source says.
+abbrev pub TimesRise : Type 0
+TimesRise = (t : Timing) (frames : List Arrival) → EachLater t frames
+
+-- A gap is told a second after the one before, or later.
+abbrev pub GapsAreToldApart : Type 0
+GapsAreToldApart = (t : Timing) (a : Arrival) (told : ℕ) → t.told ≡ Some told
+    → is_some (step t a).1.gap ≡ true → 1000000 ≤ a.now - told

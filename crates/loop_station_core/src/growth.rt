@@ -1,0 +1,81 @@
+//! What is answered to a keep, and what is done of an event whose end lies ahead.
+
+ghost use Rattle.std.specs.Prelude.{◌≡◌};
+ghost use Rattle.loop_station_core.specs.Growth.{answer_of, end_of, turn_of};
+
+/// Which lines answer a keep of a camera, besides one for each clip and each refusal.
+#[derive(Clone, Copy)]
+pub struct KeptAnswer {
+    /// That the ring holds no frame of the time.
+    pub none: bool,
+    /// How much of the time is held, and where frames are missing, if some are.
+    pub held: bool,
+    /// That its end lies ahead.
+    pub begun: bool,
+}
+
+/// The lines for a keep that has locked so many clips. `refused`: the desk refused to lock more; `is_whole`: nothing of
+/// its time lies ahead.
+pub fn kept_answer(clips: usize, refused: bool, is_whole: bool) -> KeptAnswer
+    ensures { result ≡ answer_of clips refused is_whole }
+{
+    KeptAnswer {
+        none: clips == 0 && !refused,
+        held: is_whole && clips > 0,
+        begun: !is_whole,
+    }
+}
+
+/// What is done next of an event whose end lies ahead.
+#[derive(Clone, Copy, PartialEq, Eq)]
+pub enum GrowthTurn {
+    /// A clip that a longer one covers is released.
+    Release,
+    /// It is over, and told.
+    End,
+    /// It is left to the next start.
+    Leave,
+    /// Its keep has a turn.
+    Keep,
+}
+
+/// What is done next: `covered`: a clip of it lies within a longer one; `is_done`: it is locked to its end; `until`:
+/// its end. At a stop it is left where its end lies ahead.
+pub fn next_growth(covered: bool, is_done: bool, stopping: bool, now: u64, until: u64) -> GrowthTurn
+    ensures { result ≡ turn_of covered is_done stopping now until }
+{
+    if covered {
+        return GrowthTurn::Release;
+    }
+    if is_done {
+        return GrowthTurn::End;
+    }
+    if stopping && now < until {
+        return GrowthTurn::Leave;
+    }
+    GrowthTurn::Keep
+}
+
+/// How an event ended.
+#[derive(Clone, Copy, PartialEq, Eq)]
+pub enum EventEnd {
+    /// All of its time is held.
+    Whole,
+    /// The store refused to lock more.
+    Refused,
+    /// Frames are missing.
+    Gaps,
+}
+
+/// How an event ended of which the store refused to lock more, or not, and all is held, or not.
+pub fn event_end(refused: bool, all_held: bool) -> EventEnd
+    ensures { result ≡ end_of refused all_held }
+{
+    if refused {
+        EventEnd::Refused
+    } else if all_held {
+        EventEnd::Whole
+    } else {
+        EventEnd::Gaps
+    }
+}
