@@ -8,7 +8,7 @@ EPOCH = datetime.datetime(1970, 1, 1, tzinfo=datetime.timezone.utc)
 MICROSECOND = datetime.timedelta(microseconds=1)
 # The members of each kind of line, as docs/station.md has them: a text, with # a number, with @ a
 # time; with ? it may be missing.
-FRAMES = "camera #width #height format #rate_num #rate_den"
+FRAMES = "camera #width #height format #rate_num #rate_den ?#bits ?#store_bits"
 MEMBERS = {
     kind: members.split()
     for kind, members in {
@@ -35,7 +35,7 @@ MEMBERS = {
         "store_absent": "camera why",
         # What else stands in a list, the page reads in the store.
         "camera": "camera #next",
-        "status": "camera #stored #given_up #waiting #behind_micros #room ?#keeps #faults source",
+        "status": "camera #stored #given_up #waiting #behind_micros #room ?#keeps #faults source ?#gaps",
         "bad_order": "line",
         "help": "order",
         "too_far": "",
@@ -49,6 +49,9 @@ MEMBERS = {
         "status_making": "camera path #percent",
         "waited": "camera #micros @since",
         "stood_still": "#micros @since",
+        "times_back": "camera",
+        "no_times": "camera",
+        "frames_gap": "camera #micros @at",
         "syncs": "camera #micros",
         "too_slow": "camera #micros #frames_a_second",
         "source_missing": "camera",
@@ -110,11 +113,14 @@ WHY = {
     "Cancelled": "somebody has ended that",
     "InUse": "the file is in use. Choose another name",
     "CannotWrite": "the disk is full, or has failed. Make room, or look at it",
+    "MixedBits": "its frames don't all have the same bits a sample. Keep a shorter time",
     "Gaps": "frames of that time are missing",
     "TooManyEvents": "16 events of it still go on. Wait until one has ended",
     "RateUnknown": "its source says no rate. Give ffmpeg one",
     "UnsupportedColour": "no store may have such colours. Change the camera's format, or that of "
         "ffmpeg",
+    "OddWidth": "no store may have an odd width of more than 8 bits and halved colours. Change the "
+        "camera's size or format",
     "UnsupportedInterlace": "no store may have interlaced frames. Change the camera's settings",
     "BadHeader": "the source's header can't be read. Look at the program that feeds its pipe",
     "NotY4m": "the source isn't YUV4MPEG2. Look at the program that feeds its pipe",
@@ -328,6 +334,22 @@ EVENTS = {
         "The station stood still for {micros} s since {since}: it was stopped, or the machine "
         "slept. Times of frames right after are late.",
     ),
+    "times_back": (
+        "times",
+        True,
+        "{camera}: the times that its source says go back. Look at the camera's clock.",
+    ),
+    "no_times": (
+        "times",
+        True,
+        "{camera}: its source says no times, so its frames have those at which they came.",
+    ),
+    "frames_gap": (
+        "gap",
+        True,
+        "{camera}: no frame came for {micros} s before {at}: the camera, or its driver, dropped "
+        "some.",
+    ),
     "too_slow": (
         "too slow",
         True,
@@ -366,7 +388,7 @@ def shown(key: str, value: object) -> str:
         return ""
     if key.endswith("micros"):
         return f"{value / 1e6:.1f}"
-    if key in ("since", "event"):
+    if key in ("since", "at", "event"):
         return iso(value)
     return meaning(value) if key == "why" else str(value)
 
@@ -379,6 +401,8 @@ def event_of(line: Line) -> Event | None:
     said = {key: shown(key, value) for key, value in line.members.items()}
     if "rate_num" in said:
         said["frames"] = "{width}x{height} {format} {rate_num}:{rate_den}".format(**said)
+        if line["bits"] is not None:
+            said["frames"] += f", {said['bits']} bits a sample"
     if (
         line.kind == "store_open"
         and line["held_micros"] is not None

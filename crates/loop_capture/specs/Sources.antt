@@ -34,7 +34,10 @@ GivesBy true fits s answer out t = (answer ≡ End) × (t ≡ s)
 GivesBy false false s answer out t = (answer ≡ Bad) × (t ≡ record s { over = true })
 GivesBy false true s answer out t = (told : Result Bool Y4mFault) × (answer ≡ next_of told)
     × IfSome s.reader.rest (λ frames. GivesNext frames told out t.reader.rest)
-    × (t ≡ record { reader = record s.reader { fault = t.reader.fault; rest = t.reader.rest }; over = over_by answer })
+    × (t ≡ record {
+      reader = record s.reader { fault = t.reader.fault; rest = t.reader.rest; left = t.reader.left };
+      over = over_by answer;
+    })
 
 abbrev pub GivesFootage : Footage → Next → List ℕ → Footage → Type 0
 GivesFootage s answer out t = GivesBy s.over (length out == size_of_frame s.reader.header) s answer out t

@@ -101,6 +101,11 @@ impl<S: FrameSource, A: Allocator + Copy> Device<S, A> {
             }
         }
     }
+
+    /// What is to be among the flags of the frame of the last tick that completed a buffer: its source says so.
+    pub fn mark(&self) -> u32 {
+        self.source.mark()
+    }
 }
 
 // Asks a source for a frame as long as this buffer.

@@ -40,6 +40,12 @@ pub trait FrameSource: Drop {
     /// The frame that was made ready last.
     fn lent(&self) -> &[u8]
         ensures { result.now ≡ lends self.now };
+
+    /// What is to be among the flags of the frame that it gave last: nothing, unless the source says more. It promises
+    /// nothing.
+    fn mark(&self) -> u32 {
+        0
+    }
 }
 
 /// So that code which is generic in a source takes boxes too. Nothing is known of the frames that a box gives, and it

@@ -33,12 +33,21 @@ use Rattle.loop_desk.specs.declared.hand.LaneFault.TheVariants.{Queue, Store}
 use Rattle.loop_vb2.specs.Answers.{buffer_answer}
 use Rattle.loop_desk.specs.Front.{Front, HandState, IsDequeue, IsOneEvent, IsRequeue, StandsFront, TurnsBeside, dequeue_event, dequeued, empty, front_after, full, hand_state, kind_of, planes_held, requeue_event, requeued, spent, taken_frame, was_given_up}
 use Rattle.loop_desk.proofs.Short.{hand_with}
-use Rattle.loop_desk.specs.Lane.{completed_frame, hand_frame}
+use Rattle.loop_desk.specs.Lane.{completed_frame, hand_frame, without_flags}
 use Rattle.loop_desk.specs.Waiting.{IsCounted, frames_dequeued, shot}
-use Rattle.loop_pipeline.specs.Fronts.{IsApart, IsOut, emptied, frame_of, shown}
+use Rattle.loop_pipeline.specs.Fronts.{IsApart, IsOut, emptied, frame_of, marked_frame, shown}
 use Rattle.loop_pipeline.proofs.FrontRuns.{Adds}
 
 -- ---- a buffer that is dequeued
+
+-- a mark changes nothing but the flags
+unmarked : {P A : Type 0} (marks : List ℕ) (before : List (Frame A)) (k : Hand P A)
+    → map without_flags (map picture (before ++ marked_frame marks k))
+    ≡ map without_flags (map picture (before ++ frame_of k))
+unmarked marks [] (hand.Frame index frame planes) = refl
+unmarked marks [] (hand.Spent index planes) = refl
+unmarked marks [] hand.Empty = refl
+unmarked marks (x ∷ xs) k = ap (λ l. without_flags (picture x) ∷ l) (unmarked marks xs k)
 
 -- DQBUF of a buffer, or nothing
 abbrev event-of : Memory → ℕ → Option (Buffer Plane) → List Event
@@ -157,7 +166,7 @@ module _ {S P A : Type 0} (gives : S → Next → List ℕ → S → Type 0) (m 
     apart = apart;
     streams = refl;
     ring = looked.0;
-    went = ap (map picture) looked.1 ∙ sym (append-nil (map picture (sent to)));
+    went = ap (map without_flags) (ap (map picture) looked.1 ∙ sym (append-nil (map picture (sent to))));
     source = refl;
     shows = refl;
   }
@@ -182,7 +191,7 @@ module _ {S P A : Type 0} (gives : S → Next → List ℕ → S → Type 0) (m 
         apart = apart;
         streams = refl;
         ring = looked.0;
-        went = ap (map picture) looked.1 ∙ sym (append-nil (map picture (sent to)));
+        went = ap (map without_flags) (ap (map picture) looked.1 ∙ sym (append-nil (map picture (sent to))));
         source = refl;
         shows = refl;
       }
@@ -194,11 +203,11 @@ module _ {S P A : Type 0} (gives : S → Next → List ℕ → S → Type 0) (m 
       refused j (spent i planes) said = absurd (cc)
 
   -- a buffer was dequeued, and its frame pushed
-  pub take-adds : (q r : Lined P) (h k l : Hand P A) (to look up : Producer (Frame A) A AnyItems) (f : Front) (index : ℕ)
-      → r.body.shape ≡ q.body.shape → StandsFront m q table h f → ProducerLooked to look → TurnsBeside m q h (dequeued (Ok index)) r k
-      → hand_state m l ≡ emptied (hand_state m k) → SameProducer look up → sent up ≡ sent look ++ frame_of k
+  pub take-adds : (q r : Lined P) (h k l : Hand P A) (to look up : Producer (Frame A) A AnyItems) (marks : List ℕ)
+      (f : Front) (index : ℕ) → r.body.shape ≡ q.body.shape → StandsFront m q table h f → ProducerLooked to look → TurnsBeside m q h (dequeued (Ok index)) r k
+      → hand_state m l ≡ emptied (hand_state m k) → SameProducer look up → sent up ≡ sent look ++ marked_frame marks k
       → Adds gives m table f.queue.queue d d q r l to up []
-  take-adds q r h k l to look up f index formed stands looked turn hand ring sends =
+  take-adds q r h k l to look up marks f index formed stands looked turn hand ring sends =
       let t = turn table f stands in
       let s = f.queue.queue in
       let b = slice_get s.body.buffers index in
@@ -215,10 +224,11 @@ module _ {S P A : Type 0} (gives : S → Next → List ℕ → S → Type 0) (m 
         apart = taken-apart s (kind_of f.queue) index b refl one;
         streams = taken-streams s (kind_of f.queue) index b;
         ring = joined looked.0 ring;
-        went = ap (map picture) (sends ∙ ap (λ x. x ++ frame_of k) looked.1)
+        went = ap (λ l. map without_flags (map picture l)) sends ∙ (unmarked marks (sent look) k
+            ∙ ap (map without_flags) (ap (λ x. map picture (x ++ frame_of k)) looked.1
             ∙ (map-append picture (sent to) (frame_of k)
             ∙ ap (λ x. map picture (sent to) ++ x) (frame-read k ∙ (ap hand_frame t.1.hand
-            ∙ sym (event-frames s (kind_of f.queue) index b refl one))));
+            ∙ sym (event-frames s (kind_of f.queue) index b refl one))))));
         source = refl;
         shows = ap (map shown) (event-completes (kind_of f.queue) index b);
       }
@@ -256,7 +266,7 @@ module _ {S P A : Type 0} (gives : S → Next → List ℕ → S → Type 0) (m 
         apart = apart;
         streams = refl;
         ring = ((refl, refl, refl, refl), refl);
-        went = same;
+        went = ap (map without_flags) same;
         source = refl;
         shows = refl;
       }
@@ -279,7 +289,7 @@ module _ {S P A : Type 0} (gives : S → Next → List ℕ → S → Type 0) (m 
         apart = tt;
         streams = settled-streams (with_buffer (queued_with planes) i j.queue.body);
         ring = ((refl, refl, refl, refl), refl);
-        went = same;
+        went = ap (map without_flags) same;
         source = refl;
         shows = refl;
       }
@@ -295,7 +305,7 @@ module _ {S P A : Type 0} (gives : S → Next → List ℕ → S → Type 0) (m 
         apart = apart;
         streams = refl;
         ring = ((refl, refl, refl, refl), refl);
-        went = same;
+        went = ap (map without_flags) same;
         source = refl;
         shows = refl;
       }

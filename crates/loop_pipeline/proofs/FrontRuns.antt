@@ -111,7 +111,8 @@ pub record Adds {S P A : Type 0} (gives : S → Next → List ℕ → S → Type
   pub apart : IsApart now.queue.queue.body now.hand
   pub streams : now.queue.queue.body.streaming ≡ s.body.streaming
   pub ring : SameProducer to up
-  pub went : map picture (sent up) ≡ map picture (sent to) ++ frames_dequeued s events
+  pub went : map without_flags (map picture (sent up))
+      ≡ map without_flags (map picture (sent to) ++ frames_dequeued s events)
   pub source : GoesOn gives d given e
   pub shows : map shown (flat_map completed_frame events) ≡ flat_map shown_given given
 
@@ -155,7 +156,7 @@ module _ {S P G A : Type 0} (gives : S → Next → List ℕ → S → Type 0) (
     free = refl;
     apart = tt;
     streams = refl;
-    went = ap (map picture) none;
+    went = ap (λ l. map without_flags (map picture l)) none;
     given = [];
     source = refl;
     counted = refl;
@@ -186,7 +187,7 @@ module _ {S P G A : Type 0} (gives : S → Next → List ℕ → S → Type 0) (
         whole = law.from_start seen.queue queue has.first has.events has.shaped.0 has.shaped.1 has.shaped.2 has.stood
             has.sound (shape-of seen.queue has.first has.stood ∙ has.shaped.3) has.legal
             (subst (StandsQueue m queue) has.reached has.stands.queue.queue) has.flows
-            ∙ ap (λ l. map without_flags l ++ map without_flags (frames_waiting queue last)) (sym has.went);
+            ∙ ap (λ l. l ++ map without_flags (frames_waiting queue last)) (sym has.went);
       }
     where
       shape-of : (q : Lined P) (s : QueueState) → StandsQueue m q s → s.body.shape ≡ q.body.shape
@@ -297,9 +298,11 @@ module _ {S P G A : Type 0} (gives : S → Next → List ℕ → S → Type 0) (
         free = adds.free;
         apart = adds.apart;
         streams = adds.streams ∙ before.streams;
-        went = adds.went ∙ (ap (λ l. l ++ frames_dequeued before.now.queue.queue new) before.went
-            ∙ (ap (λ t. frames_dequeued s old ++ frames_dequeued t new) here
-            ∙ sym (told-behind after_event dequeued_frame s old new)));
+        went = adds.went ∙ (map-append without_flags (map picture (sent to)) (frames_dequeued before.now.queue.queue new)
+            ∙ (ap (λ l. l ++ map without_flags (frames_dequeued before.now.queue.queue new)) before.went
+            ∙ (sym (map-append without_flags (frames_dequeued s old) (frames_dequeued before.now.queue.queue new))
+            ∙ ap (map without_flags) (ap (λ t. frames_dequeued s old ++ frames_dequeued t new) here
+            ∙ sym (told-behind after_event dequeued_frame s old new)))));
         given = before.given ++ given;
         source = goes-behind gives seen.device d e before.given given before.source adds.source;
         counted = counted;

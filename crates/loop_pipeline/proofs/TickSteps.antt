@@ -35,7 +35,7 @@ use Rattle.loop_capture.specs.declared.source.Next.TheVariants.{More, End, Bad}
 use Rattle.loop_capture.specs.Ticks.{SeenDevice, Ticks, Took, end_of, sequence_after, sequence_of, tick_events, tick_of}
 use Rattle.loop_desk.specs.declared.hand.Hand.{Hand}
 use Rattle.loop_desk.specs.Front.{Front, HandState, StandsFront, empty, full, planes_held, spent}
-use Rattle.loop_desk.specs.Lane.{completed_frame, hand_frame}
+use Rattle.loop_desk.specs.Lane.{completed_frame, hand_frame, without_flags}
 use Rattle.loop_desk.specs.Waiting.{IsCounted, frames_dequeued}
 use Rattle.loop_pipeline.specs.Fronts.{GaveBy, IsApart, IsOut, TickRecord, IsToldBy, shown, shown_given}
 use Rattle.loop_pipeline.proofs.FrontRuns.{TickAdds}
@@ -208,7 +208,7 @@ module _ {S P A : Type 0} (gives : S → Next → List ℕ → S → Type 0) (m 
       apart = apart;
       streams = refl;
       ring = ((refl, refl, refl, refl), refl);
-      went = sym (append-nil (map picture (sent to)));
+      went = ap (map without_flags) (sym (append-nil (map picture (sent to))));
       source = (e, gave, refl);
       shows = sym none;
     },
@@ -266,7 +266,8 @@ module _ {S P A : Type 0} (gives : S → Next → List ℕ → S → Type 0) (m 
               took.happen.1 f.hand apart;
           streams = end-streams tick stamp bytes (on_body body_seen s);
           ring = ((refl, refl, refl, refl), refl);
-          went = sym (append-nil (map picture (sent to))) ∙ ap (λ l. map picture (sent to) ++ l) (sym (end-frames tick stamp bytes (on_body body_seen s)));
+          went = ap (map without_flags) (sym (append-nil (map picture (sent to)))
+              ∙ ap (λ l. map picture (sent to) ++ l) (sym (end-frames tick stamp bytes (on_body body_seen s))));
           source = (e, gave, refl);
           shows = end-shown tick stamp.sequence now bytes;
         },

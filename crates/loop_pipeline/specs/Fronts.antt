@@ -1,5 +1,5 @@
 -- What one thread keeps that has a camera's device, its queue and the end of a ring.
-use Rattle.std.specs.Prelude.{◌≡◌, ◌≢◌, ◌⊎◌, ℕ, ◌+◌, ◌^◌, ◌<◌, ◌≤◌, Bool, true, false, List, [], ◌∷◌, ◌++◌, length, map}
+use Rattle.std.specs.Prelude.{◌≡◌, ◌≢◌, ◌⊎◌, ℕ, ◌+◌, ◌^◌, ◌<◌, ◌≤◌, Bool, true, false, bit_or, get_or, List, [], ◌∷◌, ◌++◌, length, map}
 use Rattle.std.specs.Global.{Global}
 use Rattle.std.specs.List.{flat_map, list_any}
 use Rattle.rtrb.specs.declared.AnyItems.{AnyItems}
@@ -209,6 +209,13 @@ frame_of (hand.Frame index frame planes) = frame ∷ []
 frame_of (hand.Spent index planes) = []
 frame_of hand.Empty = []
 
+-- the same with the mark of its buffer among its flags
+abbrev pub marked_frame : {P A : Type 0} → List ℕ → Hand P A → List (Frame A)
+marked_frame marks (hand.Frame index frame planes) =
+    record frame { flags = bit_or frame.flags (get_or marks index 0) } ∷ []
+marked_frame marks (hand.Spent index planes) = []
+marked_frame marks hand.Empty = []
+
 -- the hand without its frame
 abbrev pub emptied : HandState → HandState
 emptied (full index p planes) = spent index planes
@@ -222,7 +229,7 @@ IsApart body (full index p planes) = IsOut body index
 IsApart body (spent index planes) = IsOut body index
 
 -- The queue's events since the front was made: each may happen at its point, none stops the stream, the frames that
--- they dequeued are in the ring, and those that they completed are the ticks'.
+-- they dequeued are in the ring, with marks in their flags, and those that they completed are the ticks'.
 pub record HasMoved {S P G A : Type 0} (gives : S → Next → List ℕ → S → Type 0) (meaning : P → Plane)
     (due : ℕ → ℕ → Type 0) (ends : ℕ → Type 0) (seen : SeenFront S P G A) (device : SeenDevice S) (queue : Lined P)
     (table : Fds P) (hand : Hand P A) (to : Producer (Frame A) A AnyItems) (ticks missed failed : ℕ) (over : Bool)
@@ -242,7 +249,7 @@ pub record HasMoved {S P G A : Type 0} (gives : S → Next → List ℕ → S �
   pub free : hand_frame now.hand ≡ []
   pub apart : IsApart now.queue.queue.body now.hand
   pub streams : now.queue.queue.body.streaming ≡ first.body.streaming
-  pub went : map picture (sent to) ≡ frames_dequeued first events
+  pub went : map without_flags (map picture (sent to)) ≡ map without_flags (frames_dequeued first events)
   pub given : List TickRecord
   pub source : GoesOn gives seen.device given device
   pub counted : length given ≡ ticks

@@ -181,6 +181,11 @@ impl<D: Disk + Drop, K: Visits, A: Allocator + Copy> Back<D, K, A> {
         self.desk.status().pending >= self.desk.limits().pending
     }
 
+    /// How many frames a flush of the desk stores at most. It promises nothing.
+    pub fn group(&self) -> u32 {
+        self.desk.limits().group
+    }
+
     /// Memory of a stored frame, for a later one, as `Desk::spare_memory`.
     pub fn spare_memory(&mut self) -> Option<Vec<u8, A>>
         ensures { self.new ≡ self.old }

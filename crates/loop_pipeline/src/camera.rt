@@ -43,4 +43,9 @@ impl<S: FrameSource + Drop, D: Disk + Drop, P: PlaneMemory> Camera<S, D, P> {
             desk,
         }
     }
+
+    // How many frames a flush of its desk stores at most.
+    pub(crate) fn group(&self) -> u32 {
+        self.desk.limits().group
+    }
 }

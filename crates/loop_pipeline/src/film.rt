@@ -24,11 +24,8 @@ use std::sync::{Mutex, Wait};
 use std::thread::{Promise, Scope, Threads};
 use std::time::{Clock, Duration};
 
-// How many frames the ring takes: as many as a flush stores at once.
-const RING: usize = 8;
-
-// The memory of how many stored frames is kept for the front at most.
-const SPARES: usize = 16;
+// The memory of how many stored frames is kept for the front at most: as many as a flush may store at once.
+const SPARES: usize = 64;
 
 // How many milliseconds a desk's thread sleeps at most, unless it is woken, before it serves what others ask of it.
 const LOOK_AGAIN: u64 = 250;
@@ -168,7 +165,8 @@ fn bring_all<R: Wait, D: Disk + Drop, G: Guide>(
     ensures { back.new ≡ record back.old { desk = back.new.desk } }
 {
     let mut some = false;
-    'frames: for _ in 0..RING {
+    let most = back.group();
+    'frames: for _ in 0..most {
         match back.bring() {
             Brought::Submitted(number) => guide.brought(rt, back, number),
             Brought::GivenUp(_, frame) => guide.gave_up(rt, back, frame),
@@ -192,7 +190,8 @@ fn bring_all<R: Wait, D: Disk + Drop, G: Guide>(
 fn give_memory<R: Wait, D: Disk + Drop, K: Visits>(rt: &R, link: &Link, back: &mut Back<D, K>)
     ensures { back.new ≡ back.old }
 {
-    'rows: for _ in 0..RING {
+    let most = back.group();
+    'rows: for _ in 0..most {
         let Some(bytes) = back.spare_memory() else {
             break;
         };
@@ -500,7 +499,9 @@ pub fn film_camera<
         (G.due guide.now) (G.ends guide.now) camera) }
 {
     link.begin();
-    let Ok((to, from)) = RingBuffer::new(alloc, RING) else {
+    // The ring takes as many frames as a flush stores at once: they come while the flush before it lasts.
+    let most = camera.group() as usize;
+    let Ok((to, from)) = RingBuffer::new(alloc, most) else {
         return Err(Unfilmed::NoMemory(camera));
     };
     let Camera {

@@ -1,9 +1,9 @@
 //! A device, its queue, and the end of the ring to which its frames go: owned by one thread.
 
-ghost use Rattle.std.specs.Prelude.{◌≡◌, ◌<◌, ◌≤◌, ◌++◌, []};
+ghost use Rattle.std.specs.Prelude.{◌≡◌, ◌<◌, ◌≤◌, ◌++◌, [], get_or};
 ghost use Rattle.rtrb.specs.Ring.{SameProducer, known_free, sent};
 ghost use Rattle.loop_desk.specs.Front.{hand_state};
-ghost use Rattle.loop_pipeline.specs.Fronts.{IsOpen, Leaves, emptied, fails, frame_of, is_last, made_of, misses};
+ghost use Rattle.loop_pipeline.specs.Fronts.{IsOpen, Leaves, emptied, fails, is_last, made_of, marked_frame, misses};
 
 use crate::Guide;
 use loop_capture::{Device, FrameSource, Tick};
@@ -20,6 +20,9 @@ use std::mem;
 use std::snapshot::Snapshot;
 use std::sync::Wait;
 use std::time::Clock;
+
+// The most buffers of a queue.
+const MAX_BUFFERS: usize = 32;
 
 /// What came of taking the frame that waits first.
 #[derive(Drop)]
@@ -46,6 +49,8 @@ pub struct Front<S: FrameSource + Drop, P: PlaneMemory, G: Guide, A: Allocator +
     ticks: u64,
     missed: u64,
     failed: u64,
+    /// The mark of the frame that each buffer got last: its source's, for the frame's flags.
+    marks: [u32; MAX_BUFFERS],
     /// Its guide or its source has ended it.
     over: bool,
     guide: Snapshot<G>,
@@ -131,23 +136,43 @@ impl<S: FrameSource + Drop, P: PlaneMemory, G: Guide, A: Allocator + Copy> Model
         f.device f.queue f.table f.hand f.to f.ticks f.missed f.failed f.over };
 }
 
-// Pushes the hand's frame into a ring that has room; returns what came of it.
+// The mark of the frame that a buffer got last.
+fn mark_at(marks: &[u32], index: u32) -> u32
+    ensures { result ≡ get_or marks.now index 0 }
+{
+    let index = index as usize;
+    if index < marks.len() { marks[index] } else { 0 }
+}
+
+// Keeps the mark of the frame that a tick completed a buffer with.
+fn keep_mark(marks: &mut [u32], tick: Tick, mark: u32) {
+    if let Tick::Completed(index) = tick {
+        let index = index as usize;
+        if index < marks.len() {
+            marks[index] = mark;
+        }
+    }
+}
+
+// Pushes the hand's frame into a ring that has room, with its buffer's mark in its flags; returns what came of it.
 fn give<P: PlaneMemory, A: Allocator + Copy>(
     hand: &mut Hand<P, A>,
     to: &mut Producer<Frame<A>, A>,
+    marks: &[u32],
 ) -> TakeOutcome
     requires { 0 < known_free to.old }
     ensures hand { hand_state P.plane hand.new ≡ emptied (hand_state P.plane hand.old) }
     ensures ring { SameProducer to.old to.new }
-    ensures sent { sent to.new ≡ sent to.old ++ frame_of hand.old }
+    ensures sent { sent to.new ≡ sent to.old ++ marked_frame marks.now hand.old }
 {
     match mem::replace(hand, Hand::Empty) {
         Hand::Frame {
             index,
-            frame,
+            mut frame,
             planes,
         } => {
             *hand = Hand::Spent { index, planes };
+            frame.flags |= mark_at(marks, index);
             to.push_reserved(frame);
             TakeOutcome::Frame
         }
@@ -218,6 +243,7 @@ impl<S: FrameSource + Drop, P: PlaneMemory, G: Guide, A: Allocator + Copy> Front
             ticks: 0,
             missed: 0,
             failed: 0,
+            marks: [0; MAX_BUFFERS],
             over: false,
             guide,
             queue_before,
@@ -246,6 +272,7 @@ impl<S: FrameSource + Drop, P: PlaneMemory, G: Guide, A: Allocator + Copy> Front
             return None;
         };
         let tick = self.device.tick(&mut self.queue, now);
+        keep_mark(&mut self.marks, tick, self.device.mark());
         self.ticks += 1;
         self.missed += missed_by(tick);
         self.failed += failed_by(tick);
@@ -258,8 +285,8 @@ impl<S: FrameSource + Drop, P: PlaneMemory, G: Guide, A: Allocator + Copy> Front
         self.over
     }
 
-    /// Moves the frame that waits first into the ring. Its memory is `spare`, or new. The buffer stays in the hand
-    /// until `put_back`.
+    /// Moves the frame that waits first into the ring, with the mark that its source gave it in its flags. Its memory
+    /// is `spare`, or new. The buffer stays in the hand until `put_back`.
     pub fn take(&mut self, alloc: A, spare: &mut Option<Vec<u8, A>>) -> TakeOutcome
         ensures { self.new ≡ self.old }
     {
@@ -268,7 +295,7 @@ impl<S: FrameSource + Drop, P: PlaneMemory, G: Guide, A: Allocator + Copy> Front
         }
         match dequeue(alloc, &mut self.queue, &mut self.hand, spare) {
             Err(fault) => TakeOutcome::Refused(fault),
-            Ok(_) => give(&mut self.hand, &mut self.to),
+            Ok(_) => give(&mut self.hand, &mut self.to, &self.marks),
         }
     }
 
@@ -294,6 +321,7 @@ impl<S: FrameSource + Drop, P: PlaneMemory, G: Guide, A: Allocator + Copy> Front
             ticks: _,
             missed,
             failed,
+            marks: _,
             over,
             guide: _,
             queue_before: _,

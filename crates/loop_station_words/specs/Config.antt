@@ -6,7 +6,7 @@ use Rattle.loop_station_words.specs.declared.config.CameraConfig.{CameraConfig}
 use Rattle.loop_station_words.specs.declared.config.Config.{Config}
 use Rattle.loop_station_words.specs.declared.config.Source.{Source}
 use Rattle.loop_station_words.specs.declared.config.Source.TheVariants.{Path, Pattern}
-use Rattle.loop_station_words.specs.Fields.{form_of, memory_of, number_or, path_of, pattern_of, room_of, text_of, truth_of}
+use Rattle.loop_station_words.specs.Fields.{form_of, memory_of, number_or, path_of, pattern_of, room_of, text_of, times_of, truth_of}
 use Rattle.loop_station_words.specs.Names.{is_name}
 
 -- how many buffers a camera may have
@@ -50,6 +50,7 @@ pub record SaysCamera (keys : Members) (camera : CameraConfig) : Type 0 where
   pub memory : memory_of (get_member (codes "memory") keys) ≡ Some camera.memory
   pub save_to : path_of (get_member (codes "save_to") keys) ≡ Some (option_map string_bytes camera.save_to)
   pub release : truth_of false (get_member (codes "release") keys) ≡ Some camera.release
+  pub times_from : times_of (get_member (codes "times_from") keys) ≡ Some camera.times_from
 
 -- a table describes a camera
 abbrev pub SaysOne : Data → CameraConfig → Type 0

@@ -12,6 +12,8 @@ use Rattle.loop_station_words.specs.declared.config.MemoryLimit.{MemoryLimit}
 use Rattle.loop_station_words.specs.declared.config.MemoryLimit.TheVariants.{Bytes, Seconds}
 use Rattle.loop_station_words.specs.declared.config.StoreSize.{StoreSize}
 use Rattle.loop_station_words.specs.declared.config.StoreSize.TheVariants.{Bytes as RoomBytes, Seconds as RoomSeconds}
+use Rattle.loop_station_words.specs.declared.config.TimesFrom.{TimesFrom}
+use Rattle.loop_station_words.specs.declared.config.TimesFrom.TheVariants.{Arrival, Source as FromSource}
 use Rattle.loop_station_words.specs.declared.shape.FrameShape.{FrameShape}
 use Rattle.loop_station_words.specs.Cuts.{cut}
 use Rattle.loop_station_words.specs.Shapes.{shape_said}
@@ -33,6 +35,13 @@ form_of None = Some Text
 form_of (Some (string form)) =
     if bytes_eq form (codes "text") then Some Text else if bytes_eq form (codes "json") then Some Json else None
 form_of _ = None
+
+-- where the times of frames come from: `arrival`, which is the usual one where the key is missing, or `source`
+abbrev pub times_of : Option Data → Option TimesFrom
+times_of None = Some Arrival
+times_of (Some (string from)) = if bytes_eq from (codes "arrival") then Some Arrival
+    else if bytes_eq from (codes "source") then Some FromSource else None
+times_of _ = None
 
 -- `true` or `false`, or the other value where the key is missing
 abbrev pub truth_of : Bool → Option Data → Option Bool

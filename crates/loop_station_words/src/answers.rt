@@ -23,6 +23,8 @@ pub struct CameraStatus<'a> {
     pub faults: u64,
     /// The state of its source, in words.
     pub source: &'a str,
+    /// How many gaps its source's times had, if it says times.
+    pub gaps: Option<u64>,
 }
 
 /// What each line begins with: the time of day, in UTC with milliseconds, and a label, if there are any.

@@ -10,7 +10,7 @@ ghost use Rattle.loop_station_words.specs.Names.{is_name};
 use crate::fault::{CameraFault, ConfigFault};
 use crate::fields::{
     after_at, buffers_at, check_keys, form_at, memory_at, number_at, path_at, room_at, shape_at,
-    small_at, text_at, truth_at, value_at,
+    small_at, text_at, times_at, truth_at, value_at,
 };
 use crate::name::is_name;
 use crate::shape::FrameShape;
@@ -84,6 +84,17 @@ pub struct CameraConfig {
     pub save_to: Option<String>,
     /// A clip that was saved there is released.
     pub release: bool,
+    /// Where the times of its frames come from.
+    pub times_from: TimesFrom,
+}
+
+/// Where the times of a camera's frames come from.
+#[derive(Clone, Copy, Debug, PartialEq, Eq)]
+pub enum TimesFrom {
+    /// A frame has the time at which it came.
+    Arrival,
+    /// It has the time that its source says.
+    Source,
 }
 
 /// Where a camera's frames come from.
@@ -282,6 +293,7 @@ fn camera_of(alloc: Global, table: &Value) -> Result<CameraConfig, CameraFault>
         memory: memory_at(table).ok_or(CameraFault::BadMemory)?,
         save_to: copied(alloc, save_to)?,
         release,
+        times_from: times_at(table).ok_or(CameraFault::BadTimesFrom)?,
     })
 }
 

@@ -113,6 +113,9 @@ pub enum CameraFault {
     /// `release` is true, and there is no `save_to`.
     #[error("release stands only beside save_to")]
     NoSaveTo,
+    /// `times_from` is neither `arrival` nor `source`.
+    #[error("times_from is \"arrival\" or \"source\"")]
+    BadTimesFrom,
     /// `pattern` can't be read, or no store may have such frames.
     #[error("pattern is a size, a format and a rate, as 640x480 YM12 25:1")]
     BadPattern,

@@ -4,9 +4,9 @@ ghost use Rattle.toml.specs.Data.{get_member, integer};
 ghost use Rattle.toml.specs.View.{table_view, view};
 ghost use Rattle.loop_station_words.specs.Config.{HasBuffers};
 ghost use Rattle.loop_station_words.specs.Cuts.{cut};
-ghost use Rattle.loop_station_words.specs.Fields.{SaysShape, bytes_of, duration_cut, form_of, memory_of, number_or, part_seconds, path_of, positive, room_of, seconds_of_minutes, shape_text, text_of, truth_of};
+ghost use Rattle.loop_station_words.specs.Fields.{SaysShape, bytes_of, duration_cut, form_of, memory_of, number_or, part_seconds, path_of, positive, room_of, seconds_of_minutes, shape_text, text_of, times_of, truth_of};
 
-use crate::config::{AnswersForm, MemoryLimit, StoreSize};
+use crate::config::{AnswersForm, MemoryLimit, StoreSize, TimesFrom};
 use crate::cut::cut;
 use crate::fault::CameraFault;
 use crate::shape::{FrameShape, read_shape};
@@ -15,9 +15,21 @@ use std::num::saturating_f64_to_u64;
 use toml::{Table, Value};
 
 // The keys of a camera.
-const KEYS: [&str; 13] = [
-    "name", "source", "store", "minutes", "bytes", "keep", "after", "tag", "pattern", "buffers",
-    "memory", "save_to", "release",
+const KEYS: [&str; 14] = [
+    "name",
+    "source",
+    "store",
+    "minutes",
+    "bytes",
+    "keep",
+    "after",
+    "tag",
+    "pattern",
+    "buffers",
+    "memory",
+    "save_to",
+    "release",
+    "times_from",
 ];
 
 // The most seconds after an order that a keep may lock.
@@ -109,6 +121,21 @@ pub(crate) fn form_at(table: &Table) -> Option<AnswersForm>
         Some(Value::String(form)) => match form.as_str() {
             "text" => Some(AnswersForm::Text),
             "json" => Some(AnswersForm::Json),
+            _ => None,
+        },
+        Some(_) => None,
+    }
+}
+
+/// Where the times of frames come from; `None` where it is neither `arrival` nor `source`.
+pub(crate) fn times_at(table: &Table) -> Option<TimesFrom>
+    ensures { result ≡ times_of (get_member (codes "times_from") (table_view table.now)) }
+{
+    match value_at(table, "times_from") {
+        None => Some(TimesFrom::Arrival),
+        Some(Value::String(from)) => match from.as_str() {
+            "arrival" => Some(TimesFrom::Arrival),
+            "source" => Some(TimesFrom::Source),
             _ => None,
         },
         Some(_) => None,

@@ -34,7 +34,8 @@ mod time;
 pub use answers::{CameraStatus, print_clip_path, print_head};
 pub use calendar::{CivilTime, civil_time_of};
 pub use config::{
-    AnswersForm, CameraConfig, Config, MAX_CAMERAS, MemoryLimit, Source, StoreSize, read_config,
+    AnswersForm, CameraConfig, Config, MAX_CAMERAS, MemoryLimit, Source, StoreSize, TimesFrom,
+    read_config,
 };
 pub use fault::{CameraFault, ConfigFault};
 pub use lines::Lines;

@@ -560,11 +560,11 @@ impl Lines {
         self.append(&text, &json)
     }
 
-    /// `status CAMERA stored N given up G waiting W behind S room R keeps K faults X source WORDS`, without ` keeps K`
-    /// where that isn't known.
+    /// `status CAMERA stored N given up G waiting W behind S room R keeps K faults X source WORDS gaps N`, without
+    /// ` keeps K` and ` gaps N` where that isn't known.
     ///
     /// JSON: `camera`, `stored`, `given_up`, `waiting`, `behind_micros`, `room`, `keeps` where it is known, `faults`,
-    /// `source`.
+    /// `source`, `gaps` where they are known.
     pub fn status<'a>(&mut self, camera: &'a str, status: &CameraStatus<'a>) -> io::Result<()> {
         self.line(
             "status",
@@ -586,6 +586,7 @@ impl Lines {
                 Number("faults", status.faults),
                 Words(" source "),
                 Text("source", status.source),
+                Maybe(" gaps ", "gaps", status.gaps),
             ],
         )
     }

@@ -19,9 +19,7 @@ pub(crate) struct KeptClip {
 #[derive(Drop)]
 struct Answers {
     // The lines of each camera that is meant, in the order of the configuration.
-    lines: Vec<Lines>,
-    // Which cameras have answered.
-    replies: Replies,
+    replies: Replies<Lines>,
     // The clips that were made.
     kept: Vec<KeptClip>,
 }
@@ -44,17 +42,11 @@ impl Answering {
         label: Option<String>,
         event: u64,
         cameras: usize,
-        json: bool,
     ) -> Result<Answering, AllocError> {
-        let mut lines = Vec::with_capacity(alloc, cameras)?;
-        for _ in 0..cameras {
-            lines.push(Lines::new(alloc, json))?;
-        }
         Ok(Answering {
             label,
             event,
             answers: Mutex::new(Answers {
-                lines,
                 replies: Replies::new(alloc, cameras)?,
                 kept: Vec::new(alloc),
             }),
@@ -70,20 +62,17 @@ impl Answering {
         kept: Option<Vec<KeptClip>>,
     ) -> bool {
         let mut answers = self.answers.lock(rt);
-        if let Some(slot) = answers.lines.get_mut(place) {
-            *slot = lines;
-        }
         if let Some(kept) = kept {
             // Where memory is refused, these clips aren't saved by themselves until the next start.
             let _saved_later = answers.kept.extend_from_slice(&kept);
         }
-        answers.replies.give(place)
+        answers.replies.give(place, lines)
     }
 
     /// All lines, and the clips that were made. Nothing is left of them.
-    pub fn take<R: Wait>(&self, rt: &R, alloc: Global) -> (Vec<Lines>, Vec<KeptClip>) {
+    pub fn take<R: Wait>(&self, rt: &R, alloc: Global) -> (Vec<Option<Lines>>, Vec<KeptClip>) {
         let mut answers = self.answers.lock(rt);
-        let lines = std::mem::replace(&mut answers.lines, Vec::new(alloc));
+        let lines = answers.replies.take(alloc);
         let kept = std::mem::replace(&mut answers.kept, Vec::new(alloc));
         (lines, kept)
     }

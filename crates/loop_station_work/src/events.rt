@@ -1,20 +1,20 @@
 //! Events: what happens to a camera without an order. Each is told once.
 //!
 //! A thread looks at the state of each camera ten times a second, and tells what has changed, as loop_station_core
-//! decides: its source, its store, frames that were given up, blocks that are all locked, and a disk that is slow. What
-//! lasted for less than a tenth of a second isn't told, but frames that were given up always are.
+//! decides: its source, its store and how far that is made, frames that were given up, blocks that are all locked, and
+//! a disk that is slow. What lasted for less than a tenth of a second isn't told, but frames that were given up always
+//! are.
 
 use crate::absent::Absent;
 use crate::asked::held_of_asked;
+use crate::filming::limits_for;
 use crate::state::CameraState;
-use loop_station_core::{Change, KINDS, NOT_THERE_YET, Reported, Seen, SourceSeen, StoreSeen};
+use crate::times::{tell_source_on, tell_times};
+use loop_station_core::{Change, DiskSeen, KINDS, NOT_THERE_YET, Reported, Seen, StoreSeen};
 use loop_station_words::Lines;
 use std::io;
 use std::sync::Wait;
 use std::time::{Clock, Duration};
-
-// How many frames a flush stores at most.
-const FLUSHED: u64 = 8;
 
 /// What was last told of a camera.
 #[derive(Clone, Copy)]
@@ -23,12 +23,6 @@ pub struct LastReported {
     // Why the store wasn't there when that was looked at last, and the number of that cause.
     absent: Option<Absent>,
     cause: u32,
-    // Why its source is unusable, as was told last.
-    unusable: Option<&'static str>,
-    // How many quarters of its store were made, while it is made.
-    making: Option<u32>,
-    // How fast its disk is was told.
-    disk: bool,
 }
 
 impl LastReported {
@@ -38,9 +32,6 @@ impl LastReported {
             reported: Reported::new(now),
             absent: None,
             cause: NOT_THERE_YET,
-            unusable: None,
-            making: None,
-            disk: false,
         }
     }
 
@@ -50,12 +41,13 @@ impl LastReported {
             None => StoreSeen::Unknown,
             Some(Ok(())) => StoreSeen::Open,
             Some(Err(Absent::Stopped)) => StoreSeen::Stopped,
-            // That it is being made is told in its place.
-            Some(Err(Absent::NoStore)) if state.life.making(rt).is_some() => StoreSeen::Unknown,
-            Some(Err(Absent::NoStore)) => {
-                self.absent = Some(Absent::NoStore);
-                StoreSeen::Absent(NOT_THERE_YET)
-            }
+            Some(Err(Absent::NoStore)) => match state.life.making(rt) {
+                Some(percent) => StoreSeen::Making(percent),
+                None => {
+                    self.absent = Some(Absent::NoStore);
+                    StoreSeen::Absent(NOT_THERE_YET)
+                }
+            },
             Some(Err(why)) => {
                 let is_like = match &self.absent {
                     Some(before) => before.is_like(&why),
@@ -87,76 +79,7 @@ impl LastReported {
                 self.tell(rt, state, change, lines)?;
             }
         }
-        self.tell_unusable(rt, state, lines)?;
-        self.tell_making(rt, state, lines)?;
-        self.tell_disk(rt, state, lines)
-    }
-
-    // Its source gives what no store takes: told once for each cause.
-    fn tell_unusable<R: Wait>(
-        &mut self,
-        rt: &R,
-        state: &CameraState,
-        lines: &mut Lines,
-    ) -> io::Result<()> {
-        let why = state.life.unusable(rt);
-        match state.life.camera(rt).source_seen() {
-            SourceSeen::Unusable if self.unusable == Some(why) => Ok(()),
-            SourceSeen::Unusable => {
-                self.unusable = Some(why);
-                lines.source_unusable(state.config.name.as_str(), why)
-            }
-            SourceSeen::Missing => Ok(()),
-            SourceSeen::On | SourceSeen::Silent | SourceSeen::Other => {
-                self.unusable = None;
-                Ok(())
-            }
-        }
-    }
-
-    // Its store is made: each further quarter is told.
-    fn tell_making<R: Wait>(
-        &mut self,
-        rt: &R,
-        state: &CameraState,
-        lines: &mut Lines,
-    ) -> io::Result<()> {
-        let percent = state.life.making(rt);
-        let quarter = percent.map(|percent| percent / 25);
-        if quarter == self.making {
-            return Ok(());
-        }
-        self.making = quarter;
-        let (name, path) = (state.config.name.as_str(), state.config.store.as_str());
-        match percent {
-            Some(percent) => lines.making(name, path, u64::from(percent)),
-            None => Ok(()),
-        }
-    }
-
-    // How fast its disk is, once that is known, and that it is too slow for the store's frames: a flush stores so many
-    // of them at most, by two syncs.
-    fn tell_disk<R: Wait>(
-        &mut self,
-        rt: &R,
-        state: &CameraState,
-        lines: &mut Lines,
-    ) -> io::Result<()> {
-        let (Some(micros), Some(geometry)) = (state.life.sync(rt), state.life.store(rt)) else {
-            return Ok(());
-        };
-        if self.disk {
-            return Ok(());
-        }
-        self.disk = true;
-        let name = state.config.name.as_str();
-        lines.syncs(name, micros)?;
-        let flush = micros.max(1).saturating_mul(2);
-        let frames = FLUSHED.saturating_mul(1_000_000) / flush;
-        if frames.saturating_mul(u64::from(geometry.rate_den)) < u64::from(geometry.rate_num) {
-            lines.too_slow(name, micros, frames)?;
-        }
-        Ok(())
+        tell_times(rt, state, lines)
     }
 
     // Tells one change.
@@ -170,7 +93,7 @@ impl LastReported {
         let name = state.config.name.as_str();
         match change {
             Change::SourceOn => match state.life.header(rt, Duration::from_millis(0)) {
-                Some(geometry) => lines.source_on(name, &geometry),
+                Some(geometry) => tell_source_on(rt, state, &geometry, lines),
                 None => Ok(()),
             },
             Change::SourceMissing => lines.source_missing(name),
@@ -193,8 +116,25 @@ impl LastReported {
             Change::Behind(micros) => lines.behind(name, micros),
             Change::CaughtUp => lines.caught_up(name),
             Change::Waited { micros, since } => lines.waited(name, micros, since),
+            Change::SourceUnusable(_) => lines.source_unusable(name, state.life.unusable(rt).0),
+            Change::Made(percent) => {
+                lines.making(name, state.config.store.as_str(), u64::from(percent))
+            }
+            Change::Syncs(micros) => lines.syncs(name, micros),
+            Change::TooSlow { micros, frames } => lines.too_slow(name, micros, frames),
         }
     }
+}
+
+// What is known of the disk of a camera's store.
+fn disk_seen<R: Wait>(rt: &R, state: &CameraState) -> Option<DiskSeen> {
+    let (sync, geometry) = (state.life.sync(rt)?, state.life.store(rt)?);
+    Some(DiskSeen {
+        sync,
+        group: limits_for(geometry.frame_bytes()).group,
+        rate_num: geometry.rate_num,
+        rate_den: geometry.rate_den,
+    })
 }
 
 // What is seen of a camera now.
@@ -210,7 +150,9 @@ fn seen_of<R: Wait + Clock>(rt: &R, state: &CameraState, store: StoreSeen) -> Se
     Seen {
         now: state.timeline.now(rt),
         source: camera.source_seen(),
+        unusable: state.life.unusable(rt).1,
         store,
+        disk: disk_seen(rt, state),
         lost: state.tally(rt).lost(),
         locked: camera.locked,
         behind: state.behind_micros(rt),

@@ -6,6 +6,7 @@ ghost use Rattle.loop_capture.specs.declared.source.Next.TheVariants.{More};
 use crate::clock::Timeline;
 use circular_buffer::HeapCircularBuffer;
 use loop_capture::{FrameSource, Next};
+use loop_station_core::{Arrival, Stamped, Timing, came_late, mark};
 use std::alloc::{AllocError, Global};
 use std::mem;
 use std::sync::{Arc, Condvar, Mutex, Wait};
@@ -18,9 +19,53 @@ const FEWEST: usize = 2;
 #[derive(Drop)]
 pub struct Fed {
     /// When it came, in microseconds since 1970.
+    came: u64,
+    /// Its time: that, or what its source says.
     time: u64,
+    /// Its mark, for its flags.
+    mark: u32,
     /// Its bytes.
     bytes: Vec<u8>,
+}
+
+/// What is said of a frame.
+#[derive(Clone, Copy)]
+pub struct Said {
+    /// How many bits a sample has.
+    pub bits: u32,
+    /// The time that its source says, if it says one.
+    pub time: Option<u64>,
+    /// Its time is that which its source says, and not when it came.
+    pub by_source: bool,
+    /// How long a frame lasts at the source's rate.
+    pub period: u64,
+}
+
+/// What is to be told of the times that a source says.
+#[derive(Clone, Copy)]
+pub struct ToTell {
+    /// That they go back.
+    pub back: bool,
+    /// That there are none.
+    pub untimed: bool,
+    /// A gap of so many microseconds, before the frame of a time.
+    pub gap: Option<(u64, u64)>,
+}
+
+// Nothing is to be told.
+const NOTHING: ToTell = ToTell {
+    back: false,
+    untimed: false,
+    gap: None,
+};
+
+#[derive(Drop)]
+struct Times {
+    timing: Timing,
+    tells: ToTell,
+    // When the program was seen to run last, and until when it was seen to have stood still.
+    seen: u64,
+    still: Option<u64>,
 }
 
 #[derive(Drop)]
@@ -51,6 +96,8 @@ struct Ready {
 pub struct Feed {
     waiting: Mutex<WaitingFrames>,
     changed: Condvar,
+    /// What is known of its source's times. No other lock is taken under this one.
+    times: Mutex<Times>,
     /// Only the device's thread takes this lock.
     ready: Mutex<Ready>,
 }
@@ -68,6 +115,12 @@ impl Feed {
                 waited: None,
             }),
             changed: Condvar::new(),
+            times: Mutex::new(Times {
+                timing: Timing::new(),
+                tells: NOTHING,
+                seen: u64::MAX,
+                still: None,
+            }),
             ready: Mutex::new(Ready {
                 frame: None,
                 row: None,
@@ -98,25 +151,83 @@ impl Feed {
         self.waiting.lock(rt).spare.pop_back()
     }
 
+    /// Another stream of the source begins.
+    pub fn begin_stream<R: Wait>(&self, rt: &R) {
+        let mut times = self.times.lock(rt);
+        times.timing = times.timing.begin();
+    }
+
+    /// The program is seen to run at this time, and to have stood still just before, or not.
+    pub fn look<R: Wait>(&self, rt: &R, now: u64, stood: bool) {
+        let mut times = self.times.lock(rt);
+        times.seen = now;
+        if stood {
+            times.still = Some(now);
+        }
+    }
+
+    /// How many gaps its source's times had.
+    pub fn gaps<R: Wait>(&self, rt: &R) -> u64 {
+        self.times.lock(rt).timing.gaps
+    }
+
+    /// What is to be told of its source's times, which is told then.
+    pub fn tells<R: Wait>(&self, rt: &R) -> ToTell {
+        mem::replace(&mut self.times.lock(rt).tells, NOTHING)
+    }
+
+    // The time of a frame that came at a time, and its mark.
+    fn stamp<R: Wait>(&self, rt: &R, now: u64, said: Said) -> (u64, u32) {
+        let mut guard = self.times.lock(rt);
+        let times = &mut *guard;
+        let late = came_late(now, times.seen, times.still);
+        if !said.by_source {
+            return (now, mark(said.bits, late));
+        }
+        let arrival = Arrival {
+            now,
+            said: said.time,
+            period: said.period,
+        };
+        let (timing, stamped) = times.timing.on(arrival);
+        times.timing = timing;
+        note(&mut times.tells, &stamped);
+        let late = late && said.time.is_none();
+        (stamped.time, mark(said.bits, late))
+    }
+
     /// Adds a frame that has come now after the others, once there is room. It is dropped where the frames that waited
     /// were dropped since that epoch began.
-    pub fn give<R: Wait + Clock>(&self, rt: &R, timeline: &Timeline, bytes: Vec<u8>, epoch: u64) {
+    pub fn give<R: Wait + Clock>(
+        &self,
+        rt: &R,
+        timeline: &Timeline,
+        bytes: Vec<u8>,
+        said: Said,
+        epoch: u64,
+    ) {
         let mut waiting = self.waiting.lock(rt);
         if waiting.epoch != epoch {
             return;
         }
-        let time = timeline.now(rt);
+        let came = timeline.now(rt);
         if waiting.frames.is_full() && waiting.waited.is_none() {
-            waiting.waited = Some(time);
+            waiting.waited = Some(came);
         }
-        waiting.coming = Some(time);
+        waiting.coming = Some(came);
+        let (time, mark) = self.stamp(rt, came, said);
         let mut guard = self
             .changed
             .wait_while(rt, waiting, |waiting| waiting.frames.is_full());
         let waiting = &mut *guard;
         waiting.coming = None;
         if waiting.epoch == epoch {
-            waiting.frames.push_back(Fed { time, bytes });
+            waiting.frames.push_back(Fed {
+                came,
+                time,
+                mark,
+                bytes,
+            });
         }
         self.changed.notify_all();
     }
@@ -151,8 +262,8 @@ impl Feed {
         since
     }
 
-    /// Takes the first frame that waits as the frame of the next tick, unless there is one already. Returns when that
-    /// frame came; None where no frame comes for so long.
+    /// Takes the first frame that waits as the frame of the next tick, unless there is one already. Returns that frame's
+    /// time; None where no frame comes for so long.
     pub fn make_ready<R: Wait + Clock>(&self, rt: &R, most: Duration) -> Option<u64> {
         let mut ready = self.ready.lock(rt);
         if let Some(frame) = &ready.frame {
@@ -178,7 +289,7 @@ impl Feed {
         let waiting = self.waiting.lock(rt);
         let mut come = waiting.taken;
         for frame in waiting.frames.iter() {
-            if frame.time <= time {
+            if frame.came <= time {
                 come = come.wrapping_add(1);
             }
         }
@@ -202,12 +313,23 @@ impl Feed {
     }
 }
 
+// What is to be told of a frame's time is told later, the newest gap in the place of an earlier one.
+fn note(tells: &mut ToTell, stamped: &Stamped) {
+    tells.back = tells.back || stamped.back;
+    tells.untimed = tells.untimed || stamped.untimed;
+    if let Some(gap) = stamped.gap {
+        tells.gap = Some((gap, stamped.time));
+    }
+}
+
 /// The source that a camera's device borrows its frames from. The device asks for one only where one is ready.
 #[derive(Drop)]
 pub struct FeedSource {
     feed: Arc<Feed>,
     /// The frame that is lent.
     frame: Vec<u8>,
+    /// Its mark.
+    mark: u32,
 }
 
 impl FeedSource {
@@ -216,6 +338,7 @@ impl FeedSource {
         FeedSource {
             feed,
             frame: Vec::new(alloc),
+            mark: 0,
         }
     }
 }
@@ -245,6 +368,7 @@ impl FrameSource for FeedSource {
             return Some(Next::Bad);
         };
         let fits = frame.bytes.len() == size;
+        self.mark = frame.mark;
         let row = mem::replace(&mut self.frame, frame.bytes);
         if !row.is_empty() {
             ready.row = Some(row);
@@ -254,5 +378,9 @@ impl FrameSource for FeedSource {
 
     fn lent(&self) -> &[u8] {
         &self.frame
+    }
+
+    fn mark(&self) -> u32 {
+        self.mark
     }
 }

@@ -1,5 +1,7 @@
 //! A camera's thread: it opens or makes the store, and films the camera into it, again and again.
 
+ghost use Rattle.std.specs.Prelude.{◌≡◌, ◌≤◌};
+
 use crate::absent::Absent;
 use crate::answering::{Message, OpenEvent};
 use crate::asked::asked_ring;
@@ -11,13 +13,12 @@ use crate::places::Places;
 use crate::size::size_of;
 use crate::state::CameraState;
 use loop_capture::Device;
-use loop_desk::Desk;
+use loop_desk::{Desk, DeskLimits};
 use loop_file::{FileDisk, FileFault};
 use loop_pipeline::{Camera, Ended, Unfilmed, film_camera, heap_start, new_queue, start_queue};
 use loop_plane::HeapPlane;
 use loop_record::Geometry;
-use loop_script::LIMITS;
-use loop_station_core::{Act, FilmingEvent, Keep};
+use loop_station_core::{Act, FilmingEvent, Keep, bits_of};
 use loop_station_words::{RingSize, StoreSize};
 use loop_store::{Clip, OpenRefused, Store, StoreFault};
 use std::alloc::{AllocGlobal, Global};
@@ -35,6 +36,14 @@ const MOVED_AGAIN: u64 = 250;
 
 // How many milliseconds it waits for a header before it looks whether the program ends.
 const LOOK_AGAIN: u64 = 100;
+
+// The most frames that a camera's flush stores, and the fewest that it may store where they are large.
+const MOST: u32 = 64;
+
+const FEWEST: u32 = 8;
+
+// How many bytes the frames of a flush have together at most, where they are more than the fewest.
+const FLUSH_BYTES: u32 = 67_108_864;
 
 // A camera in front of a store in a file.
 type FileCamera = Camera<FeedSource, FileDisk, HeapPlane>;
@@ -186,7 +195,9 @@ fn film_into<R: AllocGlobal + Places + Threads + Wait + Clock + Sync>(
 ) -> Absent {
     let mut store = store;
     let (geometry, next) = (store.geometry(), store.next());
-    if !state.life.set_store(rt, geometry) {
+    let newest = store.read_head(next.saturating_sub(1)).ok();
+    let bits = newest.map(|head| bits_of(head.flags));
+    if !state.life.set_store(rt, geometry, bits) {
         // They came before the store was there, and no store takes them.
         state.feed.clear(rt);
         state.lose_rest(rt);
@@ -295,6 +306,19 @@ fn why_ended<R: Wait>(rt: &R, state: &CameraState, filmed: Filmed) -> Absent {
     }
 }
 
+/// How much the desk of a camera accepts. A flush costs two syncs, however many frames it stores; as many come while it
+/// lasts, and wait in memory.
+pub(crate) fn limits_for(frame_bytes: u32) -> DeskLimits
+    ensures pending { result.pending ≡ 64 }
+    ensures group { (1 ≤ result.group) × (result.group ≤ 64) }
+{
+    DeskLimits {
+        pending: MOST,
+        group: (FLUSH_BYTES / frame_bytes.max(1)).max(FEWEST).min(MOST),
+        calls: 1_000_000,
+    }
+}
+
 // A camera in front of a store: its queue streams, and nothing waits at its desk. None where memory was refused.
 fn camera_before(alloc: Global, state: &CameraState, store: Store<FileDisk>) -> Option<FileCamera> {
     let geometry = store.geometry();
@@ -303,7 +327,7 @@ fn camera_before(alloc: Global, state: &CameraState, store: Store<FileDisk>) -> 
     start_queue(&mut queue, &mut table, start).ok()?;
     let feed = Arc::try_clone(&state.feed).ok()?;
     let device = Device::new(alloc, FeedSource::new(alloc, feed), size_of(&geometry)?).ok()?;
-    match Desk::new(alloc, store, LIMITS) {
+    match Desk::new(alloc, store, limits_for(geometry.frame_bytes())) {
         Ok(desk) => Some(Camera::new(device, queue, table, desk)),
         Err(_) => None,
     }

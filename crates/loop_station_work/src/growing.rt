@@ -37,6 +37,11 @@ impl Growing {
         }
     }
 
+    /// Whether a longer clip of it covers one that isn't released yet.
+    pub fn has_covered(&self) -> bool {
+        !self.covered.is_empty()
+    }
+
     /// A clip of it that a longer one covers, and that isn't released yet.
     pub fn next_covered(&mut self) -> Option<u32> {
         self.covered.pop()

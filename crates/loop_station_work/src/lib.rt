@@ -9,7 +9,7 @@
 //! `run` starts all that. `orders` reads orders and does them: it asks a camera through its `inbox`, and the thread of
 //! its desk answers (`clerk`). `save` writes clips meanwhile, `places` opens files and makes stores, and `replies`
 //! prints answers as lines. `events` prints what happens without an order,
-//! `watch` sees that a source is silent, that a store was moved away, and that the
+//! `times` tells what a source says of its frames, `watch` sees that a source is silent, that a store was moved away, and that the
 //! program stood still. All lines go through `outlet`, and `tap`
 //! copies them to a further file or pipe; `spool` has those that wait for the threads that write them.
 //!
@@ -50,6 +50,7 @@ mod spool;
 mod state;
 mod stored;
 mod tap;
+mod times;
 mod watch;
 
 pub use places::Places;

@@ -12,12 +12,17 @@ use std::time::{Clock, Duration};
 struct Known {
     camera: Camera,
     tally: Tally,
-    // Why the source is unusable, if it is.
+    // Why the source is unusable, if it is, and the number of that cause: another one has another.
     unusable: &'static str,
+    cause: u32,
     // What the source's header said last. The size of its ring means nothing.
     offered: Option<Geometry>,
+    // How many bits its samples have.
+    offered_bits: u32,
     // The geometry of the store.
     wanted: Option<Geometry>,
+    // How many bits the samples of its frames have, once it has one.
+    bits: Option<u32>,
     // The device and the inode of the store's file while it is recorded into.
     place: Option<(u64, u64)>,
     // How much of a store is made, in percent, while one is made.
@@ -41,8 +46,11 @@ impl Life {
                 camera: Camera::new(),
                 tally: Tally::new(),
                 unusable: "",
+                cause: 0,
                 offered: None,
+                offered_bits: 8,
                 wanted: None,
+                bits: None,
                 place: None,
                 making: None,
                 sync: None,
@@ -114,14 +122,18 @@ impl Life {
     /// The source gives what no store takes, by the name of the fault.
     pub fn set_unusable<R: Wait>(&self, rt: &R, why: &'static str) {
         let mut known = self.known.lock(rt);
-        known.unusable = why;
+        if known.unusable != why {
+            known.unusable = why;
+            known.cause = known.cause.wrapping_add(1);
+        }
         // Nothing follows.
         let _act = happens(&mut known, Event::Source(SourceEvent::Unusable));
     }
 
-    /// Why the source is unusable.
-    pub fn unusable<R: Wait>(&self, rt: &R) -> &'static str {
-        self.known.lock(rt).unusable
+    /// Why the source is unusable, and the number of that cause.
+    pub fn unusable<R: Wait>(&self, rt: &R) -> (&'static str, u32) {
+        let known = self.known.lock(rt);
+        (known.unusable, known.cause)
     }
 
     /// Looks at this time whether the source is silent: open, with nothing to read.
@@ -140,21 +152,31 @@ impl Life {
         self.known.lock(rt).wanted
     }
 
-    /// The store is there, and has this geometry. Returns whether the frames that came last are as it has them, or none
-    /// have come.
-    pub fn set_store<R: Wait>(&self, rt: &R, geometry: Geometry) -> bool {
+    /// The store is there, and has this geometry, and the samples of its frames so many bits, if it has frames. Returns
+    /// whether the frames that came last are as it has them, or none have come.
+    pub fn set_store<R: Wait>(&self, rt: &R, geometry: Geometry, bits: Option<u32>) -> bool {
         let mut known = self.known.lock(rt);
         known.wanted = Some(geometry);
+        known.bits = bits;
         self.changed.notify_all();
         match known.offered {
-            Some(offered) => compare_frames(&geometry, &offered) == Likeness::Alike,
+            Some(offered) => fits(&mut known, &offered),
             None => true,
         }
     }
 
     /// The store isn't there any more, and one is made for the frames that come.
     pub fn lose_store<R: Wait>(&self, rt: &R) {
-        self.known.lock(rt).wanted = None;
+        let mut known = self.known.lock(rt);
+        known.wanted = None;
+        known.bits = None;
+    }
+
+    /// How many bits the samples have that the source's header said last, and those of the store's frames, once it has
+    /// one.
+    pub fn bits<R: Wait>(&self, rt: &R) -> (u32, Option<u32>) {
+        let known = self.known.lock(rt);
+        (known.offered_bits, known.bits)
     }
 
     /// The device and the inode of the store's file, while it is recorded into.
@@ -197,18 +219,31 @@ impl Life {
         known.offered
     }
 
-    /// Offers what the source's header says, with a ring of any size. Returns whether the frames are as the store has
-    /// them (`Act::Take`), or are refused. While there is no store they wait in memory for one.
-    pub fn offer<R: Wait>(&self, rt: &R, geometry: Geometry) -> Act {
+    /// Offers what the source's header says, with a ring of any size, and how many bits its samples have. Returns
+    /// whether the frames are as the store has them (`Act::Take`), or are refused. While there is no store they wait in
+    /// memory for one.
+    pub fn offer<R: Wait>(&self, rt: &R, geometry: Geometry, bits: u32) -> Act {
         let mut known = self.known.lock(rt);
         known.offered = Some(geometry);
+        known.offered_bits = bits;
         self.changed.notify_all();
-        let fits = match known.wanted {
-            Some(wanted) => compare_frames(&wanted, &geometry) == Likeness::Alike,
-            None => true,
-        };
+        let fits = fits(&mut known, &geometry);
         happens(&mut known, Event::Source(SourceEvent::Offer(fits)))
     }
+}
+
+// Whether frames that are offered are as the store has them, if it is there. The first ones say how many bits a sample
+// has in it.
+fn fits(known: &mut Known, offered: &Geometry) -> bool {
+    let Some(wanted) = known.wanted else {
+        return true;
+    };
+    let bits = known.bits.unwrap_or(known.offered_bits);
+    if compare_frames(&wanted, offered) != Likeness::Alike || bits != known.offered_bits {
+        return false;
+    }
+    known.bits = Some(bits);
+    true
 }
 
 // Something happens to a camera. What follows.

@@ -74,7 +74,7 @@ impl<W: Write + Drop> Station<W> {
             Some(label) => Some(String::from_str(self.alloc, label)?),
             None => None,
         };
-        let answering = Answering::new(self.alloc, label, event, cameras, self.json)?;
+        let answering = Answering::new(self.alloc, label, event, cameras)?;
         match Arc::new(self.alloc, answering) {
             Ok(answering) => Ok(answering),
             Err(_) => Err(AllocError),

@@ -6,6 +6,7 @@
 use crate::places::PathKind;
 use crate::save::NotSaved;
 use loop_file::{FileFault, TextFile, open_file, open_to_read};
+use loop_station_core::{TextStep, next_text_step};
 use std::alloc::AllocGlobal;
 use std::fs::{File, OpenOptions, TryLockError};
 use std::io::{ErrorKind, Read, Write};
@@ -16,6 +17,9 @@ use std::{fs, io};
 
 // What is added to a file's name, after a dot, while it is being written.
 const UNFINISHED: &str = "part";
+
+// A text gets its name in so many steps at most, and one that says the result.
+const TEXT_STEPS: u32 = 5;
 
 // What a store has after its first byte.
 const STORE_MARK: &[u8] = b"LOOPREC";
@@ -108,18 +112,27 @@ impl PartFile {
         let Some(part) = &self.part else {
             return Ok(());
         };
-        if part.file.sync_all().is_err() {
-            return Err(NotSaved::CannotWrite);
+        let mut step = TextStep::SyncText;
+        let mut fault = NotSaved::CannotWrite;
+        for _ in 0..TEXT_STEPS {
+            let is_done = match step {
+                TextStep::SyncText => part.file.sync_all().is_ok(),
+                TextStep::Name => match name_whole(rt, part) {
+                    Ok(()) => true,
+                    Err(why) => {
+                        fault = why;
+                        false
+                    }
+                },
+                TextStep::SyncName => part.folder.sync_all().is_ok(),
+                // A file that can't be removed stays, as after a stop: the save's own fault is told.
+                TextStep::Unname => fs::remove_file(rt, part.whole.as_path()).is_ok(),
+                TextStep::Saved => return Ok(()),
+                TextStep::NotSaved => break,
+            };
+            step = next_text_step(step, is_done, part.replace);
         }
-        name_whole(rt, part)?;
-        if part.folder.sync_all().is_ok() {
-            return Ok(());
-        }
-        if !part.replace {
-            // A file that can't be removed stays, as after a stop: the save's own fault is told.
-            let _ = fs::remove_file(rt, part.whole.as_path());
-        }
-        Err(NotSaved::CannotWrite)
+        Err(fault)
     }
 
     /// Removes what was written of a file that isn't whole.

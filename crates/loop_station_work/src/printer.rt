@@ -38,7 +38,9 @@ fn print_answers<R: AllocGlobal + Wait + Clock, W: Write + Drop>(
     let mut lines = station.lines();
     // Where memory for lines is refused, they aren't printed.
     for one in all.as_slice() {
-        let _ = lines.add(one);
+        if let Some(one) = one {
+            let _ = lines.add(one);
+        }
     }
     let label = answering.label.as_deref();
     if label.is_some() {

@@ -4,9 +4,10 @@ use crate::absent::Absent;
 use crate::clerk::{FoundClip, LEAST_GAP};
 use crate::life::source_name;
 use crate::state::CameraState;
+use crate::times::gaps_of;
 use loop_desk::{Kept, Outline};
 use loop_script::Listing;
-use loop_station_core::{Keep, Run, shortfall_of};
+use loop_station_core::{Keep, Run, kept_answer, shortfall_of};
 use loop_station_words::{CameraStatus, Lines};
 use loop_store::StoreFault;
 use std::io;
@@ -26,7 +27,8 @@ pub(crate) fn tell_kept(
     lines: &mut Lines,
 ) -> io::Result<()> {
     let name = state.config.name.as_str();
-    if kept.clips.is_empty() && kept.fault.is_none() {
+    let answer = kept_answer(kept.clips.len(), kept.fault.is_some(), is_whole);
+    if answer.none {
         lines.kept_none(name, keep.event)?;
     }
     tell_clips(state, keep, found, lines)?;
@@ -36,10 +38,10 @@ pub(crate) fn tell_kept(
     if let Some(fault) = kept.fault {
         lines.refused(name, fault)?;
     }
-    if is_whole && !kept.clips.is_empty() {
+    if answer.held {
         tell_shortfall(state, keep, until, runs, lines)?;
     }
-    if !is_whole {
+    if answer.begun {
         lines.event_begun(keep.event, keep.since, keep.until)?;
     }
     Ok(())
@@ -152,6 +154,7 @@ pub(crate) fn tell_status<R: Wait>(
             keeps: Some(keeps),
             faults: camera.faults,
             source,
+            gaps: gaps_of(rt, state),
         },
     )
 }

@@ -1,128 +1,36 @@
-//! Saves: clips are written as YUV4MPEG2 while their cameras record, by the proved writer of loop_y4m.
+//! Saves: clips are written as YUV4MPEG2 while their cameras record. `written` has the files, and `not_saved` why there
+//! is none.
 //!
 //! There are places for so many saves at once, each with a thread of its own. Which save begins when, and which clip
 //! may be released meanwhile, is decided by loop_station_core. A save that an order asks for is refused where each
 //! place is taken; one that begins by itself waits. Whoever ends a save first tells its result: its own thread, or a
 //! stop of the program or a `cancel` where that thread waits for a pipe that nobody reads.
 
-ghost use Rattle.std.specs.Prelude.{IfOk, List, OnOk, ℕ};
-ghost use Rattle.std.specs.Io.KnownBytes.{Appends};
-ghost use Rattle.loop_y4m.specs.Text.{frame};
-ghost use Rattle.loop_station_work.specs.Saves.{WroteClip};
+mod not_saved;
+mod written;
 
-use crate::absent::{Absent, file_name};
 use crate::answering::{Answering, KeptClip, SaveOrder};
 use crate::clerk::FoundClip;
-use crate::part::PartFile;
-use crate::places::{PathKind, Places};
+use crate::places::Places;
 use crate::state::CameraState;
-use loop_file::FileFault;
-use loop_record::Geometry;
 use loop_station_core::{Asked, Cancelled, SaveKey};
-use loop_station_words::{Lines, print_clip_path};
-use loop_store::{Clip, StoreFault};
-use loop_y4m::{write_frame, write_header};
+use loop_station_words::Lines;
+pub use not_saved::NotSaved;
 use std::alloc::{AllocError, AllocGlobal, Global};
-use std::fmt::{Display, Formatter};
-use std::io::{BufWriter, Write};
 use std::sync::atomic::{AtomicBool, Ordering};
 use std::sync::{Arc, Condvar, Mutex, Wait};
+use std::thread;
 use std::time::{Clock, Duration};
-use std::{fmt, thread};
+use written::{path_for, write};
 
 // How many clips may be saved at once.
 pub(crate) const MOST_SAVES: usize = 16;
 
-// How many bytes of a text are gathered before they are written.
-const AT_ONCE: usize = 262_144;
-
 // How often a stop waits ten milliseconds for saves that are about to end.
 const STOP_STEPS: u32 = 70;
 
-// How many clips that are saved by themselves may have names that differ only in the number at the end.
-const MOST_NAMES: u32 = 100;
-
 // After how many microseconds a save that began by itself and failed is tried again.
 const AGAIN: u64 = 60_000_000;
-
-/// Why a clip wasn't written, or not to its end.
-#[derive(Clone, Copy)]
-pub enum NotSaved {
-    /// There is no clip of that id.
-    NoSuchClip,
-    /// The camera's store isn't there.
-    Absent(Absent),
-    /// The store refused a read.
-    Refused(StoreFault),
-    /// A file exists, and may not be replaced.
-    Exists,
-    /// The file begins as a store does: it is never replaced.
-    IsStore,
-    /// The file or pipe is one that the station has open, or another program has locked.
-    InUse,
-    /// It isn't in the folder in which orders may write.
-    OtherFolder,
-    /// The file can't be opened.
-    File(FileFault),
-    /// The path leads to nothing through a link, or it can't be determined what is there.
-    CannotOpen,
-    /// The file can't be written completely, or the disk can't be asked to keep it.
-    CannotWrite,
-    /// Memory or a thread was refused.
-    NoMemory,
-    /// An order ended it.
-    Cancelled,
-    /// The program ends.
-    Stopped,
-}
-
-// Its name, as it is printed.
-impl Display for NotSaved {
-    fn fmt<W: fmt::Write>(&self, f: &mut Formatter<W>) -> fmt::Result {
-        f.write_str(match self {
-            NotSaved::NoSuchClip => "NoSuchClip",
-            NotSaved::Absent(why) => return why.fmt(f),
-            NotSaved::Refused(fault) => fault.name(),
-            NotSaved::Exists => "Exists",
-            NotSaved::IsStore => "IsStore",
-            NotSaved::InUse => "InUse",
-            NotSaved::OtherFolder => "OtherFolder",
-            NotSaved::File(fault) => file_name(*fault),
-            NotSaved::CannotOpen => "CannotOpen",
-            NotSaved::CannotWrite => "CannotWrite",
-            NotSaved::NoMemory => "NoMemory",
-            NotSaved::Cancelled => "Cancelled",
-            NotSaved::Stopped => "Stopped",
-        })
-    }
-}
-
-impl NotSaved {
-    // Whether the same save may succeed later: the folder works again, the disk has room, the camera has its store.
-    fn may_pass(&self) -> bool {
-        match self {
-            NotSaved::Absent(_)
-            | NotSaved::File(_)
-            | NotSaved::CannotOpen
-            | NotSaved::CannotWrite
-            | NotSaved::NoMemory
-            | NotSaved::InUse
-            | NotSaved::Refused(_) => true,
-            NotSaved::NoSuchClip
-            | NotSaved::Exists
-            | NotSaved::IsStore
-            | NotSaved::OtherFolder
-            | NotSaved::Cancelled
-            | NotSaved::Stopped => false,
-        }
-    }
-}
-
-impl From<AllocError> for NotSaved {
-    fn from(_: AllocError) -> Self {
-        NotSaved::NoMemory
-    }
-}
 
 /// Where a clip is saved to.
 #[derive(Drop)]
@@ -508,42 +416,6 @@ fn save_of(
     }
 }
 
-// The path of a clip's file in a folder: by its camera, the time of its first frame, and its id. Where a file has that
-// name, a number is added.
-fn path_in<R: AllocGlobal + Places>(
-    rt: &R,
-    folder: &str,
-    camera: &str,
-    found: &FoundClip,
-) -> Result<String, NotSaved> {
-    for place in 1..MOST_NAMES {
-        let path = path_of(rt.alloc(), folder, camera, found, place)?;
-        if rt.path_kind(path.as_str()) == PathKind::Nothing {
-            return Ok(path);
-        }
-    }
-    path_of(rt.alloc(), folder, camera, found, MOST_NAMES)
-}
-
-// That path, for the clip with this number among those with one name, from 1.
-fn path_of(
-    alloc: Global,
-    folder: &str,
-    camera: &str,
-    found: &FoundClip,
-    place: u32,
-) -> Result<String, NotSaved> {
-    let mut path = Vec::new(alloc);
-    let (began, id) = (found.first, found.clip.id);
-    if print_clip_path(&mut path, folder, camera, began, id, place).is_err() {
-        return Err(NotSaved::NoMemory);
-    }
-    match String::from_utf8(path) {
-        Ok(path) => Ok(path),
-        Err(_) => Err(NotSaved::CannotOpen),
-    }
-}
-
 /// The thread of a place: it writes the clips that are saved there, one after the other, as long as the program runs.
 pub(crate) fn run_saves<R: AllocGlobal + Places + Wait + Clock>(
     rt: &R,
@@ -584,32 +456,6 @@ fn run_save<R: AllocGlobal + Places + Wait + Clock>(
     if is_released {
         state.release_saved(rt, save.found.clip);
     }
-}
-
-// Where the clip of a save is written to, and whether it was saved already.
-fn path_for<R: AllocGlobal + Places>(
-    rt: &R,
-    state: &CameraState,
-    save: &Save,
-) -> Result<(String, bool), NotSaved> {
-    let may_be_saved = match &save.target {
-        SaveTarget::Path(path, _) => {
-            return match String::from_str(rt.alloc(), path.as_str()) {
-                Ok(path) => Ok((path, false)),
-                Err(_) => Err(NotSaved::NoMemory),
-            };
-        }
-        SaveTarget::Folder(may_be_saved) => *may_be_saved,
-    };
-    let Some(folder) = &state.config.save_to else {
-        return Err(NotSaved::CannotOpen);
-    };
-    let (folder, name) = (folder.as_str(), state.config.name.as_str());
-    let first = path_of(rt.alloc(), folder, name, &save.found, 1)?;
-    if may_be_saved && rt.path_kind(first.as_str()) == PathKind::File {
-        return Ok((first, true));
-    }
-    Ok((path_in(rt, folder, name, &save.found)?, false))
 }
 
 // Tells the result of a save; one that began by itself and may succeed later is tried again. `came` has how many frames
@@ -670,127 +516,5 @@ fn tell_for<R: Wait>(rt: &R, state: &CameraState, save: &Save, lines: Lines) {
     match order {
         Some(answering) => state.posts.answer(rt, answering, 0, lines, None),
         None => state.tell(rt, lines, None),
-    }
-}
-
-// Writes a clip. Returns how many frames it has, once the file would survive a loss of power.
-fn write<R: AllocGlobal + Places + Wait>(
-    rt: &R,
-    saves: &Saves,
-    state: &CameraState,
-    save: &Save,
-    path: &str,
-) -> Result<u64, NotSaved> {
-    if saves.is_taken(rt, path) {
-        return Err(NotSaved::InUse);
-    }
-    let replace = match &save.target {
-        SaveTarget::Path(_, replace) => {
-            if let Some(folder) = &saves.folder {
-                if !rt.lies_in(path, folder.as_str()) {
-                    return Err(NotSaved::OtherFolder);
-                }
-            }
-            *replace
-        }
-        SaveTarget::Folder(_) => false,
-    };
-    let Some(geometry) = state.life.store(rt) else {
-        return Err(NotSaved::Absent(Absent::NoStore));
-    };
-    let mut file = rt.open_text(path, replace)?;
-    let came = write_clip(rt, saves, state, save, &geometry, &mut file);
-    match came {
-        Ok(count) => match rt.finish_text(&file) {
-            Ok(()) => Ok(count),
-            Err(why) => {
-                rt.give_up_text(&file);
-                Err(why)
-            }
-        },
-        Err(why) => {
-            rt.give_up_text(&file);
-            Err(why)
-        }
-    }
-}
-
-// Writes the text of a clip into a file.
-fn write_clip<R: AllocGlobal + Wait>(
-    rt: &R,
-    saves: &Saves,
-    state: &CameraState,
-    save: &Save,
-    geometry: &Geometry,
-    file: &mut PartFile,
-) -> Result<u64, NotSaved> {
-    let Ok(mut out) = BufWriter::with_capacity(rt.alloc(), AT_ONCE, file) else {
-        return Err(NotSaved::NoMemory);
-    };
-    let count = write_text(rt, saves, state, save, geometry, &mut out)?;
-    match out.flush() {
-        Ok(()) => Ok(count),
-        Err(_) => Err(NotSaved::CannotWrite),
-    }
-}
-
-// Writes the text of a clip: the header of its store, and its frames. Returns how many frames there are.
-fn write_text<R: Wait, W: Write>(
-    rt: &R,
-    saves: &Saves,
-    state: &CameraState,
-    save: &Save,
-    geometry: &Geometry,
-    out: &mut W,
-) -> Result<u64, NotSaved>
-    ensures { IfOk result
-        (WroteClip (W.contents out.old) (W.contents out.new) geometry.now
-        save.now.found.clip.from save.now.found.clip.to) }
-{
-    let Clip { from, to, .. } = save.found.clip;
-    if from > to || to - from == u64::MAX {
-        return Err(NotSaved::NoSuchClip);
-    }
-    let count = to - from + 1;
-    match write_header(geometry, out) {
-        Ok(()) => {}
-        Err(_) => return Err(NotSaved::CannotWrite),
-    }
-    'frames: for at in 0..count {
-        if saves.stopped.load(Ordering::SeqCst) {
-            return Err(NotSaved::Stopped);
-        }
-        if save.ended.load(Ordering::SeqCst) {
-            return Err(NotSaved::Cancelled);
-        }
-        write_one(rt, state, save, from + at, out)?;
-    }
-    Ok(count)
-}
-
-// Reads a frame, and writes it.
-fn write_one<R: Wait, W: Write>(
-    rt: &R,
-    state: &CameraState,
-    save: &Save,
-    number: u64,
-    out: &mut W,
-) -> Result<(), NotSaved>
-    ensures { OnOk result ((bytes : List ℕ) × Appends (W.contents out.old) (W.contents out.new) (frame bytes)) }
-{
-    state.ask_frame(rt, number);
-    match state.reader.answer(rt) {
-        Some(Ok(Ok(frame))) => {
-            if !save.found.fits(number, frame.head.timestamp) {
-                return Err(NotSaved::NoSuchClip);
-            }
-            match write_frame(&frame.bytes, out) {
-                Ok(()) => Ok(()),
-                Err(_) => Err(NotSaved::CannotWrite),
-            }
-        }
-        Some(Ok(Err(fault))) => Err(NotSaved::Refused(fault)),
-        Some(Err(why)) => Err(NotSaved::Absent(why)),
-        None => Err(NotSaved::NoMemory),
     }
 }

@@ -8,17 +8,19 @@
 
 ghost use Rattle.std.specs.Prelude.{◌≡◌, IfSome, length};
 
+use crate::feed::Said;
 use crate::input::{Input, find_header};
 use crate::outlet::Outlet;
 use crate::places::Places;
 use crate::size::{frames_before, size_of};
 use crate::state::CameraState;
+use crate::times::{said_of, tell_other};
 use loop_capture::{FrameSource, Pattern};
 use loop_desk::frame_memory;
 use loop_record::Geometry;
 use loop_station_core::{Act, SourceEvent};
 use loop_station_words::{RingSize, Source};
-use loop_y4m::{GeometryFault, Y4mFault, Y4mReader};
+use loop_y4m::{FrameLine, GeometryFault, Y4mFault, Y4mReader};
 use std::alloc::AllocGlobal;
 use std::fs::OpenFile;
 use std::io::{Read, Write};
@@ -119,12 +121,16 @@ fn play_pattern<R: AllocGlobal + Wait + Clock, W: Write + Drop>(
     };
     let mut pattern = Pattern::new();
     let mut beat = beat_of(rt, state, geometry);
+    let said = Said {
+        by_source: false,
+        ..said_of(state, geometry, 8)
+    };
     for _ in rt.forever() {
         if state.is_stopped(rt) {
             break;
         }
         let epoch = state.feed.epoch(rt);
-        let fits = offer(rt, state, outlet, geometry);
+        let fits = offer(rt, state, outlet, geometry, 8);
         beat.wait(rt, state);
         let Some(mut bytes) = row_for(rt, state, size) else {
             break;
@@ -132,20 +138,21 @@ fn play_pattern<R: AllocGlobal + Wait + Clock, W: Write + Drop>(
         // The pattern never ends, so its answer says nothing.
         let _more = pattern.next(&mut bytes);
         if fits {
-            state.feed.give(rt, &state.timeline, bytes, epoch);
+            state.feed.give(rt, &state.timeline, bytes, said, epoch);
         }
     }
 }
 
-// Offers what a source's header says. Returns whether the store takes its frames. That it doesn't is printed, but not
+// Offers what a source's header says, and how many bits its samples have. Returns whether the store takes its frames. That it doesn't is printed, but not
 // again while that is still the result.
 fn offer<R: AllocGlobal + Wait + Clock, W: Write + Drop>(
     rt: &R,
     state: &CameraState,
     outlet: &Outlet<W>,
     geometry: &Geometry,
+    bits: u32,
 ) -> bool {
-    match state.life.offer(rt, *geometry) {
+    match state.life.offer(rt, *geometry, bits) {
         Act::Take => {
             state
                 .feed
@@ -153,27 +160,14 @@ fn offer<R: AllocGlobal + Wait + Clock, W: Write + Drop>(
             true
         }
         Act::Refuse => {
-            tell_other(rt, state, outlet, geometry);
+            let mut lines = state.lines(rt.alloc());
+            // Where memory for the line is refused, it isn't printed.
+            if tell_other(rt, state, geometry, &mut lines).is_ok() {
+                outlet.put(rt, &lines);
+            }
             false
         }
         _ => false,
-    }
-}
-
-// Prints which frames a camera's source has, where its store has others.
-fn tell_other<R: AllocGlobal + Wait + Clock, W: Write + Drop>(
-    rt: &R,
-    state: &CameraState,
-    outlet: &Outlet<W>,
-    geometry: &Geometry,
-) {
-    let mut lines = state.lines(rt.alloc());
-    // Where memory for the line is refused, it isn't printed.
-    if lines
-        .other_geometry(state.config.name.as_str(), geometry)
-        .is_ok()
-    {
-        outlet.put(rt, &lines);
     }
 }
 
@@ -299,6 +293,7 @@ fn fault_name(fault: Y4mFault) -> &'static str {
         Y4mFault::NotY4m => "NotY4m",
         Y4mFault::BadHeader => "BadHeader",
         Y4mFault::UnsupportedColour => "UnsupportedColour",
+        Y4mFault::OddWidth => "OddWidth",
         Y4mFault::UnsupportedInterlace => "UnsupportedInterlace",
         Y4mFault::Truncated => "Truncated",
         Y4mFault::Read => "Read",
@@ -315,10 +310,10 @@ fn play_stream<R: AllocGlobal + Wait + Clock, I: Read + Drop, W: Write + Drop>(
 ) -> StreamEnd {
     begin_read(rt, state);
     input.begin_line();
-    let opened = Y4mReader::open(&mut *input);
+    let opened = Y4mReader::open_deep(&mut *input);
     state.life.on_source(rt, SourceEvent::Read);
-    let mut reader = match opened {
-        Ok(reader) => reader,
+    let (mut reader, depth) = match opened {
+        Ok(opened) => opened,
         Err(Y4mFault::Truncated) => return StreamEnd::Ended,
         Err(fault) => return StreamEnd::Unusable(fault_name(fault)),
     };
@@ -328,6 +323,8 @@ fn play_stream<R: AllocGlobal + Wait + Clock, I: Read + Drop, W: Write + Drop>(
         Err(GeometryFault::BadGeometry) => return StreamEnd::Unusable("BadGeometry"),
     };
     let mut beat = beat_of(rt, state, &geometry);
+    let said = said_of(state, &geometry, depth.bits());
+    state.feed.begin_stream(rt);
     for _ in rt.forever() {
         if state.is_stopped(rt) {
             return StreamEnd::Ended;
@@ -336,9 +333,15 @@ fn play_stream<R: AllocGlobal + Wait + Clock, I: Read + Drop, W: Write + Drop>(
             beat.wait(rt, state);
         }
         let epoch = state.feed.epoch(rt);
-        let fits = offer(rt, state, outlet, &geometry);
+        let fits = offer(rt, state, outlet, &geometry, depth.bits());
         match next_of(rt, state, &mut reader, paced) {
-            Ok(bytes) if fits => state.feed.give(rt, &state.timeline, bytes, epoch),
+            Ok((bytes, line)) if fits => {
+                let said = Said {
+                    time: line.time,
+                    ..said
+                };
+                state.feed.give(rt, &state.timeline, bytes, said, epoch);
+            }
             Ok(_dropped) => {}
             Err(end) => return end,
         }
@@ -364,32 +367,32 @@ fn row_for<R: AllocGlobal + Wait + Clock>(rt: &R, state: &CameraState, size: u32
     unreachable!()
 }
 
-// Reads a frame, or how the stream ends instead.
+// Reads a frame, with what its line says, or how the stream ends instead.
 fn next_of<R: AllocGlobal + Wait + Clock, I: Read + Drop>(
     rt: &R,
     state: &CameraState,
     reader: &mut Y4mReader<I>,
     paced: bool,
-) -> Result<Vec<u8>, StreamEnd> {
+) -> Result<(Vec<u8>, FrameLine), StreamEnd> {
     let Some(mut bytes) = row_for(rt, state, reader.frame_bytes()) else {
         return Err(StreamEnd::Ended);
     };
     begin_read(rt, state);
-    let came = reader.next_frame(&mut bytes);
+    let came = reader.next_timed(&mut bytes);
     state.life.on_source(rt, SourceEvent::Read);
-    match came {
-        Ok(true) => {}
+    let line = match came {
+        Ok(Some(line)) => line,
         // A frame that breaks off is dropped.
-        Ok(false) | Err(Y4mFault::Truncated) => return Err(StreamEnd::Ended),
+        Ok(None) | Err(Y4mFault::Truncated) => return Err(StreamEnd::Ended),
         Err(Y4mFault::BadHeader) => return Err(StreamEnd::OtherLine),
         Err(_) => return Err(StreamEnd::Failed),
-    }
+    };
     // Several writers are of a pipe alone.
     if paced {
-        return Ok(bytes);
+        return Ok((bytes, line));
     }
     match find_header(&bytes, BEGUN) {
-        None => Ok(bytes),
+        None => Ok((bytes, line)),
         Some(at) => {
             let mut rest = Vec::new(rt.alloc());
             // Where memory is refused, the next writer's frames are lost up to its next header.

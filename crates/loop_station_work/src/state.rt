@@ -20,7 +20,7 @@ use loop_desk::Flushed;
 use loop_disk::Disk;
 use loop_pipeline::{Back, Guide, Link, LostFrame, Visits};
 use loop_record::Geometry;
-use loop_station_core::{Act, FilmingEvent, Keep, Run, Tally};
+use loop_station_core::{Act, EventEnd, FilmingEvent, Keep, Run, Tally, event_end};
 use loop_station_words::{CameraConfig, Lines};
 use loop_store::{Clip, ReadFrame, StoreFault};
 use std::alloc::{AllocError, Global};
@@ -272,16 +272,23 @@ impl CameraState {
         let (name, keep) = (self.config.name.as_str(), growing.keep);
         tell_clips(self, &keep, found, lines)?;
         let is_whole = tell_shortfall(self, &keep, keep.until, runs, lines)?;
-        match growing.fault() {
-            Some(fault) => lines.event_not_whole(keep.event, name, &fault.name()),
-            None if is_whole => lines.event_whole(keep.event, name),
-            None => lines.event_not_whole(keep.event, name, &"Gaps"),
+        match (
+            event_end(growing.fault().is_some(), is_whole),
+            growing.fault(),
+        ) {
+            (EventEnd::Whole, _) => lines.event_whole(keep.event, name),
+            (EventEnd::Refused, Some(fault)) => {
+                lines.event_not_whole(keep.event, name, &fault.name())
+            }
+            (EventEnd::Refused | EventEnd::Gaps, _) => {
+                lines.event_not_whole(keep.event, name, &"Gaps")
+            }
         }
     }
 
     /// A clip is released, since it is saved. An answer that can't be given is none that anybody waits for.
     pub(crate) fn release_saved<R: Wait>(&self, rt: &R, clip: Clip) {
-        let Ok(answering) = Answering::new(self.alloc, None, 0, 1, self.json) else {
+        let Ok(answering) = Answering::new(self.alloc, None, 0, 1) else {
             return;
         };
         let Ok(answering) = Arc::new(self.alloc, answering) else {

@@ -4,6 +4,7 @@
 use crate::orders::Station;
 use crate::places::Places;
 use crate::state::CameraState;
+use loop_station_core::stood_still;
 use std::alloc::AllocGlobal;
 use std::io::Write;
 use std::sync::Wait;
@@ -15,9 +16,6 @@ const LOOK_AGAIN: u64 = 100;
 
 // After so many looks it is looked for the stores.
 const LOOKS: u32 = 10;
-
-// The program stood still if so many microseconds more passed between two looks than should.
-const STILL: u64 = 1_000_000;
 
 /// Looks at the program, the sources and the stores until each camera is stopped.
 pub(crate) fn run_watch<R: AllocGlobal + Places + Wait + Clock, W: Write + Drop>(
@@ -38,13 +36,14 @@ pub(crate) fn run_watch<R: AllocGlobal + Places + Wait + Clock, W: Write + Drop>
         let now = timeline.now(rt);
         // The clock of frames stands still while the machine sleeps, and that since its start goes on.
         let slept = rt.uptime().unwrap_or(0).saturating_sub(up);
-        let passed = now.saturating_sub(began).max(slept);
-        if passed > STILL.saturating_add(LOOK_AGAIN.saturating_mul(1_000)) && station.events {
-            tell_still(rt, station, passed, began);
+        let still = stood_still(LOOK_AGAIN * 1_000, now.saturating_sub(began), slept);
+        if let (Some(micros), true) = (still, station.events) {
+            tell_still(rt, station, micros, began);
         }
         looks = looks.wrapping_add(1);
         for state in station.cameras.as_slice() {
             state.life.look(rt, now);
+            state.feed.look(rt, now, still.is_some());
             if looks % LOOKS == 0 {
                 look_for_store(rt, state);
             }

@@ -5,11 +5,12 @@ use Rattle.std.specs.Option.{unwrap_or}
 use Rattle.std.specs.Result.{result_err}
 use Rattle.std.specs.List.{position_or_len}
 use Rattle.loop_y4m.specs.declared.fault.Y4mFault.{Y4mFault}
-use Rattle.loop_y4m.specs.declared.fault.Y4mFault.TheVariants.{NotY4m, BadHeader, UnsupportedColour, UnsupportedInterlace, Truncated, Read}
+use Rattle.loop_y4m.specs.declared.fault.Y4mFault.TheVariants.{NotY4m, BadHeader, OddWidth, UnsupportedColour, UnsupportedInterlace, Truncated, Read}
 use Rattle.loop_y4m.specs.declared.header.Header.{Header}
 use Rattle.loop_y4m.specs.Header.{and_then, size_of_frame}
-use Rattle.loop_y4m.specs.Reader.{Gives, GivesNext, opened_with}
-use Rattle.loop_y4m.specs.Steps.{FrameIs}
+use Rattle.loop_y4m.specs.declared.frame.FrameLine.{FrameLine}
+use Rattle.loop_y4m.specs.Reader.{Gives, GivesNext, has_frame, opened_with}
+use Rattle.loop_y4m.specs.Steps.{FrameIs, TimedIs}
 use Rattle.loop_y4m.specs.Stream.{Frames, before, ends, ends_after, frames_by, frames_within_input, frames_within, is_frame_line, is_newline, line, next_frame, pixels}
 
 -- ---- each frame takes a byte or more
@@ -85,6 +86,8 @@ next_known header size bytes new (Err BadHeader) out full is = frames_step (size
     ∙ ap (frames_by (frames_within_input (size_of_frame header))) (rw full at is)
 next_known header size bytes new (Err UnsupportedColour) out full is = frames_step (size_of_frame header) bytes
     ∙ ap (frames_by (frames_within_input (size_of_frame header))) (rw full at is)
+next_known header size bytes new (Err OddWidth) out full is = frames_step (size_of_frame header) bytes
+    ∙ ap (frames_by (frames_within_input (size_of_frame header))) (rw full at is)
 next_known header size bytes new (Err UnsupportedInterlace) out full is = frames_step (size_of_frame header) bytes
     ∙ ap (frames_by (frames_within_input (size_of_frame header))) (rw full at is)
 next_known header size bytes new (Err Truncated) out full is = frames_step (size_of_frame header) bytes
@@ -108,6 +111,23 @@ pub gives_next : (header : Header) (old new : Option (List ℕ)) (result : Resul
     (λ frames. GivesNext frames result out (opened_with header (result_err result) new).rest)
 gives_next header None new result out full is = tt
 gives_next header (Some bytes) new result out full is = next_known header (size_of_frame header) bytes new result out full is
+
+frame_of : (old new : Option (List ℕ)) (result : Result (Option FrameLine) Y4mFault) (out : List ℕ)
+    → IfSome old (λ bytes. TimedIs bytes result out new) → IfSome old (λ bytes. FrameIs bytes (has_frame result) out new)
+frame_of None new result out is = tt
+frame_of (Some bytes) new result out is = is.0
+
+-- the same of a call with the frame's line
+pub gives_timed : (header : Header) (old new : Option (List ℕ)) (result : Result (Option FrameLine) Y4mFault)
+    (out : List ℕ) → length out ≡ size_of_frame header → IfSome old (λ bytes. TimedIs bytes result out new)
+    → IfSome (option_map (frames_within_input (size_of_frame header)) old)
+    (λ frames. GivesNext frames (has_frame result) out (opened_with header (result_err result) new).rest)
+gives_timed header old new (Err fault) out full is =
+    gives_next header old new (Err fault) out full (frame_of old new (Err fault) out is)
+gives_timed header old new (Ok None) out full is =
+    gives_next header old new (Ok false) out full (frame_of old new (Ok None) out is)
+gives_timed header old new (Ok (Some line)) out full is =
+    gives_next header old new (Ok true) out full (frame_of old new (Ok (Some line)) out is)
 
 some_is : (a b : Frames) → Some a ≡ Some b → a ≡ b
 some_is a b same = ap (λ o. unwrap_or o a) same

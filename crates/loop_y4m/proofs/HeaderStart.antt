@@ -5,7 +5,9 @@ use Rattle.std.proofs.lemmas.List.{take_at, drop-take, drop_all}
 use Rattle.std.proofs.lemmas.Bool.{leb-true, leb-false}
 use Rattle.std.proofs.lemmas.Slice.Eq.{bytes_eq-Decides}
 use Rattle.loop_y4m.specs.declared.fault.Y4mFault.{Y4mFault}
-use Rattle.loop_y4m.specs.declared.fault.Y4mFault.TheVariants.{NotY4m, BadHeader, UnsupportedColour, UnsupportedInterlace, Truncated, Read}
+use Rattle.loop_y4m.specs.declared.fault.Y4mFault.TheVariants.{NotY4m, BadHeader, OddWidth, UnsupportedColour, UnsupportedInterlace, Truncated, Read}
+use Rattle.loop_y4m.specs.declared.depth.Colours.{Colours}
+use Rattle.loop_y4m.specs.declared.depth.Depth.{Depth}
 use Rattle.loop_y4m.specs.Steps.{LineIs, HeaderIs}
 use Rattle.loop_y4m.specs.Stream.{header_line, header_and_rest, line}
 use Rattle.loop_y4m.specs.Header.{and_then, header_of}
@@ -75,21 +77,25 @@ so false r turned e = absurd cc
 
 -- ---- the header
 
-header_by : (bytes rest : List ℕ) (left : Option (List ℕ)) (result : Result Header Y4mFault)
-    → header_and_rest bytes ≡ and_then result (λ h. Ok (h, rest)) → left ≡ Some rest → HeaderIs bytes result left
-header_by bytes rest left (Ok h) is there = (rest, is, there)
-header_by bytes rest left (Err NotY4m) is there = is
-header_by bytes rest left (Err BadHeader) is there = is
-header_by bytes rest left (Err UnsupportedColour) is there = is
-header_by bytes rest left (Err UnsupportedInterlace) is there = is
-header_by bytes rest left (Err Truncated) is there = is
-header_by bytes rest left (Err Read) is there = tt
+header_by : (colours : Colours) (bytes rest : List ℕ) (left : Option (List ℕ))
+    (result : Result (Header × Depth) Y4mFault) → header_and_rest colours bytes ≡ and_then result (λ h. Ok (h, rest))
+    → left ≡ Some rest → HeaderIs colours bytes result left
+header_by colours bytes rest left (Ok h) is there = (rest, is, there)
+header_by colours bytes rest left (Err NotY4m) is there = is
+header_by colours bytes rest left (Err BadHeader) is there = is
+header_by colours bytes rest left (Err UnsupportedColour) is there = is
+header_by colours bytes rest left (Err OddWidth) is there = is
+header_by colours bytes rest left (Err UnsupportedInterlace) is there = is
+header_by colours bytes rest left (Err Truncated) is there = is
+header_by colours bytes rest left (Err Read) is there = tt
 
-pub header_known : (known left : Option (List ℕ)) (n : ℕ) (text : List ℕ) (result : Result Header Y4mFault)
-    → result ≡ header_of (drop 10 (take n text)) → IfSome known (λ bytes. LineIs (header_line bytes) (Ok n) text left)
-    → IfSome known (λ bytes. HeaderIs bytes result left)
-header_known None left n text result is read = tt
-header_known (Some bytes) left n text result is read = header_by bytes read.0 left result (rw (read.1) (rw is refl)) read.2
+pub header_known : (colours : Colours) (known left : Option (List ℕ)) (n : ℕ) (text : List ℕ)
+    (result : Result (Header × Depth) Y4mFault) → result ≡ header_of colours (drop 10 (take n text))
+    → IfSome known (λ bytes. LineIs (header_line bytes) (Ok n) text left)
+    → IfSome known (λ bytes. HeaderIs colours bytes result left)
+header_known colours None left n text result is read = tt
+header_known colours (Some bytes) left n text result is read =
+    header_by colours bytes read.0 left result (rw (read.1) (rw is refl)) read.2
 
 behind_by : (more : Bool) (n : ℕ) (text : List ℕ) → nat_le 10 n ≡ more
     → take (n - min n 10) (drop (min n 10) text) ≡ drop 10 (take n text)

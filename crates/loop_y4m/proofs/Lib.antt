@@ -6,6 +6,7 @@ pub mod Pixels
 mod Rows
 pub mod Retry
 pub mod PartWrites
+pub mod Starts
 pub mod Frames
 pub mod HeaderStart
 pub mod Digits

@@ -3,7 +3,8 @@ use Rattle.std.proofs.Common.{◌≡◌, ℕ, ◌-◌, Option, Some, None, List,
 use Rattle.std.specs.Io.KnownBytes.{Appends, Keeps}
 use Rattle.std.proofs.lemmas.List.{take_rest, take-append-drop}
 use Rattle.std.specs.Prelude.{Ok, Err, IsErr, Result}
-use Rattle.loop_y4m.specs.Text.{Wrote}
+use Rattle.loop_record.specs.declared.geometry.Geometry.{Geometry}
+use Rattle.loop_y4m.specs.Text.{Wrote, header_with}
 
 -- the writer was given all that comes before these bytes
 abbrev pub IsGiven : Option (List ℕ) → Option (List ℕ) → List ℕ → List ℕ → Type 0
@@ -81,10 +82,16 @@ pub written : {E : Type 0} (old new : Option (List ℕ)) (result : Result (Unit 
 written old new result line text wrote same = rw (sym same) wrote
 
 -- the parts of a header, as they are written one after another
-pub nested : (a b c d e f g h i j k : List ℕ) → a
-    ++ (b ++ (c ++ (d ++ (e ++ (f ++ (g ++ (h ++ (i ++ (j ++ k))))))))) ≡ a ++ b ++ c ++ d ++ e ++ f ++ g ++ h ++ i
-    ++ j ++ k
-nested a b c d e f g h i j k = simp append_assoc refl
+pub nested : (a b c d e f g h i j k l : List ℕ) → a
+    ++ (b ++ (c ++ (d ++ (e ++ (f ++ (g ++ (h ++ (i ++ (j ++ (k ++ l)))))))))) ≡ a ++ b ++ c ++ d ++ e ++ f ++ g ++ h
+    ++ i ++ (j ++ k) ++ l
+nested a b c d e f g h i j k l = simp append_assoc refl
+
+-- a colour's name, and nothing more
+pub written_alone : {E : Type 0} (old new : Option (List ℕ)) (result : Result (Unit {0}) E) (width : ℕ)
+    (name : List ℕ) (g : Geometry) → Wrote old new result (header_with width (name ++ []) g)
+    → Wrote old new result (header_with width name g)
+written_alone old new result width name g wrote = rw (append-nil name) at wrote
 
 -- for the loop that writes all
 pub ruleset writing = (begins, stands, whole, beginning)

@@ -1,3 +1,4 @@
+pub mod Depths
 pub mod Header
 pub mod Stream
 pub mod Text

@@ -4,25 +4,53 @@ use Rattle.loop_y4m.specs.declared.fault.Y4mFault.{Y4mFault}
 use Rattle.loop_y4m.specs.declared.fault.Y4mFault.TheVariants.{Read}
 use Rattle.loop_y4m.specs.declared.header.Header.{Header}
 use Rattle.loop_y4m.specs.Header.{size_of_frame}
-use Rattle.loop_y4m.specs.Stream.{Frames, before, ends, frames_within_input, parse}
+use Rattle.loop_y4m.specs.declared.depth.Depth.{Depth}
+use Rattle.loop_y4m.specs.declared.frame.FrameLine.{FrameLine}
+use Rattle.loop_y4m.specs.Stream.{Frames, before, ends, frame_time, frames_within_input, line, parse, parse_deep}
 
--- an open reader: what its header says, the fault that it met, and what is still to be read, where that is known
+-- an open reader: what its header says, the fault that it met, and what is still to be read, where that is known: as
+-- frames, and as bytes
 pub record OpenReader : Type 0 where
   pub header : Header
   pub fault : Option Y4mFault
   pub rest : Option Frames
+  pub left : Option (List ℕ)
 
 -- a reader with these bytes left; after a fault there is only that fault
 abbrev pub opened_with : Header → Option Y4mFault → Option (List ℕ) → OpenReader
-opened_with header None left =
-    record { header = header; fault = None; rest = option_map (frames_within_input (size_of_frame header)) left }
-opened_with header (Some fault) left = record { header = header; fault = Some fault; rest = Some (ends (Some fault)) }
+opened_with header None left = record {
+  header = header;
+  fault = None;
+  rest = option_map (frames_within_input (size_of_frame header)) left;
+  left = left;
+}
+opened_with header (Some fault) left =
+    record { header = header; fault = Some fault; rest = Some (ends (Some fault)); left = None }
 
 -- the answer to the opening of an input: what `parse` says of it, except where the reader failed
 abbrev pub OpensAs : List ℕ → Result OpenReader Y4mFault → Type 0
 OpensAs bytes (Err Read) = ⊤
 OpensAs bytes (Err fault) = parse bytes ≡ Err fault
 OpensAs bytes (Ok r) = (rest : Frames) × (parse bytes ≡ Ok (r.header, rest)) × (r.rest ≡ Some rest)
+
+-- the same of 8 to 16 bits a sample: what `parse_deep` says
+abbrev pub OpensDeepAs : List ℕ → Result (OpenReader × Depth) Y4mFault → Type 0
+OpensDeepAs bytes (Err Read) = ⊤
+OpensDeepAs bytes (Err fault) = parse_deep bytes ≡ Err fault
+OpensDeepAs bytes (Ok r) =
+    (rest : Frames) × (parse_deep bytes ≡ Ok ((r.0.header, r.1), rest)) × (r.0.rest ≡ Some rest)
+
+-- whether a call with its line gave a frame
+abbrev pub has_frame : Result (Option FrameLine) Y4mFault → Result Bool Y4mFault
+has_frame (Err fault) = Err fault
+has_frame (Ok None) = Ok false
+has_frame (Ok (Some line)) = Ok true
+
+-- where a frame came, its time is what the first line of these bytes says
+abbrev pub SaysTime : List ℕ → Result (Option FrameLine) Y4mFault → Type 0
+SaysTime bytes (Ok (Some said)) =
+    (l : List ℕ × List ℕ) × (line bytes ≡ Ok l) × (said.time ≡ frame_time l.0)
+SaysTime bytes _ = ⊤
 
 -- the answer to a call for a frame, and what is left to be read: the first of the frames and those after it, the end,
 -- or the fault, except where the reader failed

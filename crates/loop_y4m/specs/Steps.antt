@@ -9,7 +9,11 @@ use Rattle.loop_y4m.specs.declared.header.Header.{Header}
 use Rattle.loop_y4m.specs.declared.header.Parameters.{Parameters}
 use Rattle.loop_y4m.specs.Export.{Stopped, frames_between}
 use Rattle.loop_y4m.specs.Header.{size_of_frame}
-use Rattle.loop_y4m.specs.Stream.{header_and_rest, next_frame}
+use Rattle.loop_y4m.specs.declared.depth.Colours.{Colours}
+use Rattle.loop_y4m.specs.declared.depth.Depth.{Depth}
+use Rattle.loop_y4m.specs.declared.frame.FrameLine.{FrameLine}
+use Rattle.loop_y4m.specs.Reader.{SaysTime, has_frame}
+use Rattle.loop_y4m.specs.Stream.{frame_start, frame_time, header_and_rest, next_frame}
 use Rattle.loop_y4m.specs.Text.{frame}
 
 -- each side that is given has its limit
@@ -41,11 +45,24 @@ FrameIs bytes (Ok false) out left = (next_frame (length out) bytes ≡ Ok None) 
 FrameIs bytes (Ok true) out left =
     (rest : List ℕ) × (next_frame (length out) bytes ≡ Ok (Some (out, rest))) × (left ≡ Some rest)
 
--- the answer is the header
-abbrev pub HeaderIs : List ℕ → Result Header Y4mFault → Option (List ℕ) → Type 0
-HeaderIs bytes (Err Read) left = ⊤
-HeaderIs bytes (Err fault) left = header_and_rest bytes ≡ Err fault
-HeaderIs bytes (Ok header) left = (rest : List ℕ) × (header_and_rest bytes ≡ Ok (header, rest)) × (left ≡ Some rest)
+-- the answer is the next frame's line, and what it says
+abbrev pub StartIs : List ℕ → Result (Option FrameLine) Y4mFault → Option (List ℕ) → Type 0
+StartIs bytes (Err Read) left = ⊤
+StartIs bytes (Err fault) left = frame_start bytes ≡ Err fault
+StartIs bytes (Ok None) left = (frame_start bytes ≡ Ok None) × (left ≡ Some bytes)
+StartIs bytes (Ok (Some said)) left = (first : List ℕ) × (rest : List ℕ)
+    × (frame_start bytes ≡ Ok (Some (first, rest))) × (left ≡ Some rest) × (said.time ≡ frame_time first)
+
+-- the answer is the next frame, with the time that its line says
+abbrev pub TimedIs : List ℕ → Result (Option FrameLine) Y4mFault → List ℕ → Option (List ℕ) → Type 0
+TimedIs bytes result out left = FrameIs bytes (has_frame result) out left × SaysTime bytes result
+
+-- the answer is the header, where these colours are read
+abbrev pub HeaderIs : Colours → List ℕ → Result (Header × Depth) Y4mFault → Option (List ℕ) → Type 0
+HeaderIs colours bytes (Err Read) left = ⊤
+HeaderIs colours bytes (Err fault) left = header_and_rest colours bytes ≡ Err fault
+HeaderIs colours bytes (Ok header) left =
+    (rest : List ℕ) × (header_and_rest colours bytes ≡ Ok (header, rest)) × (left ≡ Some rest)
 
 -- ---- the export of a store
 

@@ -4,7 +4,10 @@ use Rattle.std.specs.List.{before_first, after_first, position_or_len}
 use Rattle.loop_y4m.specs.declared.fault.Y4mFault.{Y4mFault}
 use Rattle.loop_y4m.specs.declared.fault.Y4mFault.TheVariants.{NotY4m, BadHeader, Truncated}
 use Rattle.loop_y4m.specs.declared.header.Header.{Header}
-use Rattle.loop_y4m.specs.Header.{and_then, header_of, size_of_frame}
+use Rattle.loop_y4m.specs.declared.depth.Colours.{Colours}
+use Rattle.loop_y4m.specs.declared.depth.Colours.TheVariants.{All, Eight}
+use Rattle.loop_y4m.specs.declared.depth.Depth.{Depth}
+use Rattle.loop_y4m.specs.Header.{and_then, header_of, header_words, number_at_most, size_of_frame}
 
 abbrev pub is_newline : ℕ → Bool
 is_newline b = b == 10
@@ -24,12 +27,35 @@ abbrev pub header_line : List ℕ → Result (List ℕ × List ℕ) Y4mFault
 header_line bytes = if is_y4m bytes then line bytes else Err NotY4m
 
 -- the header, and what follows its line
-abbrev pub header_and_rest : List ℕ → Result (Header × List ℕ) Y4mFault
-header_and_rest bytes = and_then (header_line bytes) (λ l. and_then (header_of (drop 10 l.0)) (λ h. Ok (h, l.1)))
+abbrev pub header_and_rest : Colours → List ℕ → Result ((Header × Depth) × List ℕ) Y4mFault
+header_and_rest colours bytes =
+    and_then (header_line bytes) (λ l. and_then (header_of colours (drop 10 l.0)) (λ h. Ok (h, l.1)))
 
 -- `FRAME`, alone or followed by a space and anything
 abbrev pub is_frame_line : List ℕ → Bool
 is_frame_line text = bytes_eq (take 5 text) (codes "FRAME") && (length text == 5 || slice_index text 5 == 32)
+
+-- the microseconds that a word `Xt=MICROSECONDS` says, below 2^64
+abbrev pub word_time : List ℕ → Option ℕ
+word_time word = if bytes_eq (take 3 word) (codes "Xt=") then number_at_most 18446744073709551615 (drop 3 word) else None
+
+-- the first of these, or else the other
+abbrev pub or_else : Option ℕ → Option ℕ → Option ℕ
+or_else (Some n) other = Some n
+or_else None other = other
+
+abbrev pub time_in : List (List ℕ) → Option ℕ
+time_in [] = None
+time_in (w ∷ ws) = or_else (word_time w) (time_in ws)
+
+-- the time that a frame's line says: its first word that is one
+abbrev pub frame_time : List ℕ → Option ℕ
+frame_time text = time_in (header_words text)
+
+-- the line of the next frame, and what follows it; None at the end
+abbrev pub frame_start : List ℕ → Result (Option (List ℕ × List ℕ)) Y4mFault
+frame_start [] = Ok None
+frame_start (b ∷ bs) = and_then (line (b ∷ bs)) (λ l. if is_frame_line l.0 then Ok (Some l) else Err BadHeader)
 
 -- as many bytes as a frame has, and what follows them
 abbrev pub pixels : ℕ → List ℕ → Result (Option (List ℕ × List ℕ)) Y4mFault
@@ -72,6 +98,12 @@ frames_within (suc most) size bytes = frames_by (frames_within most size) (next_
 abbrev pub frames_within_input : ℕ → List ℕ → Frames
 frames_within_input size bytes = frames_within (suc (length bytes)) size bytes
 
--- a whole input: its header, and its frames with what ends them
+-- a whole input of 8 bits a sample: its header, and its frames with what ends them
 abbrev pub parse : List ℕ → Result (Header × Frames) Y4mFault
-parse bytes = and_then (header_and_rest bytes) (λ h. Ok (h.0, frames_within_input (size_of_frame h.0) h.1))
+parse bytes =
+    and_then (header_and_rest Eight bytes) (λ h. Ok (h.0.0, frames_within_input (size_of_frame h.0.0) h.1))
+
+-- the same of 8 to 16 bits, and how many
+abbrev pub parse_deep : List ℕ → Result ((Header × Depth) × Frames) Y4mFault
+parse_deep bytes =
+    and_then (header_and_rest All bytes) (λ h. Ok (h.0, frames_within_input (size_of_frame h.0.0) h.1))

@@ -1,12 +1,20 @@
 //! A frame's line, and its bytes.
 
 ghost use Rattle.std.specs.Prelude.{◌≡◌, IfSome};
-ghost use Rattle.loop_y4m.specs.Steps.{FrameIs, FillsWith};
-ghost use Rattle.loop_y4m.specs.Stream.{is_frame_line};
+ghost use Rattle.loop_y4m.specs.Steps.{FrameIs, FillsWith, StartIs, TimedIs};
+ghost use Rattle.loop_y4m.specs.Stream.{frame_time, is_frame_line, word_time};
 
 use crate::Y4mFault;
 use crate::input::{MAX_LINE, next_byte, next_line, read_some};
+use crate::number::{find, wide_number};
 use std::io::Read;
+
+/// What the line of a frame says.
+#[derive(Clone, Copy, Debug, PartialEq, Eq)]
+pub struct FrameLine {
+    /// The microseconds of its first word `Xt=MICROSECONDS`, if it has one.
+    pub time: Option<u64>,
+}
 
 // Whether a line is a frame's.
 fn is_frame_line(line: &[u8]) -> bool
@@ -34,15 +42,73 @@ pub(crate) fn fill<R: Read>(reader: &mut R, out: &mut [u8], cut: Y4mFault) -> Re
     Ok(())
 }
 
+// The microseconds that a word says.
+fn word_time(word: &[u8]) -> Option<u64>
+    ensures { result ≡ word_time word.now }
+{
+    let three = word.len().min(3);
+    if &word[..three] != b"Xt=".as_slice() {
+        return None;
+    }
+    wide_number(u64::MAX, &word[three..])
+}
+
+// The time that a frame's line says.
+fn frame_time(line: &[u8]) -> Option<u64>
+    ensures { result ≡ frame_time line.now }
+{
+    let mut rest = line;
+    loop {
+        let end = find(rest, b' ');
+        if let Some(time) = word_time(&rest[..end]) {
+            return Some(time);
+        }
+        if end == rest.len() {
+            return None;
+        }
+        rest = &rest[end + 1..];
+    }
+}
+
 /// Reads the next frame's line, and then its bytes into `out`, which they fill; false at the end.
-#[tactic(auto, using(crate::proofs::Pixels::pixels_whole, crate::proofs::Pixels::pixels_cut))]
 pub(crate) fn next_frame<R: Read>(reader: &mut R, out: &mut [u8]) -> Result<bool, Y4mFault>
     ensures { IfSome (R.remaining reader.old)
         (λ bytes. FrameIs bytes result out.new (R.remaining reader.new)) }
 {
+    match next_timed(reader, out) {
+        Ok(None) => Ok(false),
+        Ok(Some(_)) => Ok(true),
+        Err(fault) => Err(fault),
+    }
+}
+
+/// The same, with what the line says; None at the end.
+#[tactic(auto, using(crate::proofs::Starts::start_ended))]
+pub(crate) fn next_timed<R: Read>(
+    reader: &mut R,
+    out: &mut [u8],
+) -> Result<Option<FrameLine>, Y4mFault>
+    ensures { IfSome (R.remaining reader.old)
+        (λ bytes. TimedIs bytes result out.new (R.remaining reader.new)) }
+{
+    match frame_start(reader) {
+        Err(fault) => Err(fault),
+        Ok(None) => Ok(None),
+        Ok(Some(line)) => match fill(reader, out, Y4mFault::Truncated) {
+            Err(fault) => Err(fault),
+            Ok(()) => Ok(Some(line)),
+        },
+    }
+}
+
+// Reads the next frame's line; None at the end.
+fn frame_start<R: Read>(reader: &mut R) -> Result<Option<FrameLine>, Y4mFault>
+    ensures { IfSome (R.remaining reader.old)
+        (λ bytes. StartIs bytes result (R.remaining reader.new)) }
+{
     let mut line = [0u8; MAX_LINE];
     match next_byte(reader)? {
-        None => return Ok(false),
+        None => return Ok(None),
         Some(b'\n') => return Err(Y4mFault::BadHeader),
         Some(byte) => line[0] = byte,
     }
@@ -50,6 +116,6 @@ pub(crate) fn next_frame<R: Read>(reader: &mut R, out: &mut [u8]) -> Result<bool
     if !is_frame_line(&line[..n]) {
         return Err(Y4mFault::BadHeader);
     }
-    fill(reader, out, Y4mFault::Truncated)?;
-    Ok(true)
+    let time = frame_time(&line[..n]);
+    Ok(Some(FrameLine { time }))
 }

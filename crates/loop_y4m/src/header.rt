@@ -2,9 +2,11 @@
 
 ghost use Rattle.std.specs.Prelude.{◌≡◌, ◌≤◌, IfSome, IfOk, IsTrue};
 ghost use Rattle.loop_record.specs.Geometry.{is_good};
-ghost use Rattle.loop_y4m.specs.Header.{side, rate, colour, interlace, with_parameter, complete, geometry_for, header_of, size_of_frame};
+ghost use Rattle.loop_y4m.specs.Depths.{deep_colour, deep_of, format_of};
+ghost use Rattle.loop_y4m.specs.Header.{side, rate, colour, colour_by, interlace, with_parameter, complete, geometry_for, header_of, is_halved, row_of, size_of_frame};
 ghost use Rattle.loop_y4m.specs.Steps.{HasSmallSides, IsSmall};
 
+use crate::depth::{Colours, Depth};
 use crate::number::{find, number};
 use crate::{GeometryFault, Y4mFault};
 use loop_record::{Geometry, PixelFormat};
@@ -12,12 +14,15 @@ use loop_record::{Geometry, PixelFormat};
 // The most bytes of a frame.
 const MAX_FRAME: u32 = 16_777_216;
 
+// The most samples of two bytes in a row.
+const MAX_DEEP: u32 = 8192;
+
 /// What a header says.
 #[derive(Clone, Copy, Debug, PartialEq, Eq)]
 pub struct Header {
     /// How the pixels of a frame lie.
     pub format: PixelFormat,
-    /// The width of a frame in pixels, 1 to 16,384.
+    /// The width of a frame in pixels, 1 to 16,384; of samples of two bytes twice that.
     pub width: u32,
     /// The height of a frame in pixels, 1 to 16,384.
     pub height: u32,
@@ -81,6 +86,7 @@ struct Parameters {
     rate_num: u32,
     rate_den: u32,
     format: PixelFormat,
+    depth: Depth,
 }
 
 fn side(text: &[u8]) -> Option<u32>
@@ -125,6 +131,60 @@ fn colour(text: &[u8]) -> Option<PixelFormat>
     }
 }
 
+// Of samples of two bytes.
+fn format_of(text: &[u8]) -> Option<PixelFormat>
+    ensures { result ≡ format_of text.now }
+{
+    if text == b"mono".as_slice() {
+        Some(PixelFormat::Grey)
+    } else if text == b"420p".as_slice() {
+        Some(PixelFormat::Ym12)
+    } else if text == b"422p".as_slice() {
+        Some(PixelFormat::Ym16)
+    } else if text == b"444p".as_slice() {
+        Some(PixelFormat::Ym24)
+    } else {
+        None
+    }
+}
+
+fn deep_of(text: &[u8]) -> Option<Depth>
+    ensures { result ≡ deep_of text.now }
+{
+    if text == b"9".as_slice() {
+        Some(Depth::Bits9)
+    } else if text == b"10".as_slice() {
+        Some(Depth::Bits10)
+    } else if text == b"12".as_slice() {
+        Some(Depth::Bits12)
+    } else if text == b"14".as_slice() {
+        Some(Depth::Bits14)
+    } else if text == b"16".as_slice() {
+        Some(Depth::Bits16)
+    } else {
+        None
+    }
+}
+
+fn deep_colour(text: &[u8]) -> Option<(PixelFormat, Depth)>
+    ensures { result ≡ deep_colour text.now }
+{
+    let four = text.len().min(4);
+    let format = format_of(&text[..four])?;
+    let depth = deep_of(&text[four..])?;
+    Some((format, depth))
+}
+
+fn colour_by(colours: Colours, text: &[u8]) -> Option<(PixelFormat, Depth)>
+    ensures { result ≡ colour_by colours text.now }
+{
+    match (colour(text), colours) {
+        (Some(format), _) => Some((format, Depth::Bits8)),
+        (None, Colours::Eight) => None,
+        (None, Colours::All) => deep_colour(text),
+    }
+}
+
 // Progressive frames, or unknown ones.
 fn interlace(text: &[u8]) -> Result<(), Y4mFault>
     ensures { result ≡ interlace text.now }
@@ -137,8 +197,12 @@ fn interlace(text: &[u8]) -> Result<(), Y4mFault>
 }
 
 // Adds one parameter.
-fn with_parameter(mut given: Parameters, word: &[u8]) -> Result<Parameters, Y4mFault>
-    ensures value { result ≡ with_parameter given word.now }
+fn with_parameter(
+    colours: Colours,
+    mut given: Parameters,
+    word: &[u8],
+) -> Result<Parameters, Y4mFault>
+    ensures value { result ≡ with_parameter colours given word.now }
     ensures bound { HasSmallSides given → IfOk result HasSmallSides }
 {
     let Some((&letter, text)) = word.split_first() else {
@@ -149,21 +213,55 @@ fn with_parameter(mut given: Parameters, word: &[u8]) -> Result<Parameters, Y4mF
         b'H' => given.height = Some(side(text).ok_or(Y4mFault::BadHeader)?),
         b'F' => (given.rate_num, given.rate_den) = rate(text).ok_or(Y4mFault::BadHeader)?,
         b'I' => interlace(text)?,
-        b'C' => given.format = colour(text).ok_or(Y4mFault::UnsupportedColour)?,
+        b'C' => {
+            (given.format, given.depth) = colour_by(colours, text).ok_or(
+                Y4mFault::UnsupportedColour,
+            )?
+        }
         _ => {}
     }
     Ok(given)
 }
 
-// The header that all parameters give: its width and height are given, and its frames aren't too large.
-fn complete(given: Parameters) -> Result<Header, Y4mFault>
+// Whether chroma is halved in a row's direction.
+fn is_halved(format: PixelFormat) -> bool
+    ensures { result ≡ is_halved format }
+{
+    match format {
+        PixelFormat::Grey | PixelFormat::Ym24 => false,
+        PixelFormat::Ym12 | PixelFormat::Ym16 => true,
+    }
+}
+
+// The width that a frame is recorded with: of samples of two bytes twice their count in a row.
+fn row_of(width: u32, format: PixelFormat, depth: Depth) -> Result<u32, Y4mFault>
+    requires { width ≤ 16384 }
+    ensures value { result ≡ row_of width format depth }
+    ensures bound { IfOk result (λ n. n ≤ 16384) }
+{
+    if !depth.is_deep() {
+        return Ok(width);
+    }
+    if width > MAX_DEEP {
+        return Err(Y4mFault::BadHeader);
+    }
+    if is_halved(format) && width % 2 == 1 {
+        return Err(Y4mFault::OddWidth);
+    }
+    Ok(2 * width)
+}
+
+// The header that all parameters give, and how many bits a sample has: its width and height are given, and its frames
+// aren't too large.
+fn complete(given: Parameters) -> Result<(Header, Depth), Y4mFault>
     requires { HasSmallSides given }
     ensures value { result ≡ complete given.width given.height given }
-    ensures bound { IfOk result IsSmall }
+    ensures bound { IfOk result (λ h. IsSmall h.0) }
 {
     let (Some(width), Some(height)) = (given.width, given.height) else {
         return Err(Y4mFault::BadHeader);
     };
+    let width = row_of(width, given.format, given.depth)?;
     let header = Header {
         format: given.format,
         width,
@@ -172,18 +270,18 @@ fn complete(given: Parameters) -> Result<Header, Y4mFault>
         rate_den: given.rate_den,
     };
     if header.frame_bytes() <= MAX_FRAME {
-        Ok(header)
+        Ok((header, given.depth))
     } else {
         Err(Y4mFault::BadHeader)
     }
 }
 
-/// Reads what follows `YUV4MPEG2` and a space in a header line. The first parameter from the left that can't be read
-/// decides which fault it is.
+/// Reads what follows `YUV4MPEG2` and a space in a header line, with a list of colours. The first parameter from the
+/// left that can't be read decides which fault it is.
 #[tactic(auto, using(crate::proofs::Words::last_parameter, crate::proofs::Words::more_parameters))]
-pub(crate) fn parse_header(text: &[u8]) -> Result<Header, Y4mFault>
-    ensures value { result ≡ header_of text.now }
-    ensures bound { IfOk result IsSmall }
+pub(crate) fn parse_header(colours: Colours, text: &[u8]) -> Result<(Header, Depth), Y4mFault>
+    ensures value { result ≡ header_of colours text.now }
+    ensures bound { IfOk result (λ h. IsSmall h.0) }
 {
     let mut given = Parameters {
         width: None,
@@ -191,11 +289,12 @@ pub(crate) fn parse_header(text: &[u8]) -> Result<Header, Y4mFault>
         rate_num: 0,
         rate_den: 0,
         format: PixelFormat::Ym12,
+        depth: Depth::Bits8,
     };
     let mut rest = text;
     loop {
         let end = find(rest, b' ');
-        given = with_parameter(given, &rest[..end])?;
+        given = with_parameter(colours, given, &rest[..end])?;
         if end == rest.len() {
             return complete(given);
         }

@@ -6,10 +6,11 @@ ghost use Rattle.loop_record.specs.Reading.{Holds};
 ghost use Rattle.loop_record.specs.Recording.{Recording};
 ghost use Rattle.loop_y4m.specs.Export.{frames_between};
 ghost use Rattle.loop_y4m.specs.Reader.{Gives};
-ghost use Rattle.loop_y4m.specs.Stream.{Frames, ends, ends_after, frames_by, frames_within_input, next_frame, parse};
+ghost use Rattle.loop_y4m.specs.Stream.{Frames, ends, ends_after, frames_by, frames_within_input, next_frame, parse, parse_deep};
 ghost use Rattle.loop_y4m.specs.declared.fault.Y4mFault.{Y4mFault};
-ghost use Rattle.loop_y4m.specs.Text.{header_for, text};
+ghost use Rattle.loop_y4m.specs.Text.{deep_text, header_for, may_have, text};
 
+use crate::Depth;
 use loop_record::Geometry;
 
 /// The text of a geometry's frames is read as its format, size and rate, then these frames' bytes, then the end.
@@ -18,6 +19,15 @@ pub fn written_text_is_read(geometry: &Geometry)
         → All (λ frame. length frame ≡ frame_bytes geometry.now) frames
         → parse (text geometry.now frames)
         ≡ Ok (header_for geometry.now, ends_after frames None) }
+{}
+
+/// The text of a geometry's frames of 8 to 16 bits a sample is read as its format and size, its rows of as many bytes,
+/// its rate and these bits, then these frames' bytes, then the end. The frames may have such samples.
+pub fn written_deep_text_is_read(geometry: &Geometry, depth: Depth)
+    ensures { (frames : List (List ℕ)) → IsTrue (is_good geometry.now) → IsTrue (may_have geometry.now depth)
+        → All (λ frame. length frame ≡ frame_bytes geometry.now) frames
+        → parse_deep (deep_text geometry.now depth frames)
+        ≡ Ok ((header_for geometry.now, depth), ends_after frames None) }
 {}
 
 /// The text of the frames that are exported of a recording is read as the format, size and rate of the store,

@@ -3,11 +3,12 @@
 ghost use Rattle.std.specs.Prelude.{◌≡◌, ◌<◌, ◌≤◌, IfErr, IfOk, IfSome, IsTrue, None, OnOk, Some, length};
 ghost use Rattle.loop_record.specs.Geometry.{is_good};
 ghost use Rattle.loop_y4m.specs.Header.{geometry_for, size_of_frame};
-ghost use Rattle.loop_y4m.specs.Reader.{GivesNext, OpenReader, OpensAs, opened_with};
+ghost use Rattle.loop_y4m.specs.Reader.{GivesNext, OpenReader, OpensAs, OpensDeepAs, SaysTime, has_frame, opened_with};
 ghost use Rattle.loop_y4m.specs.Steps.{HeaderIs, IsSmall, LineIs};
 ghost use Rattle.loop_y4m.specs.Stream.{ends, header_line};
 
-use crate::frame::{fill, next_frame};
+use crate::depth::{Colours, Depth};
+use crate::frame::{FrameLine, fill, next_frame, next_timed};
 use crate::header::parse_header;
 use crate::input::{MAX_LINE, next_line};
 use crate::{GeometryFault, Header, Y4mFault};
@@ -42,12 +43,29 @@ impl<R: Read + Drop> Y4mReader<R> {
         ensures opened { IfSome (R.remaining reader) (λ bytes. OpensAs bytes result) }
         ensures fresh { IfOk result (λ r. r.fault ≡ None) }
     {
-        let header = read_header(&mut reader)?;
+        let (header, _) = read_header(Colours::Eight, &mut reader)?;
         Ok(Y4mReader {
             reader,
             header,
             fault: None,
         })
+    }
+
+    /// The same of an input whose samples have 8 to 16 bits; returns also how many. A frame of samples of two bytes
+    /// comes as it is recorded: as one of 8 bits whose rows have twice the bytes. `open` refuses those as
+    /// UnsupportedColour. BadHeader also where a row has more than 8,192 of them. OddWidth: a row has an odd count of
+    /// them, and chroma is halved.
+    pub fn open_deep(mut reader: R) -> Result<(Self, Depth), Y4mFault>
+        ensures opened { IfSome (R.remaining reader) (λ bytes. OpensDeepAs bytes result) }
+        ensures fresh { IfOk result (λ r. r.0.fault ≡ None) }
+    {
+        let (header, depth) = read_header(Colours::All, &mut reader)?;
+        let opened = Y4mReader {
+            reader,
+            header,
+            fault: None,
+        };
+        Ok((opened, depth))
     }
 
     /// How the pixels of a frame lie.
@@ -57,7 +75,7 @@ impl<R: Read + Drop> Y4mReader<R> {
         self.header.format
     }
 
-    /// The width of a frame in pixels.
+    /// The width of a frame in pixels; of samples of two bytes twice that.
     pub fn width(&self) -> u32
         ensures value { result ≡ self.now.header.width }
         ensures bound { result ≤ 16384 }
@@ -106,9 +124,9 @@ impl<R: Read + Drop> Y4mReader<R> {
         requires size { length out.old ≡ size_of_frame self.old.header }
         ensures frame { IfSome self.old.rest
             (λ frames. GivesNext frames result out.new self.new.rest) }
-        ensures kept { OnOk result (self.new ≡ record self.old { rest = self.new.rest }) }
+        ensures kept { OnOk result (self.new ≡ record self.old { rest = self.new.rest; left = self.new.left }) }
         ensures failed { IfErr result
-            (λ f. self.new ≡ record self.old { fault = Some f; rest = Some (ends (Some f)) }) }
+            (λ f. self.new ≡ record self.old { fault = Some f; rest = Some (ends (Some f)); left = None }) }
         ensures stays { IfSome self.old.fault (λ f. result ≡ Err f) }
     {
         if let Some(fault) = self.fault {
@@ -118,17 +136,36 @@ impl<R: Read + Drop> Y4mReader<R> {
         self.fault = result.err();
         result
     }
+
+    /// Reads the next frame as `next_frame` does, and returns what its line says; None at the end.
+    pub fn next_timed(&mut self, out: &mut [u8]) -> Result<Option<FrameLine>, Y4mFault>
+        requires size { length out.old ≡ size_of_frame self.old.header }
+        ensures frame { IfSome self.old.rest
+            (λ frames. GivesNext frames (has_frame result) out.new self.new.rest) }
+        ensures time { IfSome self.old.left (λ bytes. SaysTime bytes result) }
+        ensures kept { OnOk result (self.new ≡ record self.old { rest = self.new.rest; left = self.new.left }) }
+        ensures failed { IfErr result
+            (λ f. self.new ≡ record self.old { fault = Some f; rest = Some (ends (Some f)); left = None }) }
+        ensures stays { IfSome self.old.fault (λ f. result ≡ Err f) }
+    {
+        if let Some(fault) = self.fault {
+            return Err(fault);
+        }
+        let result = next_timed(&mut self.reader, out);
+        self.fault = result.err();
+        result
+    }
 }
 
-// Reads the header's line, and what it says.
-fn read_header<R: Read>(reader: &mut R) -> Result<Header, Y4mFault>
+// Reads the header's line, and what it says where these colours are read.
+fn read_header<R: Read>(colours: Colours, reader: &mut R) -> Result<(Header, Depth), Y4mFault>
     ensures header { IfSome (R.remaining reader.old)
-        (λ bytes. HeaderIs bytes result (R.remaining reader.new)) }
-    ensures bound { IfOk result IsSmall }
+        (λ bytes. HeaderIs colours bytes result (R.remaining reader.new)) }
+    ensures bound { IfOk result (λ h. IsSmall h.0) }
 {
     let mut line = [0u8; MAX_LINE];
     let n = read_header_line(reader, &mut line)?;
-    parse_header(&line[n.min(10)..n])
+    parse_header(colours, &line[n.min(10)..n])
 }
 
 // Reads the header's line into `line`, and returns how many bytes it has before its 0x0A.

@@ -21,6 +21,8 @@ mod asserts;
 #[cfg(test)]
 mod common;
 #[cfg(test)]
+mod deep;
+#[cfg(test)]
 mod exporting;
 #[cfg(test)]
 mod fakes;

@@ -1,7 +1,7 @@
 //! The lines of what happens without an order.
 
 use super::Lines;
-use crate::part::Part::{Millis, Number, Seconds, Text, Time, Words};
+use crate::part::Part::{Maybe, Millis, Number, Seconds, Text, Time, Words};
 use loop_record::Geometry;
 use std::fmt::Display;
 use std::{io, str};
@@ -19,6 +19,125 @@ impl Lines {
     /// JSON: `camera`, `width`, `height`, `format`, `rate_num`, `rate_den`.
     pub fn other_geometry(&mut self, camera: &str, geometry: &Geometry) -> io::Result<()> {
         self.frames_line("other_geometry", "other geometry ", camera, " ", geometry)
+    }
+
+    /// The same with the bits of a sample, of a camera whose samples have more than 8: `source CAMERA on 640x480 GREY
+    /// 25:1 12 bits`. The width is in samples.
+    ///
+    /// JSON: as above, and `bits`.
+    pub fn deep_source_on(
+        &mut self,
+        camera: &str,
+        geometry: &Geometry,
+        bits: u32,
+    ) -> io::Result<()> {
+        self.bits_line(
+            "source_on",
+            ("source ", camera, " on "),
+            geometry,
+            bits,
+            None,
+        )
+    }
+
+    /// `other geometry CAMERA 640x480 GREY 25:1 12 bits, not 8`: the frames of a camera's source aren't as its store has
+    /// them, and where that is known, how many bits the samples have there.
+    ///
+    /// JSON: as above, `bits`, and `store_bits` where they are known.
+    pub fn other_bits(
+        &mut self,
+        camera: &str,
+        geometry: &Geometry,
+        bits: u32,
+        there: Option<u32>,
+    ) -> io::Result<()> {
+        let there = there.map(|bits| u64::from(bits));
+        let words = ("other geometry ", camera, " ");
+        self.bits_line("other_geometry", words, geometry, bits, there)
+    }
+
+    // Adds a line of a camera and of frames whose samples have so many bits.
+    fn bits_line<'a>(
+        &mut self,
+        kind: &str,
+        (words, camera, between): (&'a str, &'a str, &'a str),
+        geometry: &Geometry,
+        bits: u32,
+        there: Option<u64>,
+    ) -> io::Result<()> {
+        let letters = geometry.format.name();
+        let format = str::from_utf8(&letters).unwrap_or("");
+        self.line_of_bits(
+            kind,
+            (words, camera, between, format),
+            geometry,
+            bits,
+            there,
+        )
+    }
+
+    // The same, of the letters of the format.
+    fn line_of_bits<'a>(
+        &mut self,
+        kind: &str,
+        (words, camera, between, format): (&'a str, &'a str, &'a str, &'a str),
+        geometry: &Geometry,
+        bits: u32,
+        there: Option<u64>,
+    ) -> io::Result<()> {
+        let wide = if bits > 8 { 2 } else { 1 };
+        self.line(
+            kind,
+            &[
+                Words(words),
+                Text("camera", camera),
+                Words(between),
+                Number("width", u64::from(geometry.width / wide)),
+                Words("x"),
+                Number("height", u64::from(geometry.height)),
+                Words(" "),
+                Text("format", format),
+                Words(" "),
+                Number("rate_num", u64::from(geometry.rate_num)),
+                Words(":"),
+                Number("rate_den", u64::from(geometry.rate_den)),
+                Words(" "),
+                Number("bits", u64::from(bits)),
+                Words(" bits"),
+                Maybe(", not ", "store_bits", there),
+            ],
+        )
+    }
+
+    /// `times of CAMERA go back`: a frame's own time wasn't later than that of the frame before.
+    ///
+    /// JSON: `camera`.
+    pub fn times_back(&mut self, camera: &str) -> io::Result<()> {
+        self.camera_line("times_back", "times of ", camera, " go back")
+    }
+
+    /// `no times of CAMERA`: frames have no times of their own, so they have those at which they came.
+    ///
+    /// JSON: `camera`.
+    pub fn no_times(&mut self, camera: &str) -> io::Result<()> {
+        self.camera_line("no_times", "no times of ", camera, "")
+    }
+
+    /// `gap CAMERA 120 ms at T`: so long before the frame of a time no frame came.
+    ///
+    /// JSON: `camera`, `micros`, `at`.
+    pub fn frames_gap(&mut self, camera: &str, micros: u64, at: u64) -> io::Result<()> {
+        self.line(
+            "frames_gap",
+            &[
+                Words("gap "),
+                Text("camera", camera),
+                Words(" "),
+                Millis("micros", micros),
+                Words(" ms at "),
+                Time("at", at),
+            ],
+        )
     }
 
     // Adds a line of a camera and of what frames look like.

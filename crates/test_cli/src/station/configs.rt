@@ -3,7 +3,8 @@
 use crate::asserts::{holds, same};
 use loop_record::PixelFormat;
 use loop_station_words::{
-    AnswersForm, CameraConfig, Config, FrameShape, MemoryLimit, Source, StoreSize, read_config,
+    AnswersForm, CameraConfig, Config, FrameShape, MemoryLimit, Source, StoreSize, TimesFrom,
+    read_config,
 };
 use std::alloc::Global;
 use std::process::Abort;
@@ -47,7 +48,8 @@ const WHOLE: &str =
     "orders='from'\nanswers='to'\nanswers_form='json'\nsaves='here'\ntimes=false\nevents=false\n\
 [[camera]]\nname='left'\nsource='pattern'\npattern='4x2 GREY 30:7'\nstore='l.loop'\nminutes=3\nkeep=11\nafter=20\ntag=12\n\
 buffers=13\nmemory=14\nsave_to='clips'\nrelease=true\n\
-[[camera]]\nname='right'\nsource='r.y4m'\nstore='r.loop'\nbytes=15\nkeep=16\nafter=21\ntag=17\nbuffers=18\nmemory='19 s'\nsave_to='more'\n";
+[[camera]]\nname='right'\nsource='r.y4m'\nstore='r.loop'\nbytes=15\nkeep=16\nafter=21\ntag=17\nbuffers=18\nmemory='19 s'\nsave_to='more'\n\
+times_from='source'\n";
 
 // The shape of the first camera's pattern.
 const SHAPE: FrameShape = FrameShape {
@@ -85,6 +87,7 @@ fn is_left(camera: &CameraConfig) -> bool {
         && camera.memory == Some(MemoryLimit::Bytes(14))
         && camera.save_to.as_deref() == Some("clips")
         && camera.release
+        && camera.times_from == TimesFrom::Arrival
 }
 
 fn is_right(camera: &CameraConfig) -> bool {
@@ -97,6 +100,7 @@ fn is_right(camera: &CameraConfig) -> bool {
         && camera.memory == Some(MemoryLimit::Seconds(19))
         && camera.save_to.as_deref() == Some("more")
         && !camera.release
+        && camera.times_from == TimesFrom::Source
 }
 
 // Whether there is just one camera, with no word that may be left out.
@@ -114,6 +118,7 @@ fn says_least(config: &Config) -> bool {
                 && camera.memory.is_none()
                 && camera.save_to.is_none()
                 && !camera.release
+                && camera.times_from == TimesFrom::Arrival
                 && camera.room == StoreSize::Bytes(77)
         }
         _ => false,

@@ -41,7 +41,7 @@ frames 11..11\n\
 clip 0 3..5\n\
 clip 63 9..9 tag 18446744073709551615\n\
 status left stored 1 given up 2 waiting 3 behind 12.3 room 4 faults 5 source on\n\
-status left stored 1 given up 2 waiting 3 behind 12.3 room 4 keeps 6 faults 5 source other geometry\n\
+status left stored 1 given up 2 waiting 3 behind 12.3 room 4 keeps 6 faults 5 source other geometry gaps 8\n\
 status left making a store.loop 40 %\n\
 no camera left\n\
 bad order: ke?p \"??\n\
@@ -75,7 +75,7 @@ const ANSWERS_JSON: &str =
 \"kind\":\"absent\",\"camera\":\"left\",\"why\":\"NoStore\"}\n\
 \"kind\":\"camera\",\"camera\":\"left\",\"next\":12,\"frames\":[{\"first\":3,\"last\":5},{\"first\":9,\"last\":9},{\"first\":11,\"last\":11}],\"clips\":[{\"id\":0,\"first\":3,\"last\":5,\"tag\":0},{\"id\":63,\"first\":9,\"last\":9,\"tag\":18446744073709551615}]}\n\
 \"kind\":\"status\",\"camera\":\"left\",\"stored\":1,\"given_up\":2,\"waiting\":3,\"behind_micros\":12399999,\"room\":4,\"faults\":5,\"source\":\"on\"}\n\
-\"kind\":\"status\",\"camera\":\"left\",\"stored\":1,\"given_up\":2,\"waiting\":3,\"behind_micros\":12399999,\"room\":4,\"keeps\":6,\"faults\":5,\"source\":\"other geometry\"}\n\
+\"kind\":\"status\",\"camera\":\"left\",\"stored\":1,\"given_up\":2,\"waiting\":3,\"behind_micros\":12399999,\"room\":4,\"keeps\":6,\"faults\":5,\"source\":\"other geometry\",\"gaps\":8}\n\
 \"kind\":\"status_making\",\"camera\":\"left\",\"path\":\"a store.loop\",\"percent\":40}\n\
 \"kind\":\"no_camera\",\"camera\":\"left\"}\n\
 \"kind\":\"bad_order\",\"line\":\"ke?p \\\"??\"}\n\
@@ -85,6 +85,9 @@ const ANSWERS_JSON: &str =
 // The printed events.
 const EVENTS: &str = "source left on 320x240 GREY 30000:1001\n\
 other geometry left 320x240 GREY 30000:1001\n\
+source left on 160x240 GREY 30000:1001 12 bits\n\
+other geometry left 160x240 GREY 30000:1001 9 bits\n\
+other geometry left 320x240 GREY 30000:1001 8 bits, not 16\n\
 source left missing\n\
 source left silent\n\
 source left unusable no rate\n\
@@ -104,12 +107,18 @@ stood still 3.2 s since 2026-11-22T15:38:00.123Z\n\
 disk left syncs in 12 ms\n\
 disk left too slow: syncs in 250 ms, room for 16 frames a second\n\
 no answers a pipe: what is printed doesn't go there\n\
-dropped 12 lines\n";
+dropped 12 lines\n\
+times of left go back\n\
+no times of left\n\
+gap left 120 ms at 2026-11-22T15:38:00.123Z\n";
 
 // The same as JSON.
 const EVENTS_JSON: &str =
     "\"kind\":\"source_on\",\"camera\":\"left\",\"width\":320,\"height\":240,\"format\":\"GREY\",\"rate_num\":30000,\"rate_den\":1001}\n\
 \"kind\":\"other_geometry\",\"camera\":\"left\",\"width\":320,\"height\":240,\"format\":\"GREY\",\"rate_num\":30000,\"rate_den\":1001}\n\
+\"kind\":\"source_on\",\"camera\":\"left\",\"width\":160,\"height\":240,\"format\":\"GREY\",\"rate_num\":30000,\"rate_den\":1001,\"bits\":12}\n\
+\"kind\":\"other_geometry\",\"camera\":\"left\",\"width\":160,\"height\":240,\"format\":\"GREY\",\"rate_num\":30000,\"rate_den\":1001,\"bits\":9}\n\
+\"kind\":\"other_geometry\",\"camera\":\"left\",\"width\":320,\"height\":240,\"format\":\"GREY\",\"rate_num\":30000,\"rate_den\":1001,\"bits\":8,\"store_bits\":16}\n\
 \"kind\":\"source_missing\",\"camera\":\"left\"}\n\
 \"kind\":\"source_silent\",\"camera\":\"left\"}\n\
 \"kind\":\"source_unusable\",\"camera\":\"left\",\"why\":\"no rate\"}\n\
@@ -129,7 +138,10 @@ const EVENTS_JSON: &str =
 \"kind\":\"syncs\",\"camera\":\"left\",\"micros\":12345}\n\
 \"kind\":\"too_slow\",\"camera\":\"left\",\"micros\":250000,\"frames_a_second\":16}\n\
 \"kind\":\"no_answers\",\"path\":\"a pipe\"}\n\
-\"kind\":\"dropped_lines\",\"lines\":12}\n";
+\"kind\":\"dropped_lines\",\"lines\":12}\n\
+\"kind\":\"times_back\",\"camera\":\"left\"}\n\
+\"kind\":\"no_times\",\"camera\":\"left\"}\n\
+\"kind\":\"frames_gap\",\"camera\":\"left\",\"micros\":120999,\"at\":\"2026-11-22T15:38:00.123Z\"}\n";
 
 // What lines begin with, and the names of a clip's file.
 const HEADS: &str = "1970-01-01T00:00:00.000Z @a-1 @b 2026-11-22T15:38:00.123Z \
@@ -172,11 +184,13 @@ const STATUS: CameraStatus<'static> = CameraStatus {
     keeps: None,
     faults: 5,
     source: "on",
+    gaps: None,
 };
 
 const FULL_STATUS: CameraStatus<'static> = CameraStatus {
     keeps: Some(6),
     source: "other geometry",
+    gaps: Some(8),
     ..STATUS
 };
 
@@ -239,6 +253,9 @@ fn tells_answers(lines: &mut Lines, listing: &Listing<Global>) -> bool {
 fn tells_sources(lines: &mut Lines) -> bool {
     lines.source_on("left", &OTHER).is_ok()
         && lines.other_geometry("left", &OTHER).is_ok()
+        && lines.deep_source_on("left", &OTHER, 12).is_ok()
+        && lines.other_bits("left", &OTHER, 9, None).is_ok()
+        && lines.other_bits("left", &OTHER, 8, Some(16)).is_ok()
         && lines.source_missing("left").is_ok()
         && lines.source_silent("left").is_ok()
         && lines.source_unusable("left", "no rate").is_ok()
@@ -265,6 +282,9 @@ fn tells_frames(lines: &mut Lines) -> bool {
         && lines.too_slow("left", 250_000, 16).is_ok()
         && lines.no_answers("a pipe").is_ok()
         && lines.dropped_lines(12).is_ok()
+        && lines.times_back("left").is_ok()
+        && lines.no_times("left").is_ok()
+        && lines.frames_gap("left", 120_999, NOVEMBER).is_ok()
 }
 
 // What a store holds.

@@ -8,7 +8,8 @@ abbrev pub invariant-loop-given : goal.invariant-loop-given
 invariant-loop-given l = record {
   shorter : length l.rest ≤ length l.text;
   sides : HasSmallSides l.given;
-  parameters : with_parameters l.given (header_words l.rest) ≡ with_parameters nothing_given (header_words l.text);
+  parameters : with_parameters l.colours l.given (header_words l.rest)
+      ≡ with_parameters l.colours nothing_given (header_words l.text);
 }
 
 abbrev pub decreases-loop-given : goal.decreases-loop-given

@@ -1,14 +1,8 @@
-use Rattle.std.proofs.Common.{[], ◌∷◌, ◌∙◌}
-use Rattle.std.specs.Prelude.{codes, decimal}
-use Rattle.loop_y4m.specs.Text.{colour_name, header}
-use Rattle.loop_y4m.proofs.PartWrites.{nested, written}
+use Rattle.loop_y4m.specs.Text.{colour_name}
+use Rattle.loop_y4m.proofs.PartWrites.{written_alone}
 use Rattle.loop_y4m.proofs.text.write_header.Goals as goal
 
 pub returns : goal.returns
-returns g c = written (g.W.Write.contents c.args.out.now) (g.W.Write.contents c.put.new.out) c.put.result
-    c.as_slice.result.now (header c.args.geometry.now) c.put.ensures
-    (c.as_slice.ensures.value ∙ (rw c.new-line.ensures at
-    (rw c.colour_name-colour.ensures at c.in_ok-write.ensures.bytes)) ∙ nested (codes "YUV4MPEG2 W")
-    (decimal c.args.geometry.now.width) (codes " H") (decimal c.args.geometry.now.height) (codes " F")
-    (decimal c.args.geometry.now.rate_num) (codes ":") (decimal c.args.geometry.now.rate_den) (codes " Ip A0:0 C")
-    (colour_name c.args.geometry.now.format) (10 ∷ []))
+returns g c = written_alone (g.W.Write.contents c.args.out.now) (g.W.Write.contents c.put_header.new.out)
+    c.put_header.result c.args.geometry.now.width (colour_name c.args.geometry.now.format) c.args.geometry.now
+    (rw c.colour_name.ensures at c.put_header.ensures)

@@ -13,6 +13,6 @@ pub invariant_of-self-in-Ok : goal.invariant_of-self-in-Ok
 invariant_of-self-in-Ok g c =
     let before = c.self.invariant in
     stirred g.S.FrameSource.next_gives g.P.PlaneMemory.plane _ _ _ _ _ _ _ _ _ _ _ _ _ _ _ _ before
-    (take-adds g.S.FrameSource.next_gives g.P.PlaneMemory.plane _ _ _ _ _ _ _ _ c.is_full.new.self _ before.now
+    (take-adds g.S.FrameSource.next_gives g.P.PlaneMemory.plane _ _ _ _ _ _ _ _ c.is_full.new.self _ _ before.now
     c.in-Ok.field-0 c.in-Ok.ensures.shape before.stands
     c.is_full.ensures.looked c.in-Ok.ensures.turn c.give.ensures.hand c.give.ensures.ring c.give.ensures.sent)

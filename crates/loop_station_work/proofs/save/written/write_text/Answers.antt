@@ -1,12 +1,14 @@
-use Rattle.std.proofs.Common.{◌++◌, [], ◌∷◌, refl}
+use Rattle.std.proofs.Common.{◌++◌, [], ◌∷◌, refl, rules}
 use Rattle.loop_station_work.proofs.SaveFrames.{begun, counted, more}
-use Rattle.loop_station_work.proofs.save.write_text.Goals as goal
+use Rattle.loop_station_work.proofs.save.written.write_text.Goals as goal
 
 pub frames-init : goal.frames-init
 frames-init g c = record {
+  depth = c.in_ok-depth.depth;
+  fits = search rules;
   frames = [];
   written =
-      begun c.args.geometry.now (g.W.Write.contents c.args.out.now) (g.W.Write.contents c.write_header.new.out)
+      begun c.args.geometry.now c.in_ok-depth.depth (g.W.Write.contents c.args.out.now) (g.W.Write.contents c.write_deep_header.new.out)
       c.in-Ok.ensures;
   counted = refl;
 }
@@ -14,9 +16,11 @@ frames-init g c = record {
 pub frames-preserved : goal.frames-preserved
 frames-preserved g c =
     let one = c.in_ok-write_one.ensures in record {
+      depth = c.frames.invariant.depth;
+      fits = c.frames.invariant.fits;
       frames = c.frames.invariant.frames ++ one.0 ∷ [];
       written =
-          more c.args.geometry.now (g.W.Write.contents c.args.out.now) (g.W.Write.contents c.frames.out)
+          more c.args.geometry.now c.frames.invariant.depth (g.W.Write.contents c.args.out.now) (g.W.Write.contents c.frames.out)
           (g.W.Write.contents c.write_one.new.out) c.frames.invariant.frames one.0 c.frames.invariant.written one.1;
       counted = counted c.frames.invariant.frames one.0 c.frames.at c.frames.invariant.counted;
     }
