@@ -8,6 +8,7 @@
 use crate::absent::Absent;
 use crate::asked::held_of_asked;
 use crate::filming::limits_for;
+use crate::size::size_of;
 use crate::state::CameraState;
 use crate::times::{tell_source_on, tell_times};
 use loop_station_core::{Change, DiskSeen, KINDS, NOT_THERE_YET, Reported, Seen, StoreSeen};
@@ -131,7 +132,7 @@ fn disk_seen<R: Wait>(rt: &R, state: &CameraState) -> Option<DiskSeen> {
     let (sync, geometry) = (state.life.sync(rt)?, state.life.store(rt)?);
     Some(DiskSeen {
         sync,
-        group: limits_for(geometry.frame_bytes()).group,
+        group: limits_for(size_of(&geometry)?).group,
         rate_num: geometry.rate_num,
         rate_den: geometry.rate_den,
     })
