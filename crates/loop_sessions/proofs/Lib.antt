@@ -5,6 +5,3 @@ pub mod QueueLinks
 pub mod Crossing
 pub mod Apart
 pub mod Ends
-pub mod NoteRuns
-pub mod Keepings
-pub mod Whole

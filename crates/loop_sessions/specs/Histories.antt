@@ -6,7 +6,7 @@ use Rattle.loop_record.specs.Recording.{Picture}
 use Rattle.loop_store.specs.declared.fault.StoreFault.{StoreFault}
 use Rattle.loop_store.specs.Goes.{with_each}
 use Rattle.loop_desk.specs.Bare.{bare_state}
-use Rattle.loop_desk.specs.Desk.{AreDeskAnswers, DeskCall, DeskState, clip_locked, clip_unlocked, desk_after_calls, desk_failed_for, flushed, frame_read, run_told, status_told, submitted}
+use Rattle.loop_desk.specs.Desk.{AreDeskAnswers, DeskCall, DeskState, clip_locked, clip_unlocked, desk_after_calls, desk_failed_for, flushed, frame_read, status_told, submitted}
 use Rattle.loop_desk.specs.Seen.{SeenDesk, StandsAt, rules_of}
 use Rattle.loop_sessions.specs.declared.entry.Entry.{Entry}
 use Rattle.loop_sessions.specs.declared.entry.Noted.{Noted}
@@ -30,7 +30,6 @@ noted_call (noted.Lock span result) = clip_locked span result
 noted_call (noted.Unlock id result) = clip_unlocked id result
 noted_call (noted.Read number result) = frame_read number (head_only result)
 noted_call (noted.Status status) = status_told status
-noted_call (noted.Sought times place run) = run_told times place run
 
 -- the calls of a history
 abbrev pub calls_of : List Entry → List DeskCall

@@ -6,4 +6,3 @@ pub mod Endings
 pub mod Opened
 pub mod Refused
 pub mod Ends
-pub mod Keeps

@@ -1,15 +1,13 @@
 -- What a call leaves in the history and in the caller's pass.
-use Rattle.std.specs.Prelude.{◌≡◌, ℕ, Option, Some, None, Result, Ok, Err, IfOk, List, [], ◌∷◌, ◌++◌, length}
+use Rattle.std.specs.Prelude.{◌≡◌, ℕ, Option, Some, None, Result, Ok, Err, List, [], ◌∷◌, ◌++◌, length}
 use Rattle.std.specs.Result.{result_ok}
 use Rattle.std.specs.Option.{option_map}
-use Rattle.loop_disk.specs.Medium.{Medium}
 use Rattle.loop_record.specs.declared.clip.Span.{Span}
 use Rattle.loop_record.specs.declared.frame.Frame.{Frame}
 use Rattle.loop_record.specs.declared.frame.FrameHead.{FrameHead}
 use Rattle.loop_store.specs.declared.command.ReadFrame.{ReadFrame}
 use Rattle.loop_store.specs.declared.fault.StoreFault.{StoreFault}
 use Rattle.loop_desk.specs.declared.limits.Flushed.{Flushed}
-use Rattle.loop_desk.specs.declared.limits.Outline.{Outline}
 use Rattle.loop_desk.specs.declared.limits.Status.{Status}
 use Rattle.loop_sessions.specs.declared.entry.Entry.{Entry}
 use Rattle.loop_sessions.specs.declared.entry.Noted.{Noted}
@@ -19,7 +17,7 @@ use Rattle.loop_sessions.specs.declared.entry.Receipt.{Receipt}
 use Rattle.loop_sessions.specs.declared.entry.FrameInfo.{FrameInfo}
 use Rattle.loop_sessions.specs.declared.fault.SessionFault.{SessionFault}
 use Rattle.loop_sessions.specs.declared.fault.SessionFault.TheVariants.{Desk}
-use Rattle.loop_sessions.specs.Sessions.{SeenSession, TellsNow}
+use Rattle.loop_sessions.specs.Sessions.{SeenSession}
 
 -- the desk's own refusal, if the desk was asked
 abbrev pub desk_fault : SessionFault → Option StoreFault
@@ -91,22 +89,3 @@ pub record Records {A : Type 0} (camera : ℕ) (note : Option Noted) (old new : 
   pub entered : new.history ≡ old.history ++ one_or_none (entry (pass_number before)) note
   pub calls : new.calls ≡ old.calls
   pub received : Receives camera (length old.history) note before after
-
--- ---- outlines
-
--- a status was noted, and the outline is that of the desk right after it
-pub record OutlinesNow {D A B : Type 0} (medium : D → Medium) (camera : ℕ) (old new : SeenSession)
-    (before after : Pass B) (result : Result (Outline A) SessionFault) : Type 0 where
-  pub told : Result Status SessionFault
-  pub records : Records camera (status_note told) old new before after
-  pub tells : IfOk result (λ o. (s : Status) × ((told ≡ Ok s) × TellsNow medium new.history o))
-
--- So its caller sees it: the receipt has the status, and the outline is of the desk of a history that ends in its
--- entry.
-pub record Outlines {D A B : Type 0} (medium : D → Medium) (camera : ℕ) (before after : Pass B)
-    (result : Result (Outline A) SessionFault) : Type 0 where
-  pub told : Result Status SessionFault
-  pub earlier : List Entry
-  pub receives : Receives camera (length earlier) (status_note told) before after
-  pub tells : IfOk result (λ o. (s : Status) × ((told ≡ Ok s)
-      × TellsNow medium (earlier ++ entry (pass_number before) (noted.Status s) ∷ []) o))

@@ -31,14 +31,6 @@ pub record HasGoneOn {D A : Type 0} (medium : D → Medium) (opening : SeenDesk 
   pub noted : calls_of history ≡ map bare_call calls
   pub goes : DeskGoes medium opening desk calls
 
--- An outline of the history's own desk: of the one to which it leads.
-pub record TellsNow {D A : Type 0} (medium : D → Medium) (history : List Entry) (outline : Outline A) : Type 0 where
-  pub opening : SeenDesk D
-  pub before : Outline A
-  pub desk : SeenDesk D
-  pub gone : HasGoneOn medium opening before history desk
-  pub tells : TellsOutline medium desk outline
-
 -- What a crash leaves, whenever the lock is free: each image reads as the recording for which the desk stands, after
 -- all steps that were answered; or, after an answer Disk, as that followed by a prefix of the steps of that call.
 pub record Survives {D : Type 0} (medium : D → Medium) (opening : SeenDesk D) (calls : List DeskCall)

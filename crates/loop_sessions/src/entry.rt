@@ -4,7 +4,7 @@ ghost use Rattle.std.specs.Prelude.{◌≡◌};
 ghost use Rattle.loop_sessions.specs.Receipts.{pass_number, receipts_of};
 
 use loop_desk::{Flushed, Status};
-use loop_record::{FrameHead, Span, Times};
+use loop_record::{FrameHead, Span};
 use loop_store::StoreFault;
 use std::alloc::{Allocator, Global};
 
@@ -34,8 +34,6 @@ pub enum Noted {
     Read(u64, Result<FrameHead, StoreFault>),
     /// The counts of the desk.
     Status(Status),
-    /// Times, a place among the runs of the numbers of their held frames, and the run there; None if there are no more.
-    Sought(Times, u64, Option<Span>),
 }
 
 /// A call in a desk's history.

@@ -2,15 +2,13 @@
 //!
 //! - `entry`: what is noted of a call, and a caller's pass; `session`: a desk and its history, which share a lock;
 //!   `port`: a queue with its table, which share a lock; `pace`: the steps that threads report;
-//! - `recorder`: the calls that take a lock, and `end`; `keep`: the held frames of a time, locked; `laws`: that a keep
-//!   is whole; `opened`: the parts of a new recorder; `ended`: what the end compares; `same`: whether two calls were
-//!   answered alike; `fault`: refusals.
+//! - `recorder`: the calls that take a lock, and `end`; `opened`: the parts of a new recorder; `ended`: what the end
+//!   compares; `same`: whether two calls were answered alike; `fault`: refusals.
 //!
 //! It starts no thread: loop_recorder does, and exports all of this crate too.
 //!
 //! `specs/Histories` says when a history is legal, `specs/Sessions` what a desk's lock keeps, `specs/Ports` what a
-//! queue's lock keeps, `specs/Receipts` what a call leaves, `specs/Keeps` what a keep locks, `specs/Ends` what the end
-//! promises.
+//! queue's lock keeps, `specs/Receipts` what a call leaves, `specs/Ends` what the end promises.
 //!
 //! docs/threads.md says why it is so.
 #![tactic(auto)]
@@ -18,8 +16,6 @@
 mod ended;
 mod entry;
 mod fault;
-mod keep;
-pub mod laws;
 mod opened;
 mod pace;
 mod port;
@@ -30,8 +26,6 @@ mod session;
 pub use ended::EndedCamera;
 pub use entry::{Entry, FrameInfo, Noted, Pass, Receipt};
 pub use fault::{NewRefused, SessionFault};
-pub use keep::Kept;
-pub use loop_record::Times;
 pub use opened::CameraParts;
 pub use pace::{Pace, Step};
 pub use port::{Port, QueueLock};

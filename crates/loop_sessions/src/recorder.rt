@@ -4,15 +4,13 @@ ghost use Rattle.std.specs.Prelude.{◌≡◌, ◌<◌, ◌≤◌, ◌^◌, ℕ,
 ghost use Rattle.std.specs.List.{range_with_len};
 ghost use Rattle.loop_sessions.specs.declared.fault.NewRefused.TheVariants.{NoMemory};
 ghost use Rattle.loop_sessions.specs.Ends.{IsEnd};
-ghost use Rattle.loop_sessions.specs.Keeps.{KeepsSome};
 ghost use Rattle.loop_sessions.specs.Opened.{IsReady, TellEach, desks_of};
 ghost use Rattle.loop_sessions.specs.Ports.{AnswersCopy, AnswersIoctl, AnswersTick};
-ghost use Rattle.loop_sessions.specs.Receipts.{Outlines, Receives, desk_fault, flush_note, lock_note, pass_number, read_note, status_note, submit_note, unlock_note};
+ghost use Rattle.loop_sessions.specs.Receipts.{Receives, desk_fault, flush_note, lock_note, pass_number, read_note, status_note, submit_note, unlock_note};
 ghost use Rattle.loop_sessions.specs.Refused.{RefusesEnd};
 ghost use Rattle.loop_sessions.specs.Sessions.{AnswersRead};
 
 use crate::ended::{least_broken, open_all};
-use crate::keep::Kept;
 use crate::opened::{CameraParts, lock_all, make_passes, outline_all};
 use crate::{EndedCamera, NewRefused, Pace, Pass, QueueLock, Session, SessionFault};
 use loop_capture::{Device, FrameSource, Tick};
@@ -20,7 +18,7 @@ use loop_desk::{Flushed, Outline, Status};
 use loop_disk::Disk;
 use loop_ioctl::{BufferType, Ioctl, IoctlReply};
 use loop_plane::{Memory, PlaneMemory};
-use loop_record::{Frame, Geometry, Times};
+use loop_record::{Frame, Geometry};
 use loop_store::ReadFrame;
 use loop_vb2::{Errno, Refused};
 use std::alloc::{Allocator, Global};
@@ -241,24 +239,6 @@ impl<D: Disk + Drop, P: PlaneMemory, A: Allocator + Copy> Recorder<D, P, A> {
             .read_frame(alloc, camera, pass, number)
     }
 
-    /// As `Session::keep`, at a camera's desk.
-    pub fn keep<R: Wait>(
-        &self,
-        rt: &R,
-        alloc: A,
-        camera: u32,
-        pass: &mut Pass<A>,
-        times: Times,
-        tag: u64,
-    ) -> Kept<A>
-        requires { camera < length self.now.outlines }
-        ensures { KeepsSome camera times tag pass.old pass.new result }
-    {
-        self.sessions[camera as usize]
-            .lock(rt)
-            .keep(alloc, camera, pass, times, tag)
-    }
-
     /// As `Session::status`, at a camera's desk.
     pub fn status<R: Wait>(
         &self,
@@ -278,24 +258,6 @@ impl<D: Disk + Drop, P: PlaneMemory, A: Allocator + Copy> Recorder<D, P, A> {
         requires { camera < length self.now.outlines }
     {
         self.sessions[camera as usize].lock(rt).pending()
-    }
-
-    /// As `Session::outline`, at a camera's desk. The receipt has the desk's counts, and `end` compares it with the
-    /// history. So the outline's next number, the count of its frames and how many wait are those of the desk at that
-    /// place.
-    pub fn outline<R: Wait>(
-        &self,
-        rt: &R,
-        alloc: A,
-        camera: u32,
-        pass: &mut Pass<A>,
-    ) -> Result<Outline<A>, SessionFault>
-        requires { camera < length self.now.outlines }
-        ensures { Outlines D.medium camera pass.old pass.new result }
-    {
-        self.sessions[camera as usize]
-            .lock(rt)
-            .outline(alloc, camera, pass)
     }
 
     /// As `Port::ioctl`, at a camera's queue.

@@ -5,7 +5,7 @@ ghost use Rattle.loop_sessions.specs.Endings.{SameOutline};
 
 use crate::{FrameInfo, Noted};
 use loop_desk::{Flushed, Outline, Status};
-use loop_record::{Damage, FrameHead, Span, Times};
+use loop_record::{Damage, FrameHead, Span};
 use loop_store::{Clip, StoreFault};
 use std::alloc::Allocator;
 
@@ -49,24 +49,6 @@ fn same_flushed(one: Flushed, other: Flushed) -> bool
 
 // Whether two spans are the same.
 fn same_span(one: Span, other: Span) -> bool
-    ensures { IsTrue result ↔ one ≡ other }
-{
-    one == other
-}
-
-// Whether two runs are the same.
-fn same_run(one: Option<Span>, other: Option<Span>) -> bool
-    ensures { IsTrue result ↔ one ≡ other }
-{
-    match (one, other) {
-        (Some(one), Some(other)) => same_span(one, other),
-        (None, None) => true,
-        _ => false,
-    }
-}
-
-// Whether two times are the same.
-fn same_times(one: Times, other: Times) -> bool
     ensures { IsTrue result ↔ one ≡ other }
 {
     one == other
@@ -153,9 +135,6 @@ pub(crate) fn is_same(one: Noted, other: Noted) -> bool
             number == other_number && same_read(answer, other)
         }
         (Noted::Status(status), Noted::Status(other)) => same_status(status, other),
-        (Noted::Sought(times, place, run), Noted::Sought(other_times, other_place, other)) => {
-            same_times(times, other_times) && place == other_place && same_run(run, other)
-        }
         _ => false,
     }
 }

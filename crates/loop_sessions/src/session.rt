@@ -1,19 +1,17 @@
 //! A desk and the history of its calls, which share a lock.
 
-ghost use Rattle.std.specs.Prelude.{◌≡◌, ◌↔◌, ◌≤◌, ◌<◌, ◌+◌, ◌-◌, ◌∷◌, ◌++◌, [], Err, IfErr, IfOk, None, OnOk, false, length, vec_len};
+ghost use Rattle.std.specs.Prelude.{◌≡◌, ◌↔◌, ◌≤◌, ◌<◌, ◌∷◌, ◌++◌, [], Err, IfErr, IfOk, None, OnOk, false, length, vec_len};
 ghost use Rattle.std.specs.Vec.{vec_capacity};
 ghost use Rattle.loop_desk.specs.Seen.{TellsOutline, answer_of};
 ghost use Rattle.loop_sessions.specs.declared.fault.SessionFault.TheVariants.{SessionFull};
-ghost use Rattle.loop_sessions.specs.Receipts.{OutlinesNow, Records, desk_fault, entry, flush_note, head_of, lock_note, pass_number, read_note, receipt, receipts_of, stamp_of, status_note, submit_note, unlock_note};
-ghost use Rattle.loop_sessions.specs.Keeps.{KeepsNow};
+ghost use Rattle.loop_sessions.specs.Receipts.{Records, desk_fault, entry, flush_note, head_of, lock_note, pass_number, read_note, receipt, receipts_of, stamp_of, status_note, submit_note, unlock_note};
 ghost use Rattle.loop_sessions.specs.Sessions.{AnswersRead, IsFaithful};
 
 use crate::ended::EndedCamera;
-use crate::keep::{Kept, keep_at};
 use crate::{Entry, FrameInfo, Noted, Pace, Pass, Receipt, SessionFault, Step};
 use loop_desk::{Desk, Flushed, Outline, Status};
 use loop_disk::Disk;
-use loop_record::{Frame, FrameHead, Geometry, Span, Times};
+use loop_record::{Frame, FrameHead, Geometry, Span};
 use loop_store::{ReadFrame, StoreFault};
 use std::alloc::{Allocator, Global};
 use std::marker::Model;
@@ -39,35 +37,8 @@ impl<D: Disk + Drop, A: Allocator> Model for Session<D, A> {
     ghost invariant = { λ s. HasGoneOn D.medium s.opening.value s.outline s.history.items s.desk };
 }
 
-/// Reserves memory for `count` entries and receipts, if the history may have as many more.
-pub(crate) fn reserve_all<A: Allocator>(
-    history: &mut Vec<Entry, A>,
-    pass: &mut Pass<A>,
-    calls: u32,
-    count: usize,
-) -> Result<(), SessionFault>
-    ensures history { history.new.items ≡ history.old.items }
-    ensures receipts { receipts_of pass.new ≡ receipts_of pass.old }
-    ensures number { pass_number pass.new ≡ pass_number pass.old }
-    ensures unheard { IfErr result (λ fault. desk_fault fault ≡ None) }
-    ensures full { (result ≡ Err SessionFull) ↔ (calls - vec_len history.old < count) }
-    ensures entries { OnOk result (vec_len history.new + count ≤ vec_capacity history.new) }
-    ensures room { OnOk result (vec_len pass.new.receipts + count ≤ vec_capacity pass.new.receipts) }
-{
-    if (calls as usize).saturating_sub(history.len()) < count {
-        return Err(SessionFault::SessionFull);
-    }
-    if history.reserve(count).is_err() {
-        return Err(SessionFault::NoMemory);
-    }
-    if pass.receipts.reserve(count).is_err() {
-        return Err(SessionFault::NoMemory);
-    }
-    Ok(())
-}
-
-/// Reserves memory for an entry and a receipt, if the history may have one more.
-pub(crate) fn reserve<A: Allocator>(
+// Reserves memory for an entry and a receipt, if the history may have one more.
+fn reserve<A: Allocator>(
     history: &mut Vec<Entry, A>,
     pass: &mut Pass<A>,
     calls: u32,
@@ -80,26 +51,26 @@ pub(crate) fn reserve<A: Allocator>(
     ensures entry { OnOk result (vec_len history.new < vec_capacity history.new) }
     ensures receipt { OnOk result (vec_len pass.new.receipts < vec_capacity pass.new.receipts) }
 {
-    reserve_all(history, pass, calls, 1)
+    if calls as usize <= history.len() {
+        return Err(SessionFault::SessionFull);
+    }
+    if history.reserve(1).is_err() {
+        return Err(SessionFault::NoMemory);
+    }
+    if pass.receipts.reserve(1).is_err() {
+        return Err(SessionFault::NoMemory);
+    }
+    Ok(())
 }
 
-/// Adds an entry to a history, and its receipt to a pass.
-pub(crate) fn note<A: Allocator>(
-    history: &mut Vec<Entry, A>,
-    camera: u32,
-    pass: &mut Pass<A>,
-    call: Noted,
-)
+// Adds an entry to a history, and its receipt to a pass.
+fn note<A: Allocator>(history: &mut Vec<Entry, A>, camera: u32, pass: &mut Pass<A>, call: Noted)
     requires entry { vec_len history.old < vec_capacity history.old }
     requires receipt { vec_len pass.old.receipts < vec_capacity pass.old.receipts }
     ensures history { history.new.items ≡ history.old.items ++ entry (pass_number pass.old) call ∷ [] }
     ensures receipts { receipts_of pass.new
         ≡ receipts_of pass.old ++ receipt camera (length history.old.items) call ∷ [] }
     ensures number { pass_number pass.new ≡ pass_number pass.old }
-    ensures entries { (vec_len history.new ≡ vec_len history.old + 1)
-        × (vec_capacity history.new ≡ vec_capacity history.old) }
-    ensures room { (vec_len pass.new.receipts ≡ vec_len pass.old.receipts + 1)
-        × (vec_capacity pass.new.receipts ≡ vec_capacity pass.old.receipts) }
 {
     pass.receipts.push_reserved(Receipt {
         camera,
@@ -278,33 +249,6 @@ impl<D: Disk + Drop, A: Allocator + Copy> Session<D, A> {
         }
     }
 
-    /// Locks the held frames whose time is among these, with a tag: a clip for each run of their numbers. The runs come
-    /// from memory (`Desk::sought`). Each run and each lock is noted. No other call reaches the desk in between. By
-    /// `laws::keeps_are_whole`, the clips have all held frames of the time, and no other.
-    ///
-    /// If a lock is refused, the clips that were locked before it stay locked, and are returned with the refusal: that
-    /// of the history (`SessionFull`), want of memory, or the desk's own.
-    pub fn keep(
-        &mut self,
-        alloc: A,
-        camera: u32,
-        pass: &mut Pass<A>,
-        times: Times,
-        tag: u64,
-    ) -> Kept<A>
-        ensures { KeepsNow camera times tag self.old self.new pass.old pass.new result }
-    {
-        keep_at(
-            alloc,
-            &mut self.desk,
-            &mut self.history,
-            camera,
-            pass,
-            times,
-            tag,
-        )
-    }
-
     /// The counts of the desk, which are noted: `SessionFull`, then `NoMemory`.
     pub fn status(&mut self, camera: u32, pass: &mut Pass<A>) -> Result<Status, SessionFault>
         ensures records { Records camera (status_note result) self.old self.new pass.old pass.new }
@@ -348,23 +292,6 @@ impl<D: Disk + Drop, A: Allocator + Copy> Session<D, A> {
         ensures { self.new ≡ self.old }
     {
         self.desk.return_memory(bytes);
-    }
-
-    /// The desk's outline. First the counts of the desk are noted: `SessionFull`, then `NoMemory`, then as
-    /// `Desk::outline`.
-    pub fn outline(
-        &mut self,
-        alloc: A,
-        camera: u32,
-        pass: &mut Pass<A>,
-    ) -> Result<Outline<A>, SessionFault>
-        ensures { OutlinesNow D.medium camera self.old self.new pass.old pass.new result }
-    {
-        self.status(camera, pass)?;
-        match self.desk.outline(alloc) {
-            Ok(outline) => Ok(outline),
-            Err(fault) => Err(SessionFault::Desk(fault)),
-        }
     }
 
     /// The geometry of the store. It is no call of the history, and promises nothing.

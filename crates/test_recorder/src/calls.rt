@@ -184,8 +184,6 @@ pub(crate) fn makes<R: Wait + Abort, D: Disk + Drop, P: PlaneMemory, A: Allocato
         Noted::Unlock(id, _) => unlocks(rt, recorder, camera, pass, id),
         Noted::Read(number, _) => reads(rt, alloc, recorder, camera, pass, number),
         Noted::Status(_) => asks(rt, recorder, camera, pass),
-        // A look is part of a keep: a row that had one would fail.
-        Noted::Sought(_, _, _) => Err(SessionFault::NoMemory),
     }
 }
 
