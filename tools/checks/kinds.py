@@ -329,7 +329,7 @@ KINDS = {
             Wrong(
                 "faults of the core, one by one",
                 words=["--faults"],
-                says="17 of 17 faults are found",
+                says=r"(\d+) of \1 faults are found",
                 status=0,
             )
         ],
