@@ -26,6 +26,8 @@ SUPERBLOCK, SLOT_HEAD = struct.Struct("<III4sIIIII"), struct.Struct("<QIIQII")
 MONOTONIC = 0x2000
 # Where a frame's flags say the bits of its samples, 0 for 8, and which there are.
 BITS_AT, BITS_MASK, DEEP = 24, 31, range(9, 17)
+# What stands in the flags of a frame that came while the station's program stood still.
+LATE = 1 << 29
 # How each format divides the planes of its colours, across and down, and what YUV4MPEG2 calls it.
 DIVIDED: dict[bytes, tuple[int, int] | None] = {
     b"GREY": None,
@@ -56,6 +58,11 @@ def bits_of(flags: int) -> int:
     """The bits of a frame's samples, by its flags: 8, or 9 to 16 of a deep one, whose samples have
     two bytes each. Another number is answered as it stands there, and no frame has it."""
     return flags >> BITS_AT & BITS_MASK or 8
+
+
+def is_late(flags: int) -> bool:
+    """Whether a frame came while the station's program stood still, so that its time is late."""
+    return flags & LATE != 0
 
 
 class Geometry(namedtuple("Geometry", "width height format num den segments slots size")):

@@ -227,7 +227,7 @@ class Frames:
 
     @property
     def flags(self) -> NDArray[np.uint32]:
-        """V4L2's flags. Bits 24 to 28 say the bits a sample."""
+        """V4L2's flags. Bits 24 to 28 say the bits a sample, and bit 29 is set of late frames."""
         return self._heads["flags"].copy()
 
     @property
@@ -235,6 +235,11 @@ class Frames:
         """Bits a sample: 8, or 9 to 16."""
         bits = self._heads["flags"] >> np.uint32(layout.BITS_AT) & np.uint32(layout.BITS_MASK)
         return np.where(bits == 0, 8, bits).astype(np.uint8)
+
+    @property
+    def late(self) -> NDArray[np.bool_]:
+        """Whether a frame's time is late: it came while the station's program stood still."""
+        return self._heads["flags"] & np.uint32(layout.LATE) != 0
 
     @property
     def form(self) -> Form:

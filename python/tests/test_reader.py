@@ -249,6 +249,16 @@ def test_deep_frames_are_uint16_of_half_the_bytes_of_a_row(tmp_path, form, bits)
     assert store.rgb(0).dtype == np.uint16 and store.rgb(0).max() < 1 << bits or form == b"GREY"
 
 
+def test_a_frame_that_came_while_the_station_stood_still_is_late(tmp_path):
+    it = ring(6, size=(8, 4))
+    image = bytearray(it.image)
+    at = it.geometry.slot_at(1, 0) + 12
+    image[at : at + 4] = (0x2000 | 1 << 29 | 12 << 24).to_bytes(4, "little")
+    store = lapyrei.open(put(tmp_path / "a.loop", image))
+    assert store.late.tolist() == [False, False, False, True, False, False]
+    assert store.bits.tolist() == [8, 8, 8, 12, 8, 8]
+
+
 def test_frames_of_several_depths_are_told_apart(tmp_path):
     it = ring(6, size=(8, 4))
     image = bytearray(it.image)

@@ -207,7 +207,17 @@ KINDS = {
                 "a page without a name",
                 given={"WORDS_PAGE": changed_copy("docs/station.md", "| `InUse` |", "| `Taken` |")},
                 says="InUse",
-            )
+            ),
+            Wrong(
+                "a page without a member of JSON",
+                given={"WORDS_PAGE": changed_copy("docs/station.md", ", `since`; the first", "")},
+                says="`waited` has `since`",
+            ),
+            Wrong(
+                "a page without a kind of JSON",
+                given={"WORDS_PAGE": changed_copy("docs/station.md", "; `too_slow` |", " |")},
+                says="`too_slow` is told, and not listed",
+            ),
         ],
     ),
     "about": Kind(
@@ -329,7 +339,7 @@ KINDS = {
             Wrong(
                 "faults of the core, one by one",
                 words=["--faults"],
-                says="17 of 17 faults are found",
+                says=r"(\d+) of \1 faults are found",
                 status=0,
             )
         ],
