@@ -424,9 +424,10 @@ class Laboratory:
             return found
         geometry, removed = reading.geometry, reading.removed_next()
         found |= {
-            "width": geometry.width,
+            "width": geometry.width // (2 if reading.bits() > 8 else 1),
             "height": geometry.height,
             "format": geometry.format.decode(),
+            "bits": reading.bits(),
             "asked_rate": geometry.rate(),
             "rate": reading.rate(),
             "seconds": reading.seconds(),
@@ -594,7 +595,7 @@ class Laboratory:
                         "to": words.iso(clip.until),
                         "seconds": (clip.until - clip.since) / 1e6 + 1 / reading.geometry.rate(),
                         "bytes": clip.count() * (reading.geometry.size + 6)
-                        + len(layout.text_front(reading.geometry)),
+                        + len(layout.text_front(reading.geometry, reading.bits(clip.first))),
                         "note": self.notes.of(watched.camera.store, clip),
                         "fetched": self.fetching[name, clip.id] > 0,
                     }

@@ -115,11 +115,12 @@ PACE_SECONDS = 2.0
 CALM_SECONDS = 6.0
 CALM_MOST = 60.0
 # The width of a picture, at least and at most, and of that by which a stretch is chosen; by how
-# little it may differ and is left.
+# little it may differ and is left: so many values, or one of so many parts of its own width.
 LEAST_WIDTH = 16
 MOST_WIDTH = 16384
 AUTO_WIDTH = 256
 AUTO_CALM = 3
+AUTO_NEAR = 64
 # A time without frames that is a hole: microseconds beyond the period.
 HOLE = 200_000
 # The bytes of pictures that are remembered of each camera.
