@@ -215,7 +215,7 @@ class Console:
         found = [(name, self.laboratory.clip(name, id_, first)[-1]) for name, id_, first in named]
 
         order = f"{clip_words(named)}: {body['note'][: limits.NOTE_BYTES]}"
-        work = asyncio.to_thread(self.laboratory.put_notes, found, body["note"])
+        work = asyncio.to_thread(self.laboratory.noting.put, found, body["note"])
         await self.page.change(request, "note", order, work)
         return web.json_response({"text": "The note is written."})
 

@@ -51,6 +51,8 @@ ORDERS = 32
 KEEP_SECONDS = 86_400
 NOTE_BYTES = 500
 NOTES = 4096
+# Notes of clips that their stores don't show yet.
+NOTES_WAITING = 256
 # How often it is looked at whether an answer of which a part came is enough.
 ENOUGH_SECONDS = 0.25
 # How long a source may be missing, or a store absent, before it is warned of; how long frames, a

@@ -515,7 +515,7 @@ class Page:
         if not isinstance(body.get("note"), str):
             raise Unfit(400, "note isn't a text.")
         *_, clip = self.laboratory.clip(camera, id_, first)
-        work = asyncio.to_thread(self.laboratory.put_notes, [(camera, clip)], body["note"])
+        work = asyncio.to_thread(self.laboratory.noting.put, [(camera, clip)], body["note"])
         await self.change(
             request, "note", f"clip {id_} of {camera}: {body['note'][: limits.NOTE_BYTES]}", work
         )

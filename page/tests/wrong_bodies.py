@@ -24,6 +24,7 @@ UNITS = {
     "events": ["events"],
     "words": ["words", "events"],
     "laboratory": ["notes", "right"],
+    "noting": ["notes", "right"],
     "orders": ["notes", "alerts"],
 }
 # What starts a page, or more.
@@ -82,9 +83,9 @@ BODIES = [
     ("a_keep_tells_an_earlier_clip_of_its_id", "laboratory", "reading.clip_of(id_, first, last) if reading", "reading.clip(id_) if reading", ""),
     ("a_keep_tells_a_longer_clip_of_another_event", "laboratory", '            and self.heard.number_of(name, it) == line["event"]\n', "", ""),
     ("what_a_keep_lacks_is_not_told", "laboratory", 'lack = "" if part.held is None', 'lack = "" if True', "hole or shorter"),
-    ("a_note_does_not_grow", "laboratory", "self.growing[name, number] = text", "pass", GROWS),
-    ("a_note_is_not_carried", "laboratory", "            if lacking:\n", "            if False:\n", GROWS),
-    ("a_note_is_not_carried_to_the_end", "laboratory", "if not is_open and (name, number) in self.grown:", "if not is_open:", GROWS),
+    ("a_note_does_not_grow", "noting", "self.growing[name, number] = text", "pass", GROWS),
+    ("a_note_is_not_carried", "noting", "            if lacking:\n", "            if False:\n", GROWS),
+    ("a_note_is_not_carried_to_the_end", "noting", "if not is_open and (name, number) in self.grown:", "if not is_open:", GROWS),
     ("any_clip_of_a_first_frame_is_the_longer_one", "laboratory", "return found[0] if len(found) == 1 else None", "return found[0] if found else None", GROWS),
     ("a_longer_clip_is_released_by_its_old_id", "laboratory", 'f"release {camera} {clip.id} {clip.first}"', 'f"release {camera} {id_} {clip.first}"', GROWS),
     ("one_line_that_is_none_is_warned_of_for_ever", "orders", "        self.unread = 0\n        self.take(line)", "        self.take(line)", "unknown_lines or cannot_be_read"),
