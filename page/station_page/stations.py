@@ -127,7 +127,9 @@ class Stations:
         self.page, self.laboratory, self.console = page, page.laboratory, page.console
         self.others = [Other(it) for it in page.gate.settings.stations]
         self.by_name = {other.name: other for other in self.others}
-        self.presses = Presses(limits.EVENTS_HEARD)
+        # Beside the notes.
+        path = f"{page.gate.settings.notes}.presses" if self.others else None
+        self.presses = Presses(limits.EVENTS_HEARD, path)
         self.beside: dict[str, list[Beside]] = {}
         self.told: tuple[object, list] = (None, [])
         # This page itself, which is asked as the others are.
@@ -412,7 +414,7 @@ class Stations:
             answers += work.result()
             numbers += {(name.name if name else "", it["event"]) for it in work.result()
                         if it["kept"] and it["event"] is not None}
-        self.presses.add(sorted(numbers))
+        await asyncio.to_thread(self.presses.add, sorted(numbers))
         return [Told(it) for it in answers]
 
     async def keep_here(self, span: tuple[int, int], note: str) -> list[dict]:

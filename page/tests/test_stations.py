@@ -416,6 +416,28 @@ def test_a_press_of_this_page_is_one_event_by_its_numbers_whatever_the_times():
     assert presses.of("", 4) and presses.of("", 0) is None
 
 
+def test_presses_are_known_after_a_restart(tmp_path, caplog):
+    path = str(tmp_path / "presses")
+    presses = Presses(4, path)
+    for number in range(3):
+        presses.add([("", number), ("n", 10 + number)])
+    presses.add([("", 9)])
+    again = Presses(4, path)
+    assert again.of("n", 12) == ("", 2) and again.of("", 1) == ("", 1) and again.of("", 0) is again.of("", 9) is None
+    # One that was cut, or is something else, is told, and made anew.
+    for text in ("{", "[]", '{"presses": [[1]]}', '{"presses": 5}'):
+        (tmp_path / "presses").write_text(text)
+        caplog.clear()
+        anew = Presses(4, path)
+        assert anew.presses == {} and "can't be read" in caplog.text, text
+        anew.add([("", 5), ("n", 6)])
+        assert Presses(4, path).of("n", 6) == ("", 5)
+    # Where it can't be written, a press is known nevertheless.
+    nowhere = Presses(4, str(tmp_path / "none/presses"))
+    nowhere.add([("", 5), ("n", 6)])
+    assert nowhere.of("n", 6) == ("", 5) and "can't be written" in caplog.text
+
+
 # ------------------------------------------------------------------------------------------- settings
 
 

@@ -25,6 +25,7 @@ UNITS = {
     "words": ["words", "events"],
     "laboratory": ["notes", "right"],
     "noting": ["notes", "right"],
+    "whole": ["notes", "limits"],
     "orders": ["notes", "alerts"],
 }
 # What starts a page, or more.
@@ -62,8 +63,8 @@ BODIES = [
     ("notes_of_any_version_are_read", "notes", 'found.get("version") != VERSION', "False", ""),
     ("notes_that_cannot_be_read_are_written_over", "notes", "            if self.fault:\n                raise NotesFault(self.fault)\n", "", ""),
     ("open_pages_see_no_new_note", "notes", "self.version + 1", "self.version", NOTED),
-    ("a_file_of_notes_is_everybodys", "notes", "0o600", "0o666", NOTED),
-    ("half_a_file_of_notes_stays", "notes", "            os.unlink(self.new())\n", "            pass\n", "killed_page"),
+    ("a_file_of_notes_is_everybodys", "whole", "0o600", "0o666", NOTED),
+    ("half_a_file_of_notes_stays", "whole", "        os.unlink(new_of(path))\n", "        pass\n", "killed_page"),
     ("a_note_may_be_long", "notes", "> limits.NOTE_BYTES", "> 10 * limits.NOTE_BYTES", NOTED),
     ("a_note_has_lines", "notes", '" ".join("".join(sign if sign.isprintable() else " " for sign in text).split())', "text", NOTED),
     ("numbered_clips_go_by_times_too", "events", 'if it["event"] is None])', "])", ""),
