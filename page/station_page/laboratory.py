@@ -360,7 +360,9 @@ class Laboratory:
 
     def standing(self) -> dict:
         """How all stands, for the page."""
-        if not self.settings.orders:
+        if not self.cameras:
+            station = ["good", "This page shows other stations alone."]
+        elif not self.settings.orders:
             station = [
                 "unknown",
                 "The station's configuration has no `orders`: the page shows, and can't keep.",

@@ -393,9 +393,14 @@ class Stations:
             works = [asyncio.create_task(self.keep_there(found[0], span, note, found[1]))]
             names: list[Other | None] = [found[0]]
         else:
-            works = [asyncio.create_task(self.keep_here(span, note))]
-            works += [asyncio.create_task(self.keep_there(it, span, note)) for it in self.others]
-            names = [None, *self.others]
+            # A page may have no station of its own.
+            names = [*([None] if self.laboratory.cameras else []), *self.others]
+            works = [
+                asyncio.create_task(
+                    self.keep_there(it, span, note) if it else self.keep_here(span, note)
+                )
+                for it in names
+            ]
         end = time.monotonic() + limits.CHANGE_SECONDS + limits.AWAY_SECONDS
         while left := [name for name, work in zip(names, works) if not work.done()]:
             others_done = len(left) < len(works) and all(it and it.silent() for it in left)
