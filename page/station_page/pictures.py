@@ -93,6 +93,7 @@ def luma_shown(form: Form, stretch: Stretch | None) -> numpy.ndarray | None:
     return shown(form.bits, 0, (1 << form.bits) - 1) if form.bits > 8 else None
 
 
+@functools.lru_cache(64)
 def colours_for(stretch: Stretch | None, bits: int = 8) -> numpy.ndarray:
     """What each value of a colour plane is shown as."""
     unit, gain = 1 << (bits - 8), 1.0
