@@ -11,6 +11,7 @@ from collections import namedtuple
 # An installed one has the module beside it.
 sys.path.insert(1, os.path.join(os.path.dirname(os.path.realpath(__file__)), "..", "python"))
 from lapyrei.layout import (  # noqa: E402,F401
+    BITS_AT,
     BLOCK_AT,
     CLIPS,
     CLOSED,
@@ -93,9 +94,9 @@ def header(block, whole=0):
     return (front.ljust(GATES_AT, b"\0") + bytes([OPEN]) * whole).ljust(HEADER, b"\0")
 
 
-def head(number, sequence, moment, size):
-    """The head of a slot."""
-    return SLOT_HEAD.pack(number, sequence, MONOTONIC, moment, size, 0)
+def head(number, sequence, moment, size, bits=0):
+    """The head of a slot, whose frame's samples have so many bits where they are more than 8."""
+    return SLOT_HEAD.pack(number, sequence, MONOTONIC | bits << BITS_AT, moment, size, 0)
 
 
 def entry_at(index):

@@ -54,6 +54,11 @@ def store_at(path: Path) -> Any:
     return None
 
 
+def depths_of(store: Any) -> set[int]:
+    """How many bits the samples of a store's frames have."""
+    return {layout.bits_of(frame.flags) for frame in store.frames}
+
+
 def wait_for_frame(path: Path, after: int, seconds: float) -> int | None:
     """Waits until a store has a frame of this number or a later one; answers the next number."""
     end = time.monotonic() + seconds

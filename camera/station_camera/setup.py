@@ -17,8 +17,6 @@ from .found import Offer
 from .text import BadFrames, Form
 from .words import BadFile
 
-# Whether the station knows `times_from = "source"`: the camera's own times become the frames'.
-STATION_KNOWS_TIMES_FROM = False
 # How long the first frame is waited for.
 FIRST_FRAME = 60.0
 KEEP = 30
@@ -286,8 +284,9 @@ class Setup:
         self.tell(f"the store takes {disk.gigabytes(size)}")
         return minutes
 
-    def station(self, name: str, minutes: float, is_genicam: bool) -> tuple[str, Path]:
-        """The new text of station.toml, and the path of the store."""
+    def station(self, name: str, minutes: float, is_timed: bool) -> tuple[str, Path]:
+        """The new text of station.toml, and the path of the store. The frames of a camera that says
+        their times have these."""
         old = next((it for it in self.cameras() if it.get("name") == name), {})
         store = old.get("store", f"{name}.loop")
         clips = self.paths.stores / "clips"
@@ -296,9 +295,8 @@ class Setup:
             "store": store,
             "minutes": minutes,
             "keep": int(self.given.keep or old.get("keep", KEEP)),
+            "times_from": "source" if is_timed else None,
         }
-        if STATION_KNOWS_TIMES_FROM:
-            values["times_from"] = "source" if is_genicam else None
         heads = {
             "orders": str(self.paths.orders),
             "answers": str(self.paths.answers),
@@ -318,7 +316,9 @@ class Setup:
             return
         wide = form.width * (2 if form.bits() > 8 else 1)
         sides = it.geometry.width, it.geometry.height, it.geometry.size
-        same = sides == (wide, form.height, form.bytes_of_frame())
+        same = sides == (wide, form.height, form.bytes_of_frame()) and services.depths_of(it) <= {
+            form.bits()
+        }
         rate = Fraction(it.geometry.num, it.geometry.den)
         wanted = disk.store_bytes(form, minutes)
         if same and rate == form.rate and abs(it.geometry.disk_size() - wanted) <= wanted / 20:
@@ -410,7 +410,8 @@ class Setup:
         form = form or expected(wanted)
         form.check()
         minutes = self.minutes(form)
-        text, store = self.station(name, minutes, offer.kind == "genicam")
+        is_timed = offer.kind == "genicam" and wanted.clock != "arrival"
+        text, store = self.station(name, minutes, is_timed)
         self._write(file, made)
         self.old_store(store, form, minutes)
         self._write(self.paths.config, text)

@@ -13,9 +13,8 @@ PIPE = 1 << 20
 SET_PIPE_SIZE = 1031
 # The words of ffmpeg for what a store may hold, and YUV4MPEG2's.
 COLOURS = {"gray": "mono", "yuv420p": "420jpeg", "yuv422p": "422", "yuv444p": "444"}
-for _bits in (10, 12, 14, 16):
+for _bits in (9, 10, 12, 14, 16):
     COLOURS[f"gray{_bits}le"] = f"mono{_bits}"
-for _bits in (10, 12, 16):
     for _name in ("420", "422", "444"):
         COLOURS[f"yuv{_name}p{_bits}le"] = f"{_name}p{_bits}"
 LARGEST_FRAME, LARGEST_SIDE = 16_777_216, 16_384
@@ -57,6 +56,12 @@ class Form(NamedTuple):
         """Refuses what no store may have."""
         if not (1 <= self.width <= LARGEST_SIDE and 1 <= self.height <= LARGEST_SIDE):
             raise BadFrames(f"{self.width}x{self.height}: a side may have {LARGEST_SIDE} pixels")
+        # A row has the bytes of so many pixels at most.
+        if self.bits() > 8 and 2 * self.width > LARGEST_SIDE:
+            raise BadFrames(
+                f"{self.width}x{self.height} {self.colour}: a row may have {LARGEST_SIDE // 2} "
+                "samples of more than 8 bits: choose a narrower region, or 8 bits"
+            )
         if self.bytes_of_frame() > LARGEST_FRAME:
             raise BadFrames(
                 f"a frame has {self.bytes_of_frame()} bytes, and a store takes {LARGEST_FRAME}: "

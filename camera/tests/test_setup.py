@@ -48,7 +48,7 @@ class Laboratory:
     """A root for a trial, the calls of systemctl, and a store that the station fills."""
 
     def __init__(self, root, monkeypatch):
-        self.root, self.calls, self.next, self.runs = root, [], 0, set()
+        self.root, self.calls, self.next, self.runs, self.frames = root, [], 0, set(), []
         # Those of FAKE for two minutes.
         self.geometry = SimpleNamespace(
             width=64, height=48, size=3072, num=25, den=1, disk_size=lambda: 9_600_000
@@ -75,7 +75,9 @@ class Laboratory:
             self.runs.discard(given[1])
 
     def store(self, _path):
-        return SimpleNamespace(next=self.next, geometry=self.geometry) if self.next else None
+        if not self.next:
+            return None
+        return SimpleNamespace(next=self.next, geometry=self.geometry, frames=self.frames)
 
     def run(self, *given, answers=None):
         replies = iter(answers or [])
@@ -117,6 +119,7 @@ def test_options_alone_set_up_a_camera_and_wait_for_its_first_frame(laboratory, 
         "store": "left.loop",
         "minutes": 2,
         "keep": 30,
+        "times_from": "source",
     }
     assert laboratory.config()["answers_form"] == "json"
     units = ["loop_station.service", "loop_camera@left.service", "loop_page.service"]
@@ -238,6 +241,30 @@ def test_a_store_of_other_frames_is_moved_away_where_that_is_wanted(laboratory, 
     (moved,) = store.parent.glob("left.loop.*")
     assert moved.read_text() == "footage" and not store.exists()
     assert f"{store} is {moved} now" in capsys.readouterr().out
+
+
+@pytest.mark.parametrize("bits, is_moved", [(16, False), (12, True)])
+def test_a_store_of_other_bits_is_moved_away(laboratory, capsys, bits, is_moved):
+    store = laboratory.root / "var/lib/loop_station/left.loop"
+    store.parent.mkdir(parents=True)
+    store.write_text("footage")
+    size = disk.store_bytes(Form(64, 48, "gray16le", Fraction(25)), 2)
+    laboratory.geometry = SimpleNamespace(
+        width=128, height=48, size=6144, num=25, den=1, disk_size=lambda: size
+    )
+    laboratory.next, laboratory.frames = 5, [SimpleNamespace(flags=0x2000 | bits << 24)]
+    given = [*FAKE, "--format", "Mono16", "--minutes", "2", "--no-page", "--yes", "--no-picture"]
+    assert laboratory.run(*given, "--move-store") == 0
+    assert store.exists() != is_moved
+    assert (f"{store} is " in capsys.readouterr().out) == is_moved
+
+
+def test_times_that_are_not_wanted_are_those_of_the_arrival(laboratory):
+    laboratory.etc.mkdir(parents=True)
+    (laboratory.etc / "left.camera").write_text("GENICAM=Fake_1\nCLOCK=arrival\n")
+    assert laboratory.run(*FAKE, "--minutes", "2", "--no-page", "--yes", "--no-picture") == 0
+    (camera,) = laboratory.config()["camera"]
+    assert "times_from" not in camera
 
 
 def test_where_no_frame_comes_that_is_said(laboratory, capsys):

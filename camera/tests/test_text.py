@@ -77,6 +77,7 @@ def test_a_reader_that_has_gone_is_told():
     [
         (Form(16385, 1, "gray", Fraction(25)), "a side"),
         (Form(4096, 4096, "gray16le", Fraction(25)), "33554432 bytes"),
+        (Form(8193, 4, "gray12le", Fraction(25)), "8192 samples"),
         (Form(5, 4, "yuv420p10le", Fraction(25)), "odd width"),
     ],
 )
@@ -87,3 +88,4 @@ def test_frames_that_no_store_may_have_are_refused(form, says):
 
 def test_the_largest_frame_is_taken():
     Form(4096, 4096, "gray", Fraction(25)).check()
+    Form(8192, 1024, "gray9le", Fraction(25)).check()

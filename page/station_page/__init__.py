@@ -14,6 +14,8 @@ stands on it.
     words       the lines that the station prints, and sentences with what to do
     orders      the pipe of orders, and the answers
     notes       what people write beside clips
+    whole       files that are replaced whole
+    noting      notes of clips that grow, or aren't seen yet
     alerts      what went wrong, until somebody has seen it
     watched     a camera, and what was seen of it last
     workers     threads that read and draw, for each camera its own

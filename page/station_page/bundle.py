@@ -6,6 +6,8 @@ import zipfile
 from collections.abc import AsyncIterator, Callable, Iterator
 from dataclasses import dataclass, replace
 
+import layout
+
 from . import limits, pictures
 from .films import Fetch, Film, Gathered, Text, csv_of
 from .words import iso
@@ -112,7 +114,11 @@ class Bundle:
         ]
         for fetch in self.fetches:
             clip, geometry = fetch.clip, fetch.source.geometry
-            size = f"{geometry.width}x{geometry.height} {geometry.format.decode()}"
+            depths = fetch.depths()
+            high, wide = pictures.form_of(geometry, max(depths)).planes[0]
+            size = f"{wide}x{high} {geometry.format.decode()}"
+            if depths != [8]:
+                size += f" of {' and '.join(map(str, depths))} bits"
             span = f"{iso(clip.since)} to {iso(clip.until)}, frames {clip.first} to {clip.last}"
             lines.append(
                 f"{self.called(fetch).split('/')[1]}: {span}, {size} at {geometry.rate():g} a "
@@ -173,7 +179,7 @@ class Bundle:
                 handle.close()
 
     def y4m_pieces(self, fetch: Fetch) -> Iterator:
-        """The frames as `loop_cli export` writes them."""
+        """The frames as `loop_cli export` writes them, or the station saves them."""
         text = Text(self.counted(fetch))
         yield ".y4m", fetch.clip.since, text.part(0, limits.PIECE)
         for at in range(limits.PIECE, text.length, limits.PIECE):
@@ -186,7 +192,8 @@ class Bundle:
     def png_pieces(self, fetch: Fetch) -> Iterator:
         """A picture of each frame, named by its number and time."""
         for frame in fetch.frames:
-            picture = pictures.png(fetch.source.geometry, fetch.source.frame(frame.number))
+            bits = layout.bits_of(frame.flags)
+            picture = pictures.png(fetch.source.geometry, fetch.source.frame(frame.number), bits)
             self.progress.step(1)
             when = iso(frame.time).replace(":", "-")
             yield f"_png/{frame.number:010}_{when}.png", frame.time, picture

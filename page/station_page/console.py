@@ -5,6 +5,7 @@ import collections
 import json
 from contextlib import ExitStack
 
+import layout
 from aiohttp import web
 
 from . import limits, pictures
@@ -146,9 +147,10 @@ class Console:
         source = eye.watched.source
         if source is None:
             raise Unfit(503, "No store is there.")
-        geometry = source.geometry
-        x = number_in(request.query.get("x", ""), geometry.width, "x") or 0
-        y = number_in(request.query.get("y", ""), geometry.height, "y") or 0
+        geometry, bits = source.geometry, layout.bits_of(frame.flags)
+        high, wide = pictures.form_of(geometry, bits).planes[0]
+        x = number_in(request.query.get("x", ""), wide, "x") or 0
+        y = number_in(request.query.get("y", ""), high, "y") or 0
 
         def part(at: int, count: int) -> bytes:
             """Some bytes of the frame."""
@@ -156,14 +158,15 @@ class Console:
                 return source.part(frame.number, at, count)
             return eye.data(frame.number)[0][at : at + count]
 
-        values = await eye.work(pictures.value_at, geometry, part, x, y)
+        values = await eye.work(pictures.value_at, geometry, part, x, y, bits)
         return web.json_response({"x": x, "y": y, "values": values})
 
     async def light(self, request: web.Request) -> web.Response:
         """How often each brightness is there in a frame."""
         eye, frame = await self.source(request)
         data, geometry = await eye.work(eye.data, frame.number)
-        return web.json_response(await DRAWING.do(pictures.light, geometry, data))
+        bits = layout.bits_of(frame.flags)
+        return web.json_response(await DRAWING.do(pictures.light, geometry, data, bits))
 
     async def picture(self, request: web.Request) -> web.Response:
         """A frame as JPEG: `width` pixels wide at most, `stretch` as `auto` or `BLACK,WHITE`."""
@@ -212,7 +215,7 @@ class Console:
         found = [(name, self.laboratory.clip(name, id_, first)[-1]) for name, id_, first in named]
 
         order = f"{clip_words(named)}: {body['note'][: limits.NOTE_BYTES]}"
-        work = asyncio.to_thread(self.laboratory.put_notes, found, body["note"])
+        work = asyncio.to_thread(self.laboratory.noting.put, found, body["note"])
         await self.page.change(request, "note", order, work)
         return web.json_response({"text": "The note is written."})
 
@@ -263,6 +266,9 @@ class Console:
         if page.fetches[EVENTS] >= limits.EVENT_FETCHES:
             raise Unfit(503, "Too many events are being fetched. Try again in a minute.")
         fetches = [self.laboratory.fetch(*it) for it in wanted]
+        if not {"mp4", "y4m"}.isdisjoint(parts):
+            for fetch in fetches:
+                fetch.bits()
         notes = {
             clip["note"]: None
             for clip in self.laboratory.clips()

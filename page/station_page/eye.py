@@ -184,16 +184,17 @@ class Eye:
         self, geometry: layout.Geometry, data: bytes, frame: layout.Frame, look: Look
     ) -> Picture:
         """Makes a picture."""
-        stretch = look.stretch
+        stretch, bits = look.stretch, layout.bits_of(frame.flags)
         if stretch == "auto":
-            wanted = pictures.auto_stretch(pictures.luma_of(geometry, data, limits.AUTO_WIDTH))
-            stretch = self.auto = calmed(self.auto, wanted)
-        body = pictures.jpeg(geometry, data, look.width, stretch, look.quality)
+            luma = pictures.luma_of(geometry, data, limits.AUTO_WIDTH, bits)
+            stretch = self.auto = calmed(self.auto, pictures.auto_stretch(luma, bits))
+        body = pictures.jpeg(geometry, data, look.width, stretch, look.quality, bits)
         return Picture(frame, body, stretch)
 
 
 def calmed(old: pictures.Stretch | None, new: pictures.Stretch) -> pictures.Stretch:
     """A stretch that doesn't flicker: it stays while the new one is near."""
-    if old and max(abs(old[0] - new[0]), abs(old[1] - new[1])) <= limits.AUTO_CALM:
-        return old
-    return new
+    if old is None:
+        return new
+    near = max(limits.AUTO_CALM, (old[1] - old[0]) // limits.AUTO_NEAR)
+    return old if max(abs(old[0] - new[0]), abs(old[1] - new[1])) <= near else new

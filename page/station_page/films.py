@@ -1,5 +1,6 @@
 """Clips as files: MP4 by ffmpeg, sent while it is made; YUV4MPEG2, byte for byte as `loop_cli
-export` writes it; PNGs in a zip; numbers and times."""
+export` writes it, or as the station saves it where samples have more than 8 bits; PNGs in a zip;
+numbers and times."""
 import asyncio
 import contextlib
 import fcntl
@@ -67,6 +68,21 @@ class Fetch:
         when = iso(self.clip.since)[:19].replace(":", "-") + "Z"
         return f"{self.camera}_{when}_{self.clip.id}.{ending}"
 
+    def depths(self) -> list[int]:
+        """The bits that its samples have, each count once."""
+        return sorted({layout.bits_of(frame.flags) for frame in self.frames})
+
+    def bits(self) -> int:
+        """The bits of all its samples; Unfit where no text has such frames."""
+        depths, geometry = self.depths(), self.source.geometry
+        if len(depths) != 1:
+            raise Unfit(
+                409,
+                f"The samples of {self.camera}'s frames have {' and '.join(map(str, depths))} bits. "
+                "Fetch the pictures (PNG), or keep a shorter time.",
+            )
+        return pictures.form_of(geometry, depths[0]).bits
+
     def tag(self, kind: str) -> str:
         """What names these bytes and no others."""
         return f'"{kind}-{self.clip.first}-{self.clip.last}-{self.clip.since}"'
@@ -85,7 +101,7 @@ class Text:
 
     def __init__(self, fetch: Fetch) -> None:
         self.source, self.first = fetch.source, fetch.clip.first
-        self.front = layout.text_front(fetch.source.geometry)
+        self.front = layout.text_front(fetch.source.geometry, fetch.bits())
         self.step = len(FRAME_LINE) + fetch.source.geometry.size
         self.length = len(self.front) + self.step * fetch.clip.count()
 
@@ -159,7 +175,8 @@ async def zip_stream(fetch: Fetch) -> AsyncIterator[bytes]:
         archive.writestr("frames.csv", csv_of(fetch))
         for frame in fetch.frames:
             data = await fetch.source.do(fetch.source.frame, frame.number)
-            picture = await DRAWING.do(pictures.png, geometry, data)
+            bits = layout.bits_of(frame.flags)
+            picture = await DRAWING.do(pictures.png, geometry, data, bits)
             archive.writestr(f"{frame.number:010}_{iso(frame.time).replace(':', '-')}.png", picture)
             for piece in parted(out.take()):
                 yield piece

@@ -17,7 +17,8 @@ from .films import Fetch, Films, fetch_of
 from .heard import Heard, is_number
 from .journal import Journal
 from .kept import Kept, not_kept, told
-from .notes import Notes, NotesFault, key_of
+from .notes import Notes
+from .noting import Noting
 from .orders import NoStation, Orders
 from .reader import Clip, Gone, Reader, Reading, Source
 from .settings import Settings
@@ -58,12 +59,6 @@ NO_FRAMES = ("missing", "other", "unusable", "absent", "not a store", "locked", 
 ANSWERS = ("kept", "kept_none", "refused", "absent", "too_many_orders")
 # Which part of its room is locked where the station says that it nearly is.
 NEARLY = 0.8
-# Why there is no note beside a clip that isn't seen in its store yet: it would be found by the
-# clip's times.
-UNSEEN = (
-    "The note isn't written, since the page can't read the store at the moment. Write it beside "
-    "the clip."
-)
 OTHER_SIZE = (
     "its source gives frames of another size, format or rate than its store, so nothing is stored."
 )
@@ -97,10 +92,8 @@ class Laboratory:
         self.journal = Journal()
         self.alerts = Alerts(settings.on_alert, settings.webhook, self.journal)
         self.orders, self.heard = Orders(settings.orders, settings.answers, self), Heard()
-        # Notes of clips that still grow, by camera and event.
-        self.growing: dict[tuple[str, int], str] = {}
-        self.grown: set[tuple[str, int]] = set()
         self.notes, self.films = Notes(settings.notes), Films()
+        self.noting = Noting(self)
         self.archive = Archive(settings.archive)
         self.fetching: collections.Counter[tuple[str, int]] = collections.Counter()
         self.releasing: set[tuple[str, int]] = set()
@@ -270,7 +263,7 @@ class Laboratory:
         self.set("archive", None, self.archive.text() if self.archive.path else "")
         for watched in self.cameras.values():
             self.judge(watched)
-        await self.carry_notes()
+        await self.noting.carry()
         self.looked = time.monotonic()
         state = json.dumps(self.standing(), separators=(",", ":")).encode()
         async with self.changed:
@@ -367,7 +360,9 @@ class Laboratory:
 
     def standing(self) -> dict:
         """How all stands, for the page."""
-        if not self.settings.orders:
+        if not self.cameras:
+            station = ["good", "This page shows other stations alone."]
+        elif not self.settings.orders:
             station = [
                 "unknown",
                 "The station's configuration has no `orders`: the page shows, and can't keep.",
@@ -424,9 +419,10 @@ class Laboratory:
             return found
         geometry, removed = reading.geometry, reading.removed_next()
         found |= {
-            "width": geometry.width,
+            "width": geometry.width // (2 if reading.bits() > 8 else 1),
             "height": geometry.height,
             "format": geometry.format.decode(),
+            "bits": reading.bits(),
             "asked_rate": geometry.rate(),
             "rate": reading.rate(),
             "seconds": reading.seconds(),
@@ -594,7 +590,7 @@ class Laboratory:
                         "to": words.iso(clip.until),
                         "seconds": (clip.until - clip.since) / 1e6 + 1 / reading.geometry.rate(),
                         "bytes": clip.count() * (reading.geometry.size + 6)
-                        + len(layout.text_front(reading.geometry)),
+                        + len(layout.text_front(reading.geometry, reading.bits(clip.first))),
                         "note": self.notes.of(watched.camera.store, clip),
                         "fetched": self.fetching[name, clip.id] > 0,
                     }
@@ -619,7 +615,7 @@ class Laboratory:
             kept = await self.keep_unheard(order, names)
             kept = [self.with_lack(one, seconds, span) for one in kept]
         self.hurry.set()
-        return await self.noted(kept, note)
+        return await self.noting.noted(kept, note)
 
     async def keep_heard(self, order: str, names: list[str]) -> list[Kept]:
         """Gives an order to a station whose answers are heard. A camera whose disk doesn't answer
@@ -793,65 +789,6 @@ class Laboratory:
         """The clips of a camera, as they were seen last."""
         reading = self.cameras[name].reading
         return reading.clips if reading else []
-
-    async def noted(self, kept: list[Kept], note: str) -> list[Kept]:
-        """Writes a note to what was kept. Where it can't be, the answer says so, and the clip is
-        kept nevertheless."""
-        seen = [(one.camera or "", clip) for one in kept for clip in one.clips if clip.is_seen]
-        if not note:
-            return kept
-        fault = ""
-        try:
-            if seen:
-                await asyncio.to_thread(self.put_notes, seen, note)
-        except NotesFault as found:
-            fault = str(found)
-        return [
-            replace(one, remark=fault if all(clip.is_seen for clip in one.clips) else UNSEEN)
-            if one.clips
-            else one
-            for one in kept
-        ]
-
-    def put_notes(self, clips: list[tuple[str, Clip]], text: str) -> None:
-        """Writes a note beside some clips, each with its camera."""
-        keys = {
-            key_of(watched.camera.store, it)
-            for name, watched in self.cameras.items()
-            for it in self.clips_of(name)
-        }
-        self.notes.put(
-            [(self.watched(name).camera.store, clip) for name, clip in clips],
-            text,
-            keys.__contains__,
-        )
-        for name, clip in clips:
-            number = self.heard.number_of(name, clip)
-            if (
-                number is not None
-                and not is_number(clip.tag)
-                and self.heard.told(number).goes_on(name)
-            ):
-                self.growing[name, number] = text
-
-    async def carry_notes(self) -> None:
-        """Writes the notes of events that go on to their longer clips. Of most they are found by
-        the event's number, which is the clip's tag; those with a tag of yours are found by the
-        clip's ends."""
-        for (name, number), text in list(self.growing.items()):
-            store, is_open = self.cameras[name].camera.store, self.heard.told(number).goes_on(name)
-            clips = [
-                clip for clip in self.clips_of(name) if self.heard.number_of(name, clip) == number
-            ]
-            lacking = [(name, clip) for clip in clips if text and not self.notes.of(store, clip)]
-            if lacking:
-                with contextlib.suppress(NotesFault):
-                    await asyncio.to_thread(self.put_notes, lacking, text)
-            # The last one may not have been seen yet when the station says that it is.
-            if not is_open and (name, number) in self.grown:
-                del self.growing[name, number]
-            (self.grown.discard if is_open else self.grown.add)((name, number))
-            self.grown &= set(self.growing)
 
     def clip(
         self, camera: object, id_: int, first: int | None = None

@@ -51,6 +51,8 @@ ORDERS = 32
 KEEP_SECONDS = 86_400
 NOTE_BYTES = 500
 NOTES = 4096
+# Notes of clips that their stores don't show yet.
+NOTES_WAITING = 256
 # How often it is looked at whether an answer of which a part came is enough.
 ENOUGH_SECONDS = 0.25
 # How long a source may be missing, or a store absent, before it is warned of; how long frames, a
@@ -115,11 +117,12 @@ PACE_SECONDS = 2.0
 CALM_SECONDS = 6.0
 CALM_MOST = 60.0
 # The width of a picture, at least and at most, and of that by which a stretch is chosen; by how
-# little it may differ and is left.
+# little it may differ and is left: so many values, or one of so many parts of its own width.
 LEAST_WIDTH = 16
 MOST_WIDTH = 16384
 AUTO_WIDTH = 256
 AUTO_CALM = 3
+AUTO_NEAR = 64
 # A time without frames that is a hole: microseconds beyond the period.
 HOLE = 200_000
 # The bytes of pictures that are remembered of each camera.

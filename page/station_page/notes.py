@@ -3,15 +3,13 @@ so that a note never comes to stand beside other frames. A clip is known by its 
 the time of its first frame, since it grows while its event goes on; where it has a tag of yours, by
 its id and the times of its first and last frame. The file is written anew, synced, and put in the
 old one's place."""
-import contextlib
 import json
-import os
 import threading
-from pathlib import Path
 
 from . import limits
 from .heard import is_number
 from .reader import Clip
+from .whole import clear, write_whole
 
 VERSION = 1
 
@@ -48,14 +46,8 @@ class Notes:
         self.notes: dict[str, str] = {}
         # It grows with each change, so that open pages see that there is one.
         self.version = 0
-        # What a page left that was killed while it wrote.
-        with contextlib.suppress(OSError):
-            os.unlink(self.new())
+        clear(path)
         self.fault = self.load()
-
-    def new(self) -> str:
-        """The path of a file of notes that isn't whole yet."""
-        return f"{self.path}.new"
 
     def load(self) -> str | None:
         """Reads the file. Answers why it can't be, if so; then it is never written over."""
@@ -100,23 +92,8 @@ class Notes:
             self.notes, self.version = changed, self.version + 1
 
     def write(self, notes: dict[str, str]) -> None:
-        """Writes the file: a new one, synced, in the old one's place."""
-        folder, new = Path(self.path).parent, self.new()
+        """Writes the file."""
         try:
-            descriptor = os.open(
-                new, os.O_WRONLY | os.O_CREAT | os.O_TRUNC | os.O_NOFOLLOW | os.O_CLOEXEC, 0o600
-            )
-            with os.fdopen(descriptor, "w", encoding="utf-8") as file:
-                json.dump({"version": VERSION, "notes": notes}, file, ensure_ascii=False, indent=1)
-                file.flush()
-                os.fsync(file.fileno())
-            os.replace(new, self.path)
-            descriptor = os.open(folder, os.O_RDONLY)
-            try:
-                os.fsync(descriptor)
-            finally:
-                os.close(descriptor)
+            write_whole(self.path, {"version": VERSION, "notes": notes})
         except OSError as fault:
-            with contextlib.suppress(OSError):
-                os.unlink(new)
             raise NotesFault(f"The note can't be written: {self.path}: {fault.strerror}.") from None

@@ -76,6 +76,11 @@ class Reading:
             self.removed_next() is None and len(self.store.with_frames()) == self.geometry.segments
         )
 
+    def bits(self, number: int | None = None) -> int:
+        """The bits of the samples of a frame that is held, or of the newest one."""
+        frame = self.near(number, 0) if number is not None else self.frames and self.frames[-1]
+        return layout.bits_of(frame.flags) if frame else 8
+
     def rate(self) -> float | None:
         """Frames a second, by the newest ones."""
         newest = self.frames[-RATE_FRAMES:]

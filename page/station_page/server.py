@@ -2,6 +2,7 @@
 import argparse
 import asyncio
 import collections
+import functools
 import json
 import logging
 import re
@@ -10,6 +11,7 @@ import sys
 from collections.abc import AsyncIterator, Awaitable
 from pathlib import Path
 
+import layout
 from aiohttp import HttpVersion11, http_exceptions, web, web_urldispatcher
 
 from . import limits, metrics, pictures, words
@@ -83,7 +85,8 @@ class Pictures:
         async with self.turns[source.opened.identity]:
             if key not in self.made:
                 data = await source.do(source.frame, frame.number)
-                self.remember(key, await DRAWING.do(pictures.jpeg, source.geometry, data, width))
+                draw = functools.partial(pictures.jpeg, bits=layout.bits_of(frame.flags))
+                self.remember(key, await DRAWING.do(draw, source.geometry, data, width))
             self.made.move_to_end(key)
             return self.made[key]
 
@@ -512,7 +515,7 @@ class Page:
         if not isinstance(body.get("note"), str):
             raise Unfit(400, "note isn't a text.")
         *_, clip = self.laboratory.clip(camera, id_, first)
-        work = asyncio.to_thread(self.laboratory.put_notes, [(camera, clip)], body["note"])
+        work = asyncio.to_thread(self.laboratory.noting.put, [(camera, clip)], body["note"])
         await self.change(
             request, "note", f"clip {id_} of {camera}: {body['note'][: limits.NOTE_BYTES]}", work
         )
@@ -623,7 +626,7 @@ class Page:
         return await self.send(request, response, pieces(start, end))
 
     async def fetch_y4m(self, request: web.Request, fetch) -> web.StreamResponse:
-        """Byte for byte as `loop_cli export`."""
+        """Byte for byte as `loop_cli export`, or, of more than 8 bits, as the station saves it."""
         text = Text(fetch)
         return await self.send_known(request, fetch, "y4m", text.length, text.pieces)
 

@@ -203,12 +203,17 @@ def parser() -> argparse.ArgumentParser:
     """The options."""
     words = argparse.ArgumentParser(
         prog="loop_page",
-        usage="loop_page CONFIG [OPTIONS..]\n       loop_page --make-token FILE",
+        usage="loop_page CONFIG [OPTIONS..]\n       loop_page --settings FILE [OPTIONS..]\n"
+        "       loop_page --make-token FILE",
         description="See, press and fetch what a station records, in a browser.",
         epilog="docs/page.md and loop_page(1) describe it.",
     )
     words.add_argument(
-        "config", metavar="CONFIG", nargs="?", help="the station's own configuration file"
+        "config",
+        metavar="CONFIG",
+        nargs="?",
+        help="the station's own configuration file; without it the page shows those stations alone "
+        "that the settings name",
     )
     words.add_argument("--version", action="version", version=f"loop_page {version()}")
     words.add_argument(
@@ -284,7 +289,8 @@ def options_of(words: list[str]) -> argparse.Namespace:
     """Reads the options. `--help`, `--version` and unknown words end the program here."""
     options = parser()
     given = options.parse_args(words)
-    if (given.config is None) == (given.make_token is None):
+    is_page = given.config is not None or given.settings is not None
+    if is_page == (given.make_token is not None):
         options.error("name the station's configuration file, or --make-token FILE alone")
     return given
 
@@ -292,7 +298,12 @@ def options_of(words: list[str]) -> argparse.Namespace:
 def read_settings(given: argparse.Namespace) -> Settings:
     """Reads the files that the options name."""
     own = own_words(given.settings)
-    config = toml_of(given.config)
+    config = toml_of(given.config) if given.config else {}
+    if not given.config and not own.get("station"):
+        raise BadSettings(
+            f"{given.settings}: without a station's configuration the page wants stations, as "
+            "[[station]]"
+        )
     named = {
         word: getattr(given, word) or text_at(own, word, given.settings or "")
         for word in ("listen", "token", "folder", "notes")
@@ -304,13 +315,13 @@ def read_settings(given: argparse.Namespace) -> Settings:
         raise BadSettings(
             f"listen: {host} can be reached from elsewhere, so the page wants a token: --token FILE"
         )
-    place = {word: text_at(config, word, given.config) for word in ("orders", "answers")}
+    place = {word: text_at(config, word, given.config or "") for word in ("orders", "answers")}
     orders, answers = (path and os.path.join(folder, path) for path in place.values())
     is_text = answers is not None and config.get("answers_form") != "json"
     notes = os.path.join(folder, named["notes"] or "loop_page.notes")
     archive = text_at(own, "archive", given.settings or "")
     return Settings(
-        cameras_of(config, folder, given.config),
+        cameras_of(config, folder, given.config) if given.config else [],
         orders,
         None if is_text else answers,
         host,

@@ -127,7 +127,9 @@ class Stations:
         self.page, self.laboratory, self.console = page, page.laboratory, page.console
         self.others = [Other(it) for it in page.gate.settings.stations]
         self.by_name = {other.name: other for other in self.others}
-        self.presses = Presses(limits.EVENTS_HEARD)
+        # Beside the notes.
+        path = f"{page.gate.settings.notes}.presses" if self.others else None
+        self.presses = Presses(limits.EVENTS_HEARD, path)
         self.beside: dict[str, list[Beside]] = {}
         self.told: tuple[object, list] = (None, [])
         # This page itself, which is asked as the others are.
@@ -391,9 +393,14 @@ class Stations:
             works = [asyncio.create_task(self.keep_there(found[0], span, note, found[1]))]
             names: list[Other | None] = [found[0]]
         else:
-            works = [asyncio.create_task(self.keep_here(span, note))]
-            works += [asyncio.create_task(self.keep_there(it, span, note)) for it in self.others]
-            names = [None, *self.others]
+            # A page may have no station of its own.
+            names = [*([None] if self.laboratory.cameras else []), *self.others]
+            works = [
+                asyncio.create_task(
+                    self.keep_there(it, span, note) if it else self.keep_here(span, note)
+                )
+                for it in names
+            ]
         end = time.monotonic() + limits.CHANGE_SECONDS + limits.AWAY_SECONDS
         while left := [name for name, work in zip(names, works) if not work.done()]:
             others_done = len(left) < len(works) and all(it and it.silent() for it in left)
@@ -412,7 +419,7 @@ class Stations:
             answers += work.result()
             numbers += {(name.name if name else "", it["event"]) for it in work.result()
                         if it["kept"] and it["event"] is not None}
-        self.presses.add(sorted(numbers))
+        await asyncio.to_thread(self.presses.add, sorted(numbers))
         return [Told(it) for it in answers]
 
     async def keep_here(self, span: tuple[int, int], note: str) -> list[dict]:

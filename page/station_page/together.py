@@ -1,9 +1,15 @@
 """Several stations as one: their cameras have the name of their station before their own, and what
 was kept of one span on several is one event."""
+import json
+import logging
+import threading
 import time
 
 from .events import NEAR_END, NEAR_START
 from .others import Other
+from .whole import clear, write_whole
+
+log = logging.getLogger("loop_page")
 
 # Between a station's name and a camera's, which no name has.
 MARK = ":"
@@ -76,18 +82,50 @@ def event_of(other: Other, event: dict) -> dict:
 
 
 class Presses:
-    """Which events of several stations were one press of this page: by their numbers."""
+    """Which events of several stations were one press of this page: by their numbers. They are in a
+    file, so that they are one after a restart too. Where it can't be read or written, they are
+    known until then."""
 
-    def __init__(self, most: int) -> None:
-        self.most, self.presses = most, {}
+    def __init__(self, most: int, path: str | None = None) -> None:
+        self.most, self.path, self.lock = most, path, threading.Lock()
+        self.presses: dict[tuple[str, int], tuple[str, int]] = {}
+        if path:
+            clear(path)
+            self.load(path)
+
+    def load(self, path: str) -> None:
+        """Reads the file."""
+        try:
+            with open(path, encoding="utf-8") as file:
+                found = json.load(file)["presses"]
+            for press in found[-self.most :]:
+                self.note([(str(name), int(number)) for name, number in press])
+        except FileNotFoundError:
+            return
+        except (OSError, ValueError, TypeError, KeyError, RecursionError) as fault:
+            log.warning("%s can't be read: %s", path, fault)
+
+    def note(self, numbers: list[tuple[str, int]]) -> None:
+        """Knows a press."""
+        for it in numbers:
+            self.presses[it] = numbers[0]
+        while len(self.presses) > self.most:
+            del self.presses[next(iter(self.presses))]
 
     def add(self, numbers: list[tuple[str, int]]) -> None:
-        """A press: of each station the number of its event."""
-        if len(numbers) > 1:
-            for it in numbers:
-                self.presses[it] = numbers[0]
-            while len(self.presses) > self.most:
-                del self.presses[next(iter(self.presses))]
+        """A press: of each station the number of its event. It is written down."""
+        if len(numbers) < 2:
+            return
+        with self.lock:
+            self.note(numbers)
+            presses: dict[tuple[str, int], list[tuple[str, int]]] = {}
+            for it, first in self.presses.items():
+                presses.setdefault(first, []).append(it)
+            try:
+                if self.path:
+                    write_whole(self.path, {"presses": list(presses.values())})
+            except OSError as fault:
+                log.warning("%s can't be written: %s", self.path, fault)
 
     def of(self, station: str, number: int | None) -> tuple | None:
         """The press of an event."""

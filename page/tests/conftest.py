@@ -185,7 +185,7 @@ class Laboratory:
         """Starts the page, and waits until it has looked at its cameras."""
         self.page = self.begin(
             *self.program(self.bounds if bounds is None else bounds),
-            self.config,
+            *([self.config] if self.config else []),
             "--listen",
             "127.0.0.1:0",
             *words,

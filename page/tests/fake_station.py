@@ -45,6 +45,9 @@ class Film(layout.Ring):
         size, form, rate = words.get("pattern", "64x48 YM12 25:1").split()
         width, height = map(int, size.split("x"))
         num, den = map(int, rate.split(":"))
+        # Samples of more than 8 bits have two bytes each.
+        self.bits = words.get("bits", 8)
+        width *= 2 if self.bits > 8 else 1
         self.words, self.name, self.is_paused, self.given_up, self.still = words, words["name"], False, 0, None
         self.reel: dict[int, bytes] = {}
         # The tag of each clip.
@@ -99,7 +102,10 @@ class Film(layout.Ring):
         return self.reel[place]
 
     def pixels(self, number: int) -> bytes:
-        """The bytes of a frame: a pendulum."""
+        """The bytes of a frame: a pendulum; of more than 8 bits a ramp that wanders."""
+        if self.bits > 8:
+            samples = numpy.arange(self.geometry.size // 2) * 3 + number
+            return (samples % (1 << self.bits)).astype("<u2").tobytes()
         if self.still is None:
             self.still = self.scene()
         luma, width, height = self.still[0].copy(), self.geometry.width, self.geometry.height
@@ -132,7 +138,8 @@ class Film(layout.Ring):
             self.times[self.next] = moment = self.due
             self.write(
                 self.geometry.slot_at(index, slot),
-                layout.head(self.next, self.next, moment, self.geometry.size) + self.filmed(self.next),
+                layout.head(self.next, self.next, moment, self.geometry.size, self.bits if self.bits > 8 else 0)
+                + self.filmed(self.next),
             )
             self.write(self.geometry.segment_at(index) + layout.GATES_AT + slot, bytes([layout.OPEN]))
             self.next += 1

@@ -2,13 +2,16 @@
 import asyncio
 import collections
 import json
+from dataclasses import replace
 from types import SimpleNamespace
 
 import pytest
 from station_page import kept, limits, spans
 from station_page.heard import Heard
+from station_page.kept import Kept
 from station_page.laboratory import Laboratory
 from station_page.notes import Notes, NotesFault, tidy
+from station_page.noting import Noting
 from station_page.orders import NoStation, Orders, Waiting
 from station_page.reader import Clip
 from station_page.words import read_line
@@ -165,19 +168,55 @@ def test_a_note_goes_with_a_clip_that_grows_to_its_end(notes):
     """The last look of it comes after the station has told its end."""
     clips, heard = [clip(0, 93, 217, until=2)], going_on()
     watched = SimpleNamespace(camera=SimpleNamespace(store="store"))
-    it = SimpleNamespace(growing={}, grown=set(), notes=notes, heard=heard, cameras={"left": watched})
+    it = SimpleNamespace(notes=notes, heard=heard, cameras={"left": watched})
     it.clips_of, it.watched = lambda name: clips, it.cameras.get
-    it.put_notes = lambda *words: Laboratory.put_notes(it, *words)
-    it.put_notes([("left", clips[0])], "run 7")
+    noting = Noting(it)
+    noting.put([("left", clips[0])], "run 7")
     for number, until in ((1, 3), (0, 4)):
         clips[:] = [clip(number, 93, 100 * until, until=until)]
-        asyncio.run(Laboratory.carry_notes(it))
+        asyncio.run(noting.carry())
         assert notes.of("store", clips[0]) == "run 7"
     heard.take(line("event_whole", event=NUMBER, camera="left"))
-    asyncio.run(Laboratory.carry_notes(it))
+    asyncio.run(noting.carry())
     clips[:] = [clip(1, 93, 900, until=9)]
-    asyncio.run(Laboratory.carry_notes(it))
-    assert notes.of("store", clips[0]) == "run 7" and not it.growing and not it.grown
+    asyncio.run(noting.carry())
+    assert notes.of("store", clips[0]) == "run 7" and not noting.growing and not noting.grown
+
+
+def test_a_note_waits_until_its_clip_is_seen(notes):
+    told = replace(clip(3, 93, 217), is_seen=False)
+    clips, watched = [], SimpleNamespace(camera=SimpleNamespace(store="store"))
+    it = SimpleNamespace(notes=notes, heard=Heard(), cameras={"left": watched}, clips_of=lambda name: clips)
+    it.watched, noting = it.cameras.get, Noting(it)
+    (kept,) = asyncio.run(noting.noted([Kept("left", True, "kept", [told])], "run 7"))
+    assert "is written once" in kept.remark
+    # Clips of other frames, and of another keep, are others.
+    clips[:] = [clip(3, 94, 217), clip(3, 93, 216), replace(clip(4, 93, 217), tag=9)]
+    asyncio.run(noting.carry())
+    assert not notes.notes
+    clips[:] = [clip(3, 93, 217)]
+    asyncio.run(noting.carry())
+    assert notes.of("store", clips[0]) == "run 7" and not noting.waiting
+
+
+def test_a_note_that_somebody_wrote_meanwhile_stays(notes):
+    told, watched = replace(clip(3, 93, 217), is_seen=False), SimpleNamespace(camera=SimpleNamespace(store="store"))
+    it = SimpleNamespace(notes=notes, heard=Heard(), cameras={"left": watched}, clips_of=lambda name: [clip(3, 93, 217)])
+    it.watched, noting = it.cameras.get, Noting(it)
+    asyncio.run(noting.noted([Kept("left", True, "kept", [told])], "run 7"))
+    noting.put([("left", clip(3, 93, 217))], "mine")
+    asyncio.run(noting.carry())
+    assert notes.of("store", clip(3, 93, 217)) == "mine" and not noting.waiting
+
+
+def test_notes_that_wait_make_room(notes, monkeypatch):
+    monkeypatch.setattr(limits, "NOTES_WAITING", 2)
+    it = SimpleNamespace(notes=notes, heard=Heard(), cameras={"left": None}, clips_of=lambda name: [])
+    noting = Noting(it)
+    for id_ in range(4):
+        told = replace(clip(id_, 93, 217), is_seen=False)
+        asyncio.run(noting.noted([Kept("left", True, "kept", [told])], f"run {id_}"))
+    assert list(noting.waiting.values()) == ["run 2", "run 3"]
 
 
 def test_a_clip_that_has_grown_is_the_only_one_of_its_first_frame():

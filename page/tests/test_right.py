@@ -290,17 +290,17 @@ def kept_line(camera, id_, first, last, event=5, **more):
     return read_line(json.dumps(members | {"from": "2026-11-22T15:37:55.117Z", "to": "2026-11-22T15:38:00.077Z"} | more))
 
 
-def test_a_note_is_not_told_as_written_where_the_clip_is_not_seen(make):
+def test_a_note_is_written_once_its_clip_is_seen(make):
     lab = make(page=False).start_spoilt(DISK_SECONDS=1).filmed()
     lab.keep(note="old")
     lab.spoil("hangs", "left.loop")
     lab.until(lambda: lab.camera()["kind"] == "hangs", "hanging disk")
     lab.order("release left 0")
     found = lab.post("/api/keep", {"camera": "left", "seconds": 1, "note": "new"}).json()["answers"][0]
-    assert found["kept"] and "note isn't written" in found["text"] and "1970" not in found["text"]
+    assert found["kept"] and "note is written once" in found["text"] and "1970" not in found["text"]
     assert sorted(json.loads((lab.folder / "loop_page.notes").read_text())["notes"].values()) == ["old"]
     lab.spoil("hangs", "")
-    lab.until(lambda: [it["note"] for it in lab.ask("/api/clips").json()["clips"]] == [""], "clip without a note")
+    lab.until(lambda: [it["note"] for it in lab.ask("/api/clips").json()["clips"]] == ["new"], "clip with its note")
 
 
 def test_a_release_names_the_clips_first_frame_to_the_station(make):

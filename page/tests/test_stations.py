@@ -8,7 +8,7 @@ import time
 import zipfile
 
 import pytest
-from conftest import TOKEN, Laboratory, token_in
+from conftest import LIMIT, TOKEN, Laboratory, token_in
 from station_page.others import Clock, Other
 from station_page.settings import BadSettings, OtherStation, stations_of
 from station_page.together import Presses, are_near, event_of, joined, more_of, state_of
@@ -341,6 +341,34 @@ def test_what_another_station_says_is_taken():
 # -------------------------------------------------------------------------------------------- clocks
 
 
+def test_a_page_without_cameras_of_its_own_keeps_at_the_others(make):
+    north, south = (make(cameras=[LEFT]).filmed(60) for _ in range(2))
+    hub = make(page=False, station=False)
+    hub.config = None
+    settings_of(hub.folder, ("north", north.port), ("south", south.port))
+    hub.start_page("--settings", "page.toml")
+    hub.until(lambda: names_of(hub) == ["north:left", "south:left"], "cameras")
+    assert hub.status()["station"][0] == "good" and not hub.alerts()
+    answers, event = kept_by(hub, 2, "both")
+    assert sorted(it["camera"] for it in answers) == ["north:left", "south:left"]
+    assert event["cameras"] == ["north:left", "south:left"]
+    assert hub.post("/api/keep", {"camera": "left", "seconds": 2}).status == 404
+    page = Open(hub)
+    page.look()
+    assert page.picture("north:left")[1].startswith(b"\xff\xd8")
+    page.close()
+    let_go(hub, event)
+    hub.until(lambda: not events_of(hub), "release")
+
+
+def test_a_page_without_any_camera_is_refused(make):
+    hub = make(page=False, station=False)
+    hub.config = None
+    (hub.folder / "page.toml").write_text("notes = \"notes\"\n")
+    run = hub.begin(*hub.program({}), "--settings", "page.toml")
+    assert "[[station]]" in run.communicate(timeout=LIMIT)[0] and run.returncode == 1
+
+
 def test_a_clock_that_is_off_is_warned_of_and_one_that_is_not_is_not(make):
     north, south = make(page=False, cameras=[LEFT]), make(cameras=[LEFT])
     north.start_spoilt()
@@ -414,6 +442,28 @@ def test_a_press_of_this_page_is_one_event_by_its_numbers_whatever_the_times():
     for number in range(5):
         presses.add([("", number), ("n", number)])
     assert presses.of("", 4) and presses.of("", 0) is None
+
+
+def test_presses_are_known_after_a_restart(tmp_path, caplog):
+    path = str(tmp_path / "presses")
+    presses = Presses(4, path)
+    for number in range(3):
+        presses.add([("", number), ("n", 10 + number)])
+    presses.add([("", 9)])
+    again = Presses(4, path)
+    assert again.of("n", 12) == ("", 2) and again.of("", 1) == ("", 1) and again.of("", 0) is again.of("", 9) is None
+    # One that was cut, or is something else, is told, and made anew.
+    for text in ("{", "[]", '{"presses": [[1]]}', '{"presses": 5}'):
+        (tmp_path / "presses").write_text(text)
+        caplog.clear()
+        anew = Presses(4, path)
+        assert anew.presses == {} and "can't be read" in caplog.text, text
+        anew.add([("", 5), ("n", 6)])
+        assert Presses(4, path).of("n", 6) == ("", 5)
+    # Where it can't be written, a press is known nevertheless.
+    nowhere = Presses(4, str(tmp_path / "none/presses"))
+    nowhere.add([("", 5), ("n", 6)])
+    assert nowhere.of("n", 6) == ("", 5) and "can't be written" in caplog.text
 
 
 # ------------------------------------------------------------------------------------------- settings

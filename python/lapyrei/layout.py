@@ -36,6 +36,8 @@ DIVIDED: dict[bytes, tuple[int, int] | None] = {
     b"YM24": (1, 1),
 }
 COLOURS = {b"GREY": "mono", b"YM12": "420jpeg", b"YM16": "422", b"YM24": "444"}
+# The same of more than 8 bits, which follow it.
+DEEP_COLOURS = {b"GREY": "mono", b"YM12": "420p", b"YM16": "422p", b"YM24": "444p"}
 # How often a store that changes meanwhile is read again.
 TRIES = 200
 
@@ -122,10 +124,13 @@ def victim(blocks: Iterable[int], clips: Iterable[tuple[int, int]], slots: int) 
     return next((block for block in sorted(blocks)[:-1] if not meets(spans, block, slots)), None)
 
 
-def text_front(geometry: Geometry) -> bytes:
-    """The header of an export, as docs/y4m.md has it."""
-    it, colour = geometry, COLOURS[geometry.format]
-    return f"YUV4MPEG2 W{it.width} H{it.height} F{it.num}:{it.den} Ip A0:0 C{colour}\n".encode()
+def text_front(geometry: Geometry, bits: int = 8) -> bytes:
+    """The header of an export, as docs/y4m.md has it; of frames of more than 8 bits that of a save,
+    whose width is in samples."""
+    it, wide, colour = geometry, geometry.width, COLOURS[geometry.format]
+    if bits > 8:
+        wide, colour = wide // 2, f"{DEEP_COLOURS[it.format]}{bits}"
+    return f"YUV4MPEG2 W{wide} H{it.height} F{it.num}:{it.den} Ip A0:0 C{colour}\n".encode()
 
 
 # ------------------------------------------------------------------------------- what is read

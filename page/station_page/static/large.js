@@ -73,7 +73,7 @@ export class Large {
     chip.hidden = camera.level === "good";
     chip.className = `chip ${camera.level}`;
     say(chip, camera.short || "");
-    say(byId("large-size"), camera.width ? `${camera.width}\u00d7${camera.height} \u00b7 ${FORMATS[camera.format] || camera.format}, 8 bits` : "no store");
+    say(byId("large-size"), camera.width ? `${camera.width}\u00d7${camera.height} \u00b7 ${FORMATS[camera.format] || camera.format}, ${camera.bits || 8} bits` : "no store");
     if (!camera.newest) this.none(camera.state);
     this.facts(camera, more);
   }
@@ -222,7 +222,7 @@ export class Large {
 
   /** The largest value. */
   most() {
-    return 2 ** (this.light?.bits || 8) - 1;
+    return 2 ** (this.light?.bits || this.camera?.bits || 8) - 1;
   }
 
   /** Writes both points into their fields, unless somebody types there. */
