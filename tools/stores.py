@@ -22,27 +22,30 @@ class Violation(Exception):
 
 
 def built(name):
-    """A program's path. One that the variable LOOP_CLI, LOOP_STATION, BENCH_PROGRAMS or
-    EXAMPLE_FILL names is taken as it is; else it is built, and proved where something changed."""
+    """A program's path, or the static library's of a crate that has no program. One that a variable
+    names, as LOOP_CLI, LOOP_STATION, BENCH_PROGRAMS, EXAMPLE_FILL or LAPYREI, is taken as it is;
+    else it is built, and proved where something changed."""
     given = os.environ.get(name.upper())
     if given:
         return os.path.abspath(given)
     crate = os.path.join(CRATES, name)
+    is_program = os.path.exists(os.path.join(crate, "src/main.rt"))
     print(
         f"proving and building {name} where something has changed: up to an hour, silently",
         file=sys.stderr,
         flush=True,
     )
     with tempfile.TemporaryDirectory() as folder:
-        words = ["rt", "run", "--jobs", "1", *words_of(name, folder)]
+        verb = "run" if is_program else "lib"
+        words = ["rt", verb, "--jobs", "1", *(words_of(name, folder) if is_program else [])]
         if (
             subprocess.run(
                 words, cwd=crate, stdin=subprocess.DEVNULL, capture_output=True
             ).returncode
             != 0
         ):
-            sys.exit(f"rt run made no {name}")
-    return os.path.join(crate, "out", name)
+            sys.exit(f"rt {verb} made no {name}")
+    return os.path.join(crate, "out", name if is_program else f"lib{name}.a")
 
 
 def words_of(name, folder, stops=True):

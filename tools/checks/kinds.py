@@ -975,6 +975,21 @@ KINDS = {
             ),
         ],
     ),
+    "clib": Kind(
+        "clib_check",
+        [],
+        ["--quick"],
+        ["LAPYREI", "LOOP_CLI"],
+        "calls the C library by each of its calls, kills it, fails its disk, and looks at the file",
+        [
+            Wrong(
+                "the library with one wrong thing, 17 times",
+                words=["--wrong"],
+                says="17 of 17 wrong libraries are found",
+                status=0,
+            )
+        ],
+    ),
     "package": Kind(
         "package_check",
         [],
@@ -991,6 +1006,7 @@ CRATES = {
         "loop_station",
         "bench_programs",
         "example_fill",
+        "lapyrei",
         "test_lane_cases",
         "test_station",
     )

@@ -1,0 +1,2 @@
+mod GroupFrames
+mod LogBytes

@@ -1,0 +1,11 @@
+use Rattle.std.proofs.Common.{◌≡◌, ◌++◌, All, drop, length}
+use Rattle.loop_record.specs.Plain.{pictures}
+use Rattle.lapyrei.specs.Told.{pictures_in}
+use Rattle.lapyrei.proofs.on_store.frames_of.Given as goal
+
+abbrev pub invariant-loop-head : goal.invariant-loop-head
+invariant-loop-head l = record {
+  frames : pictures l.frames.items ++ pictures_in l.size (drop l.head-index l.heads) l.rest
+      ≡ pictures_in l.size l.heads l.bytes;
+  sizes : All (λ frame. length frame.bytes.items ≡ l.size) l.frames.items;
+}
