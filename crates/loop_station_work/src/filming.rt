@@ -220,7 +220,8 @@ fn film_into<R: AllocGlobal + Places + Threads + Wait + Clock + Sync>(
 }
 
 // Tells the printer which clips a store has: those that aren't saved yet are saved by themselves, where the camera has
-// a folder for them. The clips of an event that goes on are left out, and so is a clip whose frames can't be read.
+// a folder for them. The clips of an event that goes on are left out, and so is a clip whose frames can't be read. With
+// a tag of the user's, what an event has locked stays a clip of its own.
 fn tell_clips<R: AllocGlobal + Wait>(
     rt: &R,
     state: &CameraState,
@@ -233,7 +234,7 @@ fn tell_clips<R: AllocGlobal + Wait>(
     }
     let mut found = Vec::new(rt.alloc());
     for clip in clips {
-        if events.iter().any(|event| event.tag == clip.tag) {
+        if events.iter().any(|event| event.event == clip.tag) {
             continue;
         }
         let (Ok(first), Ok(last)) = (store.read_head(clip.from), store.read_head(clip.to)) else {
