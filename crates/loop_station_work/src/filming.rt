@@ -220,7 +220,8 @@ fn film_into<R: AllocGlobal + Places + Threads + Wait + Clock + Sync>(
 }
 
 // Tells the printer which clips a store has: those that aren't saved yet are saved by themselves, where the camera has
-// a folder for them. The clips of an event that goes on are left out, and so is a clip whose frames can't be read.
+// a folder for them. The clips of an event that goes on are left out, and so is a clip whose frames can't be read. With
+// a tag of the user's, what an event has locked stays a clip of its own.
 fn tell_clips<R: AllocGlobal + Wait>(
     rt: &R,
     state: &CameraState,
@@ -233,7 +234,7 @@ fn tell_clips<R: AllocGlobal + Wait>(
     }
     let mut found = Vec::new(rt.alloc());
     for clip in clips {
-        if events.iter().any(|event| event.tag == clip.tag) {
+        if events.iter().any(|event| event.event == clip.tag) {
             continue;
         }
         let (Ok(first), Ok(last)) = (store.read_head(clip.from), store.read_head(clip.to)) else {
@@ -275,7 +276,8 @@ fn go_on_with<R: AllocGlobal + Wait + Clock>(rt: &R, state: &CameraState, events
             &state.tally(rt),
         );
         let clips = state.clips_tagged(rt, alloc, event.event);
-        state.begin_growing(rt, alloc, keep, clips);
+        // Its clips are among those that `tell_clips` leaves out, so the next start saves them where too many go on.
+        let _goes_on = state.begin_growing(rt, alloc, keep, clips);
     }
 }
 

@@ -271,8 +271,18 @@ pub(crate) fn lies_in<R: AllocGlobal + Files<File = File>>(
     }
     .and_then(|parent| Ok((parent, fs::canonicalize(rt, folder)?)));
     match folder {
-        Ok((parent, folder)) => parent.as_path().starts_with(folder.as_path()),
+        Ok((parent, folder)) => {
+            parent.as_path().starts_with(folder.as_path()) && leads_into(rt, path, folder.as_path())
+        }
         Err(_) => false,
+    }
+}
+
+// Whether what a path leads to lies in a folder, where something is there: its last name may be a link elsewhere.
+fn leads_into<R: AllocGlobal + Files<File = File>>(rt: &R, path: &str, folder: Path<'_>) -> bool {
+    match fs::canonicalize(rt, path) {
+        Ok(whole) => whole.as_path().starts_with(folder),
+        Err(_) => true,
     }
 }
 

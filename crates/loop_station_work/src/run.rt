@@ -200,14 +200,21 @@ fn own_paths(alloc: Global, path: &str, config: &Config) -> Result<Vec<String>, 
         add_path(alloc, &mut taken, orders.as_str())?;
     }
     for camera in config.cameras.as_slice() {
-        add_path(alloc, &mut taken, camera.store.as_str())?;
-        let made = format!(in alloc; "{}.new", camera.store.as_str())?;
-        add_path(alloc, &mut taken, made.as_str())?;
+        add_store(alloc, &mut taken, camera.store.as_str())?;
         if let Source::Path(source) = &camera.source {
             add_path(alloc, &mut taken, source.as_str())?;
         }
     }
     Ok(taken)
+}
+
+// Adds the path of a store to others, and those of the files beside it: while it is made, and of its open events.
+fn add_store(alloc: Global, paths: &mut Vec<String>, store: &str) -> Result<(), NotBegun> {
+    add_path(alloc, paths, store)?;
+    let made = format!(in alloc; "{store}.new")?;
+    add_path(alloc, paths, made.as_str())?;
+    let events = format!(in alloc; "{store}.events")?;
+    add_path(alloc, paths, events.as_str())
 }
 
 // Refuses `answers` that lead to what the station reads or records into.

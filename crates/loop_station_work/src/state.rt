@@ -222,20 +222,21 @@ impl CameraState {
         }
     }
 
-    /// An event goes on: its end lies ahead, and these clips of it are locked.
+    /// An event goes on: its end lies ahead, and these clips of it are locked. Returns whether it does: not where too
+    /// many do.
     pub(crate) fn begin_growing<R: Wait>(
         &self,
         rt: &R,
         alloc: Global,
         keep: Keep,
         clips: Vec<Clip>,
-    ) {
+    ) -> bool {
         let event = keep.event;
-        if self
+        let goes_on = self
             .desk
             .put_growing(rt, Growing::new(alloc, keep, clips))
-            .is_some()
-        {
+            .is_none();
+        if !goes_on {
             let mut lines = self.lines(alloc);
             let name = self.config.name.as_str();
             // Where memory for the line is refused, it isn't printed.
@@ -243,6 +244,12 @@ impl CameraState {
             self.tell(rt, lines, None);
         }
         self.note_open(rt, alloc);
+        goes_on
+    }
+
+    /// Clips with which no event goes on are saved by themselves, where the camera has a folder for them.
+    pub(crate) fn save_found<R: Wait>(&self, rt: &R, alloc: Global, found: &[FoundClip]) {
+        self.tell(rt, self.lines(alloc), self.kept_clips(alloc, found));
     }
 
     /// An event is over, and these are its clips. It is told whether all of it is held.

@@ -99,6 +99,11 @@ impl Answers {
             "an order is answered when the last of its cameras is",
         );
         if !is_whole {
+            let again = lines_of(self.alloc, judge, order, place, count.saturating_add(1));
+            judge.holds(
+                !pending.core.give(place, again),
+                "a second answer of a camera counts for nothing",
+            );
             return 0;
         }
         let printed = print(self.alloc, judge, pending);

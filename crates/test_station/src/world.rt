@@ -22,6 +22,9 @@ const HOUR: u64 = 3_600_000_000;
 // How many keeps wait at most.
 const MOST_KEEPS: usize = 12;
 
+// An event whose end was over so many microseconds ago may have had no turn since.
+const JUST_NOW: u64 = 100_000;
+
 // Below so many keeps one may end in an hour.
 const FEW_KEEPS: usize = 4;
 
@@ -539,13 +542,11 @@ impl Station {
     // Each keep is answered once, but for those whose end lies ahead; and each save has ended.
     fn judge_end(&mut self) {
         let left = self.keeps.len() as u64;
-        let ahead = self
-            .keeps
-            .iter()
-            .all(|keep| keep.grows && keep.until > self.now);
+        let ahead = self.keeps.iter().all(|keep| keep.grows
+            && keep.until.saturating_add(JUST_NOW) > self.now);
         self.judge.holds(
             ahead,
-            "each keep is answered, and ends unless its end lies ahead",
+            "each keep is answered, and ends unless its end lies ahead, or was over just now",
         );
         self.judge.holds(
             self.counts.answered.saturating_add(left) == self.counts.due,
