@@ -129,11 +129,18 @@ fn perform<
         Ok(takes) => takes,
         Err(unrecorded) => return Err(blame(unrecorded, paths)),
     };
-    print_next(takes.as_slice(), &mut out)?;
-    out.flush()?;
+    let printed = print_all_next(takes.as_slice(), &mut out);
+    // Lost frames are told where the output fails, too.
     print_lost(takes.as_slice(), err)?;
+    printed?;
     told?;
     Ok(())
+}
+
+// Prints each camera's next number, and has it written.
+fn print_all_next<W: Write>(takes: &[Take], out: &mut W) -> io::Result<()> {
+    print_next(takes, out)?;
+    out.flush()
 }
 
 // Prints, once, that the source has frames of another size or format than one of the stores, or of another rate.
