@@ -32,8 +32,8 @@ abbrev pub Values : Result ℕ StoreFault → ℕ → Type 0
 Values (Ok value) told = told ≡ value
 Values (Err fault) told = Unit {0}
 
--- The call was made: no call of its disk failed, C gets the outcome's number and value, and the log has all calls of the
--- disk.
+-- The call was made: no call of its disk failed, C gets the outcome's number and value, and the log has all calls of
+-- the disk.
 pub record IsMade (outcome : Result ℕ StoreFault) (disk : Tape) (log : List ℕ) (answer : Answer) : Type 0 where
   pub refusal : answer.refusal ≡ refusal_of outcome
   pub value : Values outcome answer.value
@@ -56,8 +56,8 @@ pub record IsNoStore (start : List ℕ) (keep : ℕ) (log : List ℕ) (answer : 
   pub opens : OpensKeeping medium_after keep (untouched start) (Err refused)
   pub made : IsMade (Err refused.fault) refused.disk log answer
 
--- The store in these bytes was opened, and did this. The answer is its outcome, and the log all that was done to the disk,
--- by the opening too.
+-- The store in these bytes was opened, and did this. The answer is its outcome, and the log all that was done to the
+-- disk, by the opening too.
 pub record IsServed (start : List ℕ) (keep : ℕ) (Did : Seen Tape → Seen Tape → Result ℕ StoreFault → Type 0)
     (log : List ℕ) (answer : Answer) : Type 0 where
   pub old : Seen Tape
@@ -91,8 +91,8 @@ pictures_in size (head ∷ heads) bytes =
     record { sequence = head.sequence; flags = head.flags; timestamp = head.timestamp; bytes = take size bytes }
     ∷ pictures_in size heads (drop size bytes)
 
--- an append of a group, and the number of its first frame; or no call, where the bytes or the frames are too many or too
--- few, or memory was refused
+-- an append of a group, and the number of its first frame; or no call, where the bytes or the frames are too many or
+-- too few, or memory was refused
 abbrev pub Appends : List Head → List ℕ → Seen Tape → Seen Tape → Result ℕ StoreFault → Type 0
 Appends heads bytes old new outcome =
     Calls old new (appended (pictures_in (frame_bytes old.geometry) heads bytes) outcome ∷ [])

@@ -5,12 +5,12 @@
 //! disk beneath as it was. It is for looking at a recording without a write, and for trials that must change nothing:
 //! when it is dropped, its writes are gone.
 //!
-//! `log` has a disk over bytes that writes down each write and each sync, so that whoever has these bytes in a file makes
-//! them there. `carry` makes them on another disk: its contract says that a crash at any moment leaves what one of the
-//! log's disk might have left.
+//! `log` has a disk over bytes that writes down each write and each sync, so that whoever has these bytes in a file
+//! makes them there. `carry` makes them on another disk: its contract says that a crash at any moment leaves what one
+//! of the log's disk might have left.
 //!
-//! `specs/Layers` and `specs/Log` have the definitions, `proofs/` the lemmas. docs/store.md and docs/disk-model.md say why
-//! it is so.
+//! `specs/Layers` and `specs/Log` have the definitions, `proofs/` the lemmas. docs/store.md and docs/disk-model.md say
+//! why it is so.
 #![tactic(auto)]
 
 mod carry;

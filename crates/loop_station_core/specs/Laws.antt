@@ -189,7 +189,8 @@ FoundGapsAreSo = (time : ℕ → ℕ) (period a b turns from to : ℕ) → a ≤
     (turn s).1 ≡ SearchGap from to
     → (from ≡ time s.from.number) × (to ≡ time (s.from.number + 1)) × (period + most period < to - from)
 
--- A stretch in which a frame is missing is looked into, where no frame comes earlier than a period after the one before.
+-- A stretch in which a frame is missing is looked into, where no frame comes earlier than a period after the one
+-- before.
 abbrev pub GapsAreLookedFor : Type 0
 GapsAreLookedFor = (time : ℕ → ℕ) (period a b n : ℕ) → ((k : ℕ) → time k + period ≤ time (suc k))
     → a ≤ n → n < b → time n + period + most period < time (suc n)

@@ -15,8 +15,8 @@ const STILL: u64 = 1_100_000;
 // and frames that waited meanwhile are read for so many microseconds after that.
 const AFTER: u64 = 100_000;
 
-/// The mark of a frame whose samples have so many bits, below 32: they are bits 24 to 28 of its flags, and 0 there means
-/// 8. Bit 29 is set where its time is late, since it came while the program stood still.
+/// The mark of a frame whose samples have so many bits, below 32: they are bits 24 to 28 of its flags, and 0 there
+/// means 8. Bit 29 is set where its time is late, since it came while the program stood still.
 pub fn mark(bits: u32, late: bool) -> u32
     ensures { result ≡ mark bits late }
 {

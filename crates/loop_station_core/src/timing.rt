@@ -69,8 +69,8 @@ impl Timing {
         timing
     }
 
-    /// A frame has come. Its time is what its source says, or else when it came, but always later than that of the frame
-    /// before.
+    /// A frame has come. Its time is what its source says, or else when it came, but always later than that of the
+    /// frame before.
     pub fn on(self, frame: Arrival) -> (Timing, Stamped)
         ensures { result ≡ step self frame }
     {

@@ -262,8 +262,8 @@ impl Feed {
         since
     }
 
-    /// Takes the first frame that waits as the frame of the next tick, unless there is one already. Returns that frame's
-    /// time; None where no frame comes for so long.
+    /// Takes the first frame that waits as the frame of the next tick, unless there is one already. Returns that
+    /// frame's time; None where no frame comes for so long.
     pub fn make_ready<R: Wait + Clock>(&self, rt: &R, most: Duration) -> Option<u64> {
         let mut ready = self.ready.lock(rt);
         if let Some(frame) = &ready.frame {

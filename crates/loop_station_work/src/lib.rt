@@ -9,8 +9,8 @@
 //! `run` starts all that. `orders` reads orders and does them: it asks a camera through its `inbox`, and the thread of
 //! its desk answers (`clerk`). `save` writes clips meanwhile, `places` opens files and makes stores, and `replies`
 //! prints answers as lines. `events` prints what happens without an order,
-//! `times` tells what a source says of its frames, `watch` sees that a source is silent, that a store was moved away, and that the
-//! program stood still. All lines go through `outlet`, and `tap`
+//! `times` tells what a source says of its frames, `watch` sees that a source is silent, that a store was moved away,
+//! and that the program stood still. All lines go through `outlet`, and `tap`
 //! copies them to a further file or pipe; `spool` has those that wait for the threads that write them.
 //!
 //! What an order means, and the choice of a store's size, is proved in loop_station_words. Each frame of the source

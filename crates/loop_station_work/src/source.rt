@@ -143,8 +143,8 @@ fn play_pattern<R: AllocGlobal + Wait + Clock, W: Write + Drop>(
     }
 }
 
-// Offers what a source's header says, and how many bits its samples have. Returns whether the store takes its frames. That it doesn't is printed, but not
-// again while that is still the result.
+// Offers what a source's header says, and how many bits its samples have. Returns whether the store takes its frames.
+// That it doesn't is printed, but not again while that is still the result.
 fn offer<R: AllocGlobal + Wait + Clock, W: Write + Drop>(
     rt: &R,
     state: &CameraState,

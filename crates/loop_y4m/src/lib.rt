@@ -2,8 +2,8 @@
 //! geometry or from a store, and read from any reader.
 //!
 //! `specs/` has the written text (`Text`), what is exported of a store (`Export`), how a header line is read
-//! (`Header`), which colours have more than 8 bits a sample (`Depths`), how a whole input is read (`Stream`) and what an
-//! open reader answers (`Reader`). `Steps` has what the contracts of private functions say. The code:
+//! (`Header`), which colours have more than 8 bits a sample (`Depths`), how a whole input is read (`Stream`) and what
+//! an open reader answers (`Reader`). `Steps` has what the contracts of private functions say. The code:
 //!
 //! - `reader`: the `Y4mReader`, which gives an input's frames one after another; `fault`: what can be wrong
 //!   with an input, why it has no geometry, and why an export ends;

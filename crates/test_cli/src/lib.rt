@@ -1,5 +1,6 @@
 //! Tests of what loop_cli and loop_station do where a test needs Rust: inputs and outputs that fail, memory that is
-//! refused, values that no line of a program shows. What a command prints stands in rows/, which `tools/check rows` runs.
+//! refused, values that no line of a program shows. What a command prints stands in rows/, which `tools/check rows`
+//! runs.
 //!
 //! - `asserts` has assertions that are cheap to prove; `ends`: inputs and outputs that fail, or that note what they are
 //!   asked for; `ran`: a run of a script, and its outcome;

@@ -7,8 +7,8 @@
 //!
 //! - `random`: numbers by a seed; `judge`: what a simulation finds;
 //! - `store`: a ring of blocks and its clips; `camera`: a source, a queue and a desk before it, and the list of frames;
-//! - `keeping`: keeps, `answers`: their lines, `saving`: saves, `texts`: what saves write, `told`: lines about a camera,
-//!   `searching`: gaps in clips, each with its judge;
+//! - `keeping`: keeps, `answers`: their lines, `saving`: saves, `texts`: what saves write, `told`: lines about a
+//!   camera, `searching`: gaps in clips, each with its judge;
 //! - `world`: a station and its cameras, step by step.
 #![tactic(auto)]
 

@@ -266,7 +266,8 @@ fn judge_behind(judge: &mut Judge, known: u64, seen: u64, line: Option<Change>) 
     next
 }
 
-// An unusable source is told for each other cause, and again once its frames could be had. The cause that is known then.
+// An unusable source is told for each other cause, and again once its frames could be had. The cause that is known
+// then.
 fn judge_unusable(
     judge: &mut Judge,
     known: Option<u32>,

@@ -11,8 +11,8 @@
 //! - `memory`: each growth is refused in turn;
 //! - `names`: the numbers, the names and the sentences of the refusals;
 //! - YUV4MPEG2: `reading` and `writing` have the worked rows of the format, with inputs and outputs that are cut,
-//!   interrupted or fail (`fakes`); `exporting`: what is exported of a store, read back; `real`: streams that ffmpeg and
-//!   mjpegtools wrote;
+//!   interrupted or fail (`fakes`); `exporting`: what is exported of a store, read back; `real`: streams that ffmpeg
+//!   and mjpegtools wrote;
 //! - `asserts`: assertions that are cheap to prove.
 #![tactic(auto)]
 

@@ -5,8 +5,8 @@
 //! - `words` reads the words of a line; `text` reads bytes that are written as text, and prints spans of numbers;
 //! - `counted` is a disk that counts its calls; `frames` has the frames, with the calls of a store that check their
 //!   preconditions first, and `acts` what a store is asked for;
-//! - `case` is the state that a line finds and leaves: an image and the store over it; `image` changes the image, `line`
-//!   asks the store;
+//! - `case` is the state that a line finds and leaves: an image and the store over it; `image` changes the image,
+//!   `line` asks the store;
 //! - `list` does lists of commands, `make` formats, `stops` stops at each call with each spoilt content, `fails`
 //!   fails each call in turn;
 //! - `keeping` opens with a number of the newest blocks kept;

@@ -40,8 +40,8 @@ impl Lines {
         )
     }
 
-    /// `other geometry CAMERA 640x480 GREY 25:1 12 bits, not 8`: the frames of a camera's source aren't as its store has
-    /// them, and where that is known, how many bits the samples have there.
+    /// `other geometry CAMERA 640x480 GREY 25:1 12 bits, not 8`: the frames of a camera's source aren't as its store
+    /// has them, and where that is known, how many bits the samples have there.
     ///
     /// JSON: as above, `bits`, and `store_bits` where they are known.
     pub fn other_bits(

@@ -150,8 +150,8 @@ fn write_clip<R: AllocGlobal + Wait>(
     }
 }
 
-// Writes the text of a clip: a header for the geometry of its store and the bits of its samples, and its frames. Returns
-// how many frames there are.
+// Writes the text of a clip: a header for the geometry of its store and the bits of its samples, and its frames.
+// Returns how many frames there are.
 fn write_text<R: Wait, W: Write>(
     rt: &R,
     saves: &Saves,
