@@ -358,6 +358,9 @@ class Films:
             raise FilmFault(
                 "ffmpeg isn't installed, so there are no films. Install it, or fetch YUV4MPEG2."
             ) from None
+        # Where ffmpeg is ended while it is fed, its pipe breaks. Python 3.11 wants somebody to look.
+        closed = asyncio.create_task(run.stdin.wait_closed())
+        closed.add_done_callback(lambda it: it.cancelled() or it.exception())
         feeder = asyncio.create_task(feed(run, text))
         told = asyncio.create_task(last_words(run))
         try:
