@@ -1,5 +1,5 @@
 -- A log as bytes.
-use Rattle.std.specs.Prelude.{ℕ, ◌-◌, ◌^◌, List, [], ◌∷◌, ◌++◌, length, flat_map}
+use Rattle.std.specs.Prelude.{ℕ, ◌-◌, ◌^◌, List, [], ◌++◌, length, flat_map}
 use Rattle.byteorder.specs.Endian.{little_bytes}
 use Rattle.loop_disk.specs.declared.crash.DeviceCall.{DeviceCall}
 use Rattle.loop_disk.specs.declared.crash.DeviceCall.TheVariants as call

@@ -1,4 +1,4 @@
-use Rattle.std.proofs.Common.{rules, ℕ, List, ◌≡◌, ◌++◌, ◌∙◌, length, map, take, ap, subst, sym, arith, length-append}
+use Rattle.std.proofs.Common.{rules, ℕ, List, ◌++◌, ◌∙◌, length, map, take, ap, sym, arith, length-append}
 use Rattle.std.proofs.lemmas.List.{take_all}
 use Rattle.loop_disk.specs.declared.crash.DeviceCall.{DeviceCall}
 use Rattle.loop_disk.specs.Crashing.{call_of}

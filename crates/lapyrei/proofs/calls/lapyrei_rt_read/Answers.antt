@@ -1,4 +1,4 @@
-use Rattle.std.proofs.Common.{◌⊎◌, inl, inr, sym, subst}
+use Rattle.std.proofs.Common.{◌⊎◌, inl, inr, subst}
 use Rattle.loop_disk.specs.Crashing.{Tape}
 use Rattle.lapyrei.specs.Told.{IsMade, IsNoStore, IsOutOfMemory, IsServed, Reads}
 use Rattle.lapyrei.proofs.calls.lapyrei_rt_read.Goals as goal
