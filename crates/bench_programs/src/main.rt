@@ -1,6 +1,6 @@
 //! Measures planes and the buffer queue beside plain copies, a store in memory or in a file, and a lane to a store in a
-//! file. `bench/run` and `bench/files` time it beside plain programs in C. `tools/kill_check` kills it, and
-//! `tools/power_check` stops it as a power loss would. Of a store and a lane it prints only what was done. Its first
+//! file. `bench/run` and `bench/files` time it beside plain programs in C. `tools/check kill` kills it, and
+//! `tools/check power` stops it as a power loss would. Of a store and a lane it prints only what was done. Its first
 //! word is one of these:
 //!
 //!     planes ROUNDS

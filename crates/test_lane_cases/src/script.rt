@@ -1,4 +1,4 @@
-//! Lists of events over a queue of two buffers: what `tools/queue_model.py` makes and judges.
+//! Lists of events over a queue of two buffers: what `tools/checks/queue_model.py` makes and judges.
 //!
 //! `cell` is the memory of a frame of one byte; `letters` has the language; `told` prints replies and states.
 
