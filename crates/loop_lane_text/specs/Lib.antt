@@ -1,2 +1,3 @@
 pub mod Reopened
+pub mod Filmed
 pub mod RingHolds

@@ -1,10 +1,11 @@
 //! From a lane to a text, and to what is found after a power loss.
 //!
 //! - `record_and_export`: what was recorded is found again on the disk, and written as YUV4MPEG2;
+//! - `film_and_export`: so is what a camera filmed;
 //! - `run_and_reopen`: whatever a power loss left of a run's disk is opened, and is the recording after a prefix of the
 //!   run's steps.
 //!
-//! Both only make the calls that a program would, one after the other; their contracts follow from the contracts of
+//! They only make the calls that a program would, one after the other; their contracts follow from the contracts of
 //! these calls alone. `laws` says that a ring holds as many of the newest frames as it was chosen for.
 //!
 //! docs/lane.md says why it is so.
@@ -22,8 +23,10 @@ ghost use Rattle.loop_desk.specs.declared.lane.Lane.{Lane};
 ghost use Rattle.loop_y4m.specs.Export.{frames_between};
 ghost use Rattle.loop_y4m.specs.Text.{text};
 
+mod filmed;
 pub mod laws;
 
+pub use filmed::{LostFrames, film_and_export};
 use loop_desk::{Lane, LaneEvent, LaneReply, lane_run};
 use loop_disk::Disk;
 use loop_plane::PlaneMemory;
@@ -35,7 +38,7 @@ use std::io::Write;
 /// At which step a recording didn't become a text, and why.
 #[derive(Clone, Copy, Debug, PartialEq, Eq)]
 pub enum TextFault {
-    /// In the run: there was no room for the replies, or a call that writes failed.
+    /// In the run or the filming: memory or a thread was refused, or a call that writes failed.
     Run(StoreFault),
     /// While the store was opened again.
     Open(StoreFault),

@@ -1,5 +1,5 @@
-//! Cameras that are filmed, by turns and by threads, into a disk that takes all and into one that fails; and what is
-//! kept, read and unlocked meanwhile.
+//! Cameras that are filmed, by turns and by threads, into a disk that takes all and into one that fails; what is kept,
+//! read and unlocked meanwhile; and the text of what was filmed.
 
 ghost use Rattle.std.specs.Prelude.{◌≡◌, ⊤};
 ghost use Rattle.loop_desk.specs.declared.hand.Hand.TheVariants.{Empty};
@@ -11,6 +11,7 @@ use crate::common::*;
 use loop_capture::{Device, Pattern, Tick};
 use loop_desk::{Desk, Flushed, Hand, LaneFault};
 use loop_disk::{Disk, FuseDisk, MemDisk};
+use loop_lane_text::{LostFrames, film_and_export};
 use loop_pipeline::{
     Back, Begun, Brought, Camera, Ended, Front, Guide, Link, LostFrame, TakeOutcome, Visits, end,
     film_camera, heap_start, new_queue, start_queue,
@@ -250,6 +251,51 @@ fn frames_that_a_broken_disk_does_not_take_are_counted(rt: HostRuntime) {
         }
     }
     holds!(rt; broken);
+}
+
+// The text of the pattern's frames 18 and 19: up to the bytes of the first, and from then on.
+const FIRST: &[u8] =
+    b"YUV4MPEG2 W4 H2 F25:1 Ip A0:0 C420jpeg\nFRAME\n\x12\x13\x14\x15\x16\x17\x18\x19\x1a\x1b\x1c\x1d";
+
+const SECOND: &[u8] = b"FRAME\n\x13\x14\x15\x16\x17\x18\x19\x1a\x1b\x1c\x1d\x1e";
+
+// Films a camera in a scope of its own, and exports frames 18 and 19; returns which frames were lost, and the text.
+fn film_text<R: Threads + Wait + Clock + Abort + Sync>(
+    rt: &R,
+    alloc: Global,
+    link: &Link,
+    guide: &Guided,
+    camera: TestCamera,
+) -> (Option<LostFrames>, Vec<u8>) {
+    let (rt, link, guide) = (&*rt, &*link, &*guide);
+    thread::scope(
+        thread::scope_env(),
+        rt,
+        move |scope| -> (Option<LostFrames>, Vec<u8>) {
+            let mut out = Vec::new(alloc);
+            let lost = film_and_export(rt, alloc, scope, link, guide, camera, 18, 19, &mut out);
+            (lost.ok(), out)
+        },
+    )
+}
+
+#[test]
+fn what_a_camera_filmed_becomes_a_text(rt: HostRuntime) {
+    let alloc = rt.alloc();
+    let link = Link::new(alloc).expect(&rt, "memory for a link");
+    let Some(camera) = camera(&rt, alloc, 1_000_000) else {
+        panic!(rt; "no store")
+    };
+    let (lost, text) = film_text(&rt, alloc, &link, &guide(20, 0), camera);
+    let none = LostFrames {
+        given_up: 0,
+        left: 0,
+        missed: 0,
+        failed: 0,
+    };
+    same!(rt; lost, Some(none));
+    same!(rt; text.len(), FIRST.len() + SECOND.len());
+    holds!(rt; text.starts_with(FIRST) && text.ends_with(SECOND));
 }
 
 type TestFront = Front<Pattern, HeapPlane, Guided>;

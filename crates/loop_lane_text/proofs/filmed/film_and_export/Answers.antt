@@ -1,0 +1,32 @@
+use Rattle.std.proofs.Common.{sym, ap, ◌∙◌, subst}
+use Rattle.loop_desk.proofs.CallRuns.{store-goes}
+use Rattle.loop_pipeline.specs.Cameras.{CameraKeeps, SeenCamera}
+use Rattle.loop_lane_text.proofs.RecordTexts.{exported}
+use Rattle.loop_lane_text.proofs.filmed.film_and_export.Goals as goal
+
+pub returns-in-Ok-export : goal.returns-in-Ok-export
+returns-in-Ok-export g c = λ s stands now.
+    let medium = g.D.Disk.medium in
+    let camera = c.args.camera in
+    let ended = c.in-Ok.ended in
+    let end : SeenCamera g.row.S.Denot g.row.D.Denot g.row.P.Denot =
+    record { device = ended.device; queue = ended.queue; desk = ended.desk } in
+    let keeps = subst (λ over. CameraKeeps medium g.S.FrameSource.next_gives g.P.PlaneMemory.plane g.G.Visits.asks
+    g.G.Visits.gives_up (g.G.Guide.due c.args.guide.now) (g.G.Guide.ends c.args.guide.now) camera end ended.given_up
+    ended.left ended.missed ended.failed over) c.in-Ok.ensures.ended c.in-Ok.ensures.keeps in
+    let kept = keeps.footage s stands now in
+    let went = store-goes medium camera.desk ended.desk keeps.calls keeps.goes in
+    let honest = went.called.honest.0 now in
+    let fine = sym c.status.ensures.must_reopen ∙ c.if-status.false in
+    let image = (medium c.into_disk.result).bytes in
+    let there = subst (λ d. (medium d).honest) (sym c.into_disk.ensures) honest in
+    let opened = c.in-Ok-open.ensures.called.honest.0 there in
+    record {
+      end = end;
+      keeps = keeps;
+      stored = kept.none_lost;
+      text_is = exported medium ended.desk.store camera.desk.store.geometry _ c.in-Ok-open.store image c.args.from c.args.to
+          c.in-Ok-export.field-0 (g.W.Write.contents c.args.out.now) (g.W.Write.contents c.export.new.out)
+          kept.recording fine honest went.geometry (ap (λ d. (medium d).bytes) c.into_disk.ensures)
+          (c.in-Ok-open.ensures.opened there) opened c.in-Ok-export.ensures.exported;
+    }

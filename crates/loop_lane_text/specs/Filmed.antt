@@ -1,0 +1,29 @@
+-- The text of what a camera filmed.
+use Rattle.std.specs.Prelude.{◌≡◌, ℕ, true, Option, List, ◌++◌}
+use Rattle.std.specs.Io.KnownBytes.{Appends}
+use Rattle.loop_disk.specs.Medium.{Medium}
+use Rattle.loop_plane.specs.Plane.{Plane}
+use Rattle.loop_record.specs.Recording.{plain, ring_of}
+use Rattle.loop_store.specs.declared.fault.StoreFault.{StoreFault}
+use Rattle.loop_store.specs.Calls.{StoreState}
+use Rattle.loop_capture.specs.declared.source.Next.{Next}
+use Rattle.loop_desk.specs.Desk.{DeskCall, accepted_in, frames_stored}
+use Rattle.loop_desk.specs.Footage.{steps_made}
+use Rattle.loop_pipeline.specs.Cameras.{CameraKeeps, SeenCamera}
+use Rattle.loop_y4m.specs.Export.{frames_between}
+use Rattle.loop_y4m.specs.Text.{text}
+use Rattle.loop_lane_text.specs.declared.filmed.LostFrames.{LostFrames}
+
+-- A camera was filmed to its end. The plain recorder's steps store what waited at its desk and what the desk accepted,
+-- but for what still waits; and the text that was written is that of the held frames after these steps.
+pub record FilmsText {S D P : Type 0} (medium : D → Medium) (gives : S → Next → List ℕ → S → Type 0)
+    (meaning : P → Plane) (asks : DeskCall → Type 0) (gives_up : StoreFault → Type 0) (due : ℕ → ℕ → Type 0)
+    (ends : ℕ → Type 0) (camera : SeenCamera S D P) (from to : ℕ) (before after : Option (List ℕ)) (s : StoreState)
+    (lost : LostFrames) : Type 0 where
+  pub end : SeenCamera S D P
+  pub keeps : CameraKeeps medium gives meaning asks gives_up due ends camera end lost.given_up lost.left lost.missed
+      lost.failed true
+  pub stored : camera.desk.pending ++ accepted_in keeps.calls
+      ≡ frames_stored (steps_made camera.desk s keeps.calls) ++ end.desk.pending
+  pub text_is : Appends before after (text camera.desk.store.geometry (frames_between from to
+      (plain (ring_of camera.desk.store.geometry) s.recording (steps_made camera.desk s keeps.calls)).frames))
