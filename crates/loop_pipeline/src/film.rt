@@ -91,7 +91,8 @@ impl Link {
     }
 }
 
-// Moves the frames that wait in the queue into the ring, and waits for room there.
+// Moves the frames that wait in the queue into the ring, and waits for room there. Where none waits, it takes no memory
+// and no lock.
 fn take_all<R: Wait, S: FrameSource + Drop, P: PlaneMemory, G: Guide>(
     rt: &R,
     alloc: Global,
@@ -106,6 +107,9 @@ fn take_all<R: Wait, S: FrameSource + Drop, P: PlaneMemory, G: Guide>(
         // An empty hand has nothing to put back. A buffer that can't be queued again stays in the hand: then `take`
         // refuses, and the loop ends.
         let _refused = front.put_back();
+        if !front.has_done() {
+            break;
+        }
         if spare.is_none() {
             spare = link.take_memory(rt);
         }

@@ -252,11 +252,6 @@ impl<S: FrameSource + Drop, P: PlaneMemory, G: Guide, A: Allocator + Copy> Front
         }
     }
 
-    /// Whether a buffer waits for a frame. It promises nothing.
-    pub fn is_fed(&self) -> bool {
-        self.queue.next_active().is_some()
-    }
-
     /// The next tick of the device, as `Device::tick`, when its guide says so; frames that it lost are counted. None:
     /// the guide ends the device, or no more ticks can be counted.
     pub fn tick<R: Wait + Clock>(&mut self, rt: &R, guide: &G) -> Option<Tick>
@@ -283,6 +278,11 @@ impl<S: FrameSource + Drop, P: PlaneMemory, G: Guide, A: Allocator + Copy> Front
     /// Whether its guide or its source has ended it. It promises nothing.
     pub fn is_over(&self) -> bool {
         self.over
+    }
+
+    /// Whether a buffer is done, or its frame was given up, and can be dequeued. It promises nothing.
+    pub fn has_done(&self) -> bool {
+        self.queue.has_done()
     }
 
     /// Moves the frame that waits first into the ring, with the mark that its source gave it in its flags. Its memory
