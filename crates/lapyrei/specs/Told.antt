@@ -1,6 +1,6 @@
 -- What C is told of a call.
 use Rattle.std.specs.Prelude.{◌≡◌, ◌⊎◌, ℕ, Bool, List, [], ◌∷◌, drop, length, take, Result, Ok, Err}
-use Rattle.core.specs.Int.{from_bool}
+use Rattle.std.specs.Int.{from_bool}
 use Rattle.loop_disk.specs.Crashing.{Tape, medium_after}
 use Rattle.loop_disk.specs.Calls.{no_failures}
 use Rattle.loop_record.specs.declared.frame.FrameHead.{FrameHead}
