@@ -8,6 +8,7 @@
 //! - `runs`: what of a keep's time is held, and the gaps in it; which clips lie within longer ones;
 //! - `search`: which frames of a clip are looked at to find where some are missing;
 //! - `saves`: places of saves: which begins, which waits, and which clips are read meanwhile;
+//! - `save_end`: what is told of a save's end, whether and when it is tried again;
 //! - `text`: the steps by which the text of a save gets its name;
 //! - `replies`: the answers of the cameras that an order means, and when it is answered;
 //! - `still`: whether the program stood still;
@@ -17,11 +18,11 @@
 //! - `laws`: what holds over any list of events, each law the contract of a function that does nothing.
 //!
 //! Each call is a step of the model in `specs`: `Frames` for tallies, `Cameras`, `Keeps`, `Growth`, `Gaps` for runs,
-//! `Search`, `Saving`, `Texts`, `Answers` for replies, `Telling` for lines, `Still`. `Laws` says what follows of it:
-//! frames add up; a keep locks only the times of its line, and only once each frame that had come before that line is
-//! at the desk or lost, or every block is locked, or no frame has made progress for a minute; what is held of a time
-//! and its gaps are all of it; a clip that a save reads isn't released; a text is told as saved once it is on the disk;
-//! a line says what was so, and each lost frame is told once.
+//! `Search`, `Saving`, `SaveEnds`, `Texts`, `Answers` for replies, `Telling` for lines, `Still`. `Laws` says what
+//! follows of it: frames add up; a keep locks only the times of its line, and only once each frame that had come before
+//! that line is at the desk or lost, or every block is locked, or no frame has made progress for a minute; what is held
+//! of a time and its gaps are all of it; a clip that a save reads isn't released; a text is told as saved once it is on
+//! the disk; a line says what was so, and each lost frame is told once.
 #![tactic(auto)]
 
 mod camera;
@@ -32,6 +33,7 @@ pub mod laws;
 mod marks;
 mod replies;
 mod runs;
+mod save_end;
 mod saves;
 mod search;
 mod still;
@@ -48,6 +50,7 @@ pub use keep::{Keep, KeepTurn, Numbers, bounds, is_too_far, next_turn};
 pub use marks::{bits_of, came_late, is_late, mark};
 pub use replies::Replies;
 pub use runs::{ClipSpan, Gap, Run, Shortfall, is_covered, shortfall_of};
+pub use save_end::{AfterSave, SaveEnd, SaveLine, after_save};
 pub use saves::{Asked, Cancelled, Ended, SaveKey, Saves, StoppedSave};
 pub use search::{Mark, Search, SearchTurn};
 pub use still::stood_still;

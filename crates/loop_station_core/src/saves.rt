@@ -2,9 +2,10 @@
 
 ghost use Rattle.std.specs.Prelude.{◌≡◌, ◌≢◌, ◌++◌, ◌∷◌, if◌then◌else◌, ◌<◌, ◌==◌, IfOk, IfSome, Some, None, is_some, not, length, replicate, option_map, [], true, false};
 ghost use Rattle.std.specs.List.{position};
-ghost use Rattle.loop_station_core.specs.Saving.{asked, begun, cancelled, cancelled_at, ended, held_at, holds, is_read, left_by, picks, reads, shown, stopped, wanted};
+ghost use Rattle.loop_station_core.specs.Saving.{asked, begun, cancelled, cancelled_at, ended, finished, held_at, holds, is_read, left_by, picks, reads, shown, stopped, wanted, with_wish};
 ghost use Rattle.loop_station_core.specs.declared.saves.Asked.TheVariants.{NoMemory, Waits};
 
+use crate::save_end::{SaveEnd, is_saved};
 use std::alloc::{AllocError, Global};
 
 /// The clip of a save: its camera, its id, and the number of its first frame.
@@ -19,6 +20,8 @@ pub struct SaveKey {
 #[derive(Clone, Copy)]
 struct Save {
     key: SaveKey,
+    // It began by itself.
+    automatic: bool,
     // Its clip is released once no save reads it.
     release: bool,
     // It is to end before its text is whole.
@@ -150,6 +153,7 @@ impl Saves {
         }
         let save = Save {
             key,
+            automatic,
             release: false,
             cancelled: false,
         };
@@ -194,6 +198,28 @@ impl Saves {
         let release = self.leave(save);
         let begun = self.begin_next(place);
         Ended { release, begun }
+    }
+
+    /// The save of a place has come to this end by itself; `releases`: clips of its camera are released once they are
+    /// saved. So is its clip where the save began by itself, and the text is there. The rest as `ended`.
+    pub fn finish(&mut self, place: usize, end: SaveEnd, releases: bool) -> Ended
+        ensures { (shown self.new, result) ≡ finished (shown self.old) place end releases }
+    {
+        self.wish(place, end, releases);
+        self.ended(place)
+    }
+
+    // The clip of the save that runs in a place is to be released once no save reads it, where that follows from this
+    // end of the save.
+    fn wish(&mut self, place: usize, end: SaveEnd, releases: bool)
+        ensures { shown self.new ≡ with_wish (shown self.old) place end releases }
+    {
+        if let Some(save) = self.held(place) {
+            if save.automatic && is_saved(end) && releases {
+                // The end of the last save that reads the clip says when.
+                let _later = self.wants_release(save.key.camera, save.key.id);
+            }
+        }
     }
 
     // What a place holds.

@@ -13,7 +13,7 @@ use crate::answering::{Answering, KeptClip, SaveOrder};
 use crate::clerk::FoundClip;
 use crate::places::Places;
 use crate::state::CameraState;
-use loop_station_core::{Asked, Cancelled, SaveKey};
+use loop_station_core::{Asked, Cancelled, SaveEnd, SaveKey, SaveLine, after_save};
 use loop_station_words::Lines;
 pub use not_saved::NotSaved;
 use std::alloc::{AllocError, AllocGlobal, Global};
@@ -28,9 +28,6 @@ pub(crate) const MOST_SAVES: usize = 16;
 
 // How often a stop waits ten milliseconds for saves that are about to end.
 const STOP_STEPS: u32 = 70;
-
-// After how many microseconds a save that began by itself and failed is tried again.
-const AGAIN: u64 = 60_000_000;
 
 /// Where a clip is saved to.
 #[derive(Drop)]
@@ -200,21 +197,21 @@ impl Saves {
         Arc::try_clone(place.save.as_ref()?).ok()
     }
 
-    // The save of a place has ended; its clip is to be released, or isn't. Returns the save, unless someone else told
-    // its result already, and whether its clip is released now.
-    fn end<R: Wait>(&self, rt: &R, at: usize, release: bool) -> (Option<Arc<Save>>, bool) {
+    // The save of a place has ended so; `releases`: clips of its camera are released once they are saved. Returns the
+    // save, unless someone else told its result already, and whether its clip is released now.
+    fn end<R: Wait>(
+        &self,
+        rt: &R,
+        at: usize,
+        end: SaveEnd,
+        releases: bool,
+    ) -> (Option<Arc<Save>>, bool) {
         let mut inside = self.inside.lock(rt);
         let save = match inside.places.get_mut(at) {
             Some(place) => place.save.take(),
             None => None,
         };
-        if release {
-            if let Some(key) = inside.decided.at(at) {
-                // The end of the last save that reads the clip says when.
-                let _later = inside.decided.wants_release(key.camera, key.id);
-            }
-        }
-        let ended = inside.decided.ended(at);
+        let ended = inside.decided.finish(at, end, releases);
         if let Some(key) = ended.begun {
             inside.begin_waiting(at, key);
             self.changed.notify_all();
@@ -448,13 +445,21 @@ fn run_save<R: AllocGlobal + Places + Wait + Clock>(
         }
         Err(why) => (String::new(rt.alloc()), Err(why)),
     };
-    let release = came.is_ok() && save.is_automatic() && state.config.release;
-    let (ours, is_released) = saves.end(rt, at, release);
+    let (ours, is_released) = saves.end(rt, at, end_of(&came), state.config.release);
     if let Some(ours) = ours {
         tell_save(rt, saves, state, ours, path.as_str(), came);
     }
     if is_released {
         state.release_saved(rt, save.found.clip);
+    }
+}
+
+// How a save has ended, by what came of it.
+fn end_of(came: &Result<Option<u64>, NotSaved>) -> SaveEnd {
+    match came {
+        Ok(Some(_)) => SaveEnd::Whole,
+        Ok(None) => SaveEnd::Already,
+        Err(why) => why.end(),
     }
 }
 
@@ -470,24 +475,21 @@ fn tell_save<R: AllocGlobal + Wait + Clock>(
 ) {
     let (name, id) = (state.config.name.as_str(), save.found.clip.id);
     let mut lines = state.lines(rt.alloc());
-    // Where memory for the line is refused, it isn't printed.
-    let _ = match came {
-        Ok(None) => Ok(()),
-        Ok(Some(count)) => lines.saved(name, id, path, count),
-        Err(why) if save.is_automatic() && why.may_pass() => {
-            let told = save.is_told.swap(true, Ordering::SeqCst);
-            let again = state.timeline.now(rt).saturating_add(AGAIN);
-            let kept = Arc::try_clone(&save);
-            if let Ok(kept) = kept {
-                saves.retry(rt, kept, again);
-            }
-            if told {
-                Ok(())
-            } else {
-                lines.save_waits(name, id, path, &why)
-            }
+    let told = save.is_told.load(Ordering::SeqCst);
+    let now = state.timeline.now(rt);
+    let after = after_save(end_of(&came), save.is_automatic(), told, now);
+    if let Some(again) = after.again {
+        save.is_told.store(true, Ordering::SeqCst);
+        if let Ok(kept) = Arc::try_clone(&save) {
+            saves.retry(rt, kept, again);
         }
-        Err(why) => lines.not_saved(name, id, path, &why),
+    }
+    // Where memory for the line is refused, it isn't printed.
+    let _ = match (after.line, came) {
+        (Some(SaveLine::Saved), Ok(Some(count))) => lines.saved(name, id, path, count),
+        (Some(SaveLine::Waits), Err(why)) => lines.save_waits(name, id, path, &why),
+        (Some(SaveLine::NotSaved), Err(why)) => lines.not_saved(name, id, path, &why),
+        _ => Ok(()),
     };
     tell_for(rt, state, &save, lines);
 }
