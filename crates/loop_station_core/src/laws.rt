@@ -1,6 +1,6 @@
 //! What holds over any list of events. Each function does nothing: its contract is the law.
 
-ghost use Rattle.loop_station_core.specs.Laws.{DisksAreToldOnce, FilmingsGoOn, FoundGapsAreSo, FramesAddUp, GapsAddUp, GapsAreLookedFor, KeepsAreRight, LinesAreSo, LockedLinesAlternate, LostAreToldOnce, OrdersAreAnsweredOnce, ReadClipsWait, ReleasesAreFree, SavedTextsAreThere, SilentSourcesWait, StopsAreForGood};
+ghost use Rattle.loop_station_core.specs.Laws.{DisksAreToldOnce, FilmingsGoOn, FoundGapsAreSo, FramesAddUp, GapsAddUp, GapsAreLookedFor, KeepsAreRight, LinesAreSo, LockedLinesAlternate, LostAreToldOnce, OrdersAreAnsweredOnce, ReadClipsWait, ReleasesAreEarned, ReleasesAreFree, SavedTextsAreThere, SavesWaitOnce, SilentSourcesWait, StopsAreForGood};
 ghost use Rattle.loop_station_core.specs.Marks.{MarksAreRead};
 ghost use Rattle.loop_station_core.specs.Timing.{GapsAreToldApart, TimesRise};
 
@@ -59,6 +59,17 @@ pub fn releases_are_free()
 /// A clip that a save reads isn't released when that is wanted, but waits.
 pub fn read_clips_wait()
     ensures { ReadClipsWait }
+{}
+
+/// Saves release a clip only by order, or where the text of one that began by itself is there, and clips of its camera
+/// are released then.
+pub fn releases_are_earned()
+    ensures { ReleasesAreEarned }
+{}
+
+/// A save that is tried again is told as such once, however often it fails.
+pub fn saves_wait_once()
+    ensures { SavesWaitOnce }
 {}
 
 /// Each line says what was so when it was seen.
