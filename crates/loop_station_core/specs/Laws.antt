@@ -6,6 +6,7 @@ use Rattle.loop_station_core.specs.Cameras.{lived}
 use Rattle.loop_station_core.specs.Frames.{Step, after, all_of, come_in, no_frames}
 use Rattle.loop_station_core.specs.Gaps.{AreWithin, gaps, missing}
 use Rattle.loop_station_core.specs.Keeps.{AreInOrder, EachTurn, HasTimesOf, IsRight, IsTimely}
+use Rattle.loop_station_core.specs.Orders.{OrderStep, after_all, handed_in, no_orders, taken_in}
 use Rattle.loop_station_core.specs.Releases.{SaveStep, frees_in, lets_in, no_saves}
 use Rattle.loop_station_core.specs.SaveEnds.{waits_in}
 use Rattle.loop_station_core.specs.Search.{has_gap, mark_at, most, told, turn}
@@ -63,6 +64,11 @@ ReleasesAreEarned = (places camera id : ℕ) (steps : List SaveStep)
 -- A save that is tried again is told as such once, however often it fails.
 abbrev pub SavesWaitOnce : Type 0
 SavesWaitOnce = (ends : List (SaveEnd × ℕ)) → waits_in false ends ≤ 1
+
+-- At most 256 orders of a camera wait, and each one that was taken in waits or was handed out.
+abbrev pub OrdersAreHandedOut : Type 0
+OrdersAreHandedOut = (steps : List OrderStep) → let orders = after_all no_orders steps in
+    (orders.waiting ≤ 256) × (handed_in no_orders steps + orders.waiting ≡ taken_in no_orders steps)
 
 -- what a line says was so when it was seen
 abbrev pub IsSo : Seen → Change → Type 0

@@ -6,6 +6,7 @@ pub mod Growth
 pub mod Keeps
 pub mod Laws
 pub mod Marks
+pub mod Orders
 pub mod Releases
 pub mod SaveEnds
 pub mod Saving

@@ -1,6 +1,6 @@
 //! What holds over any list of events. Each function does nothing: its contract is the law.
 
-ghost use Rattle.loop_station_core.specs.Laws.{DisksAreToldOnce, FilmingsGoOn, FoundGapsAreSo, FramesAddUp, GapsAddUp, GapsAreLookedFor, KeepsAreRight, LinesAreSo, LockedLinesAlternate, LostAreToldOnce, OrdersAreAnsweredOnce, ReadClipsWait, ReleasesAreEarned, ReleasesAreFree, SavedTextsAreThere, SavesWaitOnce, SilentSourcesWait, StopsAreForGood};
+ghost use Rattle.loop_station_core.specs.Laws.{DisksAreToldOnce, FilmingsGoOn, FoundGapsAreSo, FramesAddUp, GapsAddUp, GapsAreLookedFor, KeepsAreRight, LinesAreSo, LockedLinesAlternate, LostAreToldOnce, OrdersAreAnsweredOnce, OrdersAreHandedOut, ReadClipsWait, ReleasesAreEarned, ReleasesAreFree, SavedTextsAreThere, SavesWaitOnce, SilentSourcesWait, StopsAreForGood};
 ghost use Rattle.loop_station_core.specs.Marks.{MarksAreRead};
 ghost use Rattle.loop_station_core.specs.Timing.{GapsAreToldApart, TimesRise};
 
@@ -70,6 +70,11 @@ pub fn releases_are_earned()
 /// A save that is tried again is told as such once, however often it fails.
 pub fn saves_wait_once()
     ensures { SavesWaitOnce }
+{}
+
+/// At most 256 orders of a camera wait, and each one that was taken in waits or was handed out.
+pub fn orders_are_handed_out()
+    ensures { OrdersAreHandedOut }
 {}
 
 /// Each line says what was so when it was seen.

@@ -10,6 +10,7 @@
 //! - `saves`: places of saves: which begins, which waits, and which clips are read meanwhile;
 //! - `save_end`: what is told of a save's end, whether and when it is tried again;
 //! - `text`: the steps by which the text of a save gets its name;
+//! - `orders`: which orders of a camera are taken in, and whether one is being done;
 //! - `replies`: the answers of the cameras that an order means, and when it is answered;
 //! - `still`: whether the program stood still;
 //! - `marks`: what stands in a frame's flags: its bits, and whether it came late;
@@ -18,10 +19,11 @@
 //! - `laws`: what holds over any list of events, each law the contract of a function that does nothing.
 //!
 //! Each call is a step of the model in `specs`: `Frames` for tallies, `Cameras`, `Keeps`, `Growth`, `Gaps` for runs,
-//! `Search`, `Saving`, `SaveEnds`, `Texts`, `Answers` for replies, `Telling` for lines, `Still`. `Laws` says what follows of it: frames add up; a keep locks only the times of its line, and only
+//! `Search`, `Saving`, `SaveEnds`, `Texts`, `Orders`, `Answers` for replies, `Telling` for lines, `Still`. `Laws` says what follows of it: frames add up; a keep locks only the times of its line, and only
 //! once each frame that had come before that line is at the desk or lost, or every block is locked, or no frame has
 //! made progress for a minute; what is held of a time and its gaps are all of it; a clip that a save reads isn't
-//! released, and one that a save releases has a whole text; a text is told as saved once it is on the disk; a line says what was so, and each lost frame is told once.
+//! released, and one that a save releases has a whole text; a text is told as saved once it is on the disk; an order
+//! that is taken in waits or is handed out; a line says what was so, and each lost frame is told once.
 #![tactic(auto)]
 
 mod camera;
@@ -30,6 +32,7 @@ mod growth;
 mod keep;
 pub mod laws;
 mod marks;
+mod orders;
 mod replies;
 mod runs;
 mod save_end;
@@ -47,6 +50,7 @@ pub use changes::{
 pub use growth::{EventEnd, GrowthTurn, KeptAnswer, event_end, kept_answer, next_growth};
 pub use keep::{Keep, KeepTurn, Numbers, bounds, is_too_far, next_turn};
 pub use marks::{bits_of, came_late, is_late, mark};
+pub use orders::{AddedOrder, Attended, MOST_ORDERS, Orders};
 pub use replies::Replies;
 pub use runs::{ClipSpan, Gap, Run, Shortfall, is_covered, shortfall_of};
 pub use save_end::{AfterSave, SaveEnd, SaveLine, after_save};
