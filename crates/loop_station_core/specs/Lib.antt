@@ -1,5 +1,6 @@
 pub mod Answers
 pub mod Cameras
+pub mod Clips
 pub mod Frames
 pub mod Gaps
 pub mod Growth
@@ -11,7 +12,9 @@ pub mod Releases
 pub mod SaveEnds
 pub mod Saving
 pub mod Search
+pub mod Spools
 pub mod Still
+pub mod Stores
 pub mod Telling
 pub mod Texts
 pub mod Timing
