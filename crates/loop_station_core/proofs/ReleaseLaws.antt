@@ -46,7 +46,7 @@ module _ {X : Type 0} where
         let there : slice_get ys (position_or_len p ys) ≡ Some x = grind (arith, common_steps) in
         more there
 
-  first-at : (p : X → Bool) (xs : List X) (i : ℕ) (x : X) → position p xs ≡ Some i → slice_get xs i ≡ Some x
+  pub first-at : (p : X → Bool) (xs : List X) (i : ℕ) (x : X) → position p xs ≡ Some i → slice_get xs i ≡ Some x
       → p x ≡ true
   first-at p xs i x e g =
       let same : position_or_len p xs ≡ i = grind (arith, common_steps) in

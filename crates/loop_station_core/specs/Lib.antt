@@ -9,6 +9,7 @@ pub mod Laws
 pub mod Marks
 pub mod Orders
 pub mod Releases
+pub mod Retries
 pub mod SaveEnds
 pub mod Saving
 pub mod Search

@@ -27,6 +27,14 @@ shown s = record { running = s.running.items; waiting = s.waiting.items; stopped
 abbrev pub new_save : SaveKey → Bool → Save
 new_save key automatic = record { key = key; automatic = automatic; release = false; cancelled = false }
 
+-- two saves are of one clip
+abbrev pub is_same : SaveKey → SaveKey → Bool
+is_same a b = (a.camera == b.camera) && ((a.id == b.id) && (a.first == b.first))
+
+-- a save of a clip began by itself, and isn't to end before its text is whole
+abbrev pub saves_itself : SaveKey → Save → Bool
+saves_itself key s = s.automatic && (not s.cancelled && is_same key s.key)
+
 -- it reads the clip of an id
 abbrev pub reads : ℕ → ℕ → Save → Bool
 reads camera id s = (s.key.camera == camera) && (s.key.id == id)
@@ -59,6 +67,11 @@ turn_of p camera id = position (reads camera id) p.waiting
 -- a save that runs or waits reads a clip
 abbrev pub is_read : Places → ℕ → ℕ → Bool
 is_read p camera id = is_some (place_of p camera id true) || is_some (turn_of p camera id)
+
+-- a clip is being saved by itself, or waits for that
+abbrev pub has_automatic : Places → SaveKey → Bool
+has_automatic p key = is_some (position (holds (saves_itself key)) p.running)
+    || is_some (position (saves_itself key) p.waiting)
 
 -- it releases its clip at its end, if no other save reads it then
 abbrev pub with_release : Save → Save

@@ -2,6 +2,7 @@
 
 ghost use Rattle.loop_station_core.specs.Laws.{DisksAreToldOnce, FilmingsGoOn, FoundGapsAreSo, FramesAddUp, GapsAddUp, GapsAreLookedFor, KeepsAreRight, LinesAreSo, LockedLinesAlternate, LostAreToldOnce, OrdersAreAnsweredOnce, OrdersAreHandedOut, ReadClipsWait, ReleasesAreEarned, ReleasesAreFree, SavedTextsAreThere, SavesWaitOnce, SilentSourcesWait, StopsAreForGood};
 ghost use Rattle.loop_station_core.specs.Marks.{MarksAreRead};
+ghost use Rattle.loop_station_core.specs.Retries.{RetriesAreDue};
 ghost use Rattle.loop_station_core.specs.Timing.{GapsAreToldApart, TimesRise};
 
 /// Each frame that came is stored, lost, at the desk, or on its way to it.
@@ -70,6 +71,11 @@ pub fn releases_are_earned()
 /// A save that is tried again is told as such once, however often it fails.
 pub fn saves_wait_once()
     ensures { SavesWaitOnce }
+{}
+
+/// A save that failed is tried again only once its time has come.
+pub fn retries_are_due()
+    ensures { RetriesAreDue }
 {}
 
 /// At most 256 orders of a camera wait, and each one that was taken in waits or was handed out.

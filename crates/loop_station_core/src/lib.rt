@@ -9,6 +9,7 @@
 //! - `search`: which frames of a clip are looked at to find where some are missing;
 //! - `saves`: places of saves: which begins, which waits, and which clips are read meanwhile;
 //! - `save_end`: what is told of a save's end, whether and when it is tried again;
+//! - `retries`: which saves are tried again, and when;
 //! - `clips`: which clips may be released, and how many keeps have room;
 //! - `text`: the steps by which the text of a save gets its name;
 //! - `orders`: which orders of a camera are taken in, and whether one is being done;
@@ -22,7 +23,7 @@
 //! - `laws`: what holds over any list of events, each law the contract of a function that does nothing.
 //!
 //! Each call is a step of the model in `specs`: `Frames` for tallies, `Cameras`, `Keeps`, `Growth`, `Gaps` for runs,
-//! `Search`, `Saving`, `SaveEnds`, `Clips`, `Texts`, `Orders`, `Answers` for replies, `Telling` for lines, `Spools`,
+//! `Search`, `Saving`, `SaveEnds`, `Retries`, `Clips`, `Texts`, `Orders`, `Answers` for replies, `Telling` for lines, `Spools`,
 //! `Stores`, `Still`. `Laws` says what follows of it: frames add up; a keep locks only the times of its line, and only
 //! once each frame that had come before that line is at the desk or lost, or every block is locked, or no frame has
 //! made progress for a minute; what is held of a time and its gaps are all of it; a clip that a save reads isn't
@@ -39,6 +40,7 @@ pub mod laws;
 mod marks;
 mod orders;
 mod replies;
+mod retries;
 mod runs;
 mod save_end;
 mod saves;
@@ -60,6 +62,7 @@ pub use keep::{Keep, KeepTurn, Numbers, bounds, is_too_far, next_turn};
 pub use marks::{bits_of, came_late, is_late, mark};
 pub use orders::{AddedOrder, Attended, MOST_ORDERS, Orders};
 pub use replies::Replies;
+pub use retries::Retries;
 pub use runs::{ClipSpan, Gap, Run, Shortfall, is_covered, shortfall_of};
 pub use save_end::{AfterSave, SaveEnd, SaveLine, after_save};
 pub use saves::{Asked, Cancelled, Ended, SaveKey, Saves, StoppedSave};

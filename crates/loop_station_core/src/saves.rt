@@ -2,7 +2,7 @@
 
 ghost use Rattle.std.specs.Prelude.{◌≡◌, ◌≢◌, ◌++◌, ◌∷◌, if◌then◌else◌, ◌<◌, ◌==◌, IfOk, IfSome, Some, None, is_some, not, length, replicate, option_map, [], true, false};
 ghost use Rattle.std.specs.List.{position};
-ghost use Rattle.loop_station_core.specs.Saving.{asked, begun, cancelled, cancelled_at, ended, finished, held_at, holds, is_read, left_by, picks, reads, shown, stopped, wanted, with_wish};
+ghost use Rattle.loop_station_core.specs.Saving.{asked, begun, cancelled, cancelled_at, ended, finished, has_automatic, held_at, holds, is_read, is_same, left_by, picks, reads, saves_itself, shown, stopped, wanted, with_wish};
 ghost use Rattle.loop_station_core.specs.declared.saves.Asked.TheVariants.{NoMemory, Waits};
 
 use crate::save_end::{SaveEnd, is_saved};
@@ -14,6 +14,15 @@ pub struct SaveKey {
     pub camera: usize,
     pub id: u32,
     pub first: u64,
+}
+
+impl SaveKey {
+    /// Whether two saves are of one clip.
+    pub fn is_same(&self, other: &SaveKey) -> bool
+        ensures { result ≡ is_same self.now other.now }
+    {
+        self.camera == other.camera && self.id == other.id && self.first == other.first
+    }
 }
 
 // A save that runs or waits.
@@ -87,6 +96,30 @@ fn is_reader(save: &Save, camera: usize, id: u32) -> bool
     ensures { result ≡ reads camera id save.now }
 {
     save.key.camera == camera && save.key.id == id
+}
+
+// Whether a save of a clip began by itself, and isn't to end before its text is whole.
+fn saves_itself(save: &Save, key: SaveKey) -> bool
+    ensures { result ≡ saves_itself key save.now }
+{
+    save.automatic && !save.cancelled && key.is_same(&save.key)
+}
+
+// The first place in which such a save runs.
+fn running_itself(running: &[Option<Save>], key: SaveKey) -> Option<usize>
+    ensures { result ≡ position (holds (saves_itself key)) running.now }
+{
+    running.iter().position(|place| match place {
+        Some(save) => saves_itself(save, key),
+        None => false,
+    })
+}
+
+// The first such save that waits.
+fn waiting_itself(waiting: &[Save], key: SaveKey) -> Option<usize>
+    ensures { result ≡ position (saves_itself key) waiting.now }
+{
+    waiting.iter().position(|save| saves_itself(save, key))
 }
 
 // The first place whose save reads a clip; `any`: also one that is to end already.
@@ -274,6 +307,13 @@ impl Saves {
             Some(save) => save.cancelled,
             None => false,
         }
+    }
+
+    /// Whether a clip is being saved by itself, or waits for that: a second such save of it isn't needed.
+    pub fn has_automatic(&self, key: SaveKey) -> bool
+        ensures { result ≡ has_automatic (shown self.now) key }
+    {
+        running_itself(&self.running, key).is_some() || waiting_itself(&self.waiting, key).is_some()
     }
 
     /// Whether a save that runs or waits reads the clip of an id, so that it may not be released.

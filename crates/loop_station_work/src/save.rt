@@ -13,7 +13,7 @@ use crate::answering::{Answering, KeptClip, SaveOrder};
 use crate::clerk::FoundClip;
 use crate::places::Places;
 use crate::state::CameraState;
-use loop_station_core::{Asked, Cancelled, SaveEnd, SaveKey, SaveLine, after_save};
+use loop_station_core::{Asked, Cancelled, Retries, SaveEnd, SaveKey, SaveLine, after_save};
 use loop_station_words::Lines;
 pub use not_saved::NotSaved;
 use std::alloc::{AllocError, AllocGlobal, Global};
@@ -67,13 +67,6 @@ impl Save {
         }
     }
 
-    // Whether it reads this clip.
-    fn is_of(&self, key: &SaveKey) -> bool {
-        self.camera == key.camera
-            && self.found.clip.id == key.id
-            && self.found.clip.from == key.first
-    }
-
     // Whether it begins by itself.
     fn is_automatic(&self) -> bool {
         self.order.is_none()
@@ -89,20 +82,15 @@ struct SavePlace {
     is_new: bool,
 }
 
-// A save that began by itself and failed, and when it is tried again.
-#[derive(Drop)]
-struct Retry {
-    save: Arc<Save>,
-    at: u64,
-}
-
 #[derive(Drop)]
 struct Inside {
     decided: loop_station_core::Saves,
     places: Vec<SavePlace>,
     // The saves that wait for a place.
     waiting: Vec<Arc<Save>>,
-    retries: Vec<Retry>,
+    // The saves that began by themselves and failed, and when each is tried again.
+    failed: Vec<Arc<Save>>,
+    retries: Retries,
 }
 
 /// The saves that are in progress.
@@ -136,7 +124,8 @@ impl Saves {
                 decided: loop_station_core::Saves::new(alloc, MOST_SAVES)?,
                 places,
                 waiting: Vec::new(alloc),
-                retries: Vec::new(alloc),
+                failed: Vec::new(alloc),
+                retries: Retries::new(alloc),
             }),
             changed: Condvar::new(),
             stopped: AtomicBool::new(false),
@@ -163,7 +152,7 @@ impl Saves {
     // Begins a save, or lets it wait.
     fn begin<R: Wait>(&self, rt: &R, save: Arc<Save>) -> Result<(), NotBegun> {
         let mut inside = self.inside.lock(rt);
-        if save.is_automatic() && inside.has_automatic(&save.key()) {
+        if save.is_automatic() && inside.has_automatic(save.key()) {
             return Ok(());
         }
         match inside.decided.ask(save.key(), save.is_automatic()) {
@@ -221,27 +210,27 @@ impl Saves {
 
     // A save that began by itself failed, and is tried again at a time.
     fn retry<R: Wait>(&self, rt: &R, save: Arc<Save>, at: u64) {
+        let mut inside = self.inside.lock(rt);
+        let key = save.key();
         // Where memory is refused, it is tried again at the next start.
-        let _ = self.inside.lock(rt).retries.push(Retry { save, at });
+        if inside.failed.push(save).is_ok() && !inside.retries.add(key, at) {
+            let _left_out = inside.failed.pop();
+        }
     }
 
     /// The saves that are due to be tried again.
     pub fn due<R: Wait>(&self, rt: &R, now: u64) -> Option<Arc<Save>> {
         let mut inside = self.inside.lock(rt);
-        let at = inside.retries.iter().position(|retry| retry.at <= now)?;
-        let Retry { save, at: _ } = inside.retries.remove(at);
-        Some(save)
+        let at = inside.retries.due(now)?;
+        inside.take_failed(at)
     }
 
     /// Ends a save of the clip of an id of a camera. Returns the order that asked for it, which has to be answered, and
     /// the path; None where no save reads that clip.
     pub fn cancel<R: Wait>(&self, rt: &R, camera: usize, id: u32) -> Option<Arc<Save>> {
         let mut inside = self.inside.lock(rt);
-        let retried = inside.retries.iter().position(|retry| retry.save.camera == camera
-            && retry.save.found.clip.id == id);
-        if let Some(at) = retried {
-            let Retry { save, at: _ } = inside.retries.remove(at);
-            return Some(save);
+        if let Some(at) = inside.retries.cancel(camera, id) {
+            return inside.take_failed(at);
         }
         match inside.decided.cancel(camera, id) {
             Cancelled::Running(place) => {
@@ -327,13 +316,17 @@ impl Inside {
         Some(self.waiting.remove(at))
     }
 
+    // Takes a save that failed.
+    fn take_failed(&mut self, at: usize) -> Option<Arc<Save>> {
+        if at < self.failed.len() {
+            return Some(self.failed.remove(at));
+        }
+        None
+    }
+
     // Whether a clip is being saved by itself, or is going to be.
-    fn has_automatic(&self, key: &SaveKey) -> bool {
-        self.places.iter().any(|place| match &place.save {
-            Some(save) => save.is_automatic() && save.is_of(key),
-            None => false,
-        }) || self.waiting.iter().any(|save| save.is_of(key))
-            || self.retries.iter().any(|retry| retry.save.is_of(key))
+    fn has_automatic(&self, key: SaveKey) -> bool {
+        self.decided.has_automatic(key) || self.retries.has(key)
     }
 }
 
