@@ -140,7 +140,8 @@ held-free camera id p place s e h =
     any-get (holds (bears camera id)) p.running place (Some s) h.0 there
 
 ended-free : (camera id : ℕ) (p : Places) (place : ℕ) → Free camera id p
-    → Free camera id (ended p place).0 × ((holds (reads camera id) (held_at p place) && (ended p place).1.release) ≡ false)
+    → Free camera id (ended p place).0
+    × ((holds (reads camera id) (held_at p place) && (ended p place).1.release) ≡ false)
 ended-free camera id p place h = at (held_at p place) refl where
   at : (o : Option Save) → held_at p place ≡ o → Free camera id (ended p place).0
       × ((holds (reads camera id) (held_at p place) && (ended p place).1.release) ≡ false)
@@ -245,4 +246,5 @@ none-bears camera id (suc n) = none-bears camera id n
 
 pub releases-earned : (places camera id : ℕ) (steps : List SaveStep) → lets_in camera id (no_saves places) steps ≡ false
     → frees_in camera id (no_saves places) steps ≡ false
-releases-earned places camera id steps n = from-free camera id (no_saves places) steps (none-bears camera id places, refl) n
+releases-earned places camera id steps n =
+    from-free camera id (no_saves places) steps (none-bears camera id places, refl) n

@@ -35,7 +35,8 @@ is_clip camera id c i = (c == camera) && (i == id)
 -- what happens releases the clip of an id of a camera
 abbrev pub frees : ℕ → ℕ → Places → SaveStep → Bool
 frees camera id p (ends place end releases) =
-    holds (reads camera id) (held_at (with_wish p place end releases) place) && (finished p place end releases).1.release
+    holds (reads camera id) (held_at (with_wish p place end releases) place)
+    && (finished p place end releases).1.release
 frees camera id p (cancels c i) = is_clip camera id c i && says_release (cancelled p c i).1
 frees camera id p _ = false
 

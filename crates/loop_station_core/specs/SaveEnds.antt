@@ -32,7 +32,8 @@ abbrev pub says_waits : Option SaveLine → ℕ
 says_waits (Some Waits) = 1
 says_waits _ = 0
 
--- how many lines say so, of a save that began by itself and ends so one time after the other, as long as it is tried again
+-- how many lines say so, of a save that began by itself and ends so one time after the other, as long as it is tried
+-- again
 abbrev pub waits_in : Bool → List (SaveEnd × ℕ) → ℕ
 waits_in told [] = 0
 waits_in told (e ∷ es) =

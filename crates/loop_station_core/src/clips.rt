@@ -14,8 +14,8 @@ pub enum MayRelease {
     Other(u64),
 }
 
-/// Whether a clip may be released by an order; `is_read`: a save reads it; `asked`: the frame with which it has to begin,
-/// if the order says so; `first`: the frame with which the clip of its id begins, if there is such a clip.
+/// Whether a clip may be released by an order; `is_read`: a save reads it; `asked`: the frame with which it has to
+/// begin, if the order says so; `first`: the frame with which the clip of its id begins, if there is such a clip.
 pub fn may_release(is_read: bool, asked: Option<u64>, first: Option<u64>) -> MayRelease
     ensures { result ≡ may_release is_read asked first }
 {

@@ -15,8 +15,8 @@ pub fn is_moved(recorded: (u64, u64), there: Option<(u64, u64)>) -> bool
     }
 }
 
-/// Whether an unfinished store that an earlier run left goes on, and isn't made anew: it has frames, or `is_alike`: it is
-/// for frames like those that come.
+/// Whether an unfinished store that an earlier run left goes on, and isn't made anew: it has frames, or `is_alike`: it
+/// is for frames like those that come.
 pub fn goes_on(frames: u64, is_alike: bool) -> bool
     ensures { result ≡ goes_on frames is_alike }
 {

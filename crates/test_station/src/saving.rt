@@ -160,8 +160,8 @@ impl Saving {
         self.core.is_cancelled(place)
     }
 
-    /// The save of a place has come to an end; `releases`: clips of its camera are released once they are saved. Whether
-    /// its clip is to be released now.
+    /// The save of a place has come to an end; `releases`: clips of its camera are released once they are saved.
+    /// Whether its clip is to be released now.
     pub fn finish(
         &mut self,
         judge: &mut Judge,

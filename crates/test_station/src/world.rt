@@ -502,7 +502,8 @@ impl Station {
         }
     }
 
-    // The release of a clip is ordered by its id; half of these say with which frame it begins, and some of them are wrong.
+    // The release of a clip is ordered by its id; half of these say with which frame it begins, and some of them are
+    // wrong.
     fn release_ordered(&mut self, camera: &mut Camera, id: u32, first: u64) {
         let is_read = self.saving.is_read(&mut self.judge, camera.place, id);
         let asked = match self.random.below(4) {

@@ -64,8 +64,8 @@ impl Display for NotSaved {
 }
 
 impl NotSaved {
-    /// How it ends a save: the same one may succeed later where the folder works again, the disk has room, or the camera
-    /// has its store.
+    /// How it ends a save: the same one may succeed later where the folder works again, the disk has room, or the
+    /// camera has its store.
     pub(super) fn end(&self) -> SaveEnd {
         match self {
             NotSaved::Absent(_)
