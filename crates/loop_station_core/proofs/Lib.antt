@@ -5,6 +5,9 @@ pub mod GapLaws
 pub mod KeepLaws
 pub mod LineLaws
 pub mod MarkLaws
+pub mod OrderLaws
+pub mod ReleaseLaws
+pub mod SaveEndLaws
 pub mod SaveLaws
 pub mod SearchLaws
 pub mod TextLaws

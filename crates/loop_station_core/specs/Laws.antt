@@ -6,6 +6,9 @@ use Rattle.loop_station_core.specs.Cameras.{lived}
 use Rattle.loop_station_core.specs.Frames.{Step, after, all_of, come_in, no_frames}
 use Rattle.loop_station_core.specs.Gaps.{AreWithin, gaps, missing}
 use Rattle.loop_station_core.specs.Keeps.{AreInOrder, EachTurn, HasTimesOf, IsRight, IsTimely}
+use Rattle.loop_station_core.specs.Orders.{OrderStep, after_all, handed_in, no_orders, taken_in}
+use Rattle.loop_station_core.specs.Releases.{SaveStep, frees_in, lets_in, no_saves}
+use Rattle.loop_station_core.specs.SaveEnds.{waits_in}
 use Rattle.loop_station_core.specs.Search.{has_gap, mark_at, most, told, turn}
 use Rattle.loop_station_core.specs.Texts.{AllThreeCame, FirstCame, after_steps}
 use Rattle.loop_station_core.specs.Saving.{Places, is_read, left_by, wanted}
@@ -17,6 +20,7 @@ use Rattle.loop_station_core.specs.declared.camera.FilmingEvent.TheVariants.{Sto
 use Rattle.loop_station_core.specs.declared.keep.Keep.{Keep}
 use Rattle.loop_station_core.specs.declared.keep.Look.{Look}
 use Rattle.loop_station_core.specs.declared.runs.Run.{Run}
+use Rattle.loop_station_core.specs.declared.save_end.SaveEnd.{SaveEnd}
 use Rattle.loop_station_core.specs.declared.saves.Save.{Save}
 use Rattle.loop_station_core.specs.declared.search.Search.{Search}
 use Rattle.loop_station_core.specs.declared.search.SearchTurn.TheVariants.{Read, Gap as SearchGap, Again, Over}
@@ -49,6 +53,22 @@ ReleasesAreFree = (p : Places) (s : Save) → (left_by p s).1 ≡ true → is_re
 -- A clip that is read isn't released when that is wanted.
 abbrev pub ReadClipsWait : Type 0
 ReadClipsWait = (p : Places) (camera id : ℕ) → (wanted p camera id).1 ≡ is_read p camera id
+
+-- Saves release a clip only where that is wanted by order, or where a save of it that began by itself has come to an
+-- end with its text whole, or saved already, and clips of its camera are released then. So it is of each list of what
+-- happens to saves.
+abbrev pub ReleasesAreEarned : Type 0
+ReleasesAreEarned = (places camera id : ℕ) (steps : List SaveStep)
+    → lets_in camera id (no_saves places) steps ≡ false → frees_in camera id (no_saves places) steps ≡ false
+
+-- A save that is tried again is told as such once, however often it fails.
+abbrev pub SavesWaitOnce : Type 0
+SavesWaitOnce = (ends : List (SaveEnd × ℕ)) → waits_in false ends ≤ 1
+
+-- At most 256 orders of a camera wait, and each one that was taken in waits or was handed out.
+abbrev pub OrdersAreHandedOut : Type 0
+OrdersAreHandedOut = (steps : List OrderStep) → let orders = after_all no_orders steps in
+    (orders.waiting ≤ 256) × (handed_in no_orders steps + orders.waiting ≡ taken_in no_orders steps)
 
 -- what a line says was so when it was seen
 abbrev pub IsSo : Seen → Change → Type 0

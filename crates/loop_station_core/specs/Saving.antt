@@ -1,6 +1,8 @@
 -- Which saves run, which wait, and what follows from what happens to them.
 use Rattle.std.specs.Prelude.{ℕ, ◌==◌, ◌&&◌, ◌||◌, ◌++◌, Bool, true, false, not, List, [], ◌∷◌, Option, Some, None, is_some, remove, slice_get, slice_set, if◌then◌else◌}
 use Rattle.std.specs.List.{position}
+use Rattle.loop_station_core.specs.SaveEnds.{is_saved}
+use Rattle.loop_station_core.specs.declared.save_end.SaveEnd.{SaveEnd}
 use Rattle.loop_station_core.specs.declared.saves.SaveKey.{SaveKey}
 use Rattle.loop_station_core.specs.declared.saves.Save.{Save}
 use Rattle.loop_station_core.specs.declared.saves.Saves.{Saves}
@@ -22,8 +24,16 @@ abbrev pub shown : Saves → Places
 shown s = record { running = s.running.items; waiting = s.waiting.items; stopped = s.stopped }
 
 -- a save that has just been asked for
-abbrev pub new_save : SaveKey → Save
-new_save key = record { key = key; release = false; cancelled = false }
+abbrev pub new_save : SaveKey → Bool → Save
+new_save key automatic = record { key = key; automatic = automatic; release = false; cancelled = false }
+
+-- two saves are of one clip
+abbrev pub is_same : SaveKey → SaveKey → Bool
+is_same a b = (a.camera == b.camera) && ((a.id == b.id) && (a.first == b.first))
+
+-- a save of a clip began by itself, and isn't to end before its text is whole
+abbrev pub saves_itself : SaveKey → Save → Bool
+saves_itself key s = s.automatic && (not s.cancelled && is_same key s.key)
 
 -- it reads the clip of an id
 abbrev pub reads : ℕ → ℕ → Save → Bool
@@ -58,6 +68,11 @@ turn_of p camera id = position (reads camera id) p.waiting
 abbrev pub is_read : Places → ℕ → ℕ → Bool
 is_read p camera id = is_some (place_of p camera id true) || is_some (turn_of p camera id)
 
+-- a clip is being saved by itself, or waits for that
+abbrev pub has_automatic : Places → SaveKey → Bool
+has_automatic p key = is_some (position (holds (saves_itself key)) p.running)
+    || is_some (position (saves_itself key) p.waiting)
+
 -- it releases its clip at its end, if no other save reads it then
 abbrev pub with_release : Save → Save
 with_release s = record s { release = true }
@@ -88,8 +103,8 @@ begun p place = if p.stopped then (p, None) else elim p.waiting [
 -- a save is asked for
 abbrev pub asked : Places → SaveKey → Bool → Places × Asked
 asked p key automatic = if p.stopped then (p, Stopped) else elim (position (λ o. not (is_some o)) p.running) [
-  | Some place ↦ (record p { running = slice_set p.running place (Some (new_save key)) }, Begins place)
-  | None ↦ if automatic then (record p { waiting = p.waiting ++ new_save key ∷ [] }, Waits) else (p, TooMany)
+  | Some place ↦ (record p { running = slice_set p.running place (Some (new_save key automatic)) }, Begins place)
+  | None ↦ if automatic then (record p { waiting = p.waiting ++ new_save key automatic ∷ [] }, Waits) else (p, TooMany)
 ]
 
 -- nothing runs in a place any more
@@ -113,6 +128,21 @@ ended p place = elim (held_at p place) [
   | None ↦ (p, record { release = false; begun = None })
   | Some s ↦ after_end p place s
 ]
+
+-- a save releases its clip: it began by itself, the text is there, and clips of its camera are released then
+abbrev pub earns : Save → SaveEnd → Bool → Bool
+earns s end releases = s.automatic && is_saved end && releases
+
+-- the clip of the save of a place is to be released, where that follows from its end
+abbrev pub with_wish : Places → ℕ → SaveEnd → Bool → Places
+with_wish p place end releases = elim (held_at p place) [
+  | None ↦ p
+  | Some s ↦ if earns s end releases then (wanted p s.key.camera s.key.id).0 else p
+]
+
+-- the save of a place has come to its end by itself
+abbrev pub finished : Places → ℕ → SaveEnd → Bool → Places × Ended
+finished p place end releases = ended (with_wish p place end releases) place
 
 -- it is to end before its text is whole
 abbrev pub with_cancel : Save → Save

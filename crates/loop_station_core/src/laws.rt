@@ -1,7 +1,8 @@
 //! What holds over any list of events. Each function does nothing: its contract is the law.
 
-ghost use Rattle.loop_station_core.specs.Laws.{DisksAreToldOnce, FilmingsGoOn, FoundGapsAreSo, FramesAddUp, GapsAddUp, GapsAreLookedFor, KeepsAreRight, LinesAreSo, LockedLinesAlternate, LostAreToldOnce, OrdersAreAnsweredOnce, ReadClipsWait, ReleasesAreFree, SavedTextsAreThere, SilentSourcesWait, StopsAreForGood};
+ghost use Rattle.loop_station_core.specs.Laws.{DisksAreToldOnce, FilmingsGoOn, FoundGapsAreSo, FramesAddUp, GapsAddUp, GapsAreLookedFor, KeepsAreRight, LinesAreSo, LockedLinesAlternate, LostAreToldOnce, OrdersAreAnsweredOnce, OrdersAreHandedOut, ReadClipsWait, ReleasesAreEarned, ReleasesAreFree, SavedTextsAreThere, SavesWaitOnce, SilentSourcesWait, StopsAreForGood};
 ghost use Rattle.loop_station_core.specs.Marks.{MarksAreRead};
+ghost use Rattle.loop_station_core.specs.Retries.{RetriesAreDue};
 ghost use Rattle.loop_station_core.specs.Timing.{GapsAreToldApart, TimesRise};
 
 /// Each frame that came is stored, lost, at the desk, or on its way to it.
@@ -59,6 +60,27 @@ pub fn releases_are_free()
 /// A clip that a save reads isn't released when that is wanted, but waits.
 pub fn read_clips_wait()
     ensures { ReadClipsWait }
+{}
+
+/// Saves release a clip only by order, or where the text of one that began by itself is there, and clips of its camera
+/// are released then.
+pub fn releases_are_earned()
+    ensures { ReleasesAreEarned }
+{}
+
+/// A save that is tried again is told as such once, however often it fails.
+pub fn saves_wait_once()
+    ensures { SavesWaitOnce }
+{}
+
+/// A save that failed is tried again only once its time has come.
+pub fn retries_are_due()
+    ensures { RetriesAreDue }
+{}
+
+/// At most 256 orders of a camera wait, and each one that was taken in waits or was handed out.
+pub fn orders_are_handed_out()
+    ensures { OrdersAreHandedOut }
 {}
 
 /// Each line says what was so when it was seen.

@@ -8,8 +8,14 @@
 //! - `runs`: what of a keep's time is held, and the gaps in it; which clips lie within longer ones;
 //! - `search`: which frames of a clip are looked at to find where some are missing;
 //! - `saves`: places of saves: which begins, which waits, and which clips are read meanwhile;
+//! - `save_end`: what is told of a save's end, whether and when it is tried again;
+//! - `retries`: which saves are tried again, and when;
+//! - `clips`: which clips may be released, and how many keeps have room;
 //! - `text`: the steps by which the text of a save gets its name;
+//! - `orders`: which orders of a camera are taken in, and whether one is being done;
 //! - `replies`: the answers of the cameras that an order means, and when it is answered;
+//! - `spool`: which lines on their way to a reader are dropped;
+//! - `stores`: whether a store was moved away, or goes on;
 //! - `still`: whether the program stood still;
 //! - `marks`: what stands in a frame's flags: its bits, and whether it came late;
 //! - `timing`: the times that a source says of its frames, and the gaps between them;
@@ -17,24 +23,31 @@
 //! - `laws`: what holds over any list of events, each law the contract of a function that does nothing.
 //!
 //! Each call is a step of the model in `specs`: `Frames` for tallies, `Cameras`, `Keeps`, `Growth`, `Gaps` for runs,
-//! `Search`, `Saving`, `Texts`, `Answers` for replies, `Telling` for lines, `Still`. `Laws` says what follows of it:
-//! frames add up; a keep locks only the times of its line, and only once each frame that had come before that line is
-//! at the desk or lost, or every block is locked, or no frame has made progress for a minute; what is held of a time
-//! and its gaps are all of it; a clip that a save reads isn't released; a text is told as saved once it is on the disk;
-//! a line says what was so, and each lost frame is told once.
+//! `Search`, `Saving`, `SaveEnds`, `Retries`, `Clips`, `Texts`, `Orders`, `Answers` for replies, `Telling` for lines,
+//! `Spools`, `Stores`, `Still`. `Laws` says what follows of it: frames add up; a keep locks only the times of its line,
+//! and only once each frame that had come before that line is at the desk or lost, or every block is locked, or no
+//! frame has made progress for a minute; what is held of a time and its gaps are all of it; a clip that a save reads
+//! isn't released, and one that a save releases has a whole text; a text is told as saved once it is on the disk; an
+//! order that is taken in waits or is handed out; a line says what was so, and each lost frame is told once.
 #![tactic(auto)]
 
 mod camera;
 mod changes;
+mod clips;
 mod growth;
 mod keep;
 pub mod laws;
 mod marks;
+mod orders;
 mod replies;
+mod retries;
 mod runs;
+mod save_end;
 mod saves;
 mod search;
+mod spool;
 mod still;
+mod stores;
 mod tally;
 mod text;
 mod timing;
@@ -43,14 +56,20 @@ pub use camera::{Act, Camera, Event, FilmingEvent, SourceEvent};
 pub use changes::{
     Change, Changes, DiskSeen, KINDS, NOT_THERE_YET, Reported, Seen, SourceSeen, StoreSeen,
 };
+pub use clips::{MayRelease, keeps_in, may_release};
 pub use growth::{EventEnd, GrowthTurn, KeptAnswer, event_end, kept_answer, next_growth};
 pub use keep::{Keep, KeepTurn, Numbers, bounds, is_too_far, next_turn};
 pub use marks::{bits_of, came_late, is_late, mark};
+pub use orders::{AddedOrder, Attended, MOST_ORDERS, Orders};
 pub use replies::Replies;
+pub use retries::Retries;
 pub use runs::{ClipSpan, Gap, Run, Shortfall, is_covered, shortfall_of};
+pub use save_end::{AfterSave, SaveEnd, SaveLine, after_save};
 pub use saves::{Asked, Cancelled, Ended, SaveKey, Saves, StoppedSave};
 pub use search::{Mark, Search, SearchTurn};
+pub use spool::{MOST_SPOOLED, drops_oldest, says_dropped, takes_line};
 pub use still::stood_still;
+pub use stores::{goes_on, is_moved};
 pub use tally::Tally;
 pub use text::{TextStep, next_text_step};
 pub use timing::{Arrival, Stamped, Timing};

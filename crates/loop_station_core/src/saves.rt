@@ -2,9 +2,10 @@
 
 ghost use Rattle.std.specs.Prelude.{◌≡◌, ◌≢◌, ◌++◌, ◌∷◌, if◌then◌else◌, ◌<◌, ◌==◌, IfOk, IfSome, Some, None, is_some, not, length, replicate, option_map, [], true, false};
 ghost use Rattle.std.specs.List.{position};
-ghost use Rattle.loop_station_core.specs.Saving.{asked, begun, cancelled, cancelled_at, ended, held_at, holds, is_read, left_by, picks, reads, shown, stopped, wanted};
+ghost use Rattle.loop_station_core.specs.Saving.{asked, begun, cancelled, cancelled_at, ended, finished, has_automatic, held_at, holds, is_read, is_same, left_by, picks, reads, saves_itself, shown, stopped, wanted, with_wish};
 ghost use Rattle.loop_station_core.specs.declared.saves.Asked.TheVariants.{NoMemory, Waits};
 
+use crate::save_end::{SaveEnd, is_saved};
 use std::alloc::{AllocError, Global};
 
 /// The clip of a save: its camera, its id, and the number of its first frame.
@@ -15,10 +16,21 @@ pub struct SaveKey {
     pub first: u64,
 }
 
+impl SaveKey {
+    /// Whether two saves are of one clip.
+    pub fn is_same(&self, other: &SaveKey) -> bool
+        ensures { result ≡ is_same self.now other.now }
+    {
+        self.camera == other.camera && self.id == other.id && self.first == other.first
+    }
+}
+
 // A save that runs or waits.
 #[derive(Clone, Copy)]
 struct Save {
     key: SaveKey,
+    // It began by itself.
+    automatic: bool,
     // Its clip is released once no save reads it.
     release: bool,
     // It is to end before its text is whole.
@@ -86,6 +98,30 @@ fn is_reader(save: &Save, camera: usize, id: u32) -> bool
     save.key.camera == camera && save.key.id == id
 }
 
+// Whether a save of a clip began by itself, and isn't to end before its text is whole.
+fn saves_itself(save: &Save, key: SaveKey) -> bool
+    ensures { result ≡ saves_itself key save.now }
+{
+    save.automatic && !save.cancelled && key.is_same(&save.key)
+}
+
+// The first place in which such a save runs.
+fn running_itself(running: &[Option<Save>], key: SaveKey) -> Option<usize>
+    ensures { result ≡ position (holds (saves_itself key)) running.now }
+{
+    running.iter().position(|place| match place {
+        Some(save) => saves_itself(save, key),
+        None => false,
+    })
+}
+
+// The first such save that waits.
+fn waiting_itself(waiting: &[Save], key: SaveKey) -> Option<usize>
+    ensures { result ≡ position (saves_itself key) waiting.now }
+{
+    waiting.iter().position(|save| saves_itself(save, key))
+}
+
 // The first place whose save reads a clip; `any`: also one that is to end already.
 fn running_at(running: &[Option<Save>], camera: usize, id: u32, any: bool) -> Option<usize>
     ensures place { result ≡ position (holds (picks camera id any)) running.now }
@@ -150,6 +186,7 @@ impl Saves {
         }
         let save = Save {
             key,
+            automatic,
             release: false,
             cancelled: false,
         };
@@ -194,6 +231,28 @@ impl Saves {
         let release = self.leave(save);
         let begun = self.begin_next(place);
         Ended { release, begun }
+    }
+
+    /// The save of a place has come to this end by itself; `releases`: clips of its camera are released once they are
+    /// saved. So is its clip where the save began by itself, and the text is there. The rest as `ended`.
+    pub fn finish(&mut self, place: usize, end: SaveEnd, releases: bool) -> Ended
+        ensures { (shown self.new, result) ≡ finished (shown self.old) place end releases }
+    {
+        self.wish(place, end, releases);
+        self.ended(place)
+    }
+
+    // The clip of the save that runs in a place is to be released once no save reads it, where that follows from this
+    // end of the save.
+    fn wish(&mut self, place: usize, end: SaveEnd, releases: bool)
+        ensures { shown self.new ≡ with_wish (shown self.old) place end releases }
+    {
+        if let Some(save) = self.held(place) {
+            if save.automatic && is_saved(end) && releases {
+                // The end of the last save that reads the clip says when.
+                let _later = self.wants_release(save.key.camera, save.key.id);
+            }
+        }
     }
 
     // What a place holds.
@@ -248,6 +307,13 @@ impl Saves {
             Some(save) => save.cancelled,
             None => false,
         }
+    }
+
+    /// Whether a clip is being saved by itself, or waits for that: a second such save of it isn't needed.
+    pub fn has_automatic(&self, key: SaveKey) -> bool
+        ensures { result ≡ has_automatic (shown self.now) key }
+    {
+        running_itself(&self.running, key).is_some() || waiting_itself(&self.waiting, key).is_some()
     }
 
     /// Whether a save that runs or waits reads the clip of an id, so that it may not be released.

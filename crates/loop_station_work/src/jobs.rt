@@ -1,13 +1,12 @@
-//! The orders of a camera, which the thread of its desk does in their order.
+//! The orders of a camera, which the thread of its desk does in their order. Which are taken in is decided by
+//! loop_station_core.
 
 use crate::absent::Absent;
 use crate::answering::{Answering, NotTaken};
 use circular_buffer::HeapCircularBuffer;
+use loop_station_core::{AddedOrder, Attended, MOST_ORDERS, Orders};
 use std::alloc::{AllocError, Global};
 use std::sync::{Arc, Mutex, Wait};
-
-// How many orders of a camera may wait.
-const MOST_JOBS: usize = 256;
 
 /// What a camera is asked for.
 #[derive(Drop)]
@@ -52,11 +51,9 @@ pub(crate) struct Job {
 #[derive(Drop)]
 struct WaitingJobs {
     jobs: HeapCircularBuffer<Job>,
-    // Nobody does them now, and why. While the store was never looked for, they wait.
-    nobody: Option<Absent>,
-    open: bool,
-    // One was taken, and isn't done yet.
-    busy: bool,
+    decided: Orders,
+    // Why nobody does them, where nobody does.
+    nobody: Absent,
 }
 
 /// The orders that wait for a camera.
@@ -70,10 +67,9 @@ impl Jobs {
     pub fn new(alloc: Global) -> Result<Jobs, AllocError> {
         Ok(Jobs {
             waiting: Mutex::new(WaitingJobs {
-                jobs: HeapCircularBuffer::with_capacity(alloc, MOST_JOBS)?,
-                nobody: None,
-                open: false,
-                busy: false,
+                jobs: HeapCircularBuffer::with_capacity(alloc, MOST_ORDERS)?,
+                decided: Orders::new(),
+                nobody: Absent::Opening,
             }),
         })
     }
@@ -81,58 +77,63 @@ impl Jobs {
     /// Adds an order after the others. It never waits.
     pub fn add<R: Wait>(&self, rt: &R, job: Job) -> Result<(), NotTaken> {
         let mut waiting = self.waiting.lock(rt);
-        if let Some(why) = waiting.nobody {
-            return Err(NotTaken::Absent(why));
+        let (decided, added) = waiting.decided.add();
+        waiting.decided = decided;
+        match added {
+            AddedOrder::Waits => {
+                waiting.jobs.push_back(job);
+                Ok(())
+            }
+            AddedOrder::Absent => Err(NotTaken::Absent(waiting.nobody)),
+            AddedOrder::TooMany => Err(NotTaken::TooMany),
         }
-        if waiting.jobs.is_full() {
-            return Err(NotTaken::TooMany);
-        }
-        waiting.jobs.push_back(job);
-        Ok(())
     }
 
     /// Takes the first order, if there is one. It has to be said when it is done.
     pub fn take<R: Wait>(&self, rt: &R) -> Option<Job> {
         let mut waiting = self.waiting.lock(rt);
-        let job = waiting.jobs.pop_front();
-        waiting.busy = job.is_some();
-        job
+        let (decided, is_there) = waiting.decided.take();
+        waiting.decided = decided;
+        if is_there {
+            waiting.jobs.pop_front()
+        } else {
+            None
+        }
     }
 
     /// The order that was taken is done. Returns whether further ones wait.
     pub fn done<R: Wait>(&self, rt: &R) -> bool {
         let mut waiting = self.waiting.lock(rt);
-        waiting.busy = false;
-        !waiting.jobs.is_empty()
+        let (decided, has_more) = waiting.decided.done();
+        waiting.decided = decided;
+        has_more
     }
 
     /// Whether no order waits, and none is being done.
     pub fn is_idle<R: Wait>(&self, rt: &R) -> bool {
-        let waiting = self.waiting.lock(rt);
-        waiting.jobs.is_empty() && !waiting.busy
+        self.waiting.lock(rt).decided.is_idle()
     }
 
     /// Whether somebody does orders now, or why nobody does; None where somebody is still to come.
     pub fn attended<R: Wait>(&self, rt: &R) -> Option<Result<(), Absent>> {
         let waiting = self.waiting.lock(rt);
-        match waiting.nobody {
-            Some(why) => Some(Err(why)),
-            None if waiting.open => Some(Ok(())),
-            None => None,
+        match waiting.decided.attended {
+            Attended::Gone => Some(Err(waiting.nobody)),
+            Attended::Now => Some(Ok(())),
+            Attended::NotYet => None,
         }
     }
 
     /// From now on somebody does them.
     pub fn open<R: Wait>(&self, rt: &R) {
         let mut waiting = self.waiting.lock(rt);
-        waiting.open = true;
-        waiting.nobody = None;
+        waiting.decided = waiting.decided.open();
     }
 
     /// Nobody does orders from now on. Those that wait have to be taken, and answered.
     pub fn leave<R: Wait>(&self, rt: &R, why: Absent) {
         let mut waiting = self.waiting.lock(rt);
-        waiting.open = false;
-        waiting.nobody = Some(why);
+        waiting.decided = waiting.decided.leave();
+        waiting.nobody = why;
     }
 }

@@ -7,6 +7,7 @@ use crate::save::NotSaved;
 use crate::state::CameraState;
 use loop_file::{FileDisk, FileFault, FilePlace, open_file, open_to_read};
 use loop_record::Geometry;
+use loop_station_core::goes_on;
 use loop_store::{OpenRefused, Store, StoreFault, format};
 use std::alloc::AllocGlobal;
 use std::fs::{File, OpenFile, OpenOptions};
@@ -443,7 +444,7 @@ fn left_at<R: AllocGlobal + Files<File = File>>(
 
 // The store, where it has a frame or is for frames like these.
 fn for_frames(store: Store<FileDisk>, geometry: &Geometry) -> Option<Store<FileDisk>> {
-    if store.next() > 0 || store.geometry() == *geometry {
+    if goes_on(store.next(), store.geometry() == *geometry) {
         Some(store)
     } else {
         None

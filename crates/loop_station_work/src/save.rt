@@ -13,7 +13,7 @@ use crate::answering::{Answering, KeptClip, SaveOrder};
 use crate::clerk::FoundClip;
 use crate::places::Places;
 use crate::state::CameraState;
-use loop_station_core::{Asked, Cancelled, SaveKey};
+use loop_station_core::{Asked, Cancelled, Retries, SaveEnd, SaveKey, SaveLine, after_save};
 use loop_station_words::Lines;
 pub use not_saved::NotSaved;
 use std::alloc::{AllocError, AllocGlobal, Global};
@@ -28,9 +28,6 @@ pub(crate) const MOST_SAVES: usize = 16;
 
 // How often a stop waits ten milliseconds for saves that are about to end.
 const STOP_STEPS: u32 = 70;
-
-// After how many microseconds a save that began by itself and failed is tried again.
-const AGAIN: u64 = 60_000_000;
 
 /// Where a clip is saved to.
 #[derive(Drop)]
@@ -70,13 +67,6 @@ impl Save {
         }
     }
 
-    // Whether it reads this clip.
-    fn is_of(&self, key: &SaveKey) -> bool {
-        self.camera == key.camera
-            && self.found.clip.id == key.id
-            && self.found.clip.from == key.first
-    }
-
     // Whether it begins by itself.
     fn is_automatic(&self) -> bool {
         self.order.is_none()
@@ -92,20 +82,15 @@ struct SavePlace {
     is_new: bool,
 }
 
-// A save that began by itself and failed, and when it is tried again.
-#[derive(Drop)]
-struct Retry {
-    save: Arc<Save>,
-    at: u64,
-}
-
 #[derive(Drop)]
 struct Inside {
     decided: loop_station_core::Saves,
     places: Vec<SavePlace>,
     // The saves that wait for a place.
     waiting: Vec<Arc<Save>>,
-    retries: Vec<Retry>,
+    // The saves that began by themselves and failed, and when each is tried again.
+    failed: Vec<Arc<Save>>,
+    retries: Retries,
 }
 
 /// The saves that are in progress.
@@ -139,7 +124,8 @@ impl Saves {
                 decided: loop_station_core::Saves::new(alloc, MOST_SAVES)?,
                 places,
                 waiting: Vec::new(alloc),
-                retries: Vec::new(alloc),
+                failed: Vec::new(alloc),
+                retries: Retries::new(alloc),
             }),
             changed: Condvar::new(),
             stopped: AtomicBool::new(false),
@@ -166,7 +152,7 @@ impl Saves {
     // Begins a save, or lets it wait.
     fn begin<R: Wait>(&self, rt: &R, save: Arc<Save>) -> Result<(), NotBegun> {
         let mut inside = self.inside.lock(rt);
-        if save.is_automatic() && inside.has_automatic(&save.key()) {
+        if save.is_automatic() && inside.has_automatic(save.key()) {
             return Ok(());
         }
         match inside.decided.ask(save.key(), save.is_automatic()) {
@@ -200,21 +186,21 @@ impl Saves {
         Arc::try_clone(place.save.as_ref()?).ok()
     }
 
-    // The save of a place has ended; its clip is to be released, or isn't. Returns the save, unless someone else told
-    // its result already, and whether its clip is released now.
-    fn end<R: Wait>(&self, rt: &R, at: usize, release: bool) -> (Option<Arc<Save>>, bool) {
+    // The save of a place has ended so; `releases`: clips of its camera are released once they are saved. Returns the
+    // save, unless someone else told its result already, and whether its clip is released now.
+    fn end<R: Wait>(
+        &self,
+        rt: &R,
+        at: usize,
+        end: SaveEnd,
+        releases: bool,
+    ) -> (Option<Arc<Save>>, bool) {
         let mut inside = self.inside.lock(rt);
         let save = match inside.places.get_mut(at) {
             Some(place) => place.save.take(),
             None => None,
         };
-        if release {
-            if let Some(key) = inside.decided.at(at) {
-                // The end of the last save that reads the clip says when.
-                let _later = inside.decided.wants_release(key.camera, key.id);
-            }
-        }
-        let ended = inside.decided.ended(at);
+        let ended = inside.decided.finish(at, end, releases);
         if let Some(key) = ended.begun {
             inside.begin_waiting(at, key);
             self.changed.notify_all();
@@ -224,27 +210,27 @@ impl Saves {
 
     // A save that began by itself failed, and is tried again at a time.
     fn retry<R: Wait>(&self, rt: &R, save: Arc<Save>, at: u64) {
+        let mut inside = self.inside.lock(rt);
+        let key = save.key();
         // Where memory is refused, it is tried again at the next start.
-        let _ = self.inside.lock(rt).retries.push(Retry { save, at });
+        if inside.failed.push(save).is_ok() && !inside.retries.add(key, at) {
+            let _left_out = inside.failed.pop();
+        }
     }
 
     /// The saves that are due to be tried again.
     pub fn due<R: Wait>(&self, rt: &R, now: u64) -> Option<Arc<Save>> {
         let mut inside = self.inside.lock(rt);
-        let at = inside.retries.iter().position(|retry| retry.at <= now)?;
-        let Retry { save, at: _ } = inside.retries.remove(at);
-        Some(save)
+        let at = inside.retries.due(now)?;
+        inside.take_failed(at)
     }
 
     /// Ends a save of the clip of an id of a camera. Returns the order that asked for it, which has to be answered, and
     /// the path; None where no save reads that clip.
     pub fn cancel<R: Wait>(&self, rt: &R, camera: usize, id: u32) -> Option<Arc<Save>> {
         let mut inside = self.inside.lock(rt);
-        let retried = inside.retries.iter().position(|retry| retry.save.camera == camera
-            && retry.save.found.clip.id == id);
-        if let Some(at) = retried {
-            let Retry { save, at: _ } = inside.retries.remove(at);
-            return Some(save);
+        if let Some(at) = inside.retries.cancel(camera, id) {
+            return inside.take_failed(at);
         }
         match inside.decided.cancel(camera, id) {
             Cancelled::Running(place) => {
@@ -330,13 +316,17 @@ impl Inside {
         Some(self.waiting.remove(at))
     }
 
+    // Takes a save that failed.
+    fn take_failed(&mut self, at: usize) -> Option<Arc<Save>> {
+        if at < self.failed.len() {
+            return Some(self.failed.remove(at));
+        }
+        None
+    }
+
     // Whether a clip is being saved by itself, or is going to be.
-    fn has_automatic(&self, key: &SaveKey) -> bool {
-        self.places.iter().any(|place| match &place.save {
-            Some(save) => save.is_automatic() && save.is_of(key),
-            None => false,
-        }) || self.waiting.iter().any(|save| save.is_of(key))
-            || self.retries.iter().any(|retry| retry.save.is_of(key))
+    fn has_automatic(&self, key: SaveKey) -> bool {
+        self.decided.has_automatic(key) || self.retries.has(key)
     }
 }
 
@@ -448,13 +438,21 @@ fn run_save<R: AllocGlobal + Places + Wait + Clock>(
         }
         Err(why) => (String::new(rt.alloc()), Err(why)),
     };
-    let release = came.is_ok() && save.is_automatic() && state.config.release;
-    let (ours, is_released) = saves.end(rt, at, release);
+    let (ours, is_released) = saves.end(rt, at, end_of(&came), state.config.release);
     if let Some(ours) = ours {
         tell_save(rt, saves, state, ours, path.as_str(), came);
     }
     if is_released {
         state.release_saved(rt, save.found.clip);
+    }
+}
+
+// How a save has ended, by what came of it.
+fn end_of(came: &Result<Option<u64>, NotSaved>) -> SaveEnd {
+    match came {
+        Ok(Some(_)) => SaveEnd::Whole,
+        Ok(None) => SaveEnd::Already,
+        Err(why) => why.end(),
     }
 }
 
@@ -470,24 +468,21 @@ fn tell_save<R: AllocGlobal + Wait + Clock>(
 ) {
     let (name, id) = (state.config.name.as_str(), save.found.clip.id);
     let mut lines = state.lines(rt.alloc());
-    // Where memory for the line is refused, it isn't printed.
-    let _ = match came {
-        Ok(None) => Ok(()),
-        Ok(Some(count)) => lines.saved(name, id, path, count),
-        Err(why) if save.is_automatic() && why.may_pass() => {
-            let told = save.is_told.swap(true, Ordering::SeqCst);
-            let again = state.timeline.now(rt).saturating_add(AGAIN);
-            let kept = Arc::try_clone(&save);
-            if let Ok(kept) = kept {
-                saves.retry(rt, kept, again);
-            }
-            if told {
-                Ok(())
-            } else {
-                lines.save_waits(name, id, path, &why)
-            }
+    let told = save.is_told.load(Ordering::SeqCst);
+    let now = state.timeline.now(rt);
+    let after = after_save(end_of(&came), save.is_automatic(), told, now);
+    if let Some(again) = after.again {
+        save.is_told.store(true, Ordering::SeqCst);
+        if let Ok(kept) = Arc::try_clone(&save) {
+            saves.retry(rt, kept, again);
         }
-        Err(why) => lines.not_saved(name, id, path, &why),
+    }
+    // Where memory for the line is refused, it isn't printed.
+    let _ = match (after.line, came) {
+        (Some(SaveLine::Saved), Ok(Some(count))) => lines.saved(name, id, path, count),
+        (Some(SaveLine::Waits), Err(why)) => lines.save_waits(name, id, path, &why),
+        (Some(SaveLine::NotSaved), Err(why)) => lines.not_saved(name, id, path, &why),
+        _ => Ok(()),
     };
     tell_for(rt, state, &save, lines);
 }

@@ -5,21 +5,13 @@
 //! kept, and the oldest make room for them.
 
 use crate::clock::Timeline;
+use loop_station_core::{MOST_SPOOLED, drops_oldest, says_dropped, takes_line};
 use loop_station_words::print_head;
 use std::alloc::{AllocError, Global};
 use std::io;
 use std::io::Write;
 use std::sync::{Condvar, Mutex, Wait};
 use std::time::Clock;
-
-// How many bytes of lines wait at most.
-const MOST: usize = 1_048_576;
-
-// At so many bytes or fewer there is room again, after lines were dropped.
-const ROOM_AGAIN: usize = 786_432;
-
-// How many bytes of lines are kept while nobody reads.
-const UNREAD: usize = 65_536;
 
 // How many bytes of lines are handed out at once, unless the first line alone is longer.
 const AT_ONCE: usize = 65_536;
@@ -141,8 +133,8 @@ impl WaitingLines {
 
     // Drops the oldest lines until so many bytes more have room.
     fn make_room(&mut self, more: usize) {
-        for _ in 0..MOST {
-            if self.rest().is_empty() || self.rest().len().saturating_add(more) <= UNREAD {
+        for _ in 0..MOST_SPOOLED {
+            if !drops_oldest(self.rest().len(), more) {
                 break;
             }
             let (line, _) = first_line(self.rest());
@@ -157,8 +149,9 @@ impl WaitingLines {
         if self.unread {
             self.make_room(line.len());
         }
-        let has_room = self.rest().len().saturating_add(line.len()) <= MOST;
-        if self.dropped == 0 && has_room && self.lines.extend_from_slice(line).is_ok() {
+        if takes_line(self.rest().len(), self.dropped, line.len())
+            && self.lines.extend_from_slice(line).is_ok()
+        {
             return true;
         }
         self.dropped = self.dropped.saturating_add(1);
@@ -169,8 +162,7 @@ impl WaitingLines {
     // refused, it is said later.
     fn mark<R: Clock>(&mut self, rt: &R, alloc: Global, times: &Option<Timeline>) {
         let mut mark = Vec::new(alloc);
-        if self.dropped > 0
-            && self.rest().len() <= ROOM_AGAIN
+        if says_dropped(self.rest().len(), self.dropped)
             && print_dropped(rt, times, &mut mark, self.dropped).is_ok()
             && self.lines.extend_from_slice(&mark).is_ok()
         {

@@ -20,7 +20,9 @@ use loop_desk::Flushed;
 use loop_disk::Disk;
 use loop_pipeline::{Back, Guide, Link, LostFrame, Visits};
 use loop_record::Geometry;
-use loop_station_core::{Act, EventEnd, FilmingEvent, Keep, Run, Tally, event_end};
+use loop_station_core::{
+    Act, EventEnd, FilmingEvent, Keep, MayRelease, Run, Tally, event_end, may_release,
+};
 use loop_station_words::{CameraConfig, Lines};
 use loop_store::{Clip, ReadFrame, StoreFault};
 use std::alloc::{AllocError, Global};
@@ -157,12 +159,11 @@ impl CameraState {
         id: u32,
         first: Option<u64>,
     ) -> Result<(), NotReleased> {
-        if self.saves.reads(rt, self.place, id) {
-            return Err(NotReleased::Saving);
-        }
-        match first {
-            Some(first) if !self.stored.begins(rt, id, first) => Err(NotReleased::Other(first)),
-            _ => Ok(()),
+        let is_read = self.saves.reads(rt, self.place, id);
+        match may_release(is_read, first, self.stored.first_of(rt, id)) {
+            MayRelease::Now => Ok(()),
+            MayRelease::Saving => Err(NotReleased::Saving),
+            MayRelease::Other(first) => Err(NotReleased::Other(first)),
         }
     }
 

@@ -2,6 +2,7 @@
 
 use crate::size::micros_of;
 use loop_record::Geometry;
+use loop_station_core::keeps_in;
 use loop_station_words::frames_in;
 use loop_store::Clip;
 use std::alloc::Global;
@@ -70,13 +71,15 @@ impl Stored {
         }
     }
 
-    /// Whether the clip of an id begins with this frame.
-    pub fn begins<R: Wait>(&self, rt: &R, id: u32, first: u64) -> bool {
+    /// The number of the frame with which the clip of an id begins.
+    pub fn first_of<R: Wait>(&self, rt: &R, id: u32) -> Option<u64> {
         let inside = self.inside.lock(rt);
-        inside
-            .clips
-            .iter()
-            .any(|clip| clip.id == id && clip.from == first)
+        for clip in inside.clips.as_slice() {
+            if clip.id == id {
+                return Some(clip.from);
+            }
+        }
+        None
     }
 
     /// The clips with a tag.
@@ -121,8 +124,7 @@ impl Stored {
             geometry.rate_num,
             geometry.rate_den.max(1),
         );
-        let blocks = frames.div_ceil(slots).saturating_add(1);
-        (next, room, room / blocks.max(1))
+        (next, room, keeps_in(room, frames, slots))
     }
 }
 

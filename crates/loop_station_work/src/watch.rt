@@ -4,7 +4,7 @@
 use crate::orders::Station;
 use crate::places::Places;
 use crate::state::CameraState;
-use loop_station_core::stood_still;
+use loop_station_core::{is_moved, stood_still};
 use std::alloc::AllocGlobal;
 use std::io::Write;
 use std::sync::Wait;
@@ -72,7 +72,7 @@ fn look_for_store<R: Places + Wait>(rt: &R, state: &CameraState) {
         return;
     };
     if let Ok(there) = rt.place_of(state.config.store.as_str()) {
-        if there != Some(place) {
+        if is_moved(place, there) {
             state.move_away(rt);
         }
     }

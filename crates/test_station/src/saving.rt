@@ -2,8 +2,13 @@
 
 use crate::judge::Judge;
 use crate::store::Clip;
-use loop_station_core::{Asked, Cancelled, SaveKey, Saves, StoppedSave};
+use loop_station_core::{
+    Asked, Cancelled, SaveEnd, SaveKey, SaveLine, Saves, StoppedSave, after_save,
+};
 use std::alloc::{AllocError, Global};
+
+// After how many microseconds a save that failed is tried again.
+const MINUTE: u64 = 60_000_000;
 
 /// A save that was asked for and hasn't ended.
 #[derive(Clone, Copy)]
@@ -155,22 +160,46 @@ impl Saving {
         self.core.is_cancelled(place)
     }
 
-    /// The save of a place has ended. Whether its clip is to be released.
-    pub fn ended(&mut self, judge: &mut Judge, place: usize) -> bool {
+    /// The save of a place has come to an end; `releases`: clips of its camera are released once they are saved.
+    /// Whether its clip is to be released now.
+    pub fn finish(
+        &mut self,
+        judge: &mut Judge,
+        place: usize,
+        end: SaveEnd,
+        releases: bool,
+    ) -> bool {
         let Some(at) = self.at(place) else {
             return false;
         };
+        self.wish(at, end, releases);
         let Some(asking) = self.removed(at) else {
             return false;
         };
         let release = asking.wanted && !self.has_reader(asking.key.camera, asking.key.id);
-        let ended = self.core.ended(place);
+        let ended = self.core.finish(place, end, releases);
         judge.holds(
             ended.release == release,
             "the last save that reads a clip releases it, if that is wanted",
         );
         self.begins(judge, place, ended.begun);
         release
+    }
+
+    // A save that began by itself and whose clip is saved wants it released.
+    fn wish(&mut self, at: usize, end: SaveEnd, releases: bool) {
+        let Some(asking) = self.list.get(at) else {
+            return;
+        };
+        let (key, automatic) = (asking.key, asking.automatic);
+        let is_saved = end == SaveEnd::Whole || end == SaveEnd::Already;
+        if automatic && is_saved && releases {
+            for asking in self.list.iter_mut() {
+                if reads(asking, key.camera, key.id) {
+                    asking.wanted = true;
+                }
+            }
+        }
     }
 
     // The save that begins where another has ended is the first that waits.
@@ -296,6 +325,30 @@ impl Saving {
             let ended = self.core.ended(place);
             judge.holds(ended.begun.is_none() && !ended.release, "a save ends once");
         }
+    }
+}
+
+/// What follows from the end of a save is right: it is tried again a minute later, or told for good.
+pub fn judge_after(judge: &mut Judge, end: SaveEnd, asking: &Asking, now: u64) {
+    let is_again = asking.automatic && end == SaveEnd::MayPass;
+    for told in [false, true] {
+        let after = after_save(end, asking.automatic, told, now);
+        judge.holds(
+            after.again.is_some() == is_again,
+            "only a save that began by itself and may succeed later is tried again",
+        );
+        judge.holds(
+            after.again.unwrap_or(now.saturating_add(MINUTE)) == now.saturating_add(MINUTE),
+            "a save is tried again a minute later",
+        );
+        judge.holds(
+            (after.line == Some(SaveLine::Waits)) == (is_again && !told),
+            "a save that is tried again is told as such once",
+        );
+        judge.holds(
+            (after.line == Some(SaveLine::Saved)) == (end == SaveEnd::Whole),
+            "a clip is told as saved where its text is whole",
+        );
     }
 }
 

@@ -5,11 +5,12 @@ use crate::camera::{Camera, Disk};
 use crate::judge::Judge;
 use crate::keeping::{Noted, Waiting, judge_shortfall};
 use crate::random::Random;
-use crate::saving::{Asking, Saving, key_of};
+use crate::saving::{Asking, Saving, judge_after, key_of};
 use crate::searching::search;
 use crate::texts::Texts;
 use loop_station_core::{
-    GrowthTurn, KeepTurn, Numbers, SourceSeen, bounds, is_too_far, stood_still,
+    GrowthTurn, KeepTurn, MayRelease, Numbers, SaveEnd, SourceSeen, bounds, is_too_far,
+    may_release, stood_still,
 };
 use std::alloc::{AllocError, Global};
 
@@ -337,19 +338,24 @@ impl Station {
             camera.store.begins_with(id, asking.key.first),
             "a clip that a save reads is there, and the one that was asked for",
         );
-        if self.saving.is_cancelled(place) {
+        let end = if self.saving.is_cancelled(place) {
             camera.store.mark_saved(id);
+            SaveEnd::Final
         } else if self.folder && self.random.one_in(3) {
             camera.store.mark_saved(id);
             self.counts.saved = self.counts.saved.saturating_add(1);
             self.counts.lines = self.counts.lines.saturating_add(1);
-            if camera.releases && asking.automatic {
-                self.release_later(camera, id);
-            }
-        } else if !self.random.one_in(9) {
+            SaveEnd::Whole
+        } else if self.random.one_in(9) {
+            SaveEnd::MayPass
+        } else {
             return;
-        }
-        if self.saving.ended(&mut self.judge, place) {
+        };
+        judge_after(&mut self.judge, end, asking, self.now);
+        if self
+            .saving
+            .finish(&mut self.judge, place, end, camera.releases)
+        {
             self.release(camera, id);
         }
     }
@@ -485,11 +491,7 @@ impl Station {
             return;
         };
         match self.random.below(8) {
-            0..=2 => {
-                if !self.saving.is_read(&mut self.judge, camera.place, clip.id) {
-                    camera.store.unlock(clip.id);
-                }
-            }
+            0..=2 => self.release_ordered(camera, clip.id, clip.from),
             3..=5 => {
                 let key = key_of(camera.place, &clip);
                 let is_taken = self.saving.ask(&mut self.judge, key, false);
@@ -497,6 +499,29 @@ impl Station {
             }
             6 => self.release_later(camera, clip.id),
             _ => self.cancel_ordered(camera, clip.id),
+        }
+    }
+
+    // The release of a clip is ordered by its id; half of these say with which frame it begins, and some of them are
+    // wrong.
+    fn release_ordered(&mut self, camera: &mut Camera, id: u32, first: u64) {
+        let is_read = self.saving.is_read(&mut self.judge, camera.place, id);
+        let asked = match self.random.below(4) {
+            0 => Some(first),
+            1 => Some(first.saturating_add(1)),
+            _ => None,
+        };
+        let is_meant = match asked {
+            Some(asked) => camera.store.begins_with(id, asked),
+            None => true,
+        };
+        let may = may_release(is_read, asked, Some(first)) == MayRelease::Now;
+        self.judge.holds(
+            may == (is_meant && !is_read),
+            "an order releases the clip that it means, unless a save reads it",
+        );
+        if may {
+            camera.store.unlock(id);
         }
     }
 

@@ -2,6 +2,7 @@
 
 use crate::absent::{Absent, file_name};
 use loop_file::FileFault;
+use loop_station_core::SaveEnd;
 use loop_store::StoreFault;
 use std::alloc::AllocError;
 use std::fmt;
@@ -63,8 +64,9 @@ impl Display for NotSaved {
 }
 
 impl NotSaved {
-    /// Whether the same save may succeed later: the folder works again, the disk has room, the camera has its store.
-    pub(super) fn may_pass(&self) -> bool {
+    /// How it ends a save: the same one may succeed later where the folder works again, the disk has room, or the
+    /// camera has its store.
+    pub(super) fn end(&self) -> SaveEnd {
         match self {
             NotSaved::Absent(_)
             | NotSaved::File(_)
@@ -72,14 +74,14 @@ impl NotSaved {
             | NotSaved::CannotWrite
             | NotSaved::NoMemory
             | NotSaved::InUse
-            | NotSaved::Refused(_) => true,
+            | NotSaved::Refused(_) => SaveEnd::MayPass,
             NotSaved::NoSuchClip
             | NotSaved::Exists
             | NotSaved::IsStore
             | NotSaved::OtherFolder
             | NotSaved::MixedBits
             | NotSaved::Cancelled
-            | NotSaved::Stopped => false,
+            | NotSaved::Stopped => SaveEnd::Final,
         }
     }
 }

@@ -1,0 +1,21 @@
+-- Which clips may be released, and how many keeps have room.
+use Rattle.core.specs.Int.{div_ceil}
+use Rattle.std.specs.Prelude.{ℕ, ◌+◌, ◌-◌, ◌/◌, ◌^◌, ◌==◌, Bool, Option, Some, None, max, min, if◌then◌else◌}
+use Rattle.loop_station_core.specs.declared.clips.MayRelease.{MayRelease}
+use Rattle.loop_station_core.specs.declared.clips.MayRelease.TheVariants.{Now, Saving, Other}
+
+-- the clip of an id begins with the frame that an order says
+abbrev pub by_first : ℕ → Option ℕ → MayRelease
+by_first asked None = Other asked
+by_first asked (Some first) = if asked == first then Now else Other asked
+
+-- a clip that is read waits; one of which an order says the first frame is that one, or stays
+abbrev pub may_release : Bool → Option ℕ → Option ℕ → MayRelease
+may_release is_read asked first = if is_read then Saving else elim asked [
+  | None ↦ Now
+  | Some number ↦ by_first number first
+]
+
+-- how many keeps of so many frames have room, each with a block more than it fills
+abbrev pub keeps_in : ℕ → ℕ → ℕ → ℕ
+keeps_in blocks frames slots = blocks / min (div_ceil frames (max slots 1) + 1) (2 ^ 64 - 1)

@@ -1,0 +1,11 @@
+-- What becomes of the file of a store that is looked at.
+use Rattle.std.specs.Prelude.{ℕ, ◌==◌, ◌&&◌, ◌||◌, Bool, true, not, nat_lt, Option, Some, None}
+
+-- its path names another file, or none
+abbrev pub is_moved : ℕ × ℕ → Option (ℕ × ℕ) → Bool
+is_moved recorded None = true
+is_moved recorded (Some there) = not ((there.0 == recorded.0) && (there.1 == recorded.1))
+
+-- a store with frames goes on whatever comes
+abbrev pub goes_on : ℕ → Bool → Bool
+goes_on frames alike = nat_lt 0 frames || alike

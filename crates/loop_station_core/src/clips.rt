@@ -1,0 +1,39 @@
+//! Which clips may be released, and how many keeps have room.
+
+ghost use Rattle.std.specs.Prelude.{◌≡◌};
+ghost use Rattle.loop_station_core.specs.Clips.{keeps_in, may_release};
+
+/// Whether a clip may be released.
+#[derive(Clone, Copy, PartialEq, Eq)]
+pub enum MayRelease {
+    /// It may, now.
+    Now,
+    /// A save reads it.
+    Saving,
+    /// The clip of its id doesn't begin with this frame.
+    Other(u64),
+}
+
+/// Whether a clip may be released by an order; `is_read`: a save reads it; `asked`: the frame with which it has to
+/// begin, if the order says so; `first`: the frame with which the clip of its id begins, if there is such a clip.
+pub fn may_release(is_read: bool, asked: Option<u64>, first: Option<u64>) -> MayRelease
+    ensures { result ≡ may_release is_read asked first }
+{
+    if is_read {
+        return MayRelease::Saving;
+    }
+    match (asked, first) {
+        (None, _) => MayRelease::Now,
+        (Some(asked), Some(first)) if asked == first => MayRelease::Now,
+        (Some(asked), _) => MayRelease::Other(asked),
+    }
+}
+
+/// How many keeps of so many frames have room where so many blocks may still be locked. A block has so many frames. A
+/// keep takes one block more than its frames fill, since it may begin within one.
+pub fn keeps_in(blocks: u64, frames: u64, slots: u64) -> u64
+    ensures { result ≡ keeps_in blocks frames slots }
+{
+    let filled = frames.div_ceil(slots.max(1));
+    blocks / filled.saturating_add(1)
+}
