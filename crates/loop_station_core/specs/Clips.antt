@@ -1,5 +1,5 @@
 -- Which clips may be released, and how many keeps have room.
-use Rattle.core.specs.Int.{div_ceil}
+use Rattle.std.specs.Int.{div_ceil}
 use Rattle.std.specs.Prelude.{ℕ, ◌+◌, ◌-◌, ◌/◌, ◌^◌, ◌==◌, Bool, Option, Some, None, max, min, if◌then◌else◌}
 use Rattle.loop_station_core.specs.declared.clips.MayRelease.{MayRelease}
 use Rattle.loop_station_core.specs.declared.clips.MayRelease.TheVariants.{Now, Saving, Other}
