@@ -239,7 +239,7 @@ class Frames:
     @property
     def late(self) -> NDArray[np.bool_]:
         """Whether a frame's time is late: it came while the station's program stood still."""
-        return self._heads["flags"] & np.uint32(layout.LATE) != 0
+        return np.asarray(self._heads["flags"] & np.uint32(layout.LATE), dtype=np.bool_)
 
     @property
     def form(self) -> Form:
