@@ -61,3 +61,11 @@ def test_the_gates_longest_chain(tool):
     times = tool("measure/gate_times")
     crates = times.libraries(TOOLS.parent)
     assert crates["loop_disk"] == [] and "loop_disk" in crates["loop_ring"]
+
+
+def test_a_change_costs_what_stands_on_it(tool):
+    times = tool("measure/gate_times")
+    stands_on = {"low": [], "middle": ["low"], "top": ["middle"], "apart": []}
+    seconds = {name: {"proof": 10**place} for place, name in enumerate(stands_on)}
+    costs = {name: times.after_change(name, seconds, stands_on) for name in stands_on}
+    assert costs == {"low": 111, "middle": 110, "top": 100, "apart": 1000}
