@@ -4,13 +4,11 @@ ghost use Rattle.std.specs.Prelude.{◌≡◌, ◌≤◌};
 
 use crate::absent::Absent;
 use crate::answering::{Message, OpenEvent};
-use crate::asked::asked_ring;
 use crate::clerk::FoundClip;
 use crate::feed::FeedSource;
 use crate::notes::read_events;
 use crate::outlet::Outlet;
 use crate::places::Places;
-use crate::size::size_of;
 use crate::state::CameraState;
 use loop_capture::Device;
 use loop_desk::{Desk, DeskLimits};
@@ -19,7 +17,7 @@ use loop_pipeline::{Camera, Ended, Unfilmed, film_camera, heap_start, new_queue,
 use loop_plane::HeapPlane;
 use loop_record::Geometry;
 use loop_station_core::{Act, FilmingEvent, Keep, bits_of};
-use loop_station_words::{RingSize, StoreSize};
+use loop_station_words::{RingSize, StoreSize, asked_ring, size_of};
 use loop_store::{Clip, OpenRefused, Store, StoreFault};
 use std::alloc::{AllocGlobal, Global};
 use std::io::Write;
@@ -152,7 +150,7 @@ fn make_store<R: AllocGlobal + Places + Wait + Clock>(
     let Some(header) = wait_header(rt, state) else {
         return Err(Absent::Stopped);
     };
-    let geometry = geometry_for(&header, &state.config.room)?;
+    let geometry = geometry_for(&header, state.config.room)?;
     let made = rt.make_store(rt, state, geometry);
     state.life.set_making(rt, None);
     let place = rt.place_of(state.config.store.as_str());
@@ -174,7 +172,7 @@ fn wait_header<R: Wait + Clock>(rt: &R, state: &CameraState) -> Option<Geometry>
 }
 
 // The geometry of a store for a header, with room for as much as the configuration asks.
-fn geometry_for(header: &Geometry, room: &StoreSize) -> Result<Geometry, Absent> {
+fn geometry_for(header: &Geometry, room: StoreSize) -> Result<Geometry, Absent> {
     let RingSize { segments, slots } = asked_ring(header, room)?;
     let geometry = Geometry {
         segments,

@@ -1,8 +1,6 @@
 //! The program: threads for each camera, and orders meanwhile.
 
-use crate::absent::Absent;
 use crate::answering::{Message, Note, Posts};
-use crate::asked::asked_ring;
 use crate::clock::Timeline;
 use crate::events::LastReported;
 use crate::filming::run_camera;
@@ -18,7 +16,9 @@ use crate::tap::{Tap, run_tap};
 use crate::watch::run_watch;
 use loop_script::MAX_LINE;
 use loop_station_core::Numbers;
-use loop_station_words::{AnswersForm, CameraConfig, Config, Lines, Source};
+use loop_station_words::{
+    AnswersForm, CameraConfig, Config, Lines, NoRing, Source, asked_ring,
+};
 use std::alloc::{AllocError, AllocGlobal, Global};
 use std::io::{BufReader, Read, Write};
 use std::sync::{Arc, Mutex, Wait};
@@ -246,9 +246,9 @@ fn check_minutes<R: AllocGlobal + Places>(rt: &R, config: &Config) -> Result<(),
         };
         let frames = shape.geometry(ANY_RING);
         let is_there = rt.path_kind(camera.store.as_str()) != PathKind::Nothing;
-        if let (false, Err(Absent::TooManyFrames(tenths))) = (
+        if let (false, Err(NoRing::TooManyFrames(tenths))) = (
             is_there,
-            asked_ring(&frames, &camera.room),
+            asked_ring(&frames, camera.room),
         ) {
             let name = String::from_str(rt.alloc(), camera.name.as_str())?;
             return Err(NotBegun::TooManyMinutes(name, tenths));

@@ -13,7 +13,6 @@ use crate::jobs::{Job, Jobs, Request};
 use crate::life::Life;
 use crate::replies::{tell_clips, tell_shortfall};
 use crate::save::{NotSaved, Saves, begin_ordered, tell_ended};
-use crate::size::micros_of;
 use crate::stored::Stored;
 use loop_capture::Tick;
 use loop_desk::Flushed;
@@ -23,7 +22,7 @@ use loop_record::Geometry;
 use loop_station_core::{
     Act, EventEnd, FilmingEvent, Keep, MayRelease, Run, Tally, event_end, may_release,
 };
-use loop_station_words::{CameraConfig, Lines};
+use loop_station_words::{CameraConfig, Lines, micros_of};
 use loop_store::{Clip, ReadFrame, StoreFault};
 use std::alloc::{AllocError, Global};
 use std::io;
