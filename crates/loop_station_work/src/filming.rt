@@ -3,7 +3,7 @@
 ghost use Rattle.std.specs.Prelude.{◌≡◌, ◌≤◌};
 
 use crate::absent::Absent;
-use crate::answering::{Message, OpenEvent};
+use crate::answering::Message;
 use crate::clerk::FoundClip;
 use crate::feed::FeedSource;
 use crate::notes::read_events;
@@ -16,7 +16,7 @@ use loop_file::{FileDisk, FileFault};
 use loop_pipeline::{Camera, Ended, Unfilmed, film_camera, heap_start, new_queue, start_queue};
 use loop_plane::HeapPlane;
 use loop_record::Geometry;
-use loop_station_core::{Act, FilmingEvent, Keep, bits_of};
+use loop_station_core::{Act, FilmingEvent, Keep, OpenEvent, bits_of, is_saved_at_start};
 use loop_station_words::{RingSize, StoreSize, asked_ring, size_of};
 use loop_store::{Clip, OpenRefused, Store, StoreFault};
 use std::alloc::{AllocGlobal, Global};
@@ -218,8 +218,7 @@ fn film_into<R: AllocGlobal + Places + Threads + Wait + Clock + Sync>(
 }
 
 // Tells the printer which clips a store has: those that aren't saved yet are saved by themselves, where the camera has
-// a folder for them. The clips of an event that goes on are left out, and so is a clip whose frames can't be read. With
-// a tag of the user's, what an event has locked stays a clip of its own.
+// a folder for them (`is_saved_at_start`). A clip whose frames can't be read is left out.
 fn tell_clips<R: AllocGlobal + Wait>(
     rt: &R,
     state: &CameraState,
@@ -232,7 +231,7 @@ fn tell_clips<R: AllocGlobal + Wait>(
     }
     let mut found = Vec::new(rt.alloc());
     for clip in clips {
-        if events.iter().any(|event| event.event == clip.tag) {
+        if !is_saved_at_start(clip.tag, events) {
             continue;
         }
         let (Ok(first), Ok(last)) = (store.read_head(clip.from), store.read_head(clip.to)) else {

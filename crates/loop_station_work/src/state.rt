@@ -3,7 +3,7 @@
 ghost use Rattle.std.specs.Prelude.{◌≡◌};
 
 use crate::absent::Absent;
-use crate::answering::{Answering, KeptClip, Message, Note, OpenEvent, Posts, SaveOrder};
+use crate::answering::{Answering, KeptClip, Message, Note, Posts, SaveOrder};
 use crate::clerk::{FoundClip, attend};
 use crate::clock::Timeline;
 use crate::feed::Feed;
@@ -20,7 +20,7 @@ use loop_disk::Disk;
 use loop_pipeline::{Back, Guide, Link, LostFrame, Visits};
 use loop_record::Geometry;
 use loop_station_core::{
-    Act, EventEnd, FilmingEvent, Keep, MayRelease, Run, Tally, event_end, may_release,
+    Act, EventEnd, FilmingEvent, Keep, MayRelease, OpenEvent, Run, Tally, event_end, may_release,
 };
 use loop_station_words::{CameraConfig, Lines, micros_of};
 use loop_store::{Clip, ReadFrame, StoreFault};
