@@ -15,6 +15,7 @@ use crate::places::Places;
 use crate::state::CameraState;
 use loop_station_core::{Asked, Cancelled, Retries, SaveEnd, SaveKey, SaveLine, after_save};
 use loop_station_words::Lines;
+use loop_store::Clip;
 pub use not_saved::NotSaved;
 use std::alloc::{AllocError, AllocGlobal, Global};
 use std::sync::atomic::{AtomicBool, Ordering};
@@ -58,7 +59,12 @@ impl Save {
         self.camera
     }
 
-    // The clip that it reads.
+    /// The clip that it writes.
+    pub fn clip(&self) -> Clip {
+        self.found.clip
+    }
+
+    // The clip that it reads, as loop_station_core names it.
     fn key(&self) -> SaveKey {
         SaveKey {
             camera: self.camera,
@@ -80,6 +86,28 @@ struct SavePlace {
     save: Option<Arc<Save>>,
     // Its thread hasn't seen that save yet.
     is_new: bool,
+    // Its result is told: a cancel has ended it. The place is free once its thread has ended it too.
+    is_told: bool,
+}
+
+impl SavePlace {
+    // The save, whose result is to be told now, unless it was told before.
+    fn take_untold(&mut self) -> Option<Arc<Save>> {
+        let save = self.save.take();
+        if self.is_told { None } else { save }
+    }
+
+    // Ends the save before its text is whole. Returns it, unless its result was told before.
+    fn cancel(&mut self) -> Option<Arc<Save>> {
+        let save = self.save.as_ref()?;
+        save.ended.store(true, Ordering::SeqCst);
+        if self.is_told {
+            return None;
+        }
+        let ours = Arc::try_clone(save).ok()?;
+        self.is_told = true;
+        Some(ours)
+    }
 }
 
 #[derive(Drop)]
@@ -117,6 +145,7 @@ impl Saves {
             places.push(SavePlace {
                 save: None,
                 is_new: false,
+                is_told: false,
             })?;
         }
         Ok(Saves {
@@ -182,8 +211,9 @@ impl Saves {
             },
         );
         let place = inside.places.get_mut(at)?;
+        let save = Arc::try_clone(place.save.as_ref()?).ok();
         place.is_new = false;
-        Arc::try_clone(place.save.as_ref()?).ok()
+        save
     }
 
     // The save of a place has ended so; `releases`: clips of its camera are released once they are saved. Returns the
@@ -197,7 +227,7 @@ impl Saves {
     ) -> (Option<Arc<Save>>, bool) {
         let mut inside = self.inside.lock(rt);
         let save = match inside.places.get_mut(at) {
-            Some(place) => place.save.take(),
+            Some(place) => place.take_untold(),
             None => None,
         };
         let ended = inside.decided.finish(at, end, releases);
@@ -225,20 +255,16 @@ impl Saves {
         inside.take_failed(at)
     }
 
-    /// Ends a save of the clip of an id of a camera. Returns the order that asked for it, which has to be answered, and
-    /// the path; None where no save reads that clip.
-    pub fn cancel<R: Wait>(&self, rt: &R, camera: usize, id: u32) -> Option<Arc<Save>> {
+    /// Ends a save of the clip of an id of a camera. Returns it, since it has to be told, and whether its clip is
+    /// released now; None where no save reads that clip.
+    pub fn cancel<R: Wait>(&self, rt: &R, camera: usize, id: u32) -> Option<(Arc<Save>, bool)> {
         let mut inside = self.inside.lock(rt);
         if let Some(at) = inside.retries.cancel(camera, id) {
-            return inside.take_failed(at);
+            return Some((inside.take_failed(at)?, false));
         }
         match inside.decided.cancel(camera, id) {
-            Cancelled::Running(place) => {
-                let save = inside.places.get_mut(place)?.save.take()?;
-                save.ended.store(true, Ordering::SeqCst);
-                Some(save)
-            }
-            Cancelled::Waiting { release: _ } => inside.take_waiting(camera, id),
+            Cancelled::Running(place) => Some((inside.places.get_mut(place)?.cancel()?, false)),
+            Cancelled::Waiting { release } => Some((inside.take_waiting(camera, id)?, release)),
             Cancelled::No => None,
         }
     }
@@ -249,7 +275,7 @@ impl Saves {
             .lock(rt)
             .places
             .iter()
-            .any(|place| place.save.is_some())
+            .any(|place| place.save.is_some() && !place.is_told)
     }
 
     /// Ends all saves, within a second. Returns one that hasn't ended by itself shortly: its thread tells nothing more.
@@ -269,7 +295,7 @@ impl Saves {
         for _ in 0..u64::MAX {
             let stopped = inside.decided.stop()?;
             let save = match stopped.place {
-                Some(place) => inside.places.get_mut(place)?.save.take(),
+                Some(place) => inside.places.get_mut(place)?.take_untold(),
                 None => inside.take_waiting(stopped.key.camera, stopped.key.id),
             };
             if save.is_some() {
@@ -297,6 +323,7 @@ impl Inside {
         if let Some(place) = self.places.get_mut(place) {
             place.save = Some(save);
             place.is_new = true;
+            place.is_told = false;
         }
     }
 

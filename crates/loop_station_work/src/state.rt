@@ -214,8 +214,11 @@ impl CameraState {
     /// Ends a save of the clip of an id, and tells that of the save. Returns whether there was one.
     pub(crate) fn cancel_save<R: Wait>(&self, rt: &R, id: u32) -> bool {
         match self.saves.cancel(rt, self.place, id) {
-            Some(save) => {
+            Some((save, is_released)) => {
                 tell_ended(rt, self, &save, NotSaved::Cancelled);
+                if is_released {
+                    self.release_saved(rt, save.clip());
+                }
                 true
             }
             None => false,
