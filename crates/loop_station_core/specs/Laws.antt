@@ -2,7 +2,8 @@
 use Rattle.std.specs.Prelude.{ℕ, ◌+◌, ◌-◌, ◌*◌, ◌^◌, ◌≡◌, ◌≤◌, ◌<◌, Bool, true, false, List, [], ◌∷◌, zero, suc, Option, Some, None, IfSome, is_some, option_map, if◌then◌else◌}
 use Rattle.std.specs.List.{list_any}
 use Rattle.loop_station_core.specs.Answers.{answers_of, given_by, is_whole}
-use Rattle.loop_station_core.specs.Cameras.{lived}
+use Rattle.loop_station_core.specs.Cameras.{lived, step}
+use Rattle.loop_station_core.specs.declared.camera.Act.TheVariants.{GiveUp}
 use Rattle.loop_station_core.specs.Frames.{Step, after, all_of, come_in, no_frames}
 use Rattle.loop_station_core.specs.Gaps.{AreWithin, gaps, missing}
 use Rattle.loop_station_core.specs.Keeps.{AreInOrder, EachTurn, HasTimesOf, IsRight, IsTimely}
@@ -16,7 +17,7 @@ use Rattle.loop_station_core.specs.Telling.{known_after, lines_of, told_locked}
 use Rattle.loop_station_core.specs.declared.camera.Camera.{Camera}
 use Rattle.loop_station_core.specs.declared.camera.Event.{Event}
 use Rattle.loop_station_core.specs.declared.camera.Event.TheVariants.{Filming}
-use Rattle.loop_station_core.specs.declared.camera.FilmingEvent.TheVariants.{Stop, Begin, Break, Move}
+use Rattle.loop_station_core.specs.declared.camera.FilmingEvent.TheVariants.{Stop, Begin, AllLocked as AllAreLocked, Break, Move}
 use Rattle.loop_station_core.specs.declared.keep.Keep.{Keep}
 use Rattle.loop_station_core.specs.declared.keep.Look.{Look}
 use Rattle.loop_station_core.specs.declared.runs.Run.{Run}
@@ -167,6 +168,17 @@ NothingBreaks (e ∷ events) = NothingBreaks events
 abbrev pub FilmingsGoOn : Type 0
 FilmingsGoOn = (c : Camera) (events : List Event) → NothingBreaks events
     → (lived c (Filming Begin ∷ events)).over ≡ false
+
+-- no filming begins
+abbrev pub NoneBegins : List Event → Type 0
+NoneBegins [] = Unit {0}
+NoneBegins (Filming Begin ∷ events) = ⊥
+NoneBegins (e ∷ events) = NoneBegins events
+
+-- A filming whose store was moved away ends: no flush of it is tried again, even where each block is locked.
+abbrev pub MovedStoresAreLeft : Type 0
+MovedStoresAreLeft = (c : Camera) (events : List Event) → NoneBegins events
+    → (step (lived c (Filming Move ∷ events)) (Filming AllAreLocked)).1 ≡ GiveUp
 
 -- A source that is told as silent waits for a byte.
 abbrev pub SilentSourcesWait : Type 0

@@ -105,6 +105,16 @@ impl Keep {
         self.part
     }
 
+    /// Its camera's store was moved away, and another one is made: nothing of it is locked there.
+    pub fn anew(self) -> Keep
+        ensures { result ≡ record self { block = 0; part = None } }
+    {
+        let mut keep = self;
+        keep.block = 0;
+        keep.part = None;
+        keep
+    }
+
     // A frame made progress, or not, since it was last looked at.
     fn moved(self, steps: u64, now: u64) -> Keep
         ensures { result ≡ moved self steps now }

@@ -1,6 +1,6 @@
 //! What holds over any list of events. Each function does nothing: its contract is the law.
 
-ghost use Rattle.loop_station_core.specs.Laws.{DisksAreToldOnce, FilmingsGoOn, FoundGapsAreSo, FramesAddUp, GapsAddUp, GapsAreLookedFor, KeepsAreRight, LinesAreSo, LockedLinesAlternate, LostAreToldOnce, OrdersAreAnsweredOnce, OrdersAreHandedOut, ReadClipsWait, ReleasesAreEarned, ReleasesAreFree, SavedTextsAreThere, SavesWaitOnce, SilentSourcesWait, StopsAreForGood};
+ghost use Rattle.loop_station_core.specs.Laws.{DisksAreToldOnce, FilmingsGoOn, FoundGapsAreSo, FramesAddUp, GapsAddUp, GapsAreLookedFor, KeepsAreRight, LinesAreSo, LockedLinesAlternate, LostAreToldOnce, MovedStoresAreLeft, OrdersAreAnsweredOnce, OrdersAreHandedOut, ReadClipsWait, ReleasesAreEarned, ReleasesAreFree, SavedTextsAreThere, SavesWaitOnce, SilentSourcesWait, StopsAreForGood};
 ghost use Rattle.loop_station_core.specs.Marks.{MarksAreRead};
 ghost use Rattle.loop_station_core.specs.Retries.{RetriesAreDue};
 ghost use Rattle.loop_station_core.specs.Timing.{GapsAreToldApart, TimesRise};
@@ -111,6 +111,11 @@ pub fn stops_are_for_good()
 /// A filming isn't over before something breaks, or its store is moved away.
 pub fn filmings_go_on()
     ensures { FilmingsGoOn }
+{}
+
+/// A filming whose store was moved away ends, even where each block is locked.
+pub fn moved_stores_are_left()
+    ensures { MovedStoresAreLeft }
 {}
 
 /// A source that is told as silent waits for a byte.

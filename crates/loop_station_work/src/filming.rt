@@ -93,6 +93,7 @@ fn rest<R: Wait + Clock>(rt: &R, state: &CameraState, why: Absent) {
         Act::MakeAnew => {
             // A store is made anew for the frames that come, once that is told.
             state.life.lose_store(rt);
+            state.desk.begin_anew(rt);
             thread::sleep(rt, Duration::from_millis(MOVED_AGAIN));
         }
         Act::OpenAgain => thread::sleep(rt, Duration::from_millis(OPEN_AGAIN)),
