@@ -6,6 +6,9 @@
 //! place is taken; one that begins by itself waits. Whoever ends a save first tells its result: its own thread, or a
 //! stop of the program or a `cancel` where that thread waits for a pipe that nobody reads.
 
+ghost use Rattle.std.specs.Prelude.{◌≡◌, IfErr};
+ghost use Rattle.loop_station_core.specs.Saving.{shown, withdrawn};
+
 mod not_saved;
 mod written;
 
@@ -184,20 +187,9 @@ impl Saves {
         if save.is_automatic() && inside.has_automatic(save.key()) {
             return Ok(());
         }
-        match inside.decided.ask(save.key(), save.is_automatic()) {
-            Asked::Begins(place) => {
-                inside.put(place, save);
-                self.changed.notify_all();
-                Ok(())
-            }
-            Asked::Waits => match inside.waiting.push(save) {
-                Ok(()) => Ok(()),
-                Err(_) => Err(NotBegun::NoMemory),
-            },
-            Asked::TooMany => Err(NotBegun::TooMany),
-            Asked::NoMemory => Err(NotBegun::NoMemory),
-            Asked::Stopped => Err(NotBegun::Stopped),
-        }
+        inside.ask(save)?;
+        self.changed.notify_all();
+        Ok(())
     }
 
     // Waits for the next save of a place.
@@ -318,6 +310,34 @@ enum NotBegun {
 }
 
 impl Inside {
+    // Asks for a place for a save: it begins there, or waits for one. Where it does neither, no place is taken for it:
+    // by `Saves::ask` of loop_station_core, and its law of saves that are withdrawn.
+    fn ask(&mut self, save: Arc<Save>) -> Result<(), NotBegun> {
+        match self.decided.ask(save.key(), save.is_automatic()) {
+            Asked::Begins(place) => {
+                self.put(place, save);
+                Ok(())
+            }
+            Asked::Waits => self.queue(save),
+            Asked::TooMany => Err(NotBegun::TooMany),
+            Asked::NoMemory => Err(NotBegun::NoMemory),
+            Asked::Stopped => Err(NotBegun::Stopped),
+        }
+    }
+
+    // A save waits that was told to wait. Where there is no memory to keep it in, it is withdrawn.
+    fn queue(&mut self, save: Arc<Save>) -> Result<(), NotBegun>
+        ensures { IfErr result (λ why. shown self.new.decided ≡ withdrawn (shown self.old.decided)) }
+    {
+        match self.waiting.push(save) {
+            Ok(()) => Ok(()),
+            Err(_) => {
+                self.decided.withdraw();
+                Err(NotBegun::NoMemory)
+            }
+        }
+    }
+
     // A save gets a place.
     fn put(&mut self, place: usize, save: Arc<Save>) {
         if let Some(place) = self.places.get_mut(place) {
