@@ -2,7 +2,8 @@
 use Rattle.std.proofs.Common.{◌≡◌, Bool, true, false, List, [], ◌∷◌, Some, None, is_some, arith, refl}
 use Rattle.std.proofs.lemmas.Grind.{common_steps}
 use Rattle.loop_station_core.specs.Cameras.{lived, step}
-use Rattle.loop_station_core.specs.Laws.{NothingBreaks}
+use Rattle.loop_station_core.specs.Laws.{NoneBegins, NothingBreaks}
+use Rattle.loop_station_core.specs.declared.camera.Act.TheVariants.{GiveUp}
 use Rattle.loop_station_core.specs.declared.camera.Camera.{Camera}
 use Rattle.loop_station_core.specs.declared.camera.Event.{Event}
 use Rattle.loop_station_core.specs.declared.camera.Event.TheVariants.{Filming, Source}
@@ -36,6 +37,29 @@ goes-on c (Source s ∷ es) u h =
 
 pub filmings-on : (c : Camera) (es : List Event) → NothingBreaks es → (lived c (Filming Begin ∷ es)).over ≡ false
 filmings-on c es u = goes-on (step c (Filming Begin)).0 es u refl
+
+ends : (c : Camera) (es : List Event) → NoneBegins es → c.over ≡ true → (lived c es).over ≡ true
+ends c [] u h = h
+ends c (Filming Stop ∷ es) u h = ends (step c (Filming Stop)).0 es u h
+ends c (Filming Begin ∷ es) u h = elim u [ ]
+ends c (Filming (Store n) ∷ es) u h = ends (step c (Filming (Store n))).0 es u h
+ends c (Filming AllLocked ∷ es) u h = ends (step c (Filming AllLocked)).0 es u h
+ends c (Filming Break ∷ es) u h = ends (step c (Filming Break)).0 es u refl
+ends c (Filming Move ∷ es) u h = ends (step c (Filming Move)).0 es u refl
+ends c (Filming (End b) ∷ es) u h = ends (step c (Filming (End b))).0 es u h
+ends c (Filming Leave ∷ es) u h =
+    let e : (step c (Filming Leave)).0.over ≡ true = grind (arith, common_steps) in
+    ends (step c (Filming Leave)).0 es u e
+ends c (Source s ∷ es) u h =
+    let e : (step c (Source s)).0.over ≡ true = grind (arith, common_steps) in
+    ends (step c (Source s)).0 es u e
+
+gives-up : (c : Camera) → c.over ≡ true → (step c (Filming AllLocked)).1 ≡ GiveUp
+gives-up c h = grind (arith, common_steps)
+
+pub moved-left : (c : Camera) (es : List Event) → NoneBegins es
+    → (step (lived c (Filming Move ∷ es)) (Filming AllLocked)).1 ≡ GiveUp
+moved-left c es u = gives-up (lived c (Filming Move ∷ es)) (ends (step c (Filming Move)).0 es u refl)
 
 waits-on : (c : Camera) (e : Event) → (c.silent ≡ true → is_some c.waits ≡ true)
     → (step c e).0.silent ≡ true → is_some (step c e).0.waits ≡ true

@@ -6,6 +6,7 @@ pub mod KeepLaws
 pub mod LineLaws
 pub mod MarkLaws
 pub mod OrderLaws
+pub mod ReaderLaws
 pub mod ReleaseLaws
 pub mod SaveEndLaws
 pub mod SaveLaws

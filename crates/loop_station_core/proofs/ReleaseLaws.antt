@@ -1,8 +1,8 @@
--- A clip is released only by order, or where its text is there.
+-- Saves release a clip only where its text is there.
 use Rattle.std.proofs.Common.{◌≡◌, ℕ, ◌&&◌, Bool, true, false, not, List, [], ◌∷◌, Option, Some, None, is_some, zero, suc, slice_get, slice_set, remove, replicate, arith, refl}
 use Rattle.std.specs.List.{list_any, position, position_or_len}
 use Rattle.std.proofs.lemmas.Grind.{common_steps}
-use Rattle.loop_station_core.specs.Releases.{SaveStep, asks, ends, cancels, wants, stops, frees, frees_in, is_clip, lets, lets_in, no_saves, says_release, stepped}
+use Rattle.loop_station_core.specs.Releases.{SaveStep, asks, ends, cancels, stops, frees, frees_in, is_clip, lets, lets_in, no_saves, says_release, stepped}
 use Rattle.loop_station_core.specs.Saving.{Places, after_end, asked, begun, cancelled, cancelled_at, earns, ended, freed, held_at, holds, in_place, left_by, new_save, picks, place_of, reads, stopped, turn_of, update, wanted, with_cancel, with_release, with_wish}
 use Rattle.loop_station_core.specs.declared.save_end.SaveEnd.{SaveEnd}
 use Rattle.loop_station_core.specs.declared.saves.SaveKey.{SaveKey}
@@ -227,7 +227,6 @@ one-step camera id p (asks key automatic) h n = (asked-free camera id p key auto
 one-step camera id p (ends place end releases) h n =
     ended-free camera id (with_wish p place end releases) place (wish-free camera id p place end releases h n)
 one-step camera id p (cancels c i) h n = cancelled-free camera id p c i h
-one-step camera id p (wants c i) h n = (wanted-free camera id p c i n h, refl)
 one-step camera id p stops h n = (stopped-free camera id p h, refl)
 
 from-free : (camera id : ℕ) (p : Places) (steps : List SaveStep) → Free camera id p → lets_in camera id p steps ≡ false

@@ -29,7 +29,7 @@ abbrev pub step_filming : Camera → FilmingEvent → Camera × Act
 step_filming c Stop = (record c { stopping = true }, GoOn)
 step_filming c Begin = (record c { over = false; locked = false; moved = false }, GoOn)
 step_filming c (Store count) = (record c { locked = c.locked && (count == 0) }, GoOn)
-step_filming c AllLocked = (record c { locked = true }, if c.stopping then GiveUp else FlushAgain)
+step_filming c AllLocked = (record c { locked = true }, if c.stopping || c.over then GiveUp else FlushAgain)
 step_filming c Break = (record c { over = true }, GiveUp)
 step_filming c Move = (record c { over = true; moved = true }, GoOn)
 step_filming c (End must_reopen) = (c, after_end c must_reopen)

@@ -1,10 +1,12 @@
 -- What is answered to a keep, and what is done of an event whose end lies ahead.
-use Rattle.std.specs.Prelude.{ℕ, ◌==◌, ◌&&◌, Bool, not, nat_lt, if◌then◌else◌}
+use Rattle.std.specs.Prelude.{ℕ, ◌==◌, ◌&&◌, Bool, not, List, nat_lt, if◌then◌else◌}
+use Rattle.std.specs.List.{list_any}
 use Rattle.loop_station_core.specs.declared.growth.KeptAnswer.{KeptAnswer}
 use Rattle.loop_station_core.specs.declared.growth.GrowthTurn.{GrowthTurn}
 use Rattle.loop_station_core.specs.declared.growth.GrowthTurn.TheVariants.{Release, End, Leave, Keep}
 use Rattle.loop_station_core.specs.declared.growth.EventEnd.{EventEnd}
 use Rattle.loop_station_core.specs.declared.growth.EventEnd.TheVariants.{Whole, Refused, Gaps}
+use Rattle.loop_station_core.specs.declared.growth.OpenEvent.{OpenEvent}
 
 -- that nothing is held, unless more was refused; what is missing of a time that is over, where some is held; or that
 -- the end lies ahead
@@ -23,3 +25,11 @@ turn_of covered done stopping now until = if covered then Release
 -- a refusal is told before gaps
 abbrev pub end_of : Bool → Bool → EventEnd
 end_of refused held = if refused then Refused else (if held then Whole else Gaps)
+
+-- an event has a number
+abbrev pub is_of : ℕ → OpenEvent → Bool
+is_of number e = e.event == number
+
+-- a clip of a store that was opened, with this tag, is none of the events that go on
+abbrev pub is_saved_at_start : ℕ → List OpenEvent → Bool
+is_saved_at_start tag events = not (list_any (is_of tag) events)

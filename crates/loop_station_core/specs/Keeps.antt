@@ -1,8 +1,10 @@
 -- When a keep of a camera locks, and what.
-use Rattle.std.specs.Prelude.{ℕ, ◌+◌, ◌-◌, ◌%◌, ◌^◌, ◌≡◌, ◌≤◌, ◌<◌, ◌⊎◌, ◌==◌, ◌&&◌, ◌||◌, Bool, true, not, List, [], ◌∷◌, Some, is_some, unwrap_or, min, max, nat_lt, nat_le, if◌then◌else◌}
+use Rattle.std.specs.Prelude.{ℕ, ◌+◌, ◌-◌, ◌*◌, ◌%◌, ◌^◌, ◌≡◌, ◌≤◌, ◌<◌, ◌⊎◌, ◌==◌, ◌&&◌, ◌||◌, Bool, true, not, List, [], ◌∷◌, Option, Some, None, is_some, unwrap_or, min, max, nat_lt, nat_le, if◌then◌else◌}
 use Rattle.loop_station_core.specs.declared.tally.Tally.{Tally}
 use Rattle.loop_station_core.specs.declared.keep.Keep.{Keep}
 use Rattle.loop_station_core.specs.declared.keep.Look.{Look}
+use Rattle.loop_station_core.specs.declared.keep.KeepPeriod.{KeepPeriod}
+use Rattle.loop_station_core.specs.declared.keep.KeepPeriod.TheVariants.{Around, Between}
 use Rattle.loop_station_core.specs.declared.keep.KeepTurn.{KeepTurn}
 use Rattle.loop_station_core.specs.declared.keep.KeepTurn.TheVariants.{Wait, Part, Whole}
 
@@ -59,6 +61,20 @@ acts k l = if is_done k l then (k, Whole) else (if is_due k l then part_locked k
 abbrev pub step : Keep → Look → Keep × KeepTurn
 step k l = acts (looked k l) l
 
+-- the first and the last microsecond of so many seconds before a line was read, and so many after
+abbrev pub bounds : ℕ → ℕ → ℕ → ℕ × ℕ
+bounds read seconds after = (read - seconds * 1000000, min (read + after * 1000000) (2 ^ 64 - 1))
+
+-- the time that a line asks for, with a camera's own seconds where it doesn't say any
+abbrev pub asked_time : KeepPeriod → ℕ → ℕ → ℕ → ℕ × ℕ
+asked_time (Around seconds more) read before after = bounds read (unwrap_or seconds before) (unwrap_or more after)
+asked_time (Between since until) read before after = (since, until)
+
+-- the tag that its line says, or else its camera's own, or where that is 0 the event's number
+abbrev pub tag_of : Option ℕ → ℕ → ℕ → ℕ
+tag_of (Some tag) own event = tag
+tag_of None own event = if own == 0 then event else own
+
 -- this holds of each of some looks, of the keep after it and of what it does then
 abbrev pub EachTurn : (Look → Keep → KeepTurn → Type 0) → Keep → List Look → Type 0
 EachTurn P k [] = Unit {0}
@@ -82,7 +98,8 @@ IsRight k l k' Whole = ((k.until ≤ l.time) ⊎ (l.stopping ≡ true)) × IsCle
 
 -- its event, its times and its tag are those of its line
 abbrev pub HasTimesOf : Keep → Keep → Type 0
-HasTimesOf k k' = (k'.event ≡ k.event) × (k'.since ≡ k.since) × (k'.until ≡ k.until) × (k'.tag ≡ k.tag) × (k'.come ≡ k.come)
+HasTimesOf k k' = (k'.event ≡ k.event) × (k'.since ≡ k.since) × (k'.until ≡ k.until) × (k'.tag ≡ k.tag)
+    × (k'.come ≡ k.come)
 
 -- once it is known how many frames had come by its end, that end has passed, and those before its line are among them
 abbrev pub IsTimely : ℕ → Keep → Type 0

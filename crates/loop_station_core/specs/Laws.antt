@@ -1,22 +1,27 @@
 -- What holds over any list of events.
-use Rattle.std.specs.Prelude.{ℕ, ◌+◌, ◌-◌, ◌*◌, ◌^◌, ◌≡◌, ◌≤◌, ◌<◌, Bool, true, false, List, [], ◌∷◌, zero, suc, Option, Some, None, IfSome, is_some, option_map, if◌then◌else◌}
+use Rattle.std.specs.Prelude.{ℕ, ◌+◌, ◌-◌, ◌*◌, ◌^◌, ◌≡◌, ◌≤◌, ◌<◌, ◌⊎◌, Bool, true, false, List, [], ◌∷◌, zero, suc, Option, Some, None, IfSome, is_some, option_map, if◌then◌else◌}
 use Rattle.std.specs.List.{list_any}
 use Rattle.loop_station_core.specs.Answers.{answers_of, given_by, is_whole}
-use Rattle.loop_station_core.specs.Cameras.{lived}
+use Rattle.loop_station_core.specs.Cameras.{lived, step}
+use Rattle.loop_station_core.specs.declared.camera.Act.TheVariants.{GiveUp}
 use Rattle.loop_station_core.specs.Frames.{Step, after, all_of, come_in, no_frames}
 use Rattle.loop_station_core.specs.Gaps.{AreWithin, gaps, missing}
 use Rattle.loop_station_core.specs.Keeps.{AreInOrder, EachTurn, HasTimesOf, IsRight, IsTimely}
 use Rattle.loop_station_core.specs.Orders.{OrderStep, after_all, handed_in, no_orders, taken_in}
-use Rattle.loop_station_core.specs.Releases.{SaveStep, frees_in, lets_in, no_saves}
+use Rattle.loop_station_core.specs.Clips.{may_release}
+use Rattle.loop_station_core.specs.Releases.{SaveStep, after_all as all_happened, ended_in, frees_in, lets_in, no_saves, taken_in as saves_taken_in}
 use Rattle.loop_station_core.specs.SaveEnds.{waits_in}
 use Rattle.loop_station_core.specs.Search.{has_gap, mark_at, most, told, turn}
 use Rattle.loop_station_core.specs.Texts.{AllThreeCame, FirstCame, after_steps}
-use Rattle.loop_station_core.specs.Saving.{Places, is_read, left_by, wanted}
+use Rattle.loop_station_core.specs.Saving.{Places, asked, is_read, left_by, withdrawn}
+use Rattle.loop_station_core.specs.declared.clips.MayRelease.TheVariants.{Now}
+use Rattle.loop_station_core.specs.declared.saves.Asked.TheVariants.{Waits}
+use Rattle.loop_station_core.specs.declared.saves.SaveKey.{SaveKey}
 use Rattle.loop_station_core.specs.Telling.{known_after, lines_of, told_locked}
 use Rattle.loop_station_core.specs.declared.camera.Camera.{Camera}
 use Rattle.loop_station_core.specs.declared.camera.Event.{Event}
 use Rattle.loop_station_core.specs.declared.camera.Event.TheVariants.{Filming}
-use Rattle.loop_station_core.specs.declared.camera.FilmingEvent.TheVariants.{Stop, Begin, Break, Move}
+use Rattle.loop_station_core.specs.declared.camera.FilmingEvent.TheVariants.{Stop, Begin, AllLocked as AllAreLocked, Break, Move}
 use Rattle.loop_station_core.specs.declared.keep.Keep.{Keep}
 use Rattle.loop_station_core.specs.declared.keep.Look.{Look}
 use Rattle.loop_station_core.specs.declared.runs.Run.{Run}
@@ -50,16 +55,24 @@ GapsAddUp = (period since until : ℕ) (runs : List Run) → AreWithin since run
 abbrev pub ReleasesAreFree : Type 0
 ReleasesAreFree = (p : Places) (s : Save) → (left_by p s).1 ≡ true → is_read p s.key.camera s.key.id ≡ false
 
--- A clip that is read isn't released when that is wanted.
-abbrev pub ReadClipsWait : Type 0
-ReadClipsWait = (p : Places) (camera id : ℕ) → (wanted p camera id).1 ≡ is_read p camera id
+-- An order releases a clip only where each save of it that was taken in has ended, and only the clip that it means. So
+-- it is after each list of what happens to saves.
+abbrev pub OrdersSpareReadClips : Type 0
+OrdersSpareReadClips = (places camera id : ℕ) (steps : List SaveStep) (said first : Option ℕ)
+    → let p = no_saves places in
+    may_release (is_read (all_happened p steps) camera id) said first ≡ Now
+    → (saves_taken_in camera id p steps ≡ ended_in camera id p steps) × ((said ≡ None) ⊎ (said ≡ first))
 
--- Saves release a clip only where that is wanted by order, or where a save of it that began by itself has come to an
--- end with its text whole, or saved already, and clips of its camera are released then. So it is of each list of what
--- happens to saves.
+-- Saves release a clip only where a save of it that began by itself has come to an end with its text whole, or saved
+-- already, and clips of its camera are released then. So it is of each list of what happens to saves.
 abbrev pub ReleasesAreEarned : Type 0
 ReleasesAreEarned = (places camera id : ℕ) (steps : List SaveStep)
     → lets_in camera id (no_saves places) steps ≡ false → frees_in camera id (no_saves places) steps ≡ false
+
+-- A save that is withdrawn once it was told to wait leaves all as if it hadn't been asked for.
+abbrev pub WithdrawnSavesLeaveNothing : Type 0
+WithdrawnSavesLeaveNothing = (p : Places) (key : SaveKey) (automatic : Bool)
+    → (asked p key automatic).1 ≡ Waits → withdrawn (asked p key automatic).0 ≡ p
 
 -- A save that is tried again is told as such once, however often it fails.
 abbrev pub SavesWaitOnce : Type 0
@@ -167,6 +180,17 @@ NothingBreaks (e ∷ events) = NothingBreaks events
 abbrev pub FilmingsGoOn : Type 0
 FilmingsGoOn = (c : Camera) (events : List Event) → NothingBreaks events
     → (lived c (Filming Begin ∷ events)).over ≡ false
+
+-- no filming begins
+abbrev pub NoneBegins : List Event → Type 0
+NoneBegins [] = Unit {0}
+NoneBegins (Filming Begin ∷ events) = ⊥
+NoneBegins (e ∷ events) = NoneBegins events
+
+-- A filming whose store was moved away ends: no flush of it is tried again, even where each block is locked.
+abbrev pub MovedStoresAreLeft : Type 0
+MovedStoresAreLeft = (c : Camera) (events : List Event) → NoneBegins events
+    → (step (lived c (Filming Move ∷ events)) (Filming AllAreLocked)).1 ≡ GiveUp
 
 -- A source that is told as silent waits for a byte.
 abbrev pub SilentSourcesWait : Type 0

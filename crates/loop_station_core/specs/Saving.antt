@@ -1,5 +1,5 @@
 -- Which saves run, which wait, and what follows from what happens to them.
-use Rattle.std.specs.Prelude.{ℕ, ◌==◌, ◌&&◌, ◌||◌, ◌++◌, Bool, true, false, not, List, [], ◌∷◌, Option, Some, None, is_some, remove, slice_get, slice_set, if◌then◌else◌}
+use Rattle.std.specs.Prelude.{ℕ, ◌-◌, ◌==◌, ◌&&◌, ◌||◌, ◌++◌, Bool, true, false, not, List, [], ◌∷◌, Option, Some, None, is_some, length, remove, slice_get, slice_set, take, if◌then◌else◌}
 use Rattle.std.specs.List.{position}
 use Rattle.loop_station_core.specs.SaveEnds.{is_saved}
 use Rattle.loop_station_core.specs.declared.save_end.SaveEnd.{SaveEnd}
@@ -106,6 +106,10 @@ asked p key automatic = if p.stopped then (p, Stopped) else elim (position (λ o
   | Some place ↦ (record p { running = slice_set p.running place (Some (new_save key automatic)) }, Begins place)
   | None ↦ if automatic then (record p { waiting = p.waiting ++ new_save key automatic ∷ [] }, Waits) else (p, TooMany)
 ]
+
+-- the save that was asked for last doesn't wait any more
+abbrev pub withdrawn : Places → Places
+withdrawn p = record p { waiting = take (length p.waiting - 1) p.waiting }
 
 -- nothing runs in a place any more
 abbrev pub freed : Places → ℕ → Places

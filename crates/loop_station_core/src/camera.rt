@@ -151,7 +151,7 @@ impl Camera {
             }
             FilmingEvent::AllLocked => {
                 camera.locked = true;
-                if self.stopping {
+                if self.stopping || self.over {
                     Act::GiveUp
                 } else {
                     Act::FlushAgain

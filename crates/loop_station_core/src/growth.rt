@@ -1,7 +1,8 @@
 //! What is answered to a keep, and what is done of an event whose end lies ahead.
 
 ghost use Rattle.std.specs.Prelude.{◌≡◌};
-ghost use Rattle.loop_station_core.specs.Growth.{answer_of, end_of, turn_of};
+ghost use Rattle.std.specs.List.{list_any};
+ghost use Rattle.loop_station_core.specs.Growth.{answer_of, end_of, is_of, is_saved_at_start, turn_of};
 
 /// Which lines answer a keep of a camera, besides one for each clip and each refusal.
 #[derive(Clone, Copy)]
@@ -54,6 +55,34 @@ pub fn next_growth(covered: bool, is_done: bool, stopping: bool, now: u64, until
         return GrowthTurn::Leave;
     }
     GrowthTurn::Keep
+}
+
+/// An event whose end lies ahead, as its file has it.
+#[derive(Clone, Copy)]
+pub struct OpenEvent {
+    /// Its number.
+    pub event: u64,
+    /// Its first and its last microsecond since 1970.
+    pub since: u64,
+    pub until: u64,
+    /// The tag of its clips.
+    pub tag: u64,
+}
+
+// Whether one of some events has a number.
+fn has_event(events: &[OpenEvent], number: u64) -> bool
+    ensures { result ≡ list_any (is_of number) events.now }
+{
+    events.iter().any(|event| event.event == number)
+}
+
+/// Whether a clip with this tag of a store that was opened is saved by itself, of a camera whose clips are: not where
+/// it is tagged with the number of an event that goes on, whose clips are saved once it is over. Where an event has a
+/// tag of the user's, what it had locked before the program ended stays a clip of its own, and is saved.
+pub fn is_saved_at_start(tag: u64, events: &[OpenEvent]) -> bool
+    ensures { result ≡ is_saved_at_start tag events.now }
+{
+    !has_event(events, tag)
 }
 
 /// How an event ended.

@@ -1,7 +1,7 @@
 //! A keep of one camera: when it locks, and of which times.
 
-ghost use Rattle.std.specs.Prelude.{◌≡◌, ◌+◌, ◌-◌, ◌*◌, ◌^◌, ◌<◌, ◌↔◌, IsTrue, min, max, nat_le, if◌then◌else◌};
-ghost use Rattle.loop_station_core.specs.Keeps.{acts, ended, is_done, is_due, is_free, looked, moved, needed, part_locked, step, steps_of};
+ghost use Rattle.std.specs.Prelude.{◌≡◌, ◌+◌, ◌-◌, ◌^◌, ◌<◌, ◌↔◌, IsTrue, max, nat_le, if◌then◌else◌};
+ghost use Rattle.loop_station_core.specs.Keeps.{acts, asked_time, bounds, ended, is_done, is_due, is_free, looked, moved, needed, part_locked, step, steps_of, tag_of};
 
 use crate::Tally;
 
@@ -103,6 +103,16 @@ impl Keep {
         ensures { result ≡ self.now.part }
     {
         self.part
+    }
+
+    /// Its camera's store was moved away, and another one is made: nothing of it is locked there.
+    pub fn anew(self) -> Keep
+        ensures { result ≡ record self { block = 0; part = None } }
+    {
+        let mut keep = self;
+        keep.block = 0;
+        keep.part = None;
+        keep
     }
 
     // A frame made progress, or not, since it was last looked at.
@@ -231,9 +241,42 @@ pub fn next_turn(
     keep.looked(&look).acts(&look)
 }
 
+/// The time that the line of a keep asks for.
+#[derive(Clone, Copy)]
+pub enum KeepPeriod {
+    /// So many seconds before its line was read, and so many after; where one isn't said, as the camera's own.
+    Around(Option<u32>, Option<u32>),
+    /// From one time to another, both included.
+    Between(u64, u64),
+}
+
+/// The first and the last microsecond that a keep asks a camera for. `before` and `after` are the camera's own seconds.
+pub fn asked_time(period: KeepPeriod, read: u64, before: u32, after: u32) -> (u64, u64)
+    ensures { result ≡ asked_time period read before after }
+{
+    match period {
+        KeepPeriod::Around(seconds, more) => {
+            bounds(read, seconds.unwrap_or(before), more.unwrap_or(after))
+        }
+        KeepPeriod::Between(since, until) => (since, until),
+    }
+}
+
+/// The tag of the clips of an event: that which its line says, or else the camera's `own`, or where that is 0 the
+/// event's number.
+pub fn tag_of(said: Option<u64>, own: u64, event: u64) -> u64
+    ensures { result ≡ tag_of said own event }
+{
+    match said {
+        Some(tag) => tag,
+        None if own == 0 => event,
+        None => own,
+    }
+}
+
 /// The first and the last microsecond of a keep of so many seconds before its line was read, and so many after.
 pub fn bounds(read: u64, seconds: u32, after: u32) -> (u64, u64)
-    ensures { result ≡ (read - seconds * 1000000, min (read + after * 1000000) (2 ^ 64 - 1)) }
+    ensures { result ≡ bounds read seconds after }
 {
     (
         read.saturating_sub(u64::from(seconds) * 1_000_000),

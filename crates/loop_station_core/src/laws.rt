@@ -1,6 +1,6 @@
 //! What holds over any list of events. Each function does nothing: its contract is the law.
 
-ghost use Rattle.loop_station_core.specs.Laws.{DisksAreToldOnce, FilmingsGoOn, FoundGapsAreSo, FramesAddUp, GapsAddUp, GapsAreLookedFor, KeepsAreRight, LinesAreSo, LockedLinesAlternate, LostAreToldOnce, OrdersAreAnsweredOnce, OrdersAreHandedOut, ReadClipsWait, ReleasesAreEarned, ReleasesAreFree, SavedTextsAreThere, SavesWaitOnce, SilentSourcesWait, StopsAreForGood};
+ghost use Rattle.loop_station_core.specs.Laws.{DisksAreToldOnce, FilmingsGoOn, FoundGapsAreSo, FramesAddUp, GapsAddUp, GapsAreLookedFor, KeepsAreRight, LinesAreSo, LockedLinesAlternate, LostAreToldOnce, MovedStoresAreLeft, OrdersAreAnsweredOnce, OrdersAreHandedOut, OrdersSpareReadClips, ReleasesAreEarned, ReleasesAreFree, SavedTextsAreThere, SavesWaitOnce, SilentSourcesWait, StopsAreForGood, WithdrawnSavesLeaveNothing};
 ghost use Rattle.loop_station_core.specs.Marks.{MarksAreRead};
 ghost use Rattle.loop_station_core.specs.Retries.{RetriesAreDue};
 ghost use Rattle.loop_station_core.specs.Timing.{GapsAreToldApart, TimesRise};
@@ -57,15 +57,20 @@ pub fn releases_are_free()
     ensures { ReleasesAreFree }
 {}
 
-/// A clip that a save reads isn't released when that is wanted, but waits.
-pub fn read_clips_wait()
-    ensures { ReadClipsWait }
+/// An order releases a clip only once each save of it that was taken in has ended, and only the clip that it means.
+pub fn orders_spare_read_clips()
+    ensures { OrdersSpareReadClips }
 {}
 
-/// Saves release a clip only by order, or where the text of one that began by itself is there, and clips of its camera
-/// are released then.
+/// Saves release a clip only where the text of one that began by itself is there, and clips of its camera are released
+/// then.
 pub fn releases_are_earned()
     ensures { ReleasesAreEarned }
+{}
+
+/// A save that is withdrawn once it was told to wait takes no place.
+pub fn withdrawn_saves_leave_nothing()
+    ensures { WithdrawnSavesLeaveNothing }
 {}
 
 /// A save that is tried again is told as such once, however often it fails.
@@ -111,6 +116,11 @@ pub fn stops_are_for_good()
 /// A filming isn't over before something breaks, or its store is moved away.
 pub fn filmings_go_on()
     ensures { FilmingsGoOn }
+{}
+
+/// A filming whose store was moved away ends, even where each block is locked.
+pub fn moved_stores_are_left()
+    ensures { MovedStoresAreLeft }
 {}
 
 /// A source that is told as silent waits for a byte.

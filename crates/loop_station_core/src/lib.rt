@@ -3,8 +3,8 @@
 //!
 //! - `tally`: what is counted of a camera's frames; each that came is on its way, at the desk, stored, or lost;
 //! - `camera`: whether a camera is filmed, when a filming ends and what follows, and the state of its source;
-//! - `keep`: when a keep locks, of which times, and when it is done; the numbers of events;
-//! - `growth`: which lines answer a keep, and what is done of an event whose end lies ahead;
+//! - `keep`: of which times a keep is, when it locks, and when it is done; the numbers and the tags of events;
+//! - `growth`: which lines answer a keep, what is done of an event whose end lies ahead, and which clips a start saves;
 //! - `runs`: what of a keep's time is held, and the gaps in it; which clips lie within longer ones;
 //! - `search`: which frames of a clip are looked at to find where some are missing;
 //! - `saves`: places of saves: which begins, which waits, and which clips are read meanwhile;
@@ -57,8 +57,13 @@ pub use changes::{
     Change, Changes, DiskSeen, KINDS, NOT_THERE_YET, Reported, Seen, SourceSeen, StoreSeen,
 };
 pub use clips::{MayRelease, keeps_in, may_release};
-pub use growth::{EventEnd, GrowthTurn, KeptAnswer, event_end, kept_answer, next_growth};
-pub use keep::{Keep, KeepTurn, Numbers, bounds, is_too_far, next_turn};
+pub use growth::{
+    EventEnd, GrowthTurn, KeptAnswer, OpenEvent, event_end, is_saved_at_start, kept_answer,
+    next_growth,
+};
+pub use keep::{
+    Keep, KeepPeriod, KeepTurn, Numbers, asked_time, bounds, is_too_far, next_turn, tag_of,
+};
 pub use marks::{bits_of, came_late, is_late, mark};
 pub use orders::{AddedOrder, Attended, MOST_ORDERS, Orders};
 pub use replies::Replies;

@@ -1,8 +1,8 @@
 //! Places of saves: which save runs, which waits, and which clips are read meanwhile.
 
-ghost use Rattle.std.specs.Prelude.{◌≡◌, ◌≢◌, ◌++◌, ◌∷◌, if◌then◌else◌, ◌<◌, ◌==◌, IfOk, IfSome, Some, None, is_some, not, length, replicate, option_map, [], true, false};
+ghost use Rattle.std.specs.Prelude.{◌≡◌, ◌≢◌, ◌++◌, ◌∷◌, if◌then◌else◌, ◌<◌, ◌==◌, IfOk, IfSome, Some, None, is_some, not, length, replicate, [], true, false};
 ghost use Rattle.std.specs.List.{position};
-ghost use Rattle.loop_station_core.specs.Saving.{asked, begun, cancelled, cancelled_at, ended, finished, has_automatic, held_at, holds, is_read, is_same, left_by, picks, reads, saves_itself, shown, stopped, wanted, with_wish};
+ghost use Rattle.loop_station_core.specs.Saving.{asked, begun, cancelled, cancelled_at, ended, finished, has_automatic, held_at, holds, is_read, is_same, left_by, picks, reads, saves_itself, shown, stopped, wanted, with_wish, withdrawn};
 ghost use Rattle.loop_station_core.specs.declared.saves.Asked.TheVariants.{NoMemory, Waits};
 
 use crate::save_end::{SaveEnd, is_saved};
@@ -55,7 +55,7 @@ pub enum Asked {
 /// What becomes of a save that is to end before its text is whole.
 #[derive(Clone, Copy)]
 pub enum Cancelled {
-    /// It runs in this place, and ends when its thread sees that (`is_cancelled`).
+    /// It runs in this place, and ends when its thread sees that.
     Running(usize),
     /// It waited, and has ended.
     Waiting {
@@ -207,6 +207,14 @@ impl Saves {
         }
     }
 
+    /// The save that was asked for last, and was to wait, isn't begun: who asked for it has no memory to keep it in. So
+    /// no place is given to a save that nobody knows.
+    pub fn withdraw(&mut self)
+        ensures { shown self.new ≡ withdrawn (shown self.old) }
+    {
+        let _withdrawn = self.waiting.pop();
+    }
+
     // A save waits after the others. Whether there was memory for that.
     fn queue(&mut self, save: Save) -> bool
         ensures { shown self.new ≡ (if result then record (shown self.old) {
@@ -216,9 +224,9 @@ impl Saves {
         self.waiting.push(save).is_ok()
     }
 
-    /// The save of a place has ended, whether its text is whole or not. The first one that waits begins in its place.
-    /// Nothing happens where no save runs there.
-    pub fn ended(&mut self, place: usize) -> Ended
+    // The save of a place has ended, whether its text is whole or not. The first one that waits begins in its place.
+    // Nothing happens where no save runs there.
+    fn ended(&mut self, place: usize) -> Ended
         ensures { (shown self.new, result) ≡ ended (shown self.old) place }
     {
         let Some(save) = self.held(place) else {
@@ -234,7 +242,8 @@ impl Saves {
     }
 
     /// The save of a place has come to this end by itself; `releases`: clips of its camera are released once they are
-    /// saved. So is its clip where the save began by itself, and the text is there. The rest as `ended`.
+    /// saved. So is its clip where the save began by itself, and the text is there. The first save that waits begins in
+    /// its place. Nothing happens where no save runs there.
     pub fn finish(&mut self, place: usize, end: SaveEnd, releases: bool) -> Ended
         ensures { (shown self.new, result) ≡ finished (shown self.old) place end releases }
     {
@@ -289,26 +298,6 @@ impl Saves {
         Some(save.key)
     }
 
-    /// The clip of the save that runs in a place.
-    pub fn at(&self, place: usize) -> Option<SaveKey>
-        ensures { result ≡ option_map (λ s. s.key) (held_at (shown self.now) place) }
-    {
-        match self.held(place) {
-            Some(save) => Some(save.key),
-            None => None,
-        }
-    }
-
-    /// Whether the save that runs in a place is to end before its text is whole.
-    pub fn is_cancelled(&self, place: usize) -> bool
-        ensures { result ≡ holds (λ s. s.cancelled) (held_at (shown self.now) place) }
-    {
-        match self.held(place) {
-            Some(save) => save.cancelled,
-            None => false,
-        }
-    }
-
     /// Whether a clip is being saved by itself, or waits for that: a second such save of it isn't needed.
     pub fn has_automatic(&self, key: SaveKey) -> bool
         ensures { result ≡ has_automatic (shown self.now) key }
@@ -324,9 +313,9 @@ impl Saves {
             || waiting_at(&self.waiting, camera, id).is_some()
     }
 
-    /// A clip is to be released. Returns whether that waits for the saves that read it: then the end of the last one
-    /// says so (`Ended`). Otherwise it is released now.
-    pub fn wants_release(&mut self, camera: usize, id: u32) -> bool
+    // A clip is to be released. Returns whether that waits for the saves that read it: then the end of the last one
+    // says so (`Ended`). Otherwise it is released now.
+    fn wants_release(&mut self, camera: usize, id: u32) -> bool
         ensures { (shown self.new, result) ≡ wanted (shown self.old) camera id }
     {
         if let Some(place) = running_at(&self.running, camera, id, true) {

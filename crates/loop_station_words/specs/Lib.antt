@@ -4,6 +4,7 @@ pub mod Calendar
 pub mod Times
 pub mod Orders
 pub mod Rings
+pub mod Rooms
 pub mod Shapes
 pub mod Fields
 pub mod Config

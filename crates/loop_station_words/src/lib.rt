@@ -3,13 +3,14 @@
 //! - `order` reads what a line asks for, `name` says how a camera may be named, and `cut` cuts a text at a character;
 //!   `laws` has lines and their meanings, as rows of a table;
 //! - `time` reads a date and time of day, and `calendar` gives those of a time in microseconds since 1970;
-//! - `ring` chooses how many segments and slots a store has, for so many frames or within so many bytes;
+//! - `ring` chooses how many segments and slots a store has, for so many frames or within so many bytes; `room` for what
+//!   the configuration asks, how much of a store is free, and how many frames may wait before it;
 //! - `config` reads the configuration file, which says which cameras there are. `fields` reads the value at a key
 //!   there, `shape` reads what the pattern's frames look like, and `fault` says what is wrong with that file;
 //! - `lines` has the lines of the program's output, as text and as JSON, each of parts (`part`); `answers` has the
 //! status   of a camera, what a line begins with, and what the file of a clip is called.
 //!
-//! What a line asks for, which time a text means, which ring is chosen, and what a configuration says at each of its
+//! What a line asks for, which time a text means, which ring is chosen, how much of a store is free, and what a configuration says at each of its
 //! keys is proved (`specs/`). So is that its cameras have names and stores of their own. Why a file is refused, and
 //! what is printed, is tested.
 //!
@@ -28,6 +29,7 @@ mod name;
 mod order;
 mod part;
 mod ring;
+mod room;
 mod shape;
 mod time;
 
@@ -42,5 +44,8 @@ pub use lines::Lines;
 pub use name::{Name, is_name};
 pub use order::{Order, label_of, read_order};
 pub use ring::{RingSize, frames_in, ring_for, ring_within};
+pub use room::{
+    NoRing, asked_ring, frames_before, free_blocks, held_of_asked, micros_of, newest_block, size_of,
+};
 pub use shape::{FrameShape, read_shape};
 pub use time::read_time;

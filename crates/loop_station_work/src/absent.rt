@@ -1,6 +1,7 @@
 //! Why a camera's store isn't there.
 
 use loop_file::FileFault;
+use loop_station_words::NoRing;
 use loop_store::StoreFault;
 use std::fmt;
 use std::fmt::{Display, Formatter};
@@ -46,6 +47,16 @@ pub enum Absent {
 impl From<FileFault> for Absent {
     fn from(fault: FileFault) -> Self {
         Absent::File(fault)
+    }
+}
+
+impl From<NoRing> for Absent {
+    fn from(why: NoRing) -> Self {
+        match why {
+            NoRing::TooManyFrames(tenths) => Absent::TooManyFrames(tenths),
+            NoRing::TooFewBytes => Absent::TooFewBytes,
+            NoRing::BadFrames => Absent::NoGeometry,
+        }
     }
 }
 

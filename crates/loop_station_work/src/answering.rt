@@ -3,7 +3,7 @@
 use crate::absent::Absent;
 use crate::clerk::FoundClip;
 use crate::post::Post;
-use loop_station_core::Replies;
+use loop_station_core::{OpenEvent, Replies};
 use loop_station_words::Lines;
 use std::alloc::{AllocError, Global};
 use std::sync::{Arc, Mutex, Wait};
@@ -76,15 +76,6 @@ impl Answering {
         let kept = std::mem::replace(&mut answers.kept, Vec::new(alloc));
         (lines, kept)
     }
-}
-
-/// An event of a camera whose end lies ahead, as its file has it.
-#[derive(Clone, Copy)]
-pub(crate) struct OpenEvent {
-    pub event: u64,
-    pub since: u64,
-    pub until: u64,
-    pub tag: u64,
 }
 
 /// An order that saves a clip, and where it is to be written.

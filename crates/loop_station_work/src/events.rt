@@ -6,13 +6,11 @@
 //! are.
 
 use crate::absent::Absent;
-use crate::asked::held_of_asked;
 use crate::filming::limits_for;
-use crate::size::size_of;
 use crate::state::CameraState;
 use crate::times::{tell_source_on, tell_times};
 use loop_station_core::{Change, DiskSeen, KINDS, NOT_THERE_YET, Reported, Seen, StoreSeen};
-use loop_station_words::Lines;
+use loop_station_words::{Lines, held_of_asked, size_of};
 use std::io;
 use std::sync::Wait;
 use std::time::{Clock, Duration};
@@ -101,7 +99,7 @@ impl LastReported {
             Change::SourceSilent => lines.source_silent(name),
             Change::StoreOpen => {
                 let less = match state.life.store(rt) {
-                    Some(geometry) => held_of_asked(&geometry, &state.config.room),
+                    Some(geometry) => held_of_asked(&geometry, state.config.room),
                     None => None,
                 };
                 lines.store_open(name, less)

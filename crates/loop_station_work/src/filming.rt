@@ -3,14 +3,12 @@
 ghost use Rattle.std.specs.Prelude.{◌≡◌, ◌≤◌};
 
 use crate::absent::Absent;
-use crate::answering::{Message, OpenEvent};
-use crate::asked::asked_ring;
+use crate::answering::Message;
 use crate::clerk::FoundClip;
 use crate::feed::FeedSource;
 use crate::notes::read_events;
 use crate::outlet::Outlet;
 use crate::places::Places;
-use crate::size::size_of;
 use crate::state::CameraState;
 use loop_capture::Device;
 use loop_desk::{Desk, DeskLimits};
@@ -18,8 +16,8 @@ use loop_file::{FileDisk, FileFault};
 use loop_pipeline::{Camera, Ended, Unfilmed, film_camera, heap_start, new_queue, start_queue};
 use loop_plane::HeapPlane;
 use loop_record::Geometry;
-use loop_station_core::{Act, FilmingEvent, Keep, bits_of};
-use loop_station_words::{RingSize, StoreSize};
+use loop_station_core::{Act, FilmingEvent, Keep, OpenEvent, bits_of, is_saved_at_start};
+use loop_station_words::{RingSize, StoreSize, asked_ring, size_of};
 use loop_store::{Clip, OpenRefused, Store, StoreFault};
 use std::alloc::{AllocGlobal, Global};
 use std::io::Write;
@@ -95,6 +93,7 @@ fn rest<R: Wait + Clock>(rt: &R, state: &CameraState, why: Absent) {
         Act::MakeAnew => {
             // A store is made anew for the frames that come, once that is told.
             state.life.lose_store(rt);
+            state.desk.begin_anew(rt);
             thread::sleep(rt, Duration::from_millis(MOVED_AGAIN));
         }
         Act::OpenAgain => thread::sleep(rt, Duration::from_millis(OPEN_AGAIN)),
@@ -152,7 +151,7 @@ fn make_store<R: AllocGlobal + Places + Wait + Clock>(
     let Some(header) = wait_header(rt, state) else {
         return Err(Absent::Stopped);
     };
-    let geometry = geometry_for(&header, &state.config.room)?;
+    let geometry = geometry_for(&header, state.config.room)?;
     let made = rt.make_store(rt, state, geometry);
     state.life.set_making(rt, None);
     let place = rt.place_of(state.config.store.as_str());
@@ -174,7 +173,7 @@ fn wait_header<R: Wait + Clock>(rt: &R, state: &CameraState) -> Option<Geometry>
 }
 
 // The geometry of a store for a header, with room for as much as the configuration asks.
-fn geometry_for(header: &Geometry, room: &StoreSize) -> Result<Geometry, Absent> {
+fn geometry_for(header: &Geometry, room: StoreSize) -> Result<Geometry, Absent> {
     let RingSize { segments, slots } = asked_ring(header, room)?;
     let geometry = Geometry {
         segments,
@@ -220,8 +219,7 @@ fn film_into<R: AllocGlobal + Places + Threads + Wait + Clock + Sync>(
 }
 
 // Tells the printer which clips a store has: those that aren't saved yet are saved by themselves, where the camera has
-// a folder for them. The clips of an event that goes on are left out, and so is a clip whose frames can't be read. With
-// a tag of the user's, what an event has locked stays a clip of its own.
+// a folder for them (`is_saved_at_start`). A clip whose frames can't be read is left out.
 fn tell_clips<R: AllocGlobal + Wait>(
     rt: &R,
     state: &CameraState,
@@ -234,7 +232,7 @@ fn tell_clips<R: AllocGlobal + Wait>(
     }
     let mut found = Vec::new(rt.alloc());
     for clip in clips {
-        if events.iter().any(|event| event.event == clip.tag) {
+        if !is_saved_at_start(clip.tag, events) {
             continue;
         }
         let (Ok(first), Ok(last)) = (store.read_head(clip.from), store.read_head(clip.to)) else {

@@ -37,6 +37,13 @@ impl Growing {
         }
     }
 
+    /// Its camera's store was moved away, with all that is locked of it, and another one is made.
+    fn begin_anew(&mut self) {
+        self.keep = self.keep.anew();
+        self.clips.clear();
+        self.covered.clear();
+    }
+
     /// Whether a longer clip of it covers one that isn't released yet.
     pub fn has_covered(&self) -> bool {
         !self.covered.is_empty()
@@ -150,6 +157,19 @@ impl Ongoing {
         match self.inner.lock(rt).growing.try_push_back(growing) {
             Ok(()) => None,
             Err(growing) => Some(growing),
+        }
+    }
+
+    /// The camera's store was moved away, and another one is made: events go on there with nothing locked.
+    pub fn begin_anew<R: Wait>(&self, rt: &R) {
+        let mut inner = self.inner.lock(rt);
+        for _ in 0..inner.growing.len() {
+            let Some(mut growing) = inner.growing.pop_front() else {
+                break;
+            };
+            growing.begin_anew();
+            // It has the room that it had before.
+            let _kept = inner.growing.try_push_back(growing);
         }
     }
 

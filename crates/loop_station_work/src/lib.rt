@@ -3,8 +3,8 @@
 //! Each camera has a thread for its source (`source`), which puts frames into a `feed`, and two threads that film it
 //! (`filming`): the store is opened or made, and loop_pipeline's `film_camera` brings the frames to it. `state` is
 //! what the threads of a camera share, and guides them. `life` is what is known and counted of it under one lock,
-//! `asked` how large a store has to be, and `absent` why it isn't there. `input` has what a source's pipe brings, and
-//! finds the next header in it. `clock` has the time of frames, and `size` their bytes and how many wait.
+//! `stored` what its store holds, and `absent` why that isn't there. `input` has what a source's pipe brings, and finds
+//! the next header in it. `clock` has the time of frames.
 //!
 //! `run` starts all that. `orders` reads orders and does them: it asks a camera through its `inbox`, and the thread of
 //! its desk answers (`clerk`). `save` writes clips meanwhile, `places` opens files and makes stores, and `replies`
@@ -23,7 +23,6 @@
 
 mod absent;
 mod answering;
-mod asked;
 mod clerk;
 mod clock;
 mod events;
@@ -44,7 +43,6 @@ mod printer;
 mod replies;
 mod run;
 mod save;
-mod size;
 mod source;
 mod spool;
 mod state;

@@ -1,10 +1,10 @@
 //! What is known and counted of a camera, under one lock: its filming, its source and its store, as loop_station_core
 //! has them, and what its source and its store know of each other.
 
-use crate::size::micros_of;
 use loop_record::Geometry;
 use loop_script::{Likeness, compare_frames};
 use loop_station_core::{Act, Camera, Event, FilmingEvent, SourceEvent, SourceSeen, Tally};
+use loop_station_words::micros_of;
 use std::sync::{Condvar, Mutex, Wait};
 use std::time::{Clock, Duration};
 

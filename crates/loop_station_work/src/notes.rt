@@ -1,11 +1,12 @@
 //! The files of open events. While an event's end lies ahead, STORE.events beside the camera's store has a line for it,
 //! `EVENT SINCE UNTIL TAG`, so that the next start goes on with it after a stop or a loss of power.
 
-use crate::answering::{Note, OpenEvent};
+use crate::answering::Note;
 use crate::orders::Station;
 use crate::places::Places;
 use loop_script::number::number;
 use loop_script::print_parts;
+use loop_station_core::OpenEvent;
 use std::alloc::{AllocGlobal, Global};
 use std::io::Write;
 use std::sync::Wait;

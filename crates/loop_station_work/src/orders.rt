@@ -10,7 +10,7 @@ use crate::replies::tell_status;
 use crate::save::Saves;
 use crate::state::CameraState;
 use loop_script::{MAX_LINE, next_line};
-use loop_station_core::{Numbers, bounds, is_too_far};
+use loop_station_core::{KeepPeriod, Numbers, asked_time, is_too_far, tag_of};
 use loop_station_words::{Lines, Name, Order, label_of, read_order};
 use std::alloc::{AllocError, AllocGlobal, Global};
 use std::io::{BufRead, Write};
@@ -273,15 +273,6 @@ fn tell_all<R: Wait, W: Write + Drop>(
     }
 }
 
-// The time that a keep asks for.
-#[derive(Clone, Copy)]
-enum KeepPeriod {
-    // So many seconds before its line was read, and so many after; or the camera's own.
-    Around(Option<u32>, Option<u32>),
-    // From one time to another, both included.
-    Between(u64, u64),
-}
-
 // Whether an order that names a camera, or none, means this one.
 fn is_meant(state: &CameraState, camera: Option<&str>) -> bool {
     match camera {
@@ -310,23 +301,12 @@ fn asked_keep<R: Wait + Clock>(
     period: KeepPeriod,
     tag: Option<u64>,
 ) -> AskedKeep {
-    let (since, until) = match period {
-        KeepPeriod::Between(since, until) => (since, until),
-        KeepPeriod::Around(seconds, after) => bounds(
-            read,
-            seconds.unwrap_or(state.config.seconds),
-            after.unwrap_or(state.config.after),
-        ),
-    };
-    let own = match state.config.tag {
-        0 => event,
-        tag => tag,
-    };
+    let (since, until) = asked_time(period, read, state.config.seconds, state.config.after);
     AskedKeep {
         event,
         since,
         until,
-        tag: tag.unwrap_or(own),
+        tag: tag_of(tag, state.config.tag, event),
         read,
         come: state.feed.come(rt, read.min(until)),
     }
@@ -386,17 +366,7 @@ fn is_far<W: Write + Drop>(
 ) -> bool {
     for state in station.cameras.as_slice() {
         if is_meant(state, name) {
-            let until = match period {
-                KeepPeriod::Between(_, until) => until,
-                KeepPeriod::Around(seconds, after) => {
-                    bounds(
-                        read,
-                        seconds.unwrap_or(0),
-                        after.unwrap_or(state.config.after),
-                    )
-                    .1
-                }
-            };
+            let (_, until) = asked_time(period, read, state.config.seconds, state.config.after);
             if is_too_far(read, until) {
                 return true;
             }

@@ -1,8 +1,6 @@
 //! The program: threads for each camera, and orders meanwhile.
 
-use crate::absent::Absent;
 use crate::answering::{Message, Note, Posts};
-use crate::asked::asked_ring;
 use crate::clock::Timeline;
 use crate::events::LastReported;
 use crate::filming::run_camera;
@@ -12,13 +10,13 @@ use crate::outlet::{Outlet, run_outlet};
 use crate::places::{PathKind, Places};
 use crate::printer::{run_printer, stop_saves};
 use crate::save::{MOST_SAVES, Saves, begin, run_saves};
-use crate::source::{ANY_RING, run_source};
+use crate::source::{known_frames, run_source};
 use crate::state::CameraState;
 use crate::tap::{Tap, run_tap};
 use crate::watch::run_watch;
 use loop_script::MAX_LINE;
 use loop_station_core::Numbers;
-use loop_station_words::{AnswersForm, CameraConfig, Config, Lines, Source};
+use loop_station_words::{AnswersForm, CameraConfig, Config, Lines, NoRing, Source, asked_ring};
 use std::alloc::{AllocError, AllocGlobal, Global};
 use std::io::{BufReader, Read, Write};
 use std::sync::{Arc, Mutex, Wait};
@@ -241,15 +239,13 @@ fn check_answers<R: AllocGlobal + Places>(
 // already.
 fn check_minutes<R: AllocGlobal + Places>(rt: &R, config: &Config) -> Result<(), NotBegun> {
     for camera in config.cameras.as_slice() {
-        let Source::Pattern(shape) = &camera.source else {
+        if rt.path_kind(camera.store.as_str()) != PathKind::Nothing {
+            continue;
+        }
+        let Some(frames) = known_frames(rt, &camera.source) else {
             continue;
         };
-        let frames = shape.geometry(ANY_RING);
-        let is_there = rt.path_kind(camera.store.as_str()) != PathKind::Nothing;
-        if let (false, Err(Absent::TooManyFrames(tenths))) = (
-            is_there,
-            asked_ring(&frames, &camera.room),
-        ) {
+        if let Err(NoRing::TooManyFrames(tenths)) = asked_ring(&frames, camera.room) {
             let name = String::from_str(rt.alloc(), camera.name.as_str())?;
             return Err(NotBegun::TooManyMinutes(name, tenths));
         }

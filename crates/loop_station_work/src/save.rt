@@ -6,6 +6,9 @@
 //! place is taken; one that begins by itself waits. Whoever ends a save first tells its result: its own thread, or a
 //! stop of the program or a `cancel` where that thread waits for a pipe that nobody reads.
 
+ghost use Rattle.std.specs.Prelude.{◌≡◌, IfErr};
+ghost use Rattle.loop_station_core.specs.Saving.{shown, withdrawn};
+
 mod not_saved;
 mod written;
 
@@ -15,6 +18,7 @@ use crate::places::Places;
 use crate::state::CameraState;
 use loop_station_core::{Asked, Cancelled, Retries, SaveEnd, SaveKey, SaveLine, after_save};
 use loop_station_words::Lines;
+use loop_store::Clip;
 pub use not_saved::NotSaved;
 use std::alloc::{AllocError, AllocGlobal, Global};
 use std::sync::atomic::{AtomicBool, Ordering};
@@ -58,7 +62,12 @@ impl Save {
         self.camera
     }
 
-    // The clip that it reads.
+    /// The clip that it writes.
+    pub fn clip(&self) -> Clip {
+        self.found.clip
+    }
+
+    // The clip that it reads, as loop_station_core names it.
     fn key(&self) -> SaveKey {
         SaveKey {
             camera: self.camera,
@@ -80,6 +89,28 @@ struct SavePlace {
     save: Option<Arc<Save>>,
     // Its thread hasn't seen that save yet.
     is_new: bool,
+    // Its result is told: a cancel has ended it. The place is free once its thread has ended it too.
+    is_told: bool,
+}
+
+impl SavePlace {
+    // The save, whose result is to be told now, unless it was told before.
+    fn take_untold(&mut self) -> Option<Arc<Save>> {
+        let save = self.save.take();
+        if self.is_told { None } else { save }
+    }
+
+    // Ends the save before its text is whole. Returns it, unless its result was told before.
+    fn cancel(&mut self) -> Option<Arc<Save>> {
+        let save = self.save.as_ref()?;
+        save.ended.store(true, Ordering::SeqCst);
+        if self.is_told {
+            return None;
+        }
+        let ours = Arc::try_clone(save).ok()?;
+        self.is_told = true;
+        Some(ours)
+    }
 }
 
 #[derive(Drop)]
@@ -117,6 +148,7 @@ impl Saves {
             places.push(SavePlace {
                 save: None,
                 is_new: false,
+                is_told: false,
             })?;
         }
         Ok(Saves {
@@ -155,20 +187,9 @@ impl Saves {
         if save.is_automatic() && inside.has_automatic(save.key()) {
             return Ok(());
         }
-        match inside.decided.ask(save.key(), save.is_automatic()) {
-            Asked::Begins(place) => {
-                inside.put(place, save);
-                self.changed.notify_all();
-                Ok(())
-            }
-            Asked::Waits => match inside.waiting.push(save) {
-                Ok(()) => Ok(()),
-                Err(_) => Err(NotBegun::NoMemory),
-            },
-            Asked::TooMany => Err(NotBegun::TooMany),
-            Asked::NoMemory => Err(NotBegun::NoMemory),
-            Asked::Stopped => Err(NotBegun::Stopped),
-        }
+        inside.ask(save)?;
+        self.changed.notify_all();
+        Ok(())
     }
 
     // Waits for the next save of a place.
@@ -182,8 +203,9 @@ impl Saves {
             },
         );
         let place = inside.places.get_mut(at)?;
+        let save = Arc::try_clone(place.save.as_ref()?).ok();
         place.is_new = false;
-        Arc::try_clone(place.save.as_ref()?).ok()
+        save
     }
 
     // The save of a place has ended so; `releases`: clips of its camera are released once they are saved. Returns the
@@ -197,7 +219,7 @@ impl Saves {
     ) -> (Option<Arc<Save>>, bool) {
         let mut inside = self.inside.lock(rt);
         let save = match inside.places.get_mut(at) {
-            Some(place) => place.save.take(),
+            Some(place) => place.take_untold(),
             None => None,
         };
         let ended = inside.decided.finish(at, end, releases);
@@ -225,20 +247,16 @@ impl Saves {
         inside.take_failed(at)
     }
 
-    /// Ends a save of the clip of an id of a camera. Returns the order that asked for it, which has to be answered, and
-    /// the path; None where no save reads that clip.
-    pub fn cancel<R: Wait>(&self, rt: &R, camera: usize, id: u32) -> Option<Arc<Save>> {
+    /// Ends a save of the clip of an id of a camera. Returns it, since it has to be told, and whether its clip is
+    /// released now; None where no save reads that clip.
+    pub fn cancel<R: Wait>(&self, rt: &R, camera: usize, id: u32) -> Option<(Arc<Save>, bool)> {
         let mut inside = self.inside.lock(rt);
         if let Some(at) = inside.retries.cancel(camera, id) {
-            return inside.take_failed(at);
+            return Some((inside.take_failed(at)?, false));
         }
         match inside.decided.cancel(camera, id) {
-            Cancelled::Running(place) => {
-                let save = inside.places.get_mut(place)?.save.take()?;
-                save.ended.store(true, Ordering::SeqCst);
-                Some(save)
-            }
-            Cancelled::Waiting { release: _ } => inside.take_waiting(camera, id),
+            Cancelled::Running(place) => Some((inside.places.get_mut(place)?.cancel()?, false)),
+            Cancelled::Waiting { release } => Some((inside.take_waiting(camera, id)?, release)),
             Cancelled::No => None,
         }
     }
@@ -249,7 +267,7 @@ impl Saves {
             .lock(rt)
             .places
             .iter()
-            .any(|place| place.save.is_some())
+            .any(|place| place.save.is_some() && !place.is_told)
     }
 
     /// Ends all saves, within a second. Returns one that hasn't ended by itself shortly: its thread tells nothing more.
@@ -269,7 +287,7 @@ impl Saves {
         for _ in 0..u64::MAX {
             let stopped = inside.decided.stop()?;
             let save = match stopped.place {
-                Some(place) => inside.places.get_mut(place)?.save.take(),
+                Some(place) => inside.places.get_mut(place)?.take_untold(),
                 None => inside.take_waiting(stopped.key.camera, stopped.key.id),
             };
             if save.is_some() {
@@ -292,11 +310,40 @@ enum NotBegun {
 }
 
 impl Inside {
+    // Asks for a place for a save: it begins there, or waits for one. Where it does neither, no place is taken for it:
+    // by `Saves::ask` of loop_station_core, and its law of saves that are withdrawn.
+    fn ask(&mut self, save: Arc<Save>) -> Result<(), NotBegun> {
+        match self.decided.ask(save.key(), save.is_automatic()) {
+            Asked::Begins(place) => {
+                self.put(place, save);
+                Ok(())
+            }
+            Asked::Waits => self.queue(save),
+            Asked::TooMany => Err(NotBegun::TooMany),
+            Asked::NoMemory => Err(NotBegun::NoMemory),
+            Asked::Stopped => Err(NotBegun::Stopped),
+        }
+    }
+
+    // A save waits that was told to wait. Where there is no memory to keep it in, it is withdrawn.
+    fn queue(&mut self, save: Arc<Save>) -> Result<(), NotBegun>
+        ensures { IfErr result (λ why. shown self.new.decided ≡ withdrawn (shown self.old.decided)) }
+    {
+        match self.waiting.push(save) {
+            Ok(()) => Ok(()),
+            Err(_) => {
+                self.decided.withdraw();
+                Err(NotBegun::NoMemory)
+            }
+        }
+    }
+
     // A save gets a place.
     fn put(&mut self, place: usize, save: Arc<Save>) {
         if let Some(place) = self.places.get_mut(place) {
             place.save = Some(save);
             place.is_new = true;
+            place.is_told = false;
         }
     }
 

@@ -11,15 +11,14 @@ ghost use Rattle.std.specs.Prelude.{◌≡◌, IfSome, length};
 use crate::feed::Said;
 use crate::input::{Input, find_header};
 use crate::outlet::Outlet;
-use crate::places::Places;
-use crate::size::{frames_before, size_of};
+use crate::places::{PathKind, Places};
 use crate::state::CameraState;
 use crate::times::{said_of, tell_other};
 use loop_capture::{FrameSource, Pattern};
 use loop_desk::frame_memory;
 use loop_record::Geometry;
 use loop_station_core::{Act, SourceEvent};
-use loop_station_words::{RingSize, Source};
+use loop_station_words::{RingSize, Source, frames_before, size_of};
 use loop_y4m::{FrameLine, GeometryFault, Y4mFault, Y4mReader};
 use std::alloc::AllocGlobal;
 use std::fs::OpenFile;
@@ -42,7 +41,7 @@ const READS: u32 = 10;
 const BEGUN: usize = 6;
 
 /// A ring of any size: the store's own is chosen elsewhere.
-pub(crate) const ANY_RING: RingSize = RingSize {
+const ANY_RING: RingSize = RingSize {
     segments: 2,
     slots: 1,
 };
@@ -52,6 +51,25 @@ const MEMORY_AGAIN: u64 = 10;
 
 // A source that is later than so many microseconds gives its frames at its rate from now on.
 const LATE: u64 = 1_000_000;
+
+/// What the frames of a source are like, where that can be known at the start: those of the pattern, and those of a
+/// regular file, by its header. None for a pipe, and where the header can't be read.
+pub(crate) fn known_frames<R: AllocGlobal + Places>(rt: &R, source: &Source) -> Option<Geometry> {
+    match source {
+        Source::Pattern(shape) => Some(shape.geometry(ANY_RING)),
+        Source::Path(path) if rt.path_kind(path.as_str()) == PathKind::File => {
+            frames_of_file(rt, path.as_str())
+        }
+        Source::Path(_) => None,
+    }
+}
+
+// What the header of a file says of its frames.
+fn frames_of_file<R: AllocGlobal + Places>(rt: &R, path: &str) -> Option<Geometry> {
+    let mut input = Input::new(rt.alloc(), rt.open_input(path).ok()?)?;
+    let (reader, _) = Y4mReader::open_deep(&mut input).ok()?;
+    reader.geometry(ANY_RING.segments, ANY_RING.slots).ok()
+}
 
 /// Gives a source's frames to a camera's feed, and opens it again where it ends or breaks, until the camera is stopped.
 pub(crate) fn run_source<R: AllocGlobal + Places + Wait + Clock, W: Write + Drop>(

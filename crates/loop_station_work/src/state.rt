@@ -3,7 +3,7 @@
 ghost use Rattle.std.specs.Prelude.{◌≡◌};
 
 use crate::absent::Absent;
-use crate::answering::{Answering, KeptClip, Message, Note, OpenEvent, Posts, SaveOrder};
+use crate::answering::{Answering, KeptClip, Message, Note, Posts, SaveOrder};
 use crate::clerk::{FoundClip, attend};
 use crate::clock::Timeline;
 use crate::feed::Feed;
@@ -13,7 +13,6 @@ use crate::jobs::{Job, Jobs, Request};
 use crate::life::Life;
 use crate::replies::{tell_clips, tell_shortfall};
 use crate::save::{NotSaved, Saves, begin_ordered, tell_ended};
-use crate::size::micros_of;
 use crate::stored::Stored;
 use loop_capture::Tick;
 use loop_desk::Flushed;
@@ -21,9 +20,9 @@ use loop_disk::Disk;
 use loop_pipeline::{Back, Guide, Link, LostFrame, Visits};
 use loop_record::Geometry;
 use loop_station_core::{
-    Act, EventEnd, FilmingEvent, Keep, MayRelease, Run, Tally, event_end, may_release,
+    Act, EventEnd, FilmingEvent, Keep, MayRelease, OpenEvent, Run, Tally, event_end, may_release,
 };
-use loop_station_words::{CameraConfig, Lines};
+use loop_station_words::{CameraConfig, Lines, micros_of};
 use loop_store::{Clip, ReadFrame, StoreFault};
 use std::alloc::{AllocError, Global};
 use std::io;
@@ -215,8 +214,11 @@ impl CameraState {
     /// Ends a save of the clip of an id, and tells that of the save. Returns whether there was one.
     pub(crate) fn cancel_save<R: Wait>(&self, rt: &R, id: u32) -> bool {
         match self.saves.cancel(rt, self.place, id) {
-            Some(save) => {
+            Some((save, is_released)) => {
                 tell_ended(rt, self, &save, NotSaved::Cancelled);
+                if is_released {
+                    self.release_saved(rt, save.clip());
+                }
                 true
             }
             None => false,

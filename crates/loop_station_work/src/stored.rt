@@ -1,9 +1,8 @@
 //! What a camera's store holds, for those who ask while its disk is busy.
 
-use crate::size::micros_of;
 use loop_record::Geometry;
 use loop_station_core::keeps_in;
-use loop_station_words::frames_in;
+use loop_station_words::{frames_in, free_blocks, micros_of, newest_block};
 use loop_store::Clip;
 use std::alloc::Global;
 use std::sync::atomic::{AtomicU64, Ordering};
@@ -102,11 +101,11 @@ impl Stored {
 
     /// The number of the newest block.
     pub fn newest_block<R: Wait>(&self, rt: &R) -> u64 {
-        let slots = match &self.inside.lock(rt).geometry {
-            Some(geometry) => u64::from(geometry.slots.max(1)),
-            None => 1,
-        };
-        self.next.load(Ordering::SeqCst).saturating_sub(1) / slots
+        let next = self.next.load(Ordering::SeqCst);
+        match &self.inside.lock(rt).geometry {
+            Some(geometry) => newest_block(geometry, next),
+            None => 0,
+        }
     }
 
     /// How many frames were stored since the store was made, how many blocks may still be locked before none can be
@@ -126,43 +125,4 @@ impl Stored {
         );
         (next, room, keeps_in(room, frames, slots))
     }
-}
-
-// How many blocks may still be locked: all blocks of the ring but the newest one and those that clips meet.
-fn free_blocks(geometry: &Geometry, next: u64, clips: &[Clip]) -> u64 {
-    let slots = u64::from(geometry.slots.max(1));
-    let newest = next.saturating_sub(1) / slots;
-    let mut locked = 0u64;
-    // The clips by rising numbers: `counted` is the first block that isn't counted yet.
-    let mut counted = 0u64;
-    for _ in 0..clips.len() {
-        let Some((first, last)) = next_blocks(clips, slots, counted) else {
-            break;
-        };
-        let first = first.max(counted);
-        let blocks = last.saturating_sub(first).saturating_add(1);
-        let with_newest = u64::from(first <= newest && newest <= last);
-        locked = locked.saturating_add(blocks).saturating_sub(with_newest);
-        counted = last.saturating_add(1);
-    }
-    u64::from(geometry.segments)
-        .saturating_sub(1)
-        .saturating_sub(locked)
-}
-
-// The blocks of the clip that has the lowest block from this one on.
-fn next_blocks(clips: &[Clip], slots: u64, from: u64) -> Option<(u64, u64)> {
-    let mut lowest: Option<(u64, u64)> = None;
-    for clip in clips {
-        let (first, last) = (clip.from / slots.max(1), clip.to / slots.max(1));
-        if last < from {
-            continue;
-        }
-        let first = first.max(from);
-        lowest = match lowest {
-            Some((low, end)) if low < first || low == first && end >= last => Some((low, end)),
-            _ => Some((first, last)),
-        };
-    }
-    lowest
 }

@@ -1,10 +1,9 @@
 //! What is told of the times and the bits of a source's frames.
 
 use crate::feed::Said;
-use crate::size::micros_of;
 use crate::state::CameraState;
 use loop_record::Geometry;
-use loop_station_words::{Lines, TimesFrom};
+use loop_station_words::{Lines, TimesFrom, micros_of};
 use std::io;
 use std::sync::Wait;
 

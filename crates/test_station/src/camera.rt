@@ -1,12 +1,13 @@
 //! A simulated camera: its source, its queue, its desk and its store, beside a plain list of all its frames.
 
 use crate::judge::Judge;
+use crate::ordering::Ordering;
 use crate::random::Random;
 use crate::store::Store;
 use crate::told::Told;
 use loop_station_core::{
     Act, Camera as Life, DiskSeen, Event, FilmingEvent, NOT_THERE_YET, Seen, SourceEvent,
-    SourceSeen, StoreSeen, Tally,
+    SourceSeen, StoreSeen, Tally, is_moved,
 };
 use std::alloc::Global;
 
@@ -14,6 +15,12 @@ use std::alloc::Global;
 const ON_THE_WAY: usize = 8;
 
 const AT_THE_DESK: usize = 32;
+
+// The device of all files.
+const DEVICE: u64 = 1;
+
+// After so many microseconds a store is made in the place of one that was moved away.
+const MADE_ANEW: u64 = 250_000;
 
 // How many frames a flush stores at once.
 const AT_ONCE: u64 = 8;
@@ -68,6 +75,10 @@ pub struct Camera {
     pub open: bool,
     pub again: u64,
     pub store: Store,
+    /// Which store that is: the number of its file. Which file its path names by now, if it names one.
+    pub file: u64,
+    there: Option<(u64, u64)>,
+    pub orders: Ordering,
     pub locked: bool,
     /// When a frame made progress last, and how often one did.
     pub progress: u64,
@@ -107,6 +118,9 @@ impl Camera {
             open: false,
             again: now.saturating_add(random.below(2_000_000)),
             store: Store::new(alloc, segments, slots),
+            file: 0,
+            there: Some((DEVICE, 0)),
+            orders: Ordering::new(alloc),
             locked: false,
             progress: now,
             moves: 0,
@@ -180,8 +194,65 @@ impl Camera {
                 });
             }
             self.happens(FilmingEvent::Begin, Act::GoOn);
+            self.orders.open();
         }
         self.open
+    }
+
+    /// Its path names another file by now, or one on another device, or none.
+    pub fn file_goes(&mut self, random: &mut Random) {
+        self.there = match random.below(3) {
+            0 => None,
+            1 => Some((DEVICE, self.file.saturating_add(1_000))),
+            _ => Some((DEVICE.saturating_add(1), self.file)),
+        };
+    }
+
+    /// Whether its store was moved away, as somebody who looks sees it.
+    pub fn is_moved(&self, judge: &mut Judge) -> bool {
+        let recorded = (DEVICE, self.file);
+        let moved = is_moved(recorded, self.there);
+        judge.holds(
+            moved == (self.there != Some(recorded)),
+            "a store was moved away where its path names another file, or none",
+        );
+        self.open && moved
+    }
+
+    /// Its store was moved away. What waits is still stored there, unless each block is locked, which lasts; then a
+    /// store is made anew.
+    pub fn moves(&mut self, alloc: Global, judge: &mut Judge, now: u64) {
+        self.happens(FilmingEvent::Move, Act::GoOn);
+        judge.holds(
+            !self.life.films(1, 0),
+            "the filming into a store that was moved away ends",
+        );
+        self.store_rest(judge);
+        self.give_up_rest(now);
+        self.happens(FilmingEvent::End(false), Act::MakeAnew);
+        self.happens(FilmingEvent::Leave, Act::MakeAnew);
+        self.store = Store::new(alloc, self.store.segments, self.store.slots);
+        self.file = self.file.saturating_add(1);
+        self.there = Some((DEVICE, self.file));
+        self.again = now.saturating_add(MADE_ANEW);
+    }
+
+    // All that comes to the desk is stored, up to the first frame for which there is no block.
+    fn store_rest(&mut self, judge: &mut Judge) {
+        for _ in self.brought..self.taken {
+            self.bring(judge, false);
+        }
+        let mut count = 0u32;
+        for _ in 0..self.desk.len() {
+            if !self.store_next(judge, Act::GiveUp) {
+                break;
+            }
+            count = count.saturating_add(1);
+        }
+        self.tally = self.tally.store(count);
+        if count > 0 {
+            self.happens(FilmingEvent::Store(count), Act::GoOn);
+        }
     }
 
     /// A store that isn't there is being made, and is further each time.
@@ -231,7 +302,7 @@ impl Camera {
         };
         let mut count = 0u32;
         for _ in 0..most {
-            if !self.store_next(judge) {
+            if !self.store_next(judge, Act::FlushAgain) {
                 break;
             }
             count = count.saturating_add(1);
@@ -257,8 +328,9 @@ impl Camera {
         self.moves = self.moves.saturating_add(1);
     }
 
-    // The first frame at the desk is stored. Whether it is: there may be none, or each block may be locked.
-    fn store_next(&mut self, judge: &mut Judge) -> bool {
+    // The first frame at the desk is stored. Whether it is: there may be none, or each block may be locked, and then this
+    // has to follow.
+    fn store_next(&mut self, judge: &mut Judge, wanted: Act) -> bool {
         if !self.open || self.desk.is_empty() {
             return false;
         }
@@ -269,7 +341,7 @@ impl Camera {
             self.set(at, Fate::Stored);
         } else {
             self.locked = true;
-            self.happens(FilmingEvent::AllLocked, Act::FlushAgain);
+            self.happens(FilmingEvent::AllLocked, wanted);
             let is_back = self.desk.insert(0, at).is_ok();
             judge.holds(is_back, "there is memory");
         }
@@ -300,6 +372,15 @@ impl Camera {
         if !self.open {
             return;
         }
+        self.give_up_rest(now);
+        self.happens(FilmingEvent::Break, Act::GiveUp);
+        self.happens(FilmingEvent::End(true), Act::OpenAgain);
+        self.happens(FilmingEvent::Leave, Act::OpenAgain);
+        self.again = now.saturating_add(random.below(5_000_000));
+    }
+
+    // Desk and queue are given up, and the store isn't open any more: what was in them and isn't stored is lost.
+    fn give_up_rest(&mut self, now: u64) {
         if self.taken > self.brought {
             self.moves_on(now);
         }
@@ -317,14 +398,10 @@ impl Camera {
         self.desk.clear();
         self.open = false;
         self.locked = false;
-        self.happens(FilmingEvent::Break, Act::GiveUp);
-        self.happens(FilmingEvent::End(true), Act::OpenAgain);
-        self.happens(FilmingEvent::Leave, Act::OpenAgain);
-        self.again = now.saturating_add(random.below(5_000_000));
     }
 
     /// The program is killed, and begins again: what isn't stored is gone.
-    pub fn begins(&mut self, random: &mut Random, now: u64) {
+    pub fn begins(&mut self, alloc: Global, random: &mut Random, now: u64) {
         for frame in self.frames.iter_mut() {
             if frame.fate != Fate::Stored {
                 frame.fate = Fate::Lost;
@@ -344,6 +421,8 @@ impl Camera {
         self.tally = Tally::new();
         self.life = Life::new();
         self.told = Told::new(now);
+        self.orders = Ordering::new(alloc);
+        self.there = Some((DEVICE, self.file));
     }
 
     /// How many frames have come since the program began up to a time, as the queue knows it: all that were taken, and

@@ -112,6 +112,13 @@ impl Waiting {
         turn
     }
 
+    /// Its camera's store was moved away, and is made anew: nothing of it is locked there.
+    pub fn begins_anew(&mut self) {
+        self.keep = self.keep.anew();
+        self.block = None;
+        self.covered.clear();
+    }
+
     /// A clip that a longer one covers is released, unless a save reads it.
     pub fn release_covered(&mut self, judge: &mut Judge, camera: &mut Camera, saving: &Saving) {
         if let Some(id) = self.covered.pop() {

@@ -1,5 +1,5 @@
 //! The station's decisions in simulation. Frames come early, late and in bursts, disks are slow, stall and fail,
-//! several writers order, the program is killed at any step and begins again; time passes as the seed says, and no
+//! stores are moved away, several writers order, the program is killed at any step and begins again; time passes as the seed says, and no
 //! clock is read. A plain list of all frames, one of all saves and what was told last judge each answer.
 //!
 //! A line of the input is `seeds FROM TO STEPS`: for each seed from one number to another it prints a line, with the
@@ -7,8 +7,8 @@
 //!
 //! - `random`: numbers by a seed; `judge`: what a simulation finds;
 //! - `store`: a ring of blocks and its clips; `camera`: a source, a queue and a desk before it, and the list of frames;
-//! - `keeping`: keeps, `answers`: their lines, `saving`: saves, `texts`: what saves write, `told`: lines about a
-//!   camera, `searching`: gaps in clips, each with its judge;
+//! - `keeping`: keeps, `answers`: their lines, `ordering`: a camera's orders, `saving`: saves, `texts`: what saves
+//!   write, `told`: lines about a camera, `searching`: gaps in clips, each with its judge;
 //! - `world`: a station and its cameras, step by step.
 #![tactic(auto)]
 
@@ -16,6 +16,7 @@ mod answers;
 mod camera;
 mod judge;
 mod keeping;
+mod ordering;
 mod random;
 mod saving;
 mod searching;
@@ -57,10 +58,11 @@ fn print_line<W: Write>(
     out: &mut W,
 ) -> Result<()> {
     let (keeps, saves, saved) = (counts.keeps, counts.saves, counts.saved);
+    let (orders, moves) = (counts.orders, counts.moves);
     let (kills, lines) = (counts.kills, counts.lines);
     writeln!(
         out,
-        "seed {seed} step {step}: keeps {keeps}, saves {saves}, saved {saved}, kills {kills}, lines {lines}, {what}"
+        "seed {seed} step {step}: keeps {keeps}, saves {saves}, saved {saved}, orders {orders}, moves {moves}, kills {kills}, lines {lines}, {what}"
     )?;
     Ok(out.flush()?)
 }

@@ -17,8 +17,11 @@ pub struct Asking {
     /// The place in which it runs; none while it waits.
     pub place: Option<usize>,
     pub automatic: bool,
+    /// The store that its clip is of.
+    pub file: u64,
     wanted: bool,
-    cancelled: bool,
+    /// It is to end.
+    pub cancelled: bool,
 }
 
 /// The saves of the station.
@@ -114,8 +117,15 @@ impl Saving {
         is_read
     }
 
-    /// A save is asked for. Whether it is taken.
-    pub fn ask(&mut self, judge: &mut Judge, key: SaveKey, automatic: bool) -> bool {
+    /// A save of a clip of a store is asked for. `lacks`: there is no memory for it to wait in. Whether it is taken.
+    pub fn ask(
+        &mut self,
+        judge: &mut Judge,
+        key: SaveKey,
+        automatic: bool,
+        file: u64,
+        lacks: bool,
+    ) -> bool {
         let free = self.free();
         let answer = self.core.ask(key, automatic);
         judge.holds(
@@ -125,11 +135,16 @@ impl Saving {
         if free.is_none() && !automatic {
             return false;
         }
+        if free.is_none() && lacks {
+            self.core.withdraw();
+            return false;
+        }
         let wanted = self.is_wanted(key.camera, key.id);
         let asking = Asking {
             key,
             place: free,
             automatic,
+            file,
             wanted,
             cancelled: false,
         };
@@ -138,13 +153,20 @@ impl Saving {
     }
 
     /// Asks for a save of each clip that is to be saved, and isn't being saved. How many.
-    pub fn ask_all(&mut self, judge: &mut Judge, camera: usize, clips: &[Clip]) -> u64 {
+    pub fn ask_all(
+        &mut self,
+        judge: &mut Judge,
+        camera: usize,
+        clips: &[Clip],
+        file: u64,
+        lacks: bool,
+    ) -> u64 {
         let mut count = 0u64;
         for clip in clips {
             if clip.unsaved && !self.is_read(judge, camera, clip.id) {
-                let is_taken = self.ask(judge, key_of(camera, clip), true);
-                judge.holds(is_taken, "an automatic save is never refused");
-                count = count.saturating_add(1);
+                let is_taken = self.ask(judge, key_of(camera, clip), true, file, lacks);
+                judge.holds(is_taken || lacks, "an automatic save is never refused");
+                count = count.saturating_add(u64::from(is_taken));
             }
         }
         count
@@ -153,11 +175,6 @@ impl Saving {
     /// The save that runs in a place.
     pub fn running(&self, place: usize) -> Option<Asking> {
         Some(*self.list.get(self.at(place)?)?)
-    }
-
-    /// Whether the save that runs in a place is to end.
-    pub fn is_cancelled(&self, place: usize) -> bool {
-        self.core.is_cancelled(place)
     }
 
     /// The save of a place has come to an end; `releases`: clips of its camera are released once they are saved.
@@ -222,22 +239,6 @@ impl Saving {
         asking.place = Some(place);
     }
 
-    /// A clip is to be released. Whether that waits for saves.
-    pub fn wants_release(&mut self, judge: &mut Judge, camera: usize, id: u32) -> bool {
-        let mut waits = false;
-        for asking in self.list.iter_mut() {
-            if reads(asking, camera, id) {
-                asking.wanted = true;
-                waits = true;
-            }
-        }
-        judge.holds(
-            self.core.wants_release(camera, id) == waits,
-            "a release waits for the saves that read the clip",
-        );
-        waits
-    }
-
     // The save of a clip that a cancel ends: the first place, or else the first that waits.
     fn to_cancel(&self, camera: usize, id: u32) -> Option<usize> {
         for place in 0..self.places {
@@ -250,8 +251,8 @@ impl Saving {
         self.list.iter().position(|asking| asking.place.is_none() && reads(asking, camera, id))
     }
 
-    /// A save of a clip is to end. Whether one that waited has ended by that, and whether its clip is to be released.
-    pub fn cancel(&mut self, judge: &mut Judge, camera: usize, id: u32) -> Option<bool> {
+    /// A save of a clip is to end. The one that waited and has ended by that, and whether its clip is to be released.
+    pub fn cancel(&mut self, judge: &mut Judge, camera: usize, id: u32) -> Option<(Asking, bool)> {
         let expected = self.to_cancel(camera, id);
         let answer = self.core.cancel(camera, id);
         let Some(at) = expected else {
@@ -275,17 +276,18 @@ impl Saving {
             self.at(place) == Some(at),
             "the first save that runs is cancelled",
         );
-        judge.holds(
-            self.core.is_cancelled(place),
-            "a cancelled save is known as such",
-        );
         if let Some(asking) = self.list.get_mut(at) {
             asking.cancelled = true;
         }
     }
 
     // A save that waited has ended.
-    fn judge_gone(&mut self, judge: &mut Judge, at: usize, release: bool) -> Option<bool> {
+    fn judge_gone(
+        &mut self,
+        judge: &mut Judge,
+        at: usize,
+        release: bool,
+    ) -> Option<(Asking, bool)> {
         let asking = self.removed(at)?;
         judge.holds(
             asking.place.is_none(),
@@ -296,7 +298,7 @@ impl Saving {
             release == due,
             "a cancelled save that was the last releases its clip, if that is wanted",
         );
-        Some(release)
+        Some((asking, release))
     }
 
     /// The program ends: each save is ended once.
@@ -322,7 +324,7 @@ impl Saving {
         };
         judge.holds(is_there, "a stop ends the first save that runs or waits");
         if let Some(place) = stopped.place {
-            let ended = self.core.ended(place);
+            let ended = self.core.finish(place, SaveEnd::Whole, true);
             judge.holds(ended.begun.is_none() && !ended.release, "a save ends once");
         }
     }

@@ -1,16 +1,18 @@
-//! The whole station in simulation, step by step.
+//! The whole station in simulation, step by step. `ordered` has the orders of clips, and what follows where a store
+//! isn't there any more.
+
+mod ordered;
 
 use crate::answers::Answers;
 use crate::camera::{Camera, Disk};
 use crate::judge::Judge;
 use crate::keeping::{Noted, Waiting, judge_shortfall};
 use crate::random::Random;
-use crate::saving::{Asking, Saving, judge_after, key_of};
+use crate::saving::{Asking, Saving, judge_after};
 use crate::searching::search;
 use crate::texts::Texts;
 use loop_station_core::{
-    GrowthTurn, KeepTurn, MayRelease, Numbers, SaveEnd, SourceSeen, bounds, is_too_far,
-    may_release, stood_still,
+    GrowthTurn, KeepTurn, Numbers, SaveEnd, SourceSeen, bounds, is_too_far, stood_still,
 };
 use std::alloc::{AllocError, Global};
 
@@ -38,6 +40,8 @@ pub struct Counts {
     due: u64,
     pub saves: u64,
     pub saved: u64,
+    pub orders: u64,
+    pub moves: u64,
     pub lines: u64,
     pub kills: u64,
 }
@@ -51,6 +55,8 @@ impl Counts {
             due: 0,
             saves: 0,
             saved: 0,
+            orders: 0,
+            moves: 0,
             lines: 0,
             kills: 0,
         }
@@ -193,6 +199,7 @@ impl Station {
         } else {
             camera.brings(&mut self.random, &mut self.judge, self.now);
             self.keeps_turn(camera, stopping);
+            self.order_turns(camera);
             camera.flush(&mut self.random, &mut self.judge, self.now);
         }
     }
@@ -325,20 +332,29 @@ impl Station {
     // Clips that are to be saved, and aren't being saved, are asked for.
     fn save_unsaved(&mut self, camera: &Camera) {
         if camera.saves {
-            let clips = camera.store.clips.as_slice();
-            let count = self.saving.ask_all(&mut self.judge, camera.place, clips);
+            let lacks = self.random.one_in(8);
+            let count = self.saving.ask_all(
+                &mut self.judge,
+                camera.place,
+                camera.store.clips.as_slice(),
+                camera.file,
+                lacks,
+            );
             self.counts.saves = self.counts.saves.saturating_add(count);
         }
     }
 
     // The save of a place reads on, and may end.
     fn save_goes_on(&mut self, camera: &mut Camera, place: usize, asking: &Asking) {
-        let id = asking.key.id;
+        let (id, first) = (asking.key.id, asking.key.first);
+        let is_there = asking.file == camera.file;
         self.judge.holds(
-            camera.store.begins_with(id, asking.key.first),
+            !is_there || camera.store.begins_with(id, first),
             "a clip that a save reads is there, and the one that was asked for",
         );
-        let end = if self.saving.is_cancelled(place) {
+        let end = if !is_there {
+            SaveEnd::Final
+        } else if asking.cancelled {
             camera.store.mark_saved(id);
             SaveEnd::Final
         } else if self.folder && self.random.one_in(3) {
@@ -356,35 +372,22 @@ impl Station {
             .saving
             .finish(&mut self.judge, place, end, camera.releases)
         {
-            self.release(camera, id);
-        }
-    }
-
-    // A clip is released, since no save reads it.
-    fn release(&mut self, camera: &mut Camera, id: u32) {
-        let is_read = self.saving.is_read(&mut self.judge, camera.place, id);
-        self.judge
-            .holds(!is_read, "a clip that is read isn't released");
-        camera.store.unlock(id);
-    }
-
-    // A clip is released once no save reads it.
-    fn release_later(&mut self, camera: &mut Camera, id: u32) {
-        if !self.saving.wants_release(&mut self.judge, camera.place, id) {
-            camera.store.unlock(id);
+            self.release(camera, id, first);
         }
     }
 
     // What happens to sources, disks and the folder.
     fn weather(&mut self, camera: &mut Camera) {
-        match self.random.below(12) {
+        match self.random.below(14) {
             0 => camera.disk = Disk::Slow,
             1 if self.random.one_in(3) => camera.disk = Disk::Stalls,
-            2 if self.random.one_in(4) => camera.fails(&mut self.random, self.now),
+            2 if self.random.one_in(4) => self.disk_fails(camera),
             3..=5 if self.random.one_in(3) => camera.source_goes(&mut self.random),
             6 => self.folder = !self.random.one_in(4),
             7 | 8 if self.random.one_in(self.slowness) => camera.disk = Disk::Works,
             9 => self.folder = true,
+            10 if self.random.one_in(8) => camera.file_goes(&mut self.random),
+            11 if self.random.one_in(40) => self.many_ordered(camera),
             _ => camera.source = SourceSeen::On,
         }
     }
@@ -478,61 +481,14 @@ impl Station {
                 };
                 let place = if all { camera.place } else { 0 };
                 let keep = Waiting::new(self.alloc, camera, &noted, order, place, false, self.now);
-                self.judge.put(&mut self.keeps, keep);
                 self.counts.keeps = self.counts.keeps.saturating_add(1);
                 self.counts.due = self.counts.due.saturating_add(1);
+                if camera.orders.is_gone() {
+                    self.answer_absent(&keep);
+                } else {
+                    self.judge.put(&mut self.keeps, keep);
+                }
             }
-        }
-    }
-
-    // A writer orders something of a clip.
-    fn clip_ordered(&mut self, camera: &mut Camera) {
-        let Some(clip) = camera.store.any_clip(self.random.next()) else {
-            return;
-        };
-        match self.random.below(8) {
-            0..=2 => self.release_ordered(camera, clip.id, clip.from),
-            3..=5 => {
-                let key = key_of(camera.place, &clip);
-                let is_taken = self.saving.ask(&mut self.judge, key, false);
-                self.counts.saves = self.counts.saves.saturating_add(u64::from(is_taken));
-            }
-            6 => self.release_later(camera, clip.id),
-            _ => self.cancel_ordered(camera, clip.id),
-        }
-    }
-
-    // The release of a clip is ordered by its id; half of these say with which frame it begins, and some of them are
-    // wrong.
-    fn release_ordered(&mut self, camera: &mut Camera, id: u32, first: u64) {
-        let is_read = self.saving.is_read(&mut self.judge, camera.place, id);
-        let asked = match self.random.below(4) {
-            0 => Some(first),
-            1 => Some(first.saturating_add(1)),
-            _ => None,
-        };
-        let is_meant = match asked {
-            Some(asked) => camera.store.begins_with(id, asked),
-            None => true,
-        };
-        let may = may_release(is_read, asked, Some(first)) == MayRelease::Now;
-        self.judge.holds(
-            may == (is_meant && !is_read),
-            "an order releases the clip that it means, unless a save reads it",
-        );
-        if may {
-            camera.store.unlock(id);
-        }
-    }
-
-    // A save of a clip is cancelled.
-    fn cancel_ordered(&mut self, camera: &mut Camera, id: u32) {
-        let gone = self.saving.cancel(&mut self.judge, camera.place, id);
-        if gone.is_some() {
-            camera.store.mark_saved(id);
-        }
-        if gone == Some(true) {
-            self.release(camera, id);
         }
     }
 
@@ -540,6 +496,7 @@ impl Station {
     fn look(&mut self, camera: &mut Camera, stopping: bool) {
         let lines = camera.look(&mut self.judge, self.now, stopping);
         self.counts.lines = self.counts.lines.saturating_add(lines);
+        self.look_for_store(camera);
     }
 
     // The lists of a camera may be compared.
@@ -655,7 +612,7 @@ impl World {
         self.station.kill();
         let now = self.station.now;
         for camera in self.cameras.iter_mut() {
-            camera.begins(&mut self.station.random, now);
+            camera.begins(self.station.alloc, &mut self.station.random, now);
         }
         self.events_go_on();
         self.save_unsaved();

@@ -97,6 +97,9 @@ pub(super) fn write<R: AllocGlobal + Places + Wait>(
     save: &Save,
     path: &str,
 ) -> Result<u64, NotSaved> {
+    if save.ended.load(Ordering::SeqCst) {
+        return Err(NotSaved::Cancelled);
+    }
     if saves.is_taken(rt, path) {
         return Err(NotSaved::InUse);
     }

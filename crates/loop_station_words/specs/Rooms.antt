@@ -1,0 +1,100 @@
+-- How large a store has to be, how much of one is free, and how many frames may wait before it.
+use Rattle.std.specs.Prelude.{◌≡◌, ◌<◌, ℕ, ◌+◌, ◌-◌, ◌*◌, ◌/◌, ◌^◌, IsTrue, Bool, ◌&&◌, List, [], ◌∷◌, Option, Some, None, Result, Ok, Err, zero, suc, max, min, nat_le, if◌then◌else◌}
+use Rattle.std.specs.List.{list_any}
+use Rattle.loop_clips.specs.declared.clip.Clip.{Clip}
+use Rattle.loop_record.specs.Geometry.{divided_up, frame_bytes, is_good}
+use Rattle.loop_record.specs.declared.geometry.Geometry.{Geometry}
+use Rattle.loop_station_words.specs.Rings.{IsLargestWithin, IsLeastFor, file_size}
+use Rattle.loop_station_words.specs.declared.config.MemoryLimit.{MemoryLimit}
+use Rattle.loop_station_words.specs.declared.config.MemoryLimit.TheVariants.{Bytes as MemoryBytes, Seconds as MemorySeconds}
+use Rattle.loop_station_words.specs.declared.config.StoreSize.{StoreSize}
+use Rattle.loop_station_words.specs.declared.config.StoreSize.TheVariants.{Bytes, Seconds}
+use Rattle.loop_station_words.specs.declared.ring.RingSize.{RingSize}
+use Rattle.loop_station_words.specs.declared.room.NoRing.{NoRing}
+use Rattle.loop_station_words.specs.declared.room.NoRing.TheVariants.{TooManyFrames, TooFewBytes, BadFrames}
+
+-- how many frames come in so many seconds, as a u64 counts them
+abbrev pub frames_of : Geometry → ℕ → ℕ
+frames_of g seconds = min (divided_up (seconds * g.rate_num) (max g.rate_den 1)) (2 ^ 64 - 1)
+
+-- how many tenths of a minute of them the largest ring holds
+abbrev pub most_tenths : Geometry → ℕ
+most_tenths g = 16129 * g.rate_den / (6 * max g.rate_num 1)
+
+-- the ring that the configuration asks for, or why there is none
+abbrev pub IsAsked : Geometry → StoreSize → Result RingSize NoRing → Type 0
+IsAsked g (Seconds s) (Ok ring) = IsLeastFor (frames_of g s) ring
+IsAsked g (Seconds s) (Err why) = (why ≡ TooManyFrames (most_tenths g)) × (16129 < frames_of g s)
+IsAsked g (Bytes b) (Ok ring) = IsTrue (is_good g) × IsLargestWithin (frame_bytes g) b ring
+IsAsked g (Bytes b) (Err why) = (why ≡ (if is_good g then TooFewBytes else BadFrames))
+    × (IsTrue (is_good g) → b < file_size (frame_bytes g) (record { segments = 2; slots = 1 }))
+
+-- how many frames a ring always holds
+abbrev pub held_by : ℕ → ℕ → ℕ
+held_by segments slots = (segments - 1) * slots + 1
+
+-- as many frames of a store's kind are asked for
+abbrev pub AreAsked : Geometry → StoreSize → ℕ → Type 0
+AreAsked g (Seconds s) frames = frames ≡ frames_of g s
+AreAsked g (Bytes b) frames = (asked : Result RingSize NoRing) × IsAsked g (Bytes b) asked
+    × (frames ≡ elim asked [ Ok ring ↦ held_by ring.segments ring.slots | Err why ↦ 0 ])
+
+-- how many microseconds so many frames last
+abbrev pub micros_of : ℕ → Geometry → ℕ
+micros_of frames g = min (frames * 1000000 * g.rate_den / max g.rate_num 1) (2 ^ 64 - 1)
+
+-- how many microseconds are asked for
+abbrev pub asked_micros : Geometry → StoreSize → ℕ → ℕ
+asked_micros g (Seconds s) frames = min (s * 1000000) (2 ^ 64 - 1)
+asked_micros g (Bytes b) frames = micros_of frames g
+
+-- what a store always holds, and what is asked for, unless it holds that
+abbrev pub HoldsLess : Geometry → StoreSize → Option (ℕ × ℕ) → Type 0
+HoldsLess g room less = (frames : ℕ) × AreAsked g room frames
+    × (less ≡ (if nat_le frames (held_by g.segments g.slots) then None
+    else Some (micros_of (held_by g.segments g.slots) g, asked_micros g room frames)))
+
+-- how many frames of so many bytes have room in memory: those of four seconds and 256 MB at most where nothing is said
+abbrev pub in_memory : Option MemoryLimit → ℕ → Geometry → ℕ
+in_memory (Some (MemorySeconds s)) size g = frames_of g s
+in_memory (Some (MemoryBytes b)) size g = b / size
+in_memory None size g = min (frames_of g 4) (256000000 / size)
+
+abbrev pub frames_before : Option MemoryLimit → Geometry → ℕ
+frames_before memory g = if is_good g then min (in_memory memory (max (frame_bytes g) 1) g) 1000000 else 0
+
+-- the number of the newest block
+abbrev pub newest_block : Geometry → ℕ → ℕ
+newest_block g next = (next - 1) / max g.slots 1
+
+-- a clip has a frame in a block of so many slots
+abbrev pub meets : ℕ → ℕ → Clip → Bool
+meets slots block clip = nat_le (clip.from / slots) block && nat_le block (clip.to / slots)
+
+-- one of some clips does
+abbrev pub is_met : ℕ → List Clip → ℕ → Bool
+is_met slots clips block = list_any (meets slots block) clips
+
+-- how many of the first blocks clips meet
+abbrev pub locked_below : ℕ → List Clip → ℕ → ℕ
+locked_below slots clips zero = 0
+locked_below slots clips (suc block) = (if is_met slots clips block then 1 else 0) + locked_below slots clips block
+
+-- the blocks of the ring but the newest one, and the older ones that clips meet
+abbrev pub free_blocks : Geometry → ℕ → List Clip → ℕ
+free_blocks g next clips = g.segments - 1 - locked_below (max g.slots 1) clips (newest_block g next)
+
+-- the lowest block from one on that a clip meets
+abbrev pub lowest_in : ℕ → ℕ → Clip → Option ℕ
+lowest_in slots from clip =
+    if nat_le (max (clip.from / slots) from) (clip.to / slots) then Some (max (clip.from / slots) from) else None
+
+abbrev pub nearer : Option ℕ → Option ℕ → Option ℕ
+nearer None other = other
+nearer (Some one) None = Some one
+nearer (Some one) (Some other) = Some (min one other)
+
+-- the same of some clips
+abbrev pub lowest_met : ℕ → ℕ → List Clip → Option ℕ
+lowest_met slots from [] = None
+lowest_met slots from (clip ∷ clips) = nearer (lowest_in slots from clip) (lowest_met slots from clips)

@@ -1,0 +1,163 @@
+//! The orders of clips that a camera does, and what follows where its store isn't there any more.
+
+use super::Station;
+use crate::camera::Camera;
+use crate::keeping::Waiting;
+use crate::ordering::Wish;
+use crate::saving::key_of;
+use crate::store::MOST_CLIPS;
+use loop_station_core::{MayRelease, may_release};
+
+impl Station {
+    // An order comes to a camera. One that isn't taken in is answered at once.
+    fn order(&mut self, camera: &mut Camera, wish: Wish) {
+        if camera.orders.add(&mut self.judge, wish) {
+            self.counts.orders = self.counts.orders.saturating_add(1);
+        } else {
+            self.counts.lines = self.counts.lines.saturating_add(1);
+        }
+    }
+
+    // A camera does its next order, if one waits.
+    pub(super) fn order_turns(&mut self, camera: &mut Camera) {
+        match camera.orders.take(&mut self.judge) {
+            Some(Wish::Release(id, asked)) => self.release_ordered(camera, id, asked),
+            Some(Wish::Save(id)) => self.save_ordered(camera, id),
+            Some(Wish::Cancel(id)) => self.cancel_ordered(camera, id),
+            None => {}
+        }
+        camera.orders.done(&mut self.judge);
+    }
+
+    // A writer orders something of a clip.
+    pub(super) fn clip_ordered(&mut self, camera: &mut Camera) {
+        let Some(clip) = camera.store.any_clip(self.random.next()) else {
+            return;
+        };
+        let wish = match self.random.below(8) {
+            0..=3 => Wish::Release(clip.id, self.said_first(clip.from)),
+            4..=6 => Wish::Save(clip.id),
+            _ => Wish::Cancel(clip.id),
+        };
+        self.order(camera, wish);
+    }
+
+    // More orders come to a camera at once than may wait.
+    pub(super) fn many_ordered(&mut self, camera: &mut Camera) {
+        for _ in 0..self.random.between(200, 300) {
+            self.order(camera, Wish::Cancel(MOST_CLIPS));
+        }
+    }
+
+    // With which frame an order to release a clip says that it begins: half of these orders do, and some are wrong.
+    fn said_first(&mut self, first: u64) -> Option<u64> {
+        match self.random.below(4) {
+            0 => Some(first),
+            1 => Some(first.saturating_add(1)),
+            _ => None,
+        }
+    }
+
+    // A save of the clip of an id is ordered, if there is one.
+    fn save_ordered(&mut self, camera: &Camera, id: u32) {
+        if let Some(clip) = camera.store.clip(id) {
+            let key = key_of(camera.place, &clip);
+            let is_taken = self
+                .saving
+                .ask(&mut self.judge, key, false, camera.file, false);
+            self.counts.saves = self.counts.saves.saturating_add(u64::from(is_taken));
+        }
+    }
+
+    // The release of a clip is ordered by its id, and maybe by the frame with which it has to begin.
+    fn release_ordered(&mut self, camera: &mut Camera, id: u32, asked: Option<u64>) {
+        let is_read = self.saving.is_read(&mut self.judge, camera.place, id);
+        let is_meant = match asked {
+            Some(asked) => camera.store.begins_with(id, asked),
+            None => true,
+        };
+        let first = match camera.store.clip(id) {
+            Some(clip) => Some(clip.from),
+            None => None,
+        };
+        let may = may_release(is_read, asked, first) == MayRelease::Now;
+        self.judge.holds(
+            may == (is_meant && !is_read),
+            "an order releases the clip that it means, unless a save reads it",
+        );
+        if may {
+            camera.store.unlock(id);
+        }
+    }
+
+    // A save of a clip is cancelled.
+    fn cancel_ordered(&mut self, camera: &mut Camera, id: u32) {
+        let Some((asking, is_released)) = self.saving.cancel(&mut self.judge, camera.place, id)
+        else {
+            return;
+        };
+        if asking.file == camera.file {
+            camera.store.mark_saved(id);
+        }
+        if is_released {
+            self.release(camera, id, asking.key.first);
+        }
+    }
+
+    // A clip is released, since it is saved and no save reads it: by an order, which nobody waits for.
+    pub(super) fn release(&mut self, camera: &mut Camera, id: u32, first: u64) {
+        let is_read = self.saving.is_read(&mut self.judge, camera.place, id);
+        self.judge
+            .holds(!is_read, "a clip that is read isn't released");
+        self.order(camera, Wish::Release(id, Some(first)));
+    }
+
+    // A camera's disk fails: its store is opened again later.
+    pub(super) fn disk_fails(&mut self, camera: &mut Camera) {
+        if camera.open {
+            camera.fails(&mut self.random, self.now);
+            self.store_leaves(camera);
+        }
+    }
+
+    // Somebody looks whether a camera's store is where it belongs. One that was moved away is made anew: events go on
+    // there.
+    pub(super) fn look_for_store(&mut self, camera: &mut Camera) {
+        if !camera.is_moved(&mut self.judge) {
+            return;
+        }
+        camera.moves(self.alloc, &mut self.judge, self.now);
+        self.counts.moves = self.counts.moves.saturating_add(1);
+        self.store_leaves(camera);
+        for keep in self.keeps.iter_mut() {
+            if keep.camera == camera.place {
+                keep.begins_anew();
+            }
+        }
+    }
+
+    // A camera's store isn't there: the orders that wait, and the keeps that wait for frames, are answered so.
+    fn store_leaves(&mut self, camera: &mut Camera) {
+        let lines = camera.orders.leave(&mut self.judge);
+        self.counts.lines = self.counts.lines.saturating_add(lines);
+        let mut at = 0usize;
+        for _ in 0..self.keeps.len() {
+            let waits = match self.keeps.get(at) {
+                Some(keep) => keep.camera == camera.place && !keep.grows,
+                None => false,
+            };
+            if waits {
+                let keep = self.keeps.remove(at);
+                self.answer_absent(&keep);
+            } else {
+                at = at.saturating_add(1);
+            }
+        }
+    }
+
+    // A keep is answered by that its camera's store isn't there.
+    pub(super) fn answer_absent(&mut self, keep: &Waiting) {
+        self.answer(keep.order, keep.place, 1);
+        self.counts.answered = self.counts.answered.saturating_add(1);
+    }
+}
