@@ -182,10 +182,11 @@ pub(crate) fn record_stores<R: Threads + Wait + Clock + Sync>(
         let guide = Post { frames, geometry };
         add(&mut shots, Shot { guide, camera })?;
     }
+    // Reserved before anything is recorded.
+    let mut takes = Vec::with_capacity(alloc, shots.len())?;
     let Ok(outcomes) = film_all(rt, alloc, shots) else {
         return Err(NO_MEMORY);
     };
-    let mut takes = Vec::with_capacity(alloc, outcomes.len())?;
     for outcome in &outcomes {
         match &outcome.filmed {
             Ok(ended) => add(&mut takes, Take::of(ended))?,
