@@ -13,10 +13,10 @@ scoped-outcomes-requires g c =
     let outcomes = c.in-Ok-with_capacity.ensures in
     record {
       at = λ scope. (
-          (
-              (threads.items, omega (arith, c.len-count.ensures, threads.capacity)),
-              (outcomes.items, omega (arith, c.len-count.ensures, outcomes.capacity)),
-          ),
-          (search sendable, search sendable, search sendable, search sendable, search rules, search rules),
+        (
+          (threads.items, omega (arith, c.len-count.ensures, threads.capacity)),
+          (outcomes.items, omega (arith, c.len-count.ensures, outcomes.capacity)),
+        ),
+        (search sendable, search sendable, search sendable, search sendable, search rules, search rules),
       );
     }
