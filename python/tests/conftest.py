@@ -21,7 +21,6 @@ sys.dont_write_bytecode = True
 import lapyrei.layout  # noqa: E402,F401
 import lapyrei.library  # noqa: E402
 import layout  # noqa: E402
-import numpy as np  # noqa: E402
 import shared_library  # noqa: E402
 
 if SOURCES != HERE.parent:

@@ -570,7 +570,8 @@ def test_numbers_that_are_spent_are_refused_by_name(tmp_path):
     image = bytearray(it.image)
     for slot in range(4):
         at = it.geometry.slot_at(1, slot)
-        image[at : at + layout.HEAD] = layout.head(4 * last + slot, 9 + slot, it.time + 1 + slot, 48)
+        number = 4 * last + slot
+        image[at : at + layout.HEAD] = layout.head(number, 9 + slot, it.time + 1 + slot, 48)
     at = it.geometry.segment_at(1)
     image[at : at + layout.HEADER] = layout.header(last, 4)
     with lapyrei.open(put(tmp_path / "a.loop", image), "r+") as store:
@@ -658,7 +659,7 @@ store = lapyrei.open(sys.argv[1], "r+")
 hard = resource.getrlimit(resource.RLIMIT_FSIZE)[1]
 picture = np.full((6, 8), 9, np.uint8)
 resource.setrlimit(resource.RLIMIT_FSIZE, (2600, hard))
-for call in (lambda: store.append(picture), lambda: store.append(picture), lambda: store.lock(0, 0)):
+for call in (*[lambda: store.append(picture)] * 2, lambda: store.lock(0, 0)):
     try:
         call()
     except lapyrei.NotDone as refused:
@@ -775,7 +776,8 @@ while True:
     group = np.arange(count, count + 1 + count % 5).astype(np.uint8)
     frames = group[:, None, None] * np.ones((1, 48, 64), np.uint8)
     newest = int(store.parts[0].next) * 1000
-    numbers = store.append(frames, [newest + 1000 * it for it in range(len(group))], sequences=group)
+    moments = [newest + 1000 * it for it in range(len(group))]
+    numbers = store.append(frames, moments, sequences=group)
     print("append", *numbers.tolist(), flush=True)
     count += len(group)
     if count % 4 == 3:
@@ -958,9 +960,8 @@ STRUCTS = {
 def asked_of_c(tmp_path, lines):
     """What a program of C prints, with lapyrei.h."""
     body = "\n    ".join(lines)
-    (tmp_path / "ask.c").write_text(
-        f"#include <lapyrei.h>\n#include <stdio.h>\nint main(void) {{\n    {body}\n    return 0;\n}}\n"
-    )
+    front = "#include <lapyrei.h>\n#include <stdio.h>\n"
+    (tmp_path / "ask.c").write_text(f"{front}int main(void) {{\n    {body}\n    return 0;\n}}\n")
     words = ["cc", "-Werror", f"-I{CAPI}", "-o", tmp_path / "ask", tmp_path / "ask.c"]
     subprocess.run(words, check=True)
     return subprocess.run([tmp_path / "ask"], check=True, capture_output=True, text=True).stdout
