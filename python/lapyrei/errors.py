@@ -236,7 +236,10 @@ class Changed(LapyreiError):
 
 class Gone(LapyreiError, LookupError):
     """A frame that isn't held any more: its block was removed. `number` is the frame's, and `path`
-    the file's, where they are known."""
+    the file's, where they are known. An `append` of such frames may have stored some of them:
+    `stored` has their numbers."""
+
+    stored = range(0)
 
     def __init__(self, text: str, number: int | None = None, path: str | None = None) -> None:
         super().__init__(text)

@@ -25,6 +25,7 @@ from .errors import (
     CannotMake,
     CannotOpen,
     ClipEmpty,
+    Gone,
     InUse,
     NoSuchClip,
     NotDone,
@@ -298,12 +299,16 @@ class Writable(Store):
     def _see(self) -> None:
         """Reads what was written since it was read last."""
         if self._stale:
-            self._stale = False
-            try:
-                super().refresh()
-            except BaseException:
-                self._stale = True
-                raise
+            self._read_again()
+
+    def _read_again(self) -> bool:
+        """Reads it; answers whether anything has come."""
+        self._stale = False
+        try:
+            return super().refresh()
+        except BaseException:
+            self._stale = True
+            raise
 
     @property
     def room(self) -> int:
@@ -346,7 +351,8 @@ class Writable(Store):
         refused, those before it stay, and `stored` of the exception has their numbers.
 
         Raises WrongSize, BadTime, UnknownDepth, AllLocked, DiskFault, MustReopen, NumbersSpent,
-        NoMemory, BadHandle; TypeError for another type of samples."""
+        NoMemory, BadHandle; Gone where the other store has removed a frame; TypeError for another
+        type of samples, ValueError for one that needs more bits."""
         with self._writes():
             if isinstance(frames, Frames):
                 return self._copy(frames, times)
@@ -383,7 +389,11 @@ class Writable(Store):
                 f"{old.width}x{old.height} {old.format.decode()} (rows in bytes)"
             )
         heads = self._heads_of(
-            len(frames), frames.times if times is None else times, frames.sequences, frames.flags, 0
+            len(frames),
+            frames.heads["time"] if times is None else times,
+            frames.sequences,
+            frames.flags,
+            False,
         )
         return self._put(
             heads, lambda first, end: np.concatenate([frames.raw(it) for it in range(first, end)])
@@ -436,15 +446,15 @@ class Writable(Store):
 
     def _moments(self, given: Any) -> Array:
         """Times in microseconds."""
-        if not isinstance(given, np.ndarray) or not given.shape:
-            several = isinstance(given, (list, tuple, range))
-            found = [self.moment(it) for it in (given if several else [given])]
-        elif given.dtype.kind == "M":
-            found = given.astype("datetime64[us]").astype(np.int64).tolist()
-        elif given.dtype.kind in "iuO":
-            found = [self.moment(it) for it in given.tolist()]
-        else:
-            raise BadTime(f"times are microseconds or datetime64, not {given.dtype}")
+        if isinstance(given, np.ndarray) and given.dtype.kind == "M":
+            given = given.astype("datetime64[us]").astype(np.int64)
+        if isinstance(given, np.ndarray):
+            if given.dtype.kind not in "iuOU":
+                raise BadTime(f"times are microseconds or datetime64, not {given.dtype}")
+            given = given.tolist()
+        several = given if isinstance(given, (list, tuple, range)) else [given]
+        # Reading again for a text's day isn't needed for a number.
+        found = [it if type(it) is int else self.moment(it) for it in several]
         if bad := [it for it in found if not 0 <= it <= U64]:
             raise BadTime(f"a time is 0 to 2^64 - 1 microseconds, not {bad[0]}")
         return np.array(found, "u8")
@@ -460,20 +470,22 @@ class Writable(Store):
         """Stores frames, group by group; answers their numbers."""
         size, done = self.geometry.size, 0
         numbers: list[int] = []
+        self._stale = True
         while done < len(heads):
             try:
                 # A single frame always has room.
                 room = self._handle.room() if len(heads) - done > 1 else 1
                 group = heads[done : done + room]
                 pixels = bytes_at(done, done + len(group))
+                # The library reads as many bytes from there.
+                if not pixels.flags.c_contiguous or pixels.nbytes != len(group) * size:
+                    raise WrongSize(f"{len(group)} frames have {pixels.nbytes} bytes")
                 first = self._handle.append(
                     group.ctypes.data, pixels.ctypes.data, len(group), size
                 )
-            except NotDone as fault:
+            except (NotDone, Gone) as fault:
                 fault.stored = range(numbers[0], numbers[-1] + 1) if numbers else range(0)
-                self._stale = True
                 raise
-            self._stale = True
             numbers += range(first, first + len(group))
             done += len(group)
             self._newest = (int(group["timestamp"][-1]), int(group["sequence"][-1]))
@@ -515,11 +527,9 @@ class Writable(Store):
 
     def _lock(self, first: int, last: int, tag: int) -> int:
         """Locks, and answers the clip's id."""
-        words = [whole(it, what, U64) for it, what in (
-            (first, "a frame's number"), (last, "a frame's number"), (tag, "a tag")
-        )]
+        start, end = (whole(it, "a frame's number", U64) for it in (first, last))
         self._stale = True
-        return self._handle.lock(*words)
+        return self._handle.lock(start, end, whole(tag, "a tag", U64))
 
     def unlock(self, clip: Clip | int) -> None:
         """Unlocks a clip, or that of an id: its frames go when their room is needed.
@@ -549,8 +559,7 @@ class Writable(Store):
         """Whether anything has come since it was read last. It needn't be called: what is written
         here is seen at once, and nobody else writes."""
         with self._alone():
-            self._stale = False
-            return super().refresh()
+            return self._read_again()
 
     def close(self) -> None:
         """Closes it: others may write to it. Nothing more can be read from it."""

@@ -214,6 +214,28 @@ def test_frames_of_another_store_keep_their_times_counts_and_bits(tmp_path):
             store.append(clip)
 
 
+def test_frames_that_go_while_they_are_copied_are_told(tmp_path):
+    with filled(tmp_path, 12) as store:
+        turned = store[[*range(4, 12), *range(4)]]
+        with pytest.raises(lapyrei.Gone) as gone:
+            # The first block goes for the copy of the second.
+            store.append(turned, times_of(12, 2 * DAY))
+        assert list(gone.value.stored) == list(range(12, 20))
+        assert store.numbers.tolist() == list(range(8, 20)) and store[-1][0, 0] == 11
+
+
+def test_appends_that_nothing_reads_between_dont_read_the_store(tmp_path, monkeypatch):
+    with filled(tmp_path, 1) as store:
+        seen = []
+        read_again = lapyrei.store.Part.read_again
+        note = lambda part: seen.append(part) or read_again(part)  # noqa: E731
+        monkeypatch.setattr(lapyrei.store.Part, "read_again", note)
+        for place in range(1, 5):
+            store.append(grey(place), DAY + place * PERIOD)
+            store.append(grey(place), np.array([DAY + place * PERIOD + 1]))
+        assert not seen and len(store) == 9 and len(store) == 9 and len(seen) == 1
+
+
 def deep_ring():
     """An image of frames of 12 bits, with a clip, its geometry and their flags."""
     it = ring(9, size=(16, 6))
