@@ -33,7 +33,19 @@ from .errors import (
     UnknownDepth,
     WrongSize,
 )
-from .store import Array, Clip, Form, Frames, Path, Picture, Store, Time, files_of, form_of
+from .store import (
+    Array,
+    Clip,
+    Form,
+    Frames,
+    Path,
+    Picture,
+    Planes,
+    Store,
+    Time,
+    files_of,
+    form_of,
+)
 
 # Frames of a second: 25, 29.97, Fraction(30000, 1001), "30000:1001".
 Rate = Union[int, float, str, Fraction]
@@ -205,7 +217,7 @@ def stacks_of(frames: Any, form: Form) -> list[Array]:
     samples' type. WrongSize where the shapes aren't the store's; TypeError where the types
     aren't."""
     is_coloured = len(form.planes) > 1
-    if is_coloured and isinstance(frames, list):
+    if is_coloured and isinstance(frames, list) and {type(it) for it in frames} <= {tuple, Planes}:
         # Several pictures, each of three planes.
         frames = [np.stack(planes) for planes in zip(*frames)]
     arrays = [np.asarray(it) for it in (frames if is_coloured else [frames])]

@@ -92,7 +92,8 @@ def test_what_is_written_is_listed_and_exported_to_the_same_bytes(tmp_path, loop
         first = pictures(store, 7)
         assert store.append(first, times_of(7)).tolist() == list(range(7))
         one = store[3]
-        assert store.append(one, DAY + 10**6).tolist() == [7]
+        planes = one if form == "GREY" else list(one)
+        assert store.append(planes, DAY + 10**6).tolist() == [7]
         store.lock(5, 6, tag=2**64 - 1)
         assert store.append([one, one], [DAY + 2 * 10**6, DAY + 3 * 10**6]).tolist() == [8, 9]
         store.append(pictures(store, 5, 9), times_of(5, DAY + 4 * 10**6))
@@ -914,7 +915,7 @@ def try_call(chance, store, model, moment):
     return store
 
 
-@pytest.mark.parametrize("seed", range(12))
+@pytest.mark.parametrize("seed", range(8))
 def test_random_calls_are_those_of_a_plain_recorder(tmp_path, seed):
     chance = random.Random(seed)
     segments, slots = chance.randint(2, 5), chance.randint(1, 5)
