@@ -2,7 +2,8 @@
 # build.sh: makes liblapyrei.a, liblapyrei.so.1 and lapyrei.pc in OUT (capi/out).
 #
 # LAPYREI_A is the static library of crates/lapyrei, which `rt lib` makes there once it is proved; KIT is Rattle's kit, whose
-# two small libraries of C it needs (malloc and free under Rattle's names). PREFIX is where it will be installed (/usr).
+# two small libraries of C it needs (malloc and free under Rattle's names). PREFIX is where it will be installed (/usr). One
+# that was compiled without a proof asks for the sanitizer of addresses, and gets no_sanitizer.c.
 set -eu
 here=$(cd "$(dirname "$0")" && pwd)
 : "${KIT:=/opt/rattle}" "${OUT:=$here/out}" "${PREFIX:=/usr}" "${LAPYREI_C:=$here/lapyrei.c}"
@@ -12,6 +13,7 @@ cd "$OUT/objects"
 rm -f ./*.o
 $CC -std=gnu11 -O2 -fPIC -fvisibility=hidden -Wall -Wextra -I"$here" -include "$here/export.h" -c "$LAPYREI_C" -o shim.o
 $AR x "$LAPYREI_A"
+if nm "$LAPYREI_A" | grep -q __asan_init; then $CC -std=gnu11 -O2 -fPIC -w -c "$here/no_sanitizer.c" -o no_sanitizer.o; fi
 # Of the kit only what is called is taken in.
 $CC -nostdlib -r -o whole.o ./*.o "$KIT/c/libos_c.a" "$KIT/c/liblibc_c.a"
 rm -f "$OUT/liblapyrei.a"

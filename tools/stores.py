@@ -2,6 +2,7 @@
 save_check share: the programs, the preloaded library and its log, what a loss of power may leave of
 a file, and the plain recorder that says what a file may hold."""
 import os
+import pathlib
 import random
 import struct
 import subprocess
@@ -9,6 +10,7 @@ import sys
 import tempfile
 
 import layout
+import trial_library
 
 TOOLS = os.path.dirname(os.path.abspath(__file__))
 CRATES = os.path.join(TOOLS, "..", "crates")
@@ -24,28 +26,54 @@ class Violation(Exception):
 def built(name):
     """A program's path, or the static library's of a crate that has no program. One that a variable
     names, as LOOP_CLI, LOOP_STATION, BENCH_PROGRAMS, EXAMPLE_FILL or LAPYREI, is taken as it is;
-    else it is built, and proved where something changed."""
+    else that of crates/NAME/out, where it is newer than its sources. Else it is built where
+    LAPYREI_PROVE is set, and proved where something changed: nobody starts that unawares."""
     given = os.environ.get(name.upper())
     if given:
         return os.path.abspath(given)
-    crate = os.path.join(CRATES, name)
-    is_program = os.path.exists(os.path.join(crate, "src/main.rt"))
+    if not os.environ.get("LAPYREI_PROVE"):
+        if is_fresh(name):
+            return path_of(name)
+        sys.exit(
+            f"{name} isn't built, or is older than its sources. {name.upper()}=PATH names another;"
+            f" tools/check KIND --trial compiles it without a proof, in a minute; with --prove, or"
+            f" LAPYREI_PROVE=1, it is proved and built, in up to an hour"
+        )
     print(
         f"proving and building {name} where something has changed: up to an hour, silently",
         file=sys.stderr,
         flush=True,
     )
+    prove(name)
+    return path_of(name)
+
+
+def path_of(name):
+    """Where the program of a crate is built, or its static library."""
+    is_program = os.path.exists(os.path.join(CRATES, name, "src/main.rt"))
+    return os.path.join(CRATES, name, "out", name if is_program else f"lib{name}.a")
+
+
+def is_fresh(name):
+    """Whether it is built, and newer than the sources of its crate and of those below."""
+    if not os.path.exists(path_of(name)):
+        return False
+    crates = [name, *trial_library.below(name, trial_library.uses(), [])]
+    sources = [it for crate in crates for it in (pathlib.Path(CRATES) / crate / "src").rglob("*")]
+    return os.stat(path_of(name)).st_mtime >= max(it.stat().st_mtime for it in sources)
+
+
+def prove(name):
+    """Proves and builds a program, or a static library."""
     with tempfile.TemporaryDirectory() as folder:
+        is_program = not path_of(name).endswith(".a")
         verb = "run" if is_program else "lib"
         words = ["rt", verb, "--jobs", "1", *(words_of(name, folder) if is_program else [])]
-        if (
-            subprocess.run(
-                words, cwd=crate, stdin=subprocess.DEVNULL, capture_output=True
-            ).returncode
-            != 0
-        ):
+        done = subprocess.run(
+            words, cwd=os.path.join(CRATES, name), stdin=subprocess.DEVNULL, capture_output=True
+        )
+        if done.returncode != 0:
             sys.exit(f"rt {verb} made no {name}")
-    return os.path.join(crate, "out", name if is_program else f"lib{name}.a")
 
 
 def words_of(name, folder, stops=True):

@@ -9,34 +9,59 @@
     event = store.events[-1]                   # the frames of the newest keep
     [event.luma(n).mean() for n in range(len(event))]
 
-A store is read beside the program that records into it: nothing is locked or changed, and no
-picture is of two frames. It can't be written or locked from here; the station's orders and
-`loop_cli` do. What can't be read is refused by a class of `lapyrei.errors`. docs/python.md has
-more.
+    with lapyrei.create("right.loop", shape=(48, 64), rate=25, minutes=1) as store:
+        store.append(picture)                  # is on the disk now
+        clip = store.lock(0, 0, tag=7)
 
-The parts `layout`, `files`, `times`, `events` and `errors` need nothing but Python, and the tools
-stand on them; the others are loaded when they are first asked for, since they need numpy."""
+A store is read beside the program that records into it: nothing is locked or changed, and no
+picture is of two frames. `create`, and `open` with the mode "r+", write by the C library, where no
+program has the store open; where one has, the station's orders lock. What is refused is a class of
+`lapyrei.errors`. docs/python.md has more.
+
+The parts `layout`, `files`, `times`, `events`, `errors` and `library` need nothing but Python, and
+the tools stand on them; the others are loaded when they are first asked for, since they need
+numpy."""
 from __future__ import annotations
 
 import importlib
-from typing import TYPE_CHECKING, Any
+from typing import TYPE_CHECKING, Any, Literal, overload
 
 from .errors import (
+    AllLocked,
+    BadCall,
+    BadGeometry,
+    BadHandle,
+    BadKeep,
     BadTime,
+    CannotMake,
     CannotOpen,
     Changed,
+    ClipEmpty,
+    ClipNotHeld,
+    ClipTableFull,
     Damaged,
+    DiskFault,
     ExportFault,
     Gone,
+    InUse,
     LapyreiError,
     MissingPackage,
     MixedDepths,
+    MustReopen,
+    NoLibrary,
+    NoMemory,
+    NoSuchClip,
     NoSuchEvent,
+    NotDone,
     NotFormatted,
+    NumbersSpent,
+    OldLayout,
     Refused,
+    TooMany,
     UnknownDepth,
     Unlike,
     Unsettled,
+    WrongSize,
 )
 
 if TYPE_CHECKING:
@@ -44,37 +69,60 @@ if TYPE_CHECKING:
 
     from .exports import Options, export
     from .store import Clip, Event, Frames, Part, Path, Picture, Planes, Store
+    from .writing import Writable, create
 
 __version__ = "0.1.0"
 __all__ = [
+    "AllLocked",
+    "BadCall",
+    "BadGeometry",
+    "BadHandle",
+    "BadKeep",
     "BadTime",
+    "CannotMake",
     "CannotOpen",
     "Changed",
     "Clip",
+    "ClipEmpty",
+    "ClipNotHeld",
+    "ClipTableFull",
     "Damaged",
+    "DiskFault",
     "Event",
     "ExportFault",
     "Frames",
     "Gone",
+    "InUse",
     "LapyreiError",
     "MissingPackage",
     "MixedDepths",
+    "MustReopen",
+    "NoLibrary",
+    "NoMemory",
+    "NoSuchClip",
     "NoSuchEvent",
+    "NotDone",
     "NotFormatted",
+    "NumbersSpent",
+    "OldLayout",
     "Options",
     "Part",
     "Picture",
     "Planes",
     "Refused",
     "Store",
+    "TooMany",
     "UnknownDepth",
     "Unlike",
     "Unsettled",
+    "Writable",
+    "WrongSize",
+    "create",
     "export",
     "open",
 ]
 LATER = dict.fromkeys(("Clip", "Event", "Frames", "Part", "Picture", "Planes", "Store"), "store")
-LATER.update(Options="exports", export="exports")
+LATER.update(Options="exports", export="exports", Writable="writing", create="writing")
 
 
 def __getattr__(name: str) -> Any:
@@ -93,11 +141,29 @@ def needs_numpy(name: str) -> Any:
         raise MissingPackage("lapyrei", "python3-numpy") from None
 
 
-def open(where: Path | Sequence[Path]) -> Store:
-    """Opens a store to read: a file; a folder of one camera's files; `left.loop` for
-    `left.000.loop` and those that follow, where it isn't there itself; or a list of any of these,
-    which is read as one ring in time's order.
+@overload
+def open(where: Path | Sequence[Path], mode: Literal["r"] = "r") -> Store:
+    ...
 
-    Raises NotFormatted, Damaged, CannotOpen, Unsettled or Unlike, which are all `Refused`."""
+
+@overload
+def open(where: Path | Sequence[Path], mode: Literal["r+"], keep: int = 1) -> Writable:
+    ...
+
+
+def open(where: Path | Sequence[Path], mode: str = "r", keep: int = 1) -> Store:
+    """Opens a store: a file; a folder of one camera's files; `left.loop` for `left.000.loop` and
+    those that follow, where it isn't there itself; or a list of any of these, which is read as one
+    ring in time's order. Raises NotFormatted, Damaged, CannotOpen, Unsettled or Unlike, which are
+    all `Refused`.
+
+    With the mode "r+" one file is opened to write as well, by the C library (`Writable`). Of its
+    blocks the newest `keep` never go. Raises InUse too, where another program has it open, BadKeep,
+    TooMany, NoMemory, DiskFault, and NoLibrary. `create` makes a store."""
+    if mode == "r+":
+        written: Store = needs_numpy("writing").edit(where, keep)
+        return written
+    if mode != "r":
+        raise ValueError(f"a mode is 'r' or 'r+', not {mode!r}; lapyrei.create makes a store")
     store: Store = needs_numpy("store").Store(where)
     return store

@@ -2,6 +2,7 @@
 loop_cli."""
 import os
 import random
+import shutil
 import subprocess
 import sys
 import time
@@ -18,8 +19,9 @@ sys.dont_write_bytecode = True
 
 # Before the layout, which would take the one beside it.
 import lapyrei.layout  # noqa: E402,F401
+import lapyrei.library  # noqa: E402
 import layout  # noqa: E402
-import numpy as np  # noqa: E402
+import shared_library  # noqa: E402
 
 if SOURCES != HERE.parent:
     sys.path[:] = [it for it in sys.path if os.path.realpath(it) != str(HERE.parent)]
@@ -104,7 +106,8 @@ def is_same(store, recording):
     for place, number in enumerate(store.numbers.tolist()):
         assert bytes_of(store[place]) == recording.frames[number]
         assert store.raw(place).tobytes() == recording.frames[number]
-        assert store.luma(place).tobytes() == recording.frames[number][: np.prod(store.shape)]
+        luma = store.luma(place)
+        assert luma.tobytes() == recording.frames[number][: luma.nbytes]
     whole = store.array()
     planes = whole if isinstance(whole, tuple) else (whole,)
     found = [b"".join(it[place].tobytes() for it in planes) for place in range(len(store))]
@@ -124,6 +127,21 @@ def loop_cli():
 
     run.path = path
     return run
+
+
+@pytest.fixture(scope="session")
+def library(tmp_path_factory):
+    """The C library's path, which the module finds too. LAPYREI_LIBRARY names it, or LAPYREI the
+    static one of which it is made; without them what writes is left out."""
+    path = os.environ.get("LAPYREI_LIBRARY")
+    if not path:
+        archive = os.environ.get("LAPYREI") or str(TOP / "crates/lapyrei/out/liblapyrei.a")
+        if not os.path.exists(archive) or not shutil.which("cc"):
+            pytest.skip("LAPYREI names no C library, or there is no cc: nothing is written")
+        path = shared_library.made(archive, tmp_path_factory.mktemp("library"))
+    os.environ["LAPYREI_LIBRARY"] = os.path.abspath(path)
+    lapyrei.library.library.cache_clear()
+    return path
 
 
 @pytest.fixture

@@ -675,9 +675,11 @@ class Archive:
         """Removes what was left below `.incoming`, each until that succeeds, without end."""
         with contextlib.suppress(Stopped):
             while True:
-                place = self.left.get()
+                place, faults = self.left.get(), 0
                 while not self.is_gone(place):
-                    self.pause(MOST_PAUSE_SECONDS)
+                    # One that can't be removed yet keeps the others waiting.
+                    self.pause(min(PAUSE_SECONDS * 2**faults, MOST_PAUSE_SECONDS))
+                    faults = min(faults + 1, 8)
                 with self.state.lock:
                     self.state.begun = [it for it in self.state.begun if it != place]
                     self.state.write()

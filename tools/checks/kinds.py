@@ -608,7 +608,7 @@ KINDS = {
         "docs_check",
         [],
         ["README.md", "docs/export.md"],
-        ["LOOP_CLI", "LOOP_STATION"],
+        ["LOOP_CLI", "LOOP_STATION", "LAPYREI"],
         "types the commands of README and other pages (ffmpeg)",
         [
             Wrong(
@@ -795,10 +795,10 @@ KINDS = {
         "python_check",
         [],
         ["-k", "not stores_of_loop_cli and not mypy"],
-        ["LOOP_CLI"],
+        ["LOOP_CLI", "LAPYREI"],
         (
-            "reads stores of every kind in Python, beside writers and cut files, and reads back"
-            " what is exported"
+            "reads stores of every kind in Python, beside writers and cut files, writes them by the"
+            " C library, and reads back what is exported"
         ),
         [
             Wrong(
@@ -889,6 +889,54 @@ KINDS = {
                 },
                 words=["-k", "stop_leaves or full_disk"],
                 says="test_a_stop_leaves_nothing|full_disk",
+            ),
+            Wrong(
+                "a module that writes the planes of a picture in another order",
+                given={
+                    "LAPYREI_PYTHON": changed_module(
+                        "writing.py",
+                        "for part, size in zip(parts, sizes):",
+                        "for part, size in zip(parts[::-1], sizes[::-1]):",
+                    )
+                },
+                words=["-k", "exported_to_the_same"],
+                says="test_what_is_written",
+            ),
+            Wrong(
+                "a module that stores times which fall",
+                given={
+                    "LAPYREI_PYTHON": changed_module("writing.py", "if len(falls):", "if False:")
+                },
+                words=["-k", "times_rise"],
+                says="test_times_rise",
+            ),
+            Wrong(
+                "a module that unlocks whatever clip has the id by now",
+                given={
+                    "LAPYREI_PYTHON": changed_module(
+                        "writing.py", "if known not in self._handle.clips():", "if False:"
+                    )
+                },
+                words=["-k", "unlocked"],
+                says="test_what_cant_be_locked",
+            ),
+            Wrong(
+                "a module whose reader doesn't see what it wrote",
+                given={
+                    "LAPYREI_PYTHON": changed_module("writing.py", "if self._stale:", "if False:")
+                },
+                words=["-k", "at_once"],
+                says="test_each_reading_call",
+            ),
+            Wrong(
+                "a module that erases what is there",
+                given={
+                    "LAPYREI_PYTHON": changed_module(
+                        "writing.py", "os.O_CREAT | os.O_EXCL |", "os.O_CREAT |"
+                    )
+                },
+                words=["-k", "erased"],
+                says="test_a_file_that_is_there",
             ),
             Wrong(
                 "an export that replaces what has come there",
@@ -994,7 +1042,7 @@ KINDS = {
         "package_check",
         [],
         None,
-        ["LOOP_CLI", "LOOP_STATION"],
+        ["LOOP_CLI", "LOOP_STATION", "LAPYREI"],
         "installs the package in a clean root, upgrades and removes it (root; network)",
         [Wrong("a station that does nothing", {"LOOP_STATION": "return 0;"}, says="loop_station")],
     ),
