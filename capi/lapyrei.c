@@ -251,8 +251,11 @@ static int stays_whole(slot *it) {
     return !fstat(it->file, &it->seen) && (uint64_t)it->seen.st_size == it->size;
 }
 
-static int longer_log(slot *it) {
+/* A log of at least so many bytes. */
+static int longer_log(slot *it, uint64_t needed) {
     size_t room = it->log ? it->log_room * 4 : FIRST_LOG;
+    if (needed > SIZE_MAX / 2) return 0;
+    if (room < needed) room = needed;
     uint8_t *log = mmap(NULL, room, PROT_READ | PROT_WRITE, MAP_PRIVATE | MAP_ANONYMOUS | MAP_NORESERVE, -1, 0);
     if (log == MAP_FAILED) return 0;
     if (it->log) munmap(it->log, it->log_room);
@@ -300,7 +303,7 @@ static int make(slot *it, maker *call, asked *a, uint64_t *value) {
             return refuse(LAPYREI_DISK, 1);
         }
         if (told.state == WANTS_LOG) {
-            if (longer_log(it)) continue;
+            if (longer_log(it, told.count)) continue;
             return refuse(LAPYREI_NO_MEMORY, 0);
         }
         int failed = carry_out(it, told.log);
@@ -390,7 +393,7 @@ static int begin(slot *it, uint64_t size, const lapyrei_shape *made) {
     memset(&it->seen, 0, sizeof it->seen);
     if (!size) return refuse(LAPYREI_NOT_FORMATTED, 0);
     it->image = memory(it->pages * PAGE), it->present = memory(it->pages);
-    if (!it->image || !it->present || !longer_log(it)) return refuse(LAPYREI_NO_MEMORY, 0);
+    if (!it->image || !it->present || !longer_log(it, 0)) return refuse(LAPYREI_NO_MEMORY, 0);
     if (!sync_data(it->file)) return refuse(LAPYREI_DISK, 3);
     asked a = {.made = made, .shape = &it->shape};
     int refusal = made ? make(it, make_format, &a, NULL) : 0;

@@ -1,12 +1,14 @@
 -- The frames of a group, put one after the other.
-use Rattle.std.proofs.Common.{◌≡◌, ℕ, ◌+◌, ◌<◌, List, [], ◌∷◌, ◌++◌, All, drop, get_or, length, take, sym, ◌∙◌, ap, subst}
+use Rattle.std.proofs.Common.{◌≡◌, ℕ, ◌+◌, ◌*◌, ◌<◌, List, [], ◌∷◌, ◌++◌, All, drop, get_or, length, take, sym, ◌∙◌, ap, subst}
+use Rattle.std.proofs.Math.Nat.{suc-mul}
+use Rattle.std.proofs.Math.Numerals.{add-one}
 use Rattle.std.proofs.lemmas.List.{append_assoc, drop_more, map-append}
 use Rattle.std.proofs.lemmas.List.Elements.{All-push}
 use Rattle.loop_record.specs.declared.frame.Frame.{Frame}
 use Rattle.loop_record.specs.Plain.{pictures}
 use Rattle.loop_record.specs.Recording.{Picture, picture}
 use Rattle.lapyrei.specs.declared.answer.Head.{Head}
-use Rattle.lapyrei.specs.Told.{pictures_in}
+use Rattle.lapyrei.specs.Does.{pictures_in}
 
 -- one frame more
 pub frames_more : {A : Type 0} (size i : ℕ) (heads : List Head) (d : Head) (rest own others : List ℕ)
@@ -43,3 +45,7 @@ pub sizes_more : {A : Type 0} (size : ℕ) (own : List ℕ) (before after : List
 sizes_more size own before after frame after-is is long were =
     subst (λ (l : List (Frame _)). All (λ (f : Frame _). length f.bytes.items ≡ size) l) (sym after-is)
     (All-push (λ (f : Frame _). length f.bytes.items ≡ size) before frame were (ap (λ (l : List ℕ). length l) is ∙ long))
+
+-- the bytes of one frame more
+pub one_more : (n size : ℕ) → (n + 1) * size ≡ n * size + size
+one_more n size = ap (λ (k : ℕ). k * size) (add-one n) ∙ suc-mul n size

@@ -1,2 +1,5 @@
+mod Asking
 mod GroupFrames
 mod LogBytes
+mod PutOver
+mod Serving

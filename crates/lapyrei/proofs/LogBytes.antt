@@ -1,5 +1,5 @@
 -- Entries of a log, put one after the other.
-use Rattle.std.proofs.Common.{◌≡◌, ℕ, ◌+◌, ◌<◌, ◌≤◌, List, [], ◌∷◌, ◌++◌, length, map, take, drop, get_or, sym, ◌∙◌, ap, arith, length-append, length-take}
+use Rattle.std.proofs.Common.{◌≡◌, ℕ, zero, suc, ◌+◌, ◌<◌, ◌≤◌, List, [], ◌∷◌, ◌++◌, length, map, take, drop, get_or, sym, ◌∙◌, ap, arith, length-append, length-take}
 use Rattle.std.proofs.lemmas.Grind.{flat_map-append}
 use Rattle.std.proofs.lemmas.List.{append-nil, append_assoc, map-append, take-append-le, take_all, take_more}
 use Rattle.byteorder.specs.Endian.{little_bytes}
@@ -56,3 +56,17 @@ bytes_more f calls k it lt is =
     ∙ ap log_bytes (map-append (call_of f) (take k calls) (it ∷ []))
     ∙ flat_map-append call_bytes (map (call_of f) (take k calls)) (c ∷ [])
     ∙ ap (λ (l : List ℕ). log_bytes (map (call_of f) (take k calls)) ++ l) (append-nil (call_bytes c))
+
+-- the first calls take no more than all
+pub first_fit : {V : Type 0} (f : V → DeviceCall (List ℕ)) (calls : List V) (n : ℕ)
+    → length (log_bytes (map f (take n calls))) ≤ length (log_bytes (map f calls))
+first_fit f [] zero = omega arith
+first_fit f [] (suc n) = omega arith
+first_fit f (c ∷ calls) zero = omega arith
+first_fit f (c ∷ calls) (suc n) =
+    omega (
+      arith,
+      length-append (call_bytes (f c)) (log_bytes (map f (take n calls))),
+      length-append (call_bytes (f c)) (log_bytes (map f calls)),
+      first_fit f calls n,
+    )

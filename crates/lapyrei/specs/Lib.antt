@@ -1,2 +1,5 @@
 pub mod Bytes
+pub mod Does
+pub mod Laws
+pub mod Shown
 pub mod Told

@@ -1,6 +1,7 @@
 // What C gives and gets. capi/lapyrei.c has the same structs.
 ghost use Rattle.std.specs.Prelude.{◌≡◌};
-ghost use Rattle.lapyrei.specs.Told.{Values, head_of, refusal_of, shape_of};
+ghost use Rattle.lapyrei.specs.Shown.{clip_run, detail_of, head_of, named_by, refusal_of, shape_of, shaped, span_run};
+ghost use Rattle.lapyrei.specs.Told.{Values};
 
 use loop_disk::DiskFault;
 use loop_overlay::Wanted;
@@ -30,7 +31,7 @@ pub struct Answer {
     pub log: u64,
     /// The place of the bytes that are needed.
     pub at: u64,
-    /// How many bytes are needed.
+    /// How many bytes are needed, of the file from that place on or of the log.
     pub count: u64,
 }
 
@@ -68,12 +69,31 @@ pub struct Run {
     pub tag: u64,
 }
 
+/// What the store knows in memory.
+#[repr(C)]
+#[derive(Clone, Copy)]
+pub struct Known {
+    /// The number that the next frame gets.
+    pub next: u64,
+    /// How many frames are held.
+    pub held: u64,
+    /// The least number from the one that was asked for on that a frame has; 2^64 - 1 where there is none.
+    pub from: u64,
+    /// The block that goes next; 2^64 - 1 where none may go.
+    pub victim: u64,
+    /// The most frames that one append may store now, but for the limit of a group.
+    pub room: u64,
+    /// The most frames of a group.
+    pub group: u64,
+}
+
 impl Answer {
     /// A call that was made.
     pub fn made(outcome: Result<u64, StoreFault>, log: u64) -> Answer
         ensures state { result.state ≡ 0 }
         ensures log { result.log ≡ log }
         ensures refusal { result.refusal ≡ refusal_of outcome }
+        ensures detail { result.detail ≡ detail_of outcome }
         ensures value { Values outcome result.value }
     {
         let (refusal, detail, value) = match outcome {
@@ -91,9 +111,11 @@ impl Answer {
         }
     }
 
-    /// A call that needs something before it can be made.
+    /// A call that needs bytes of the file, or a longer log, before it can be made.
     pub fn needs(state: u32, wanted: Wanted) -> Answer
-        ensures { result.state ≡ state }
+        ensures state { result.state ≡ state }
+        ensures at { result.at ≡ wanted.at }
+        ensures count { result.count ≡ wanted.count }
     {
         Answer {
             state,
@@ -108,7 +130,9 @@ impl Answer {
 }
 
 // What a refusal names.
-fn detail_of(fault: StoreFault) -> u64 {
+fn detail_of(fault: StoreFault) -> u64
+    ensures { result ≡ named_by fault }
+{
     match fault {
         StoreFault::Disk(DiskFault::Read) => 1,
         StoreFault::Disk(DiskFault::Write) => 2,
@@ -135,7 +159,9 @@ impl Head {
 
 impl Run {
     /// A clip.
-    pub fn of_clip(clip: Clip) -> Run {
+    pub fn of_clip(clip: Clip) -> Run
+        ensures { result ≡ clip_run clip }
+    {
         Run {
             id: u64::from(clip.id),
             from: clip.from,
@@ -145,7 +171,9 @@ impl Run {
     }
 
     /// A run of numbers.
-    pub fn of_span(span: Span) -> Run {
+    pub fn of_span(span: Span) -> Run
+        ensures { result ≡ span_run span }
+    {
         Run {
             id: 0,
             from: span.from,
@@ -178,7 +206,9 @@ impl Shape {
     }
 
     /// The geometry, where the format is one.
-    pub fn geometry(&self) -> Option<Geometry> {
+    pub fn geometry(&self) -> Option<Geometry>
+        ensures { result ≡ shaped self.now }
+    {
         let format = match self.format {
             0 => PixelFormat::Grey,
             1 => PixelFormat::Ym12,

@@ -1,22 +1,38 @@
 // The exported calls. Each is given the bytes of the file as far as they are there (`present` has a mark a page), and a
 // log to fill; those that open the store say how many of the newest blocks it keeps.
-ghost use Rattle.lapyrei.specs.Told.{Appends, Locks, Looks, Reads, ReadsHead, Serves, Unlocks, Upgrades};
+ghost use Rattle.std.specs.Prelude.{◌≡◌, length};
+ghost use Rattle.loop_record.specs.Geometry.{disk_size, frame_bytes};
+ghost use Rattle.lapyrei.specs.Does.{Knows, Locks, Looks, PutsClips, PutsSought, Reads, ReadsHead, StoresGroup, Unlocks, Upgrades};
+ghost use Rattle.lapyrei.specs.Shown.{bytes_of_good, shaped};
+ghost use Rattle.lapyrei.specs.Told.{Serves, ServesNew, given};
 
-use crate::answer::{Answer, Head, Run, Shape};
+use crate::answer::{Answer, Head, Known, Run, Shape};
 use crate::on_store;
-use crate::open::{finish, open, refuse};
+use crate::open::{finish, make, open, refuse};
 use loop_overlay::LogDisk;
 use loop_record::Times;
-use loop_ring::MAX_GROUP;
-use loop_store::{Clip, Store, StoreFault, format, format_v1};
+use loop_store::StoreFault;
 use std::alloc::Global;
 
-/// The number that stands for none.
-const NONE: u64 = u64::MAX;
+// Opens the store, makes a call of it, whose outcome is a number, and answers.
+macro_rules! on_store {
+    ($alloc:expr, $image:expr, $present:expr, $log:expr, $keep:expr, |$store:ident| $call:expr) => {
+        match open($alloc, $image, $present, $keep) {
+            Ok(opened) => {
+                let mut $store = opened;
+                let outcome = $call;
+                finish($store.into_disk(), outcome, $image, $present, $log)
+            }
+            Err(refused) => refuse(refused, $image, $present, $log),
+        }
+    };
+}
 
 /// How many bytes a store of a shape has; 0 where its geometry isn't good.
 #[unsafe(no_mangle)]
-pub extern "C" fn lapyrei_rt_size(shape: &Shape) -> u64 {
+pub extern "C" fn lapyrei_rt_size(shape: &Shape) -> u64
+    ensures { result ≡ bytes_of_good disk_size (shaped shape.now) }
+{
     match shape.geometry() {
         Some(geometry) if geometry.check().is_ok() => geometry.disk_size(),
         _ => 0,
@@ -25,7 +41,9 @@ pub extern "C" fn lapyrei_rt_size(shape: &Shape) -> u64 {
 
 /// How many bytes a frame of a shape has; 0 where its geometry isn't good.
 #[unsafe(no_mangle)]
-pub extern "C" fn lapyrei_rt_frame_bytes(shape: &Shape) -> u64 {
+pub extern "C" fn lapyrei_rt_frame_bytes(shape: &Shape) -> u64
+    ensures { result ≡ bytes_of_good frame_bytes (shaped shape.now) }
+{
     match shape.geometry() {
         Some(geometry) if geometry.check().is_ok() => u64::from(geometry.frame_bytes()),
         _ => 0,
@@ -40,19 +58,16 @@ pub extern "C" fn lapyrei_rt_format(
     present: &[u8],
     log: &mut [u8],
     shape: &Shape,
-) -> Answer {
+) -> Answer
+    ensures { ServesNew (given image.now present.now log.old) shape.now log.new result }
+{
     let disk = LogDisk::new(alloc, image, present);
     let Some(geometry) = shape.geometry() else {
-        return finish(disk, Err(StoreFault::BadGeometry), log);
+        return finish(disk, Err(StoreFault::BadGeometry), image, present, log);
     };
-    let made = if shape.version == 1 {
-        format_v1(alloc, disk, geometry)
-    } else {
-        format(alloc, disk, geometry)
-    };
-    match made {
-        Ok(store) => finish(store.into_disk(), Ok(0), log),
-        Err(refused) => refuse(refused, log),
+    match make(alloc, disk, geometry, shape.version) {
+        Ok(store) => finish(store.into_disk(), Ok(0), image, present, log),
+        Err(refused) => refuse(refused, image, present, log),
     }
 }
 
@@ -66,45 +81,16 @@ pub extern "C" fn lapyrei_rt_look(
     keep: u32,
     shape: &mut Shape,
 ) -> Answer
-    ensures { Serves image.now keep (Looks shape.new) log.new result }
+    ensures { Serves (given image.now present.now log.old) keep (Looks shape.new) log.new result }
 {
-    match open(alloc, image, present, keep) {
-        Ok(store) => {
-            *shape = Shape::of(store.geometry(), store.version());
-            let next = store.next();
-            finish(store.into_disk(), Ok(next), log)
-        }
-        Err(refused) => refuse(refused, log),
-    }
-}
-
-/// What the store knows in memory.
-#[repr(C)]
-#[derive(Clone, Copy)]
-pub struct Known {
-    /// The number that the next frame gets.
-    pub next: u64,
-    /// How many frames are held.
-    pub held: u64,
-    /// The least number from the one that was asked for on that a frame has; 2^64 - 1 where there is none.
-    pub from: u64,
-    /// The block that goes next; 2^64 - 1 where none may go.
-    pub victim: u64,
-    /// The most frames that one append may store now, but for the limit of a group.
-    pub room: u64,
-    /// The most frames of a group.
-    pub group: u64,
-}
-
-fn known_of<'a>(store: &Store<LogDisk<'a>>, from: u64) -> Known {
-    Known {
-        next: store.next(),
-        held: store.held(),
-        from: store.next_held(from).unwrap_or(NONE),
-        victim: store.victim().unwrap_or(NONE),
-        room: u64::from(store.room()),
-        group: MAX_GROUP as u64,
-    }
+    on_store!(
+        alloc,
+        image,
+        present,
+        log,
+        keep,
+        |store| on_store::look(&store, shape)
+    )
 }
 
 /// Opens the store, and answers what it knows in memory.
@@ -117,14 +103,18 @@ pub extern "C" fn lapyrei_rt_known(
     keep: u32,
     from: u64,
     out: &mut Known,
-) -> Answer {
-    match open(alloc, image, present, keep) {
-        Ok(store) => {
-            *out = known_of(&store, from);
-            finish(store.into_disk(), Ok(0), log)
-        }
-        Err(refused) => refuse(refused, log),
-    }
+) -> Answer
+    ensures { Serves (given image.now present.now log.old) keep
+        (Knows from out.new) log.new result }
+{
+    on_store!(
+        alloc,
+        image,
+        present,
+        log,
+        keep,
+        |store| on_store::know(&store, from, out)
+    )
 }
 
 /// Appends a group of frames, whose bytes follow one another, and answers the number of the first.
@@ -138,15 +128,17 @@ pub extern "C" fn lapyrei_rt_append(
     heads: &[Head],
     bytes: &[u8],
 ) -> Answer
-    ensures { Serves image.now keep (Appends heads.now bytes.now) log.new result }
+    ensures { Serves (given image.now present.now log.old) keep
+        (StoresGroup heads.now bytes.now) log.new result }
 {
-    match open(alloc, image, present, keep) {
-        Ok(mut store) => {
-            let outcome = on_store::append(alloc, &mut store, heads, bytes);
-            finish(store.into_disk(), outcome, log)
-        }
-        Err(refused) => refuse(refused, log),
-    }
+    on_store!(
+        alloc,
+        image,
+        present,
+        log,
+        keep,
+        |store| on_store::append(alloc, &mut store, heads, bytes)
+    )
 }
 
 /// Reads the frame of a number.
@@ -161,15 +153,17 @@ pub extern "C" fn lapyrei_rt_read(
     out: &mut [u8],
     head: &mut Head,
 ) -> Answer
-    ensures { Serves image.now keep (Reads number out.new head.new) log.new result }
+    ensures { Serves (given image.now present.now log.old) keep
+        (Reads number (length out.old) out.new head.new) log.new result }
 {
-    match open(alloc, image, present, keep) {
-        Ok(mut store) => {
-            let outcome = on_store::read(&mut store, number, out, head);
-            finish(store.into_disk(), outcome, log)
-        }
-        Err(refused) => refuse(refused, log),
-    }
+    on_store!(
+        alloc,
+        image,
+        present,
+        log,
+        keep,
+        |store| on_store::read(&mut store, number, out, head)
+    )
 }
 
 /// Reads the head of the frame of a number.
@@ -183,15 +177,17 @@ pub extern "C" fn lapyrei_rt_read_head(
     number: u64,
     head: &mut Head,
 ) -> Answer
-    ensures { Serves image.now keep (ReadsHead number head.new) log.new result }
+    ensures { Serves (given image.now present.now log.old) keep
+        (ReadsHead number head.new) log.new result }
 {
-    match open(alloc, image, present, keep) {
-        Ok(mut store) => {
-            let outcome = on_store::read_head(&mut store, number, head);
-            finish(store.into_disk(), outcome, log)
-        }
-        Err(refused) => refuse(refused, log),
-    }
+    on_store!(
+        alloc,
+        image,
+        present,
+        log,
+        keep,
+        |store| on_store::read_head(&mut store, number, head)
+    )
 }
 
 /// Locks the frames of a range of numbers, and answers the clip's id.
@@ -204,15 +200,16 @@ pub extern "C" fn lapyrei_rt_lock(
     keep: u32,
     clip: &Run,
 ) -> Answer
-    ensures { Serves image.now keep (Locks clip.now) log.new result }
+    ensures { Serves (given image.now present.now log.old) keep (Locks clip.now) log.new result }
 {
-    match open(alloc, image, present, keep) {
-        Ok(mut store) => {
-            let outcome = on_store::lock(&mut store, clip);
-            finish(store.into_disk(), outcome, log)
-        }
-        Err(refused) => refuse(refused, log),
-    }
+    on_store!(
+        alloc,
+        image,
+        present,
+        log,
+        keep,
+        |store| on_store::lock(&mut store, clip)
+    )
 }
 
 /// Unlocks the clip of an id.
@@ -225,15 +222,16 @@ pub extern "C" fn lapyrei_rt_unlock(
     keep: u32,
     id: u32,
 ) -> Answer
-    ensures { Serves image.now keep (Unlocks id) log.new result }
+    ensures { Serves (given image.now present.now log.old) keep (Unlocks id) log.new result }
 {
-    match open(alloc, image, present, keep) {
-        Ok(mut store) => {
-            let outcome = on_store::unlock(&mut store, id);
-            finish(store.into_disk(), outcome, log)
-        }
-        Err(refused) => refuse(refused, log),
-    }
+    on_store!(
+        alloc,
+        image,
+        present,
+        log,
+        keep,
+        |store| on_store::unlock(&mut store, id)
+    )
 }
 
 /// Makes version 2 of the layout from version 1, and answers 1 where it did, 0 where it was so.
@@ -245,22 +243,16 @@ pub extern "C" fn lapyrei_rt_upgrade(
     log: &mut [u8],
     keep: u32,
 ) -> Answer
-    ensures { Serves image.now keep Upgrades log.new result }
+    ensures { Serves (given image.now present.now log.old) keep Upgrades log.new result }
 {
-    match open(alloc, image, present, keep) {
-        Ok(mut store) => {
-            let outcome = on_store::upgrade(&mut store);
-            finish(store.into_disk(), outcome, log)
-        }
-        Err(refused) => refuse(refused, log),
-    }
-}
-
-// Puts as many clips as there is room for.
-fn put_clips(out: &mut [Run], clips: &[Clip]) {
-    for (to, clip) in out.iter_mut().zip(clips) {
-        *to = Run::of_clip(*clip);
-    }
+    on_store!(
+        alloc,
+        image,
+        present,
+        log,
+        keep,
+        |store| on_store::upgrade(&mut store)
+    )
 }
 
 /// The clips by rising id, as many as `out` has room for, and answers how many there are.
@@ -272,17 +264,18 @@ pub extern "C" fn lapyrei_rt_clips(
     log: &mut [u8],
     keep: u32,
     out: &mut [Run],
-) -> Answer {
-    match open(alloc, image, present, keep) {
-        Ok(store) => match store.clips(alloc) {
-            Ok(clips) => {
-                put_clips(out, &clips);
-                finish(store.into_disk(), Ok(clips.len() as u64), log)
-            }
-            Err(fault) => finish(store.into_disk(), Err(fault), log),
-        },
-        Err(refused) => refuse(refused, log),
-    }
+) -> Answer
+    ensures { Serves (given image.now present.now log.old) keep
+        (PutsClips out.old out.new) log.new result }
+{
+    on_store!(
+        alloc,
+        image,
+        present,
+        log,
+        keep,
+        |store| on_store::clips(alloc, &store, out)
+    )
 }
 
 /// The runs of held frames whose times lie from one moment to another, as many as `out` has room for, and answers how
@@ -297,17 +290,16 @@ pub extern "C" fn lapyrei_rt_sought(
     since: u64,
     until: u64,
     out: &mut [Run],
-) -> Answer {
-    match open(alloc, image, present, keep) {
-        Ok(store) => match store.sought(alloc, Times { since, until }) {
-            Ok(runs) => {
-                for (to, run) in out.iter_mut().zip(&runs) {
-                    *to = Run::of_span(*run);
-                }
-                finish(store.into_disk(), Ok(runs.len() as u64), log)
-            }
-            Err(fault) => finish(store.into_disk(), Err(fault), log),
-        },
-        Err(refused) => refuse(refused, log),
-    }
+) -> Answer
+    ensures { Serves (given image.now present.now log.old) keep
+        (PutsSought (record { since = since; until = until }) out.old out.new) log.new result }
+{
+    on_store!(
+        alloc,
+        image,
+        present,
+        log,
+        keep,
+        |store| on_store::sought(alloc, &store, Times { since, until }, out)
+    )
 }

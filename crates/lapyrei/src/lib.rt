@@ -11,7 +11,8 @@
 mod answer;
 mod bytes;
 mod calls;
+pub mod laws;
 mod on_store;
 mod open;
 
-pub use answer::{Answer, Head, Run, Shape};
+pub use answer::{Answer, Head, Known, Run, Shape};

@@ -1,15 +1,19 @@
 // The calls on an open store, whose outcomes are numbers.
-ghost use Rattle.std.specs.Prelude.{◌≡◌, ◌⊎◌, All, IfErr, IfOk, length};
+ghost use Rattle.std.specs.Prelude.{◌≡◌, ◌*◌, All, IfOk, length, map};
 ghost use Rattle.loop_record.specs.Plain.{pictures};
-ghost use Rattle.loop_store.specs.declared.fault.StoreFault.TheVariants.{NoMemory, WrongSize};
-ghost use Rattle.lapyrei.specs.Told.{Appends, Locks, Reads, ReadsHead, Unlocks, Upgrades, pictures_in};
+ghost use Rattle.loop_record.specs.declared.times.Times.{Times};
+ghost use Rattle.lapyrei.specs.Does.{ShowsKnown, Knows, Locks, Looks, PutsClips, PutsSought, Reads, ReadsHead, StoresGroup, Unlocks, Upgrades, pictures_in, takes};
+ghost use Rattle.lapyrei.specs.Shown.{clip_run, put_over, span_run};
 
-use crate::answer::{Head, Run};
+use crate::answer::{Head, Known, Run, Shape};
 use loop_overlay::LogDisk;
-use loop_record::Frame;
+use loop_record::{Frame, Span, Times};
 use loop_ring::MAX_GROUP;
-use loop_store::{Store, StoreFault};
+use loop_store::{Clip, Store, StoreFault};
 use std::alloc::{AllocError, Global};
+
+/// The number that stands for none.
+const NONE: u64 = u64::MAX;
 
 // A frame of this head and these bytes.
 fn frame_of(alloc: Global, head: &Head, bytes: &[u8]) -> Result<Frame, AllocError>
@@ -24,31 +28,35 @@ fn frame_of(alloc: Global, head: &Head, bytes: &[u8]) -> Result<Frame, AllocErro
     })
 }
 
-// Frames of these heads, whose bytes follow one another. `WrongSize` where they aren't as many bytes as the heads need.
+// Frames of these heads, whose bytes follow one another.
 fn frames_of(
     alloc: Global,
     heads: &[Head],
     bytes: &[u8],
     size: usize,
-) -> Result<Vec<Frame>, StoreFault>
+) -> Result<Vec<Frame>, AllocError>
+    requires { length bytes.now ≡ length heads.now * size }
     ensures frames { IfOk result (λ frames. pictures frames.items ≡ pictures_in size heads.now bytes.now) }
     ensures sizes { IfOk result (λ frames. All (λ frame. length frame.bytes.items ≡ size) frames.items) }
-    ensures refused { IfErr result (λ fault. (fault ≡ WrongSize) ⊎ (fault ≡ NoMemory)) }
+    ensures count { IfOk result (λ frames. length frames.items ≡ length heads.now) }
 {
     let mut frames = Vec::new(alloc);
     let mut rest = bytes;
     for head in heads {
-        let Some((own, others)) = rest.split_at_checked(size) else {
-            return Err(StoreFault::WrongSize);
-        };
+        let (own, others) = rest.split_at(size);
         rest = others;
         frames.reserve(1)?;
         frames.push_reserved(frame_of(alloc, head, own)?);
     }
-    if !rest.is_empty() {
-        return Err(StoreFault::WrongSize);
-    }
     Ok(frames)
+}
+
+// Whether a store takes so many frames of so many bytes in one append.
+fn takes<'a>(store: &Store<LogDisk<'a>>, frames: usize, bytes: usize) -> bool
+    ensures { result ≡ takes store.now.geometry store.now.next frames bytes }
+{
+    let size = store.geometry().frame_bytes() as usize;
+    1 <= frames && frames <= MAX_GROUP && frames <= store.room() as usize && bytes == frames * size
 }
 
 /// Appends a group of 1 to as many frames as fit, or answers `WrongSize`.
@@ -58,13 +66,13 @@ pub(crate) fn append<'a>(
     heads: &[Head],
     bytes: &[u8],
 ) -> Result<u64, StoreFault>
-    ensures { Appends heads.now bytes.now store.old store.new result }
+    ensures { StoresGroup heads.now bytes.now store.old store.new result }
 {
-    let size = store.geometry().frame_bytes() as usize;
-    let frames = frames_of(alloc, heads, bytes, size)?;
-    if frames.is_empty() || frames.len() > MAX_GROUP || frames.len() > store.room() as usize {
+    if !takes(store, heads.len(), bytes.len()) {
         return Err(StoreFault::WrongSize);
     }
+    let size = store.geometry().frame_bytes() as usize;
+    let frames = frames_of(alloc, heads, bytes, size)?;
     store.append(&frames)
 }
 
@@ -97,7 +105,7 @@ pub(crate) fn read<'a>(
     out: &mut [u8],
     head: &mut Head,
 ) -> Result<u64, StoreFault>
-    ensures { Reads number out.new head.new store.old store.new result }
+    ensures { Reads number (length out.old) out.new head.new store.old store.new result }
 {
     if out.len() != store.geometry().frame_bytes() as usize {
         return Err(StoreFault::WrongSize);
@@ -118,4 +126,87 @@ pub(crate) fn read_head<'a>(
     let found = store.read_head(number)?;
     *head = Head::of(found);
     Ok(found.number)
+}
+
+/// Answers the next number, and shows the shape.
+pub(crate) fn look<'a>(store: &Store<LogDisk<'a>>, shape: &mut Shape) -> Result<u64, StoreFault>
+    ensures { Looks shape.new store.now store.now result }
+{
+    *shape = Shape::of(store.geometry(), store.version());
+    Ok(store.next())
+}
+
+// What a store knows in memory.
+fn known_of<'a>(store: &Store<LogDisk<'a>>, from: u64) -> Known
+    ensures { ShowsKnown from store.now result }
+{
+    Known {
+        next: store.next(),
+        held: store.held(),
+        from: store.next_held(from).unwrap_or(NONE),
+        victim: store.victim().unwrap_or(NONE),
+        room: u64::from(store.room()),
+        group: MAX_GROUP as u64,
+    }
+}
+
+/// Shows what the store knows in memory.
+pub(crate) fn know<'a>(
+    store: &Store<LogDisk<'a>>,
+    from: u64,
+    out: &mut Known,
+) -> Result<u64, StoreFault>
+    ensures { Knows from out.new store.now store.now result }
+{
+    *out = known_of(store, from);
+    Ok(0)
+}
+
+// Puts as many clips as there is room for.
+fn put_clips(out: &mut [Run], clips: &[Clip])
+    ensures { out.new ≡ put_over (map clip_run clips.now) out.old }
+{
+    for i in 0..out.len().min(clips.len()) {
+        out[i] = Run::of_clip(clips[i]);
+    }
+}
+
+// Puts as many runs as there is room for.
+fn put_spans(out: &mut [Run], spans: &[Span])
+    ensures { out.new ≡ put_over (map span_run spans.now) out.old }
+{
+    for i in 0..out.len().min(spans.len()) {
+        out[i] = Run::of_span(spans[i]);
+    }
+}
+
+/// Shows the clips, as many as there is room for, and answers how many there are.
+pub(crate) fn clips<'a>(
+    alloc: Global,
+    store: &Store<LogDisk<'a>>,
+    out: &mut [Run],
+) -> Result<u64, StoreFault>
+    ensures { PutsClips out.old out.new store.now store.now result }
+{
+    match store.clips(alloc) {
+        Ok(clips) => {
+            put_clips(out, &clips);
+            Ok(clips.len() as u64)
+        }
+        Err(fault) => Err(fault),
+    }
+}
+
+/// Shows the runs of the held frames of a time, as many as there is room for, and answers how many there are.
+pub(crate) fn sought<'a>(
+    alloc: Global,
+    store: &Store<LogDisk<'a>>,
+    times: Times,
+    out: &mut [Run],
+) -> Result<u64, StoreFault>
+    ensures { PutsSought times out.old out.new store.now store.now result }
+{
+    let spans = store.sought(alloc, times)?;
+    put_spans(out, &spans);
+    Ok(spans.len() as u64)
 }

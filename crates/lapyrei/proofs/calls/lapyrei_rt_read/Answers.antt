@@ -1,21 +1,18 @@
-use Rattle.std.proofs.Common.{◌⊎◌, inl, inr, subst}
-use Rattle.loop_disk.specs.Crashing.{Tape}
-use Rattle.lapyrei.specs.Told.{IsMade, IsNoStore, IsOutOfMemory, IsServed, Reads}
+use Rattle.std.proofs.Common.{length}
+use Rattle.lapyrei.specs.Does.{Reads}
+use Rattle.lapyrei.specs.Told.{given}
+use Rattle.lapyrei.proofs.Serving.{served, unserved}
 use Rattle.lapyrei.proofs.calls.lapyrei_rt_read.Goals as goal
 
 pub returns-in-Ok : goal.returns-in-Ok
-returns-in-Ok c = λ state. go (c.finish.ensures state)
-  where
-    go : IsMade c.read-outcome.result c.into_disk.result c.finish.new.log c.finish.result ⊎ IsOutOfMemory c.finish.result
-        → IsOutOfMemory c.finish.result ⊎ (IsNoStore c.args.image.now c.args.keep c.finish.new.log c.finish.result
-        ⊎ IsServed c.args.image.now c.args.keep (Reads c.args.number c.read-outcome.new.out c.read-outcome.new.head)
-        c.finish.new.log c.finish.result)
-    go (inl it) = inr (inr (record {
-      old = c.in-Ok.store;
-      new = c.read-outcome.new.store;
-      outcome = c.read-outcome.result;
-      opens = c.in-Ok.ensures;
-      did = c.read-outcome.ensures;
-      made = subst (λ (d : Tape). IsMade c.read-outcome.result d c.finish.new.log c.finish.result) c.into_disk.ensures it;
-    }))
-    go (inr none) = inl none
+returns-in-Ok c =
+    served (given c.args.image.now c.args.present.now c.args.log.now) c.args.keep
+    (Reads c.args.number (length c.args.out.now) c.read-outcome.new.out c.read-outcome.new.head) c.in-Ok.opened
+    c.read-outcome.new.store c.read-outcome.result c.into_disk.result c.finish.new.log c.finish.result c.in-Ok.ensures
+    c.read-outcome.ensures c.into_disk.ensures c.finish.ensures
+
+pub returns-in-Err : goal.returns-in-Err
+returns-in-Err c =
+    unserved (given c.args.image.now c.args.present.now c.args.log.now) c.args.keep
+    (Reads c.args.number (length c.args.out.now) c.args.out.now c.args.head.now) c.in-Err.refused c.refuse.new.log
+    c.refuse.result c.in-Err.ensures c.refuse.ensures

@@ -1,6 +1,6 @@
-use Rattle.std.proofs.Common.{◌≡◌, ◌++◌, All, drop, length}
+use Rattle.std.proofs.Common.{◌≡◌, ◌+◌, ◌*◌, ◌++◌, All, drop, length}
 use Rattle.loop_record.specs.Plain.{pictures}
-use Rattle.lapyrei.specs.Told.{pictures_in}
+use Rattle.lapyrei.specs.Does.{pictures_in}
 use Rattle.lapyrei.proofs.on_store.frames_of.Given as goal
 
 abbrev pub invariant-loop-head : goal.invariant-loop-head
@@ -8,4 +8,6 @@ invariant-loop-head l = record {
   frames : pictures l.frames.items ++ pictures_in l.size (drop l.head-index l.heads) l.rest
       ≡ pictures_in l.size l.heads l.bytes;
   sizes : All (λ frame. length frame.bytes.items ≡ l.size) l.frames.items;
+  rest : l.head-index * l.size + length l.rest ≡ length l.heads * l.size;
+  count : length l.frames.items ≡ l.head-index;
 }

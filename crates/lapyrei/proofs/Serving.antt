@@ -1,0 +1,70 @@
+-- What an exported call answers, by what its parts say.
+use Rattle.std.proofs.Common.{◌≡◌, ℕ, List, Option, Some, Result, Ok, Err, refl, sym, subst}
+use Rattle.loop_disk.specs.Crashing.{Tape, medium_after}
+use Rattle.loop_store.specs.declared.fault.OpenRefused.{OpenRefused}
+use Rattle.loop_store.specs.declared.fault.StoreFault.{StoreFault}
+use Rattle.loop_record.specs.declared.geometry.Geometry.{Geometry}
+use Rattle.loop_store.specs.Make.{Formats}
+use Rattle.loop_store.specs.Reopen.{OpensKeeping}
+use Rattle.loop_store.specs.Seen.{Seen}
+use Rattle.lapyrei.specs.declared.answer.Answer.{Answer}
+use Rattle.lapyrei.specs.declared.answer.Shape.{Shape}
+use Rattle.lapyrei.specs.Shown.{shaped, version_asked}
+use Rattle.lapyrei.specs.Told.{Deed, Given, AnswersFor, MakesStore, Serves, ServesNew, untouched}
+
+-- the store was opened, and did this
+pub served : (it : Given) (keep : ℕ) (Did : Deed) (old new : Seen Tape) (outcome : Result ℕ StoreFault)
+    (handed : Tape) (log : List ℕ) (answer : Answer) → OpensKeeping medium_after keep (untouched it.bytes) (Ok old)
+    → Did old new outcome → handed ≡ new.disk
+    → AnswersFor it outcome handed log answer → Serves it keep Did log answer
+served it keep Did old new outcome handed log answer opens did left told = record {
+  outcome = outcome;
+  disk = handed;
+  made = record { store = Ok old; opens = opens; done = (new, (did, left)) };
+  told = told;
+}
+
+-- there is no store
+pub unserved : (it : Given) (keep : ℕ) (Did : Deed) (refused : OpenRefused Tape) (log : List ℕ) (answer : Answer)
+    → OpensKeeping medium_after keep (untouched it.bytes) (Err refused)
+    → AnswersFor it (Err refused.fault) refused.disk log answer → Serves it keep Did log answer
+unserved it keep Did refused log answer opens told = record {
+  outcome = Err refused.fault;
+  disk = refused.disk;
+  made = record { store = Err refused; opens = opens; done = (refl, refl) };
+  told = told;
+}
+
+-- a store was made
+pub served_new : (it : Given) (shape : Shape) (g : Geometry) (disk : Tape) (store : Seen Tape)
+    (handed : Tape) (log : List ℕ) (answer : Answer) → shaped shape ≡ Some g → disk ≡ untouched it.bytes
+    → Formats medium_after (record { geometry = g; version = version_asked shape.version }) disk (Ok store)
+    → handed ≡ store.disk → AnswersFor it (Ok 0) handed log answer → ServesNew it shape log answer
+served_new it shape g disk store handed log answer shown over makes left told =
+    let formats = subst (λ (d : Tape). Formats medium_after
+    (record { geometry = g; version = version_asked shape.version }) d (Ok store)) over makes in record {
+      outcome = Ok 0;
+      disk = handed;
+      made = subst (λ (o : Option Geometry). MakesStore it.bytes (version_asked shape.version) o (Ok 0) handed)
+          (sym shown) (record {
+            store = Ok store;
+            opens = formats;
+            done = (store, ((refl, refl), left));
+          });
+      told = told;
+    }
+
+-- no store was made
+pub unserved_new : (it : Given) (shape : Shape) (g : Geometry) (disk : Tape) (refused : OpenRefused Tape)
+    (log : List ℕ) (answer : Answer) → shaped shape ≡ Some g → disk ≡ untouched it.bytes
+    → Formats medium_after (record { geometry = g; version = version_asked shape.version }) disk (Err refused)
+    → AnswersFor it (Err refused.fault) refused.disk log answer → ServesNew it shape log answer
+unserved_new it shape g disk refused log answer shown over makes told =
+    let formats = subst (λ (d : Tape). Formats medium_after
+    (record { geometry = g; version = version_asked shape.version }) d (Err refused)) over makes in record {
+      outcome = Err refused.fault;
+      disk = refused.disk;
+      made = subst (λ (o : Option Geometry). MakesStore it.bytes (version_asked shape.version) o (Err refused.fault)
+          refused.disk) (sym shown) (record { store = Err refused; opens = formats; done = (refl, refl) });
+      told = told;
+    }

@@ -1,0 +1,17 @@
+use Rattle.lapyrei.specs.Does.{ReadsHead}
+use Rattle.lapyrei.specs.Told.{given}
+use Rattle.lapyrei.proofs.Serving.{served, unserved}
+use Rattle.lapyrei.proofs.calls.lapyrei_rt_read_head.Goals as goal
+
+pub returns-in-Ok : goal.returns-in-Ok
+returns-in-Ok c =
+    served (given c.args.image.now c.args.present.now c.args.log.now) c.args.keep
+    (ReadsHead c.args.number c.read_head-outcome.new.head) c.in-Ok.opened
+    c.read_head-outcome.new.store c.read_head-outcome.result c.into_disk.result c.finish.new.log c.finish.result c.in-Ok.ensures
+    c.read_head-outcome.ensures c.into_disk.ensures c.finish.ensures
+
+pub returns-in-Err : goal.returns-in-Err
+returns-in-Err c =
+    unserved (given c.args.image.now c.args.present.now c.args.log.now) c.args.keep
+    (ReadsHead c.args.number c.args.head.now) c.in-Err.refused c.refuse.new.log
+    c.refuse.result c.in-Err.ensures c.refuse.ensures
