@@ -1,5 +1,3 @@
-mod SeveralStarts
-mod SeveralSteps
 mod BackRuns
 pub mod Crossing
 mod RingEnds

@@ -3,4 +3,3 @@ pub mod Cameras
 pub mod Fronts
 pub mod Legal
 pub mod Returns
-pub mod Several
