@@ -1,7 +1,7 @@
 #!/usr/bin/env python3
 """Counts the definitions of specs/ that contracts rest on: of the store's public calls and the
 trait `Disk`, of the calls that write and open, of a desk's calls, of `lane_run`, of a camera's
-`film_camera`, and of that with all calls of the recorder's library. For the calls that write, a
+`film_camera`, of `film_all`, and of a camera with all calls of the recorder's library. For the calls that write, a
 desk's, `lane_run` and `film_camera` it also counts only those on which it rests what a power loss
 leaves: the clauses in LOSS, and of the records in FIELDS the fields that are listed there.
 
@@ -51,6 +51,7 @@ KEEPS = [
 ]
 LANE = {DESK + "lane.rt": ["lane_run"]}
 CAMERA = {PIPELINE + "film.rt": ["film_camera"]}
+CAMERAS = {PIPELINE + "several.rt": ["film_all"]}
 # The library of histories and threads: all its public calls.
 RECORDER = {
     path: None
@@ -70,6 +71,7 @@ QUESTIONS = {
     "lane_run, what a power loss leaves": (LANE, True),
     "a camera: film_camera": (CAMERA, False),
     "a camera: film_camera, what a power loss leaves": (CAMERA, True),
+    "several cameras: film_all": (CAMERAS, False),
     "a recorder's calls and a camera": (RECORDER | CAMERA, False),
 }
 # The clauses that say what a power loss leaves, and of the records that say more than that, the

@@ -1,5 +1,5 @@
 -- What the sources of a recording give, and when their frames are.
-use Rattle.std.specs.Prelude.{◌≡◌, ◌⊎◌, ◌<◌, ◌≤◌, ℕ, List}
+use Rattle.std.specs.Prelude.{◌≡◌, ◌<◌, ◌≤◌, ℕ, List}
 use Rattle.loop_capture.specs.declared.source.Next.{Next}
 use Rattle.loop_capture.specs.Sources.{GivesFootage, GivesPattern}
 use Rattle.loop_record.specs.declared.geometry.Geometry.{Geometry}
@@ -17,6 +17,6 @@ GivesRecorded _ answer out _ = ⊥
 abbrev pub IsPeriod : Geometry → ℕ → ℕ → Type 0
 IsPeriod g n now = 0 < g.rate_num → now ≡ timestamp_of n g.rate_num g.rate_den
 
--- a recording ends after so many ticks, or before the first one
+-- a recording ends after so many ticks
 abbrev pub MayEnd : ℕ → ℕ → Type 0
-MayEnd frames n = (n ≡ 0) ⊎ (frames ≤ n)
+MayEnd frames n = frames ≤ n

@@ -8,17 +8,15 @@ use loop_desk::Desk;
 use loop_file::FileDisk;
 use loop_pages::PageFault;
 use loop_pipeline::{
-    Camera, Ended, Guide, Link, Unfilmed, Visits, film_camera, mapped_start, new_queue, start_queue,
+    Camera, Ended, Guide, Shot, Visits, film_all, mapped_start, new_queue, start_queue,
 };
 use loop_plane::MmapPlane;
 use loop_record::Geometry;
 use loop_script::{LIMITS, pattern_timestamp};
 use loop_store::{Store, StoreFault};
 use std::alloc::{AllocError, Global};
-use std::sync::atomic::{AtomicBool, Ordering};
-use std::sync::{Arc, Condvar, Mutex, Wait};
-use std::thread;
-use std::thread::{Scope, Threads};
+use std::sync::Wait;
+use std::thread::Threads;
 use std::time::Clock;
 
 /// Why nothing was recorded, or not all.
@@ -57,6 +55,19 @@ pub(crate) struct Take {
 }
 
 impl Take {
+    // What a camera recorded that was filmed.
+    fn of(ended: &RecordEnded) -> Take {
+        let status = ended.desk.status();
+        Take {
+            next: status.next,
+            waiting: u64::from(status.pending),
+            given_up: ended.given_up,
+            left: ended.left,
+            missed: ended.missed,
+            failed: ended.failed,
+        }
+    }
+
     /// Whether a frame was lost.
     pub fn has_lost(&self) -> bool {
         let on_the_way = self.given_up > 0 || self.left > 0;
@@ -67,60 +78,14 @@ impl Take {
 // A camera with a source to record from and a store in a file.
 type RecordCamera = Camera<RecordSource, FileDisk, MmapPlane>;
 
-// What filming it returned.
-type Recorded = Result<
-    Ended<RecordSource, FileDisk, MmapPlane>,
-    Unfilmed<RecordSource, FileDisk, MmapPlane>,
->;
+// What is left of it.
+type RecordEnded = Ended<RecordSource, FileDisk, MmapPlane>;
 
-// Where the cameras wait until all of them have begun.
-#[derive(Drop)]
-struct StartBarrier {
-    cameras: u32,
-    begun: Mutex<u32>,
-    changed: Condvar,
-    // One of them can't be filmed, so none is.
-    stopped: AtomicBool,
-}
-
-impl StartBarrier {
-    // For so many cameras, none of which has begun.
-    fn new(cameras: u32) -> StartBarrier {
-        StartBarrier {
-            cameras,
-            begun: Mutex::new(0),
-            changed: Condvar::new(),
-            stopped: AtomicBool::new(false),
-        }
-    }
-
-    // One has begun, and waits for the others. Returns whether all are filmed.
-    fn wait<R: Wait>(&self, rt: &R) -> bool {
-        let cameras = self.cameras;
-        let mut begun = self.begun.lock(rt);
-        *begun = begun.saturating_add(1);
-        self.changed.notify_all();
-        // The guard, whose count nobody reads any more.
-        let _begun = self.changed.wait_while(rt, begun, |begun| *begun < cameras);
-        !self.stopped.load(Ordering::SeqCst)
-    }
-
-    // One can't be filmed: the others end at once.
-    fn stop<R: Wait>(&self, rt: &R) {
-        self.stopped.store(true, Ordering::SeqCst);
-        *self.begun.lock(rt) = u32::MAX;
-        self.changed.notify_all();
-    }
-}
-
-// What the threads of a camera share: so many ticks at the rate of its store, once each camera has begun, and no flush
-// after one that was refused.
+// What guides a camera: so many ticks at the rate of its store, and no flush after one that was refused.
 #[derive(Drop)]
 struct Post {
-    link: Link,
     frames: u32,
     geometry: Geometry,
-    barrier: Arc<StartBarrier>,
 }
 
 // The time of tick `n` of a camera, in microseconds, at the rate of its store.
@@ -148,10 +113,7 @@ impl Guide for Post {
 
     ghost ends = { λ post n. MayEnd post.frames n };
 
-    fn next_tick<R: Wait + Clock>(&self, rt: &R, n: u64) -> Option<u64> {
-        if n == 0 && !self.barrier.wait(rt) {
-            return None;
-        }
+    fn next_tick<R: Wait + Clock>(&self, _rt: &R, n: u64) -> Option<u64> {
         if n >= u64::from(self.frames) {
             return None;
         }
@@ -198,70 +160,6 @@ fn add<T: Drop>(list: &mut Vec<T>, one: T) -> Result<(), AllocError> {
     }
 }
 
-// Films a camera, and returns what it recorded. Where it can't be filmed, no camera is.
-fn film<R: Threads + Wait + Clock + Sync>(
-    rt: &R,
-    alloc: Global,
-    post: &Post,
-    camera: RecordCamera,
-) -> Option<Take> {
-    let (rt, post) = (&*rt, &*post);
-    let filmed = thread::scope(thread::scope_env(), rt, move |scope| -> Recorded {
-        film_camera(rt, alloc, scope, &post.link, post, camera)
-    });
-    match filmed {
-        Ok(ended) => {
-            let status = ended.desk.status();
-            Some(Take {
-                next: status.next,
-                waiting: u64::from(status.pending),
-                given_up: ended.given_up,
-                left: ended.left,
-                missed: ended.missed,
-                failed: ended.failed,
-            })
-        }
-        Err(_refused) => {
-            post.barrier.stop(rt);
-            None
-        }
-    }
-}
-
-// Films each camera by a thread of its own, and returns what each recorded.
-fn film_all<'s, E, R: Threads + Wait + Clock + Sync>(
-    rt: &'s R,
-    alloc: Global,
-    scope: &Scope<'s, E>,
-    posts: &'s [Post],
-    cameras: Vec<RecordCamera>,
-) -> Result<Vec<Take>, Unrecorded> {
-    let mut handles = Vec::with_capacity(alloc, cameras.len())?;
-    let mut takes = Vec::with_capacity(alloc, cameras.len())?;
-    let mut all = true;
-    for (post, camera) in posts.iter().zip(cameras) {
-        match scope.spawn(move || film(rt, alloc, post, camera)) {
-            Ok(handle) => {
-                if add(&mut handles, handle).is_ok() {
-                    continue;
-                }
-            }
-            // No thread for this camera: none is filmed.
-            Err(_refused) => {}
-        }
-        post.barrier.stop(rt);
-        all = false;
-        break;
-    }
-    for handle in handles {
-        match handle.join(rt) {
-            Some(take) => add(&mut takes, take)?,
-            None => all = false,
-        }
-    }
-    if all { Ok(takes) } else { Err(NO_MEMORY) }
-}
-
 /// Records from each source into the store at its place, for so many frame periods or until the source has ended, at
 /// the script's limits. Returns what each camera recorded.
 ///
@@ -275,32 +173,25 @@ pub(crate) fn record_stores<R: Threads + Wait + Clock + Sync>(
     stores: Vec<Store<FileDisk>>,
     frames: u32,
 ) -> Result<Vec<Take>, Unrecorded> {
-    let mut posts = Vec::with_capacity(alloc, stores.len())?;
-    let mut cameras = Vec::with_capacity(alloc, stores.len())?;
-    let count = u32::try_from(stores.len().min(sources.len())).unwrap_or(u32::MAX);
-    let Ok(barrier) = Arc::new(alloc, StartBarrier::new(count)) else {
-        return Err(NO_MEMORY);
-    };
+    let mut shots = Vec::with_capacity(alloc, stores.len())?;
     let mut number = 0u32;
     for (source, store) in sources.into_iter().zip(stores) {
         let geometry = store.geometry();
         let camera = camera_before(alloc, number, source, store)?;
         number = number.saturating_add(1);
-        add(&mut cameras, camera)?;
-        let post = Post {
-            link: Link::new(alloc)?,
-            frames,
-            geometry,
-            barrier: Arc::try_clone(&barrier)?,
-        };
-        add(&mut posts, post)?;
+        let guide = Post { frames, geometry };
+        add(&mut shots, Shot { guide, camera })?;
     }
-    let (rt, posts) = (&*rt, posts.as_slice());
-    thread::scope(
-        thread::scope_env(),
-        rt,
-        move |scope| -> Result<Vec<Take>, Unrecorded> {
-            film_all(rt, alloc, scope, posts, cameras)
-        },
-    )
+    // Reserved before anything is recorded.
+    let mut takes = Vec::with_capacity(alloc, shots.len())?;
+    let Ok(outcomes) = film_all(rt, alloc, shots) else {
+        return Err(NO_MEMORY);
+    };
+    for outcome in &outcomes {
+        match &outcome.filmed {
+            Ok(ended) => add(&mut takes, Take::of(ended))?,
+            Err(_) => return Err(NO_MEMORY),
+        }
+    }
+    Ok(takes)
 }

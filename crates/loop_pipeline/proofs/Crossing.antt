@@ -1,5 +1,5 @@
--- What a front leaves, over a source and planes that may, may go to another thread; and the link of two threads may be
--- shared by both.
+-- What a front leaves, over a source and planes that may, may go to another thread; so may a camera with its guide, and
+-- what filming it answers. The link of two threads may be shared by both, and the barrier by all.
 use denote.RattleType.{RattleType}
 use denote.Param.Send.{IsSend, IsSync, sendable}
 use Rattle.std.proofs.Crossing.{crosses}
@@ -10,7 +10,15 @@ use Rattle.loop_record.proofs.Crossing.{frame_in_send}
 use Rattle.loop_vb2.specs.contracts.planes.PlaneSet as PlaneSet
 use Rattle.loop_vb2.proofs.Crossing.{queue_send}
 use Rattle.loop_capture.proofs.Crossing.{device_send}
+use Rattle.loop_capture.specs.declared.source.FrameSource as source
+use Rattle.loop_disk.specs.declared.disk.Disk as disk
+use Rattle.loop_plane.specs.declared.memory.PlaneMemory as plane
+use Rattle.loop_desk.proofs.Crossing.{desk_send}
 use Rattle.loop_desk.specs.contracts.hand.Hand as Hand
+use Rattle.loop_pipeline.specs.contracts.camera.Camera as Camera
+use Rattle.loop_pipeline.specs.contracts.ending.Ended as Ended
+use Rattle.loop_pipeline.specs.contracts.film.Unfilmed as Unfilmed
+use Rattle.loop_pipeline.specs.contracts.start_barrier.StartBarrier as StartBarrier
 use Rattle.loop_pipeline.specs.contracts.film.Left as Left
 use Rattle.loop_pipeline.specs.contracts.film.Link as Link
 
@@ -32,3 +40,42 @@ module _ (S P W : RattleType) where
       let c = table_send P sp in
       let d = hand_in_send P sp in
       search (sendable, crosses) depth 30
+
+-- ---- several cameras
+
+pub barrier_sync : IsSync StartBarrier.the_row
+barrier_sync = search (sendable, crosses) depth 30
+
+pub barrier_send : IsSend StartBarrier.the_row
+barrier_send = search (sendable, crosses) depth 30
+
+module _ (S D P : RattleType) (d : disk.Ghosts D.Denot) where
+  pub ended_in_send : IsSend S → IsSend D → IsSend P → IsSend (Ended.the_field S D P heap.the_row d ghosts).row
+  ended_in_send s sd sp =
+      let a = device_send S s in
+      let b = queue_send P sp in
+      let c = table_send P sp in
+      let e = desk_send D d sd in
+      let f = hand_in_send P sp in
+      search (sendable, crosses) depth 30
+
+  pub ended_send : IsSend S → IsSend D → IsSend P → IsSend (Ended.the_row S D P heap.the_row d ghosts)
+  ended_send s sd sp = let a = ended_in_send s sd sp in search (sendable, crosses) depth 30
+
+module _ (S D P : RattleType) (f : source.Ghosts S.Denot) (d : disk.Ghosts D.Denot) (p : plane.Ghosts P.Denot) where
+  pub camera_in_send : IsSend S → IsSend D → IsSend P → IsSend (Camera.the_field S D P f d p).row
+  camera_in_send s sd sp =
+      let a = device_send S s in
+      let b = queue_send P sp in
+      let c = table_send P sp in
+      let e = desk_send D d sd in
+      search (sendable, crosses) depth 30
+
+  pub unfilmed_in_send : IsSend S → IsSend D → IsSend P → IsSend (Unfilmed.the_field S D P f d p).row
+  unfilmed_in_send s sd sp =
+      let a = camera_in_send s sd sp in
+      let b = ended_in_send S D P d s sd sp in
+      search (sendable, crosses) depth 30
+
+  pub unfilmed_send : IsSend S → IsSend D → IsSend P → IsSend (Unfilmed.the_row S D P f d p)
+  unfilmed_send s sd sp = let a = unfilmed_in_send s sd sp in search (sendable, crosses) depth 30

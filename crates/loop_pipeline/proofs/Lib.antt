@@ -1,3 +1,5 @@
+mod SeveralStarts
+mod SeveralSteps
 mod BackRuns
 pub mod Crossing
 mod RingEnds

@@ -3,3 +3,4 @@ pub mod Cameras
 pub mod Fronts
 pub mod Legal
 pub mod Returns
+pub mod Several

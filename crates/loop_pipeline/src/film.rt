@@ -8,6 +8,7 @@ ghost use Rattle.rtrb.specs.Ring.{IsPair, sent};
 ghost use Rattle.loop_pipeline.specs.Fronts.{IsHeld, IsOpen, Leaves, LeavesCarried, made_of};
 
 use crate::bell::Bell;
+use crate::start_barrier::StartBarrier;
 use crate::{
     Back, Begun, Brought, Camera, Ended, Front, FrontParts, Guide, TakeOutcome, Visits, end,
 };
@@ -20,7 +21,7 @@ use loop_vb2::Queue;
 use rtrb::{Producer, RingBuffer};
 use std::alloc::{AllocError, Global};
 use std::sync::atomic::{AtomicBool, Ordering};
-use std::sync::{Mutex, Wait};
+use std::sync::{Arc, Mutex, Wait};
 use std::thread::{Promise, Scope, Threads};
 use std::time::{Clock, Duration};
 
@@ -43,21 +44,32 @@ pub struct Link {
     room: Bell,
     /// The front's thread has ended.
     over: AtomicBool,
-    /// The front's thread couldn't be started: the front doesn't tick.
+    /// The front's thread couldn't be started, or a camera beside it can't be filmed: the front doesn't tick.
     closed: AtomicBool,
     /// Memory of frames that were stored, for later ones.
     memory: Mutex<Vec<Vec<u8>>>,
+    /// Where the front's thread waits before its first tick, if other cameras are filmed beside this one.
+    others: Option<Arc<StartBarrier>>,
 }
 
 impl Link {
     /// A link whose threads haven't begun.
     pub fn new(alloc: Global) -> Result<Link, AllocError> {
+        Link::beside(alloc, None)
+    }
+
+    // A link whose threads haven't begun, of a camera that is filmed beside others, if there is a barrier.
+    pub(crate) fn beside(
+        alloc: Global,
+        others: Option<Arc<StartBarrier>>,
+    ) -> Result<Link, AllocError> {
         Ok(Link {
             given: Bell::new(),
             room: Bell::new(),
             over: AtomicBool::new(false),
             closed: AtomicBool::new(false),
             memory: Mutex::new(Vec::with_capacity(alloc, SPARES)?),
+            others,
         })
     }
 
@@ -85,9 +97,21 @@ impl Link {
         }
     }
 
-    // Keeps the front from ticking: its thread couldn't be started.
-    fn close(&self) {
+    // Keeps the front from ticking, and those of the cameras beside it: it can't be filmed.
+    fn close<R: Wait>(&self, rt: &R) {
         self.closed.store(true, Ordering::SeqCst);
+        if let Some(barrier) = &self.others {
+            barrier.stop(rt);
+        }
+    }
+
+    // Waits until the front of each camera beside this one has a thread. If one can't be filmed, no front ticks.
+    fn wait_for_others<R: Wait>(&self, rt: &R) {
+        if let Some(barrier) = &self.others {
+            if !barrier.wait(rt) {
+                self.closed.store(true, Ordering::SeqCst);
+            }
+        }
     }
 }
 
@@ -129,7 +153,8 @@ fn take_all<R: Wait, S: FrameSource + Drop, P: PlaneMemory, G: Guide>(
     }
 }
 
-// The front's thread: ticks when its guide says so, until the guide or the source ends it.
+// The front's thread: ticks when its guide says so, until the guide or the source ends it. First it waits for the
+// cameras beside it.
 fn run_front<R: Wait + Clock, S: FrameSource + Drop, P: PlaneMemory, G: Guide>(
     rt: &R,
     alloc: Global,
@@ -140,6 +165,7 @@ fn run_front<R: Wait + Clock, S: FrameSource + Drop, P: PlaneMemory, G: Guide>(
     requires { guide.now ≡ front.guide }
     ensures { result ≡ front }
 {
+    link.wait_for_others(rt);
     'ticks: for _ in rt.forever() {
         if link.closed.load(Ordering::SeqCst) {
             break;
@@ -415,7 +441,7 @@ fn run_in<
             }
         }
         Err(refused) => {
-            link.close();
+            link.close(rt);
             Both {
                 front: (refused.value)(),
                 back,
@@ -468,9 +494,10 @@ fn end_both<S: FrameSource + Drop, D: Disk + Drop, P: PlaneMemory, G: Guide, W: 
 /// Why a camera wasn't filmed.
 #[derive(Drop)]
 pub enum Unfilmed<S: FrameSource + Drop, D: Disk + Drop, P: PlaneMemory> {
-    /// Memory was refused before it began, and the camera comes back.
+    /// Memory was refused before it began, or a camera beside it can't be filmed: the camera comes back.
     NoMemory(Camera<S, D, P>),
-    /// A thread couldn't be started: what is left of the camera. No frame was filmed.
+    /// A thread couldn't be started, or a camera beside it can't be filmed: what is left of the camera. No frame was
+    /// filmed.
     NoThread(Ended<S, D, P>),
 }
 
@@ -506,6 +533,7 @@ pub fn film_camera<
     // The ring takes as many frames as a flush stores at once: they come while the flush before it lasts.
     let most = camera.group() as usize;
     let Ok((to, from)) = RingBuffer::new(alloc, most) else {
+        link.close(rt);
         return Err(Unfilmed::NoMemory(camera));
     };
     let Camera {

@@ -4,6 +4,7 @@
 //!   end of the ring, and a desk before a store; `ending`: both halves, brought together; `camera`: what is filmed;
 //! - `film`: `film_camera`, which runs both, and what each does; `guide`: what they ask and report; `visits`: what
 //!   visitors of the desk may call; `bell`: where one sleeps until the other has work for it; `laws`: what follows;
+//! - `several`: `film_all`, which films several cameras; `start_barrier`: where they wait until all have begun;
 //! - `start`: a queue that a front may begin with, and how it is started; `buffers`: the memory of its buffers.
 //!
 //! The contracts of `Front::into_parts` and `Back::into_parts` say what each half keeps, and that of `film_camera` what
@@ -26,7 +27,9 @@ mod film;
 mod front;
 mod guide;
 pub mod laws;
+mod several;
 mod start;
+mod start_barrier;
 mod visits;
 
 pub use back::{Back, BackParts, Brought, LostFrame};
@@ -36,5 +39,6 @@ pub use ending::{Ended, end};
 pub use film::{Link, Unfilmed, film_back, film_camera, film_front};
 pub use front::{Begun, Front, FrontParts, TakeOutcome};
 pub use guide::Guide;
+pub use several::{Filmed, Outcome, Shot, film_all};
 pub use start::{new_queue, start_queue};
 pub use visits::Visits;

@@ -13,8 +13,8 @@ use loop_desk::{Desk, Flushed, Hand, LaneFault};
 use loop_disk::{Disk, FuseDisk, MemDisk};
 use loop_lane_text::{LostFrames, film_and_export};
 use loop_pipeline::{
-    Back, Begun, Brought, Camera, Ended, Front, Guide, Link, LostFrame, TakeOutcome, Visits, end,
-    film_camera, heap_start, new_queue, start_queue,
+    Back, Begun, Brought, Camera, Ended, Front, Guide, Link, LostFrame, Outcome, Shot, TakeOutcome,
+    Visits, end, film_all, film_camera, heap_start, new_queue, start_queue,
 };
 use loop_plane::{FdTable, HeapPlane, PlaneMemory};
 use loop_record::Times;
@@ -226,6 +226,56 @@ fn each_frame_is_filmed_in_one_filming_after_another(rt: HostRuntime) {
     same!(rt; ended.desk.status().next, 40);
     same!(rt; (ended.given_up, ended.left), (0, 0));
     has_frame(&rt, alloc, &mut ended.desk, 39);
+}
+
+// A camera over a disk that takes all, and its guide.
+fn shot(rt: &impl Abort, alloc: Global, ticks: u64) -> Shot<Pattern, Fused, HeapPlane, Guided> {
+    match camera(rt, alloc, 1_000_000) {
+        Some(camera) => Shot {
+            guide: guide(ticks, 0),
+            camera,
+        },
+        None => panic!(rt; "no store"),
+    }
+}
+
+// Checks that a camera has stored so many frames, with the times of its guide, and lost none.
+fn has_stored(
+    rt: &impl Abort,
+    alloc: Global,
+    outcome: Option<Outcome<Pattern, Fused, HeapPlane, Guided>>,
+    frames: u32,
+) {
+    let Some(outcome) = outcome else {
+        panic!(rt; "no outcome of {frames} frames")
+    };
+    let Outcome { shot: _, filmed } = outcome;
+    match filmed {
+        Ok(mut ended) => {
+            same!(rt; ended.desk.status().next, u64::from(frames), frames);
+            same!(rt; (ended.given_up, ended.left), (0, 0), frames);
+            has_frame(rt, alloc, &mut ended.desk, frames.saturating_sub(1));
+        }
+        Err(_) => panic!(rt; "not filmed: {frames} frames"),
+    }
+}
+
+#[test]
+fn several_cameras_are_filmed_each_by_its_own_guide(rt: HostRuntime) {
+    let alloc = rt.alloc();
+    let mut shots = Vec::new(alloc);
+    for ticks in &[20u64, 7] {
+        let added = shots.push(shot(&rt, alloc, *ticks)).is_ok();
+        holds!(rt; added, *ticks);
+    }
+    match film_all(&rt, alloc, shots) {
+        Ok(mut outcomes) => {
+            same!(rt; outcomes.len(), 2);
+            has_stored(&rt, alloc, outcomes.pop(), 7);
+            has_stored(&rt, alloc, outcomes.pop(), 20);
+        }
+        Err(_) => panic!(rt; "memory for two cameras"),
+    }
 }
 
 #[test]
