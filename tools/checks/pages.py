@@ -96,6 +96,11 @@ def varying(command):
     return next(((numbers, why) for word, numbers, why in VARYING if word in command), None)
 
 
+def slowly(command):
+    """A command that waits six times as long for a program."""
+    return re.sub(r"\b(sleep|timeout) (\d+)", lambda it: f"{it[1]} {int(it[2]) * 6}", command)
+
+
 def without_numbers(text, which=r"\d+"):
     """A text in which each of these numbers stands for any other."""
     return re.sub(which, lambda found: re.sub(r"\d+", "N", found.group()), text)
