@@ -3,7 +3,7 @@
 command `Keep` locks so many seconds before it on all cameras, and answers what was kept; `State` is
 how the station stands.
 
-    python3 tango_keep.py hall         with a database, in which the device is registered
+    python3 tango_keep.py hall     with a database: its device is of the server LapyreiKeep/hall
     python3 tango_keep.py hall -nodb -port 10000 -dlist lab/lapyrei/hall
 """
 import json

@@ -4,8 +4,10 @@
  *
  * It prints what is wrong, and its status is 1 then. */
 #include "lapyrei.h"
+#include <fcntl.h>
 #include <inttypes.h>
 #include <pthread.h>
+#include <stdatomic.h>
 #include <stdio.h>
 #include <stdlib.h>
 #include <string.h>
@@ -283,6 +285,65 @@ static void threads(void) {
     WANT(lapyrei_close(it), 0);
 }
 
+/* Cuts a file and makes it whole again, at any moment, until it is told to end. */
+static struct {
+    unsigned char bytes[1 << 15];
+    size_t size;
+    atomic_int is_over;
+} beside;
+
+static void *cuts_and_mends(void *of) {
+    int file = *(int *)of;
+    for (size_t i = 0; !atomic_load(&beside.is_over); i++) {
+        WANT(ftruncate(file, (off_t)(i * 997 % beside.size)), 0);
+        usleep(i % 5 * 100);
+        WANT(pwrite(file, beside.bytes, beside.size, 0), (long long)beside.size);
+        usleep(i % 7 * 100);
+    }
+    return NULL;
+}
+
+/* A call of the kind k, on a store whose file may be cut at any moment. */
+static int some_call(lapyrei it, int k) {
+    switch (k % 6) {
+    case 0: return lapyrei_read(it, n, &got, out, 12);
+    case 1: return put(it, k);
+    case 2: return lapyrei_clips(it, runs, 64, &count);
+    case 3: return lapyrei_frames_of(it, 0, UINT64_MAX, runs, 64, &count);
+    case 4: return lapyrei_lock(it, 0, 0, 0, NULL);
+    default: return lapyrei_held(it, &n);
+    }
+}
+
+/* A file that others cut while calls are made: each call answers, by 0 or the store's own refusal. */
+static void cut_beside(void) {
+    lapyrei it;
+    pthread_t other;
+    int done = 0, refusals = 0;
+    WANT(lapyrei_format(at("cut.loop"), &small, &it), 0);
+    for (int k = 0; k < 6; k++) WANT(put(it, k), 0);
+    WANT(lapyrei_close(it), 0);
+    int file = open(path, O_RDWR);
+    beside.size = (size_t)pread(file, beside.bytes, sizeof beside.bytes, 0);
+    WANT(beside.size > 4096 && beside.size < sizeof beside.bytes, 1);
+    pthread_create(&other, NULL, cuts_and_mends, &file);
+    for (int round = 0; round < 100 || (round < 20000 && !(done && refusals)); round++) {
+        int refusal = lapyrei_open(path, &it);
+        for (int k = 0; !refusal && k < 12; k++) {
+            refusal = some_call(it, k);
+            done += !refusal;
+        }
+        refusals += !!refusal;
+        WANT(refusal >= 0 && refusal < LAPYREI_CANNOT_OPEN, 1);
+        if (it) WANT(lapyrei_close(it), 0);
+    }
+    atomic_store(&beside.is_over, 1);
+    pthread_join(other, NULL);
+    close(file);
+    WANT(done > 0, 1);
+    WANT(refusals > 0, 1);
+}
+
 static void many(void) {
     lapyrei all[65];
     char name[20];
@@ -309,6 +370,7 @@ int main(int argc, char **argv) {
     paths();
     damage();
     threads();
+    cut_beside();
     many();
     printf("%d wrong\n", bad);
     return bad != 0;

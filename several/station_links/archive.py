@@ -42,6 +42,9 @@ INCOMING = ".incoming"
 KINDS = ("y4m", "csv", "json")
 # What rclone does itself about a network that fails: little, since this program tries again.
 PATIENT = ["--retries", "1", "--low-level-retries", "2", "--contimeout", "15s", "--timeout", "60s"]
+# A clip's three files need one folder, and WebDAV locks a folder while somebody makes it: of three
+# transfers at once two are refused by a server that is slow.
+PATIENT += ["--transfers", "1"]
 UNHASHED = "could not be checked"
 
 

@@ -1,5 +1,7 @@
 """loop_archive: clips of a station go to a WebDAV server by rclone, are compared there, and are
 released only then."""
+import http.client
+import http.server
 import json
 import os
 import re
@@ -7,6 +9,8 @@ import shutil
 import signal
 import stat
 import sys
+import threading
+import time
 from pathlib import Path
 
 import conftest
@@ -298,6 +302,71 @@ def test_a_copy_that_changes_with_its_name_is_never_released(station, dav, make,
     archive = make(release="archived").start(path=wrong)
     until(lambda: "changed when it got its name" in archive.camera()["fault"], "fault")
     assert clips_of(station) and not archive.told()["archived"]
+
+
+class Locking(http.server.BaseHTTPRequestHandler):
+    """Stands before a server that takes its time: a folder that is being made is locked, and
+    whoever would make it too is refused, as WebDAV has it."""
+
+    port, making, lock = 0, set(), threading.Lock()
+
+    def handle_one(self):
+        """Hands a request on."""
+        body = self.rfile.read(int(self.headers.get("Content-Length") or 0))
+        makes = self.command == "MKCOL"
+        with self.lock:
+            is_locked = makes and self.path in self.making
+            if makes:
+                self.making.add(self.path)
+        if is_locked:
+            self.answer(423, [], b"Locked")
+            return
+        if makes:
+            time.sleep(1)
+        server = http.client.HTTPConnection("127.0.0.1", self.port)
+        server.request(self.command, self.path, body, dict(self.headers))
+        got = server.getresponse()
+        self.answer(got.status, got.getheaders(), got.read())
+        self.making.discard(self.path)
+
+    def answer(self, status, headers, body):
+        """Answers."""
+        self.send_response(status)
+        for name, value in headers:
+            if name.lower() not in ("content-length", "transfer-encoding", "date"):
+                self.send_header(name, value)
+        self.send_header("Content-Length", str(len(body)))
+        self.end_headers()
+        if self.command != "HEAD":
+            self.wfile.write(body)
+
+    def log_message(self, *_):
+        """Says nothing."""
+
+    do_MKCOL = do_PUT = do_PROPFIND = do_GET = do_HEAD = do_MOVE = do_DELETE = handle_one
+
+
+def test_a_folder_is_made_by_one_transfer_alone(dav, tmp_path, monkeypatch):
+    """The three files of a clip need one folder, which is locked while it is made."""
+    monkeypatch.setattr(Locking, "port", dav.port)
+    sent = tmp_path / "sent"
+    sent.mkdir()
+    for kind in program.KINDS:
+        (sent / f"clip.{kind}").write_bytes(os.urandom(5000))
+    with http.server.ThreadingHTTPServer(("127.0.0.1", 0), Locking) as server:
+        threading.Thread(target=server.serve_forever, daemon=True).start()
+        place = dav.place().replace(str(dav.port), str(server.server_address[1]))
+        (tmp_path / "archive.toml").write_text(f'archive = "{place}"\n')
+        settings = program.read_settings(str(tmp_path / "archive.toml"))
+        rclone = program.Rclone(settings, threading.Event())
+        for number in range(3):
+            rclone.run("copyto", str(sent), f"{place}/.incoming/{number}/clip")
+        server.shutdown()
+    for number in range(3):
+        made = dav.folder / "kept/.incoming" / str(number) / "clip"
+        assert {it.name: it.read_bytes() for it in made.iterdir()} == {
+            it.name: it.read_bytes() for it in sent.iterdir()
+        }
 
 
 def test_a_full_server_is_said_and_waited_for(station, dav, make, tmp_path):

@@ -2,8 +2,16 @@
 import subprocess
 import sys
 
-# Of the page (page/run_tests) and of several/, as far as the checks run them.
-PAGE = ("python3-aiohttp", "python3-pil", "python3-numpy", "python3-prometheus-client", "ffmpeg")
+# Of the page (page/run_tests) and of several/, as far as the checks run them. They take stations
+# and pages from the tests' conftest, which imports pytest.
+PAGE = (
+    "python3-aiohttp",
+    "python3-pil",
+    "python3-numpy",
+    "python3-prometheus-client",
+    "python3-pytest",
+    "ffmpeg",
+)
 LINKS = ("python3-paho-mqtt", "python3-serial", "python3-libgpiod", "openssl", "rclone")
 
 

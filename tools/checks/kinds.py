@@ -1031,9 +1031,9 @@ KINDS = {
         "calls the C library by each of its calls, kills it, fails its disk, and looks at the file",
         [
             Wrong(
-                "the library with one wrong thing, 17 times",
+                "the library with one wrong thing, 18 times",
                 words=["--wrong"],
-                says="17 of 17 wrong libraries are found",
+                says="18 of 18 wrong libraries are found",
                 status=0,
             )
         ],

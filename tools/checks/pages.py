@@ -29,6 +29,10 @@ ELSEWHERE = (
 )
 
 
+# What a station says beside a keep of which frames were given up.
+LACKS = re.compile(r"^(held|gap) .*\n", re.M)
+
+
 class Wrong(Exception):
     """Something that a page, or a package, does wrong. `numbers` is set where numbers alone are."""
 
@@ -96,6 +100,12 @@ def varying(command):
     return next(((numbers, why) for word, numbers, why in VARYING if word in command), None)
 
 
+def slowly(command):
+    """A command that waits six times as long for a program."""
+    waits = r"\b(sleep|timeout) ([\d.]+)"
+    return re.sub(waits, lambda it: f"{it[1]} {float(it[2]) * 6:g}", command)
+
+
 def without_numbers(text, which=r"\d+"):
     """A text in which each of these numbers stands for any other."""
     return re.sub(which, lambda found: re.sub(r"\d+", "N", found.group()), text)
@@ -103,11 +113,13 @@ def without_numbers(text, which=r"\d+"):
 
 def compare(where, part, told, loose=False):
     """Fails where a command prints something else than the page says. Numbers that vary count as
-    any other; with `loose` all do."""
+    any other; with `loose` all do, and a station may say more of frames that it gave up."""
     wanted = "".join(line + "\n" for line in part.shown)
     one, other = wanted, told
     if loose:
         one, other = without_numbers(wanted), without_numbers(told)
+        if not LACKS.search(one):
+            other = LACKS.sub("", other)
     elif which := varying(part.text):
         one, other = without_numbers(wanted, which[0]), without_numbers(told, which[0])
     if one != other:
