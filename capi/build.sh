@@ -6,6 +6,10 @@
 # that was compiled without a proof asks for the sanitizer of addresses, and gets no_sanitizer.c.
 set -eu
 here=$(cd "$(dirname "$0")" && pwd)
+case ${1-} in
+    --help | -h) sed -n '2,/^set -eu/{/^set -eu/d;s/^# \{0,1\}//;p}' "$0"; exit ;;
+    --version) echo "build.sh $(cat "$here/../VERSION")"; exit ;;
+esac
 : "${KIT:=/opt/rattle}" "${OUT:=$here/out}" "${PREFIX:=/usr}" "${LAPYREI_C:=$here/lapyrei.c}"
 : "${LAPYREI_A:=$here/../crates/lapyrei/out/liblapyrei.a}" "${CC:=cc}" "${AR:=ar}"
 mkdir -p "$OUT/objects"

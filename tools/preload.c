@@ -1,29 +1,38 @@
-/* Comes between a program and its files. kill_check, power_check, format_check, start_check, save_check and stall_check build it as a shared
- * library and preload it.
+/* Comes between a program and its files. kill_check, power_check, format_check, start_check,
+ * save_check and stall_check build it as a shared library and preload it.
  *
  *   LOOP_FILE   the file: calls on descriptors that were opened by this name
- *   LOOP_LOG    a file to which each change of it is appended before it is made, and each sync and answer once it was made: a byte W, T, S or A,
- *               two numbers of 8 bytes (place or length, and count of bytes), and the bytes of a write or an answer
- *   LOOP_TEXT   a second file, whatever it is opened as: that of an export or a save, or of a store that gets its name later. The log has it made (c), its
- *               writes (w), lengths (t), syncs (s), the syncs of its folder (f), and that it is renamed (r). While a save isn't whole its file is
- *               TEXT.part, and it counts as made once it has its name
+ *   LOOP_LOG    a file to which each change of it is appended before it is made, and each sync and
+ *               answer once it was made: a byte W, T, S or A, two numbers of 8 bytes (place or
+ *               length, and count of bytes), and the bytes of a write or an answer
+ *   LOOP_TEXT   a second file, whatever it is opened as: that of an export or a save, or of a store
+ *               that gets its name later. The log has it made (c), its writes (w), lengths (t),
+ *               syncs (s), the syncs of its folder (f), and that it is renamed (r). While a save
+ *               isn't whole its file is TEXT.part, and it counts as made once it has its name
  *   LOOP_MODE   a device or a program that breaks its word:
  *                 no_sync      a sync does nothing
- *                 late_sync    a sync is made only before the next write: what is answered in between isn't on the disk
- *                 gate_first   the slots of a group of frames are written and synced only after their gates
- *                 no_text_sync, no_folder_sync       a sync of LOOP_TEXT, or of its folder, does nothing
+ *                 late_sync    a sync is made only before the next write: what is answered in
+ *                              between isn't on the disk
+ *                 gate_first   the slots of a group of frames are written and synced only after
+ *                              their gates
+ *                 no_text_sync, no_folder_sync       a sync of LOOP_TEXT, or of its folder, does
+ *                                                    nothing
  *                 fail_text_sync, fail_folder_sync   it fails (EIO)
- *   LOOP_FAIL   COUNT:ERRNO, or COUNT:ERRNO:on   the call of that number on any file, from 0, fails so, or all from there on; calls are open,
- *               flock, statx, readlink, pread, pwrite, ftruncate, fsync, fdatasync, rename and unlink. ERRNO 0: the read or write is of one byte alone
- *   LOOP_KILL   COUNT   the program is killed (SIGKILL) before its call of that number, from 0, that writes, cuts, syncs or renames LOOP_FILE or LOOP_TEXT, or
- *               syncs their folder
- *   LOOP_STALL  FROM:EVERY:HOLD:EACH   a disk that stalls: from FROM on, and every EVERY after it, each sync of a file NAME.loop, of one that is
- *               made for it (NAME.loop.new), or of one beside it (NAME.loop.sync) that comes within HOLD ends only after that, and each other one takes EACH more; all in milliseconds, FROM of CLOCK_MONOTONIC
+ *   LOOP_FAIL   COUNT:ERRNO, or COUNT:ERRNO:on   the call of that number on any file, from 0, fails
+ *               so, or all from there on; calls are open, flock, statx, readlink, pread, pwrite,
+ *               ftruncate, fsync, fdatasync, rename and unlink. ERRNO 0: the read or write is of
+ *               one byte alone
+ *   LOOP_KILL   COUNT   the program is killed (SIGKILL) before its call of that number, from 0,
+ *               that writes, cuts, syncs or renames LOOP_FILE or LOOP_TEXT, or syncs their folder
+ *   LOOP_STALL  FROM:EVERY:HOLD:EACH   a disk that stalls: from FROM on, and every EVERY after it,
+ *               each sync of a file NAME.loop, of one that is made for it (NAME.loop.new), or of
+ *               one beside it (NAME.loop.sync) that comes within HOLD ends only after that, and
+ *               each other one takes EACH more; all in milliseconds, FROM of CLOCK_MONOTONIC
  *   LOOP_STALLED   NAME   LOOP_STALL stalls only files whose path has this name
  *   LOOP_CLOSE  MILLIS   a named pipe is closed only so much later
  *   LOOP_THREADS   COUNT   the thread of that number, from 0, can't be started (EAGAIN)
- *   LOOP_CLIP   COUNT, or COUNT:on   the call of that number, from 0, that writes LOOP_FILE's clip table, or syncs it after such a write, fails (EIO), or
- *               all from there on
+ *   LOOP_CLIP   COUNT, or COUNT:on   the call of that number, from 0, that writes LOOP_FILE's clip
+ *               table, or syncs it after such a write, fails (EIO), or all from there on
  */
 #define _GNU_SOURCE
 #include <dlfcn.h>
@@ -47,11 +56,18 @@
 static int log_fd = -2;
 static int file_fd = -1;
 static long calls = 0;
-static enum { HONEST, NO_SYNC, LATE_SYNC, GATE_FIRST, NO_TEXT_SYNC, NO_FOLDER_SYNC, FAIL_TEXT_SYNC, FAIL_FOLDER_SYNC } mode;
-static const char *const MODES[] = {"", "no_sync", "late_sync", "gate_first", "no_text_sync", "no_folder_sync", "fail_text_sync", "fail_folder_sync"};
+static enum {
+    HONEST, NO_SYNC, LATE_SYNC, GATE_FIRST,
+    NO_TEXT_SYNC, NO_FOLDER_SYNC, FAIL_TEXT_SYNC, FAIL_FOLDER_SYNC
+} mode;
+static const char *const MODES[] = {
+    "", "no_sync", "late_sync", "gate_first",
+    "no_text_sync", "no_folder_sync", "fail_text_sync", "fail_folder_sync"
+};
 static long fail_at = -1;
 static int fail_with, fail_on;
-/* gate_first: the slots that are kept back, as one or several writes bring them, and whether their gates were written */
+/* gate_first: the slots that are kept back, as one or several writes bring them, and whether their
+ * gates were written */
 static char *kept;
 static size_t kept_count;
 static off_t kept_at;
@@ -62,7 +78,8 @@ static int is_late;
 static void begin(void) {
     if (log_fd != -2) return;
     const char *log = getenv("LOOP_LOG"), *named = getenv("LOOP_MODE"), *fail = getenv("LOOP_FAIL");
-    log_fd = log ? syscall(SYS_openat, AT_FDCWD, log, O_WRONLY | O_CREAT | O_APPEND | O_CLOEXEC, 0600) : -1;
+    int how = O_WRONLY | O_CREAT | O_APPEND | O_CLOEXEC;
+    log_fd = log ? syscall(SYS_openat, AT_FDCWD, log, how, 0600) : -1;
     for (int it = NO_SYNC; it <= FAIL_FOLDER_SYNC; it++)
         if (named && !strcmp(named, MODES[it])) mode = it;
     if (fail) {
@@ -73,7 +90,8 @@ static void begin(void) {
     }
 }
 
-/* Whether this call fails; a call that is to be short isn't told here, and one that waits for nothing is never interrupted. */
+/* Whether this call fails; a call that is to be short isn't told here, and one that waits for
+ * nothing is never interrupted. */
 static int fails_if(int waits) {
     begin();
     long call = __atomic_fetch_add(&calls, 1, __ATOMIC_SEQ_CST);
@@ -109,7 +127,8 @@ static int stands(const char *path, struct stat *found) {
 
 static int is_open_as(int fd, const char *path) {
     struct stat here, there;
-    return stands(path, &there) && fstat(fd, &here) == 0 && here.st_dev == there.st_dev && here.st_ino == there.st_ino;
+    return stands(path, &there) && fstat(fd, &here) == 0 && here.st_dev == there.st_dev
+        && here.st_ino == there.st_ino;
 }
 
 /* The text, or its file while it isn't whole and has another name. */
@@ -117,13 +136,15 @@ static int is_text(int fd) {
     const char *text = getenv("LOOP_TEXT");
     char part[4096];
     if (is_open_as(fd, text)) return 1;
-    return text && snprintf(part, sizeof part, "%s.part", text) < (int)sizeof part && is_open_as(fd, part);
+    return text && snprintf(part, sizeof part, "%s.part", text) < (int)sizeof part
+        && is_open_as(fd, part);
 }
 
 /* Whether an open file is the folder of a path. */
 static int is_folder_of(int fd, const char *path) {
     char folder[4096];
-    if (!path || !*path || snprintf(folder, sizeof folder, "%s", path) >= (int)sizeof folder) return 0;
+    if (!path || !*path) return 0;
+    if (snprintf(folder, sizeof folder, "%s", path) >= (int)sizeof folder) return 0;
     char *end = strrchr(folder, '/');
     if (end) *end = 0;
     return is_open_as(fd, end ? (end == folder ? "/" : folder) : ".");
@@ -133,7 +154,8 @@ static int is_folder_of(int fd, const char *path) {
 static void reached(void) {
     static long changes = 0;
     const char *kill_at = getenv("LOOP_KILL");
-    if (kill_at && __atomic_fetch_add(&changes, 1, __ATOMIC_SEQ_CST) == atol(kill_at)) kill(getpid(), SIGKILL);
+    if (kill_at && __atomic_fetch_add(&changes, 1, __ATOMIC_SEQ_CST) == atol(kill_at))
+        kill(getpid(), SIGKILL);
 }
 
 /* Whether this call, a write at a place or a sync (-1), is the one of the clip table that fails. */
@@ -209,7 +231,8 @@ int rename(const char *from, const char *to) {
     const char *text = getenv("LOOP_TEXT");
     struct stat moved, named;
     if (fails_if(0)) return -1;
-    int is_texts = stands(text, &named) && stat(from, &moved) == 0 && moved.st_dev == named.st_dev && moved.st_ino == named.st_ino;
+    int is_texts = stands(text, &named) && stat(from, &moved) == 0
+        && moved.st_dev == named.st_dev && moved.st_ino == named.st_ino;
     if (is_texts) reached();
     int answer = (int)syscall(SYS_rename, from, to);
     if (answer == 0 && is_texts) note('r', 0, 0, NULL);
@@ -223,8 +246,10 @@ ssize_t readlink(const char *path, char *out, size_t count) {
 int pthread_create(pthread_t *thread, const pthread_attr_t *how, void *(*run)(void *), void *with) {
     static long started = 0;
     const char *refused = getenv("LOOP_THREADS");
-    if (refused && __atomic_fetch_add(&started, 1, __ATOMIC_SEQ_CST) == atol(refused)) return EAGAIN;
-    int (*real)(pthread_t *, const pthread_attr_t *, void *(*)(void *), void *) = dlsym(RTLD_NEXT, "pthread_create");
+    if (refused && __atomic_fetch_add(&started, 1, __ATOMIC_SEQ_CST) == atol(refused))
+        return EAGAIN;
+    int (*real)(pthread_t *, const pthread_attr_t *, void *(*)(void *), void *) =
+        dlsym(RTLD_NEXT, "pthread_create");
     return real(thread, how, run, with);
 }
 
@@ -305,14 +330,16 @@ static void stall(int fd) {
     static const char END[] = ".loop";
     const char *given = getenv("LOOP_STALL");
     long long from, every, hold, each;
-    if (!given || sscanf(given, "%lld:%lld:%lld:%lld", &from, &every, &hold, &each) != 4 || every <= 0) return;
+    if (!given || sscanf(given, "%lld:%lld:%lld:%lld", &from, &every, &hold, &each) != 4) return;
+    if (every <= 0) return;
     char name[4096], link[64];
     snprintf(link, sizeof link, "/proc/self/fd/%d", fd);
     ssize_t length = syscall(SYS_readlink, link, name, sizeof name);
     if (length < 0 || length >= (ssize_t)sizeof name) return;
     name[length] = 0;
     const char *end = strstr(name, END);
-    if (!end || (strcmp(end, ".loop") && strcmp(end, ".loop.new") && strncmp(end, ".loop.sync", 10))) return;
+    if (!end) return;
+    if (strcmp(end, ".loop") && strcmp(end, ".loop.new") && strncmp(end, ".loop.sync", 10)) return;
     const char *only = getenv("LOOP_STALLED");
     if (only && !strstr(name, only)) return;
     struct timespec now;
@@ -352,8 +379,10 @@ static int sync_of(int fd, long number) {
     stall(fd);
     const char *text = getenv("LOOP_TEXT"), *file = getenv("LOOP_FILE");
     if (is_watched(fd) || is_folder_of(fd, text) || is_folder_of(fd, file)) reached();
-    if (fd != file_fd && is_text(fd)) return sync_beside(fd, number, 's', NO_TEXT_SYNC, FAIL_TEXT_SYNC);
-    if (is_folder_of(fd, text)) return sync_beside(fd, number, 'f', NO_FOLDER_SYNC, FAIL_FOLDER_SYNC);
+    if (fd != file_fd && is_text(fd))
+        return sync_beside(fd, number, 's', NO_TEXT_SYNC, FAIL_TEXT_SYNC);
+    if (is_folder_of(fd, text))
+        return sync_beside(fd, number, 'f', NO_FOLDER_SYNC, FAIL_FOLDER_SYNC);
     if (fd != file_fd) return syscall(number, fd);
     if (mode == NO_SYNC) return 0;
     if (mode == LATE_SYNC) {

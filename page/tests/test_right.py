@@ -104,6 +104,8 @@ def test_a_warning_that_was_seen_does_not_come_back_while_its_cause_stands(make)
     ],
 )
 def test_each_absence_is_shown_in_its_own_words(absent, why, said):
+    # Polls are answered so too, from before the line on: what is shown stays.
+    absent.order(f"!absent left {why}")
     absent.say("store_absent", camera="left", why=why)
     absent.until(lambda: said in absent.camera()["state"], f"state of {why}")
     camera = absent.camera()

@@ -121,6 +121,10 @@ def changed_alerts(old, new):
     return make
 
 
+# What takes the place of a script's first command.
+LONG_LINE = "set -eu  " + 100 * "#" + "\n"
+
+
 def changed_demo(old, new):
     """A copy of tools/demo in which something is changed, with all that it starts: what makes it,
     from a folder."""
@@ -254,6 +258,11 @@ KINDS = {
                 "a script with words that come apart",
                 given={"LINT_MORE": changed_copy("tools/package", '"$0"', "$0")},
                 says="SC2086",
+            ),
+            Wrong(
+                "a script with a line of more than 100 columns",
+                given={"LINT_MORE": changed_copy("tools/package", "set -eu\n", LONG_LINE)},
+                says="package:.* columns",
             ),
         ],
     ),

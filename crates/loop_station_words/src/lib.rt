@@ -3,16 +3,16 @@
 //! - `order` reads what a line asks for, `name` says how a camera may be named, and `cut` cuts a text at a character;
 //!   `laws` has lines and their meanings, as rows of a table;
 //! - `time` reads a date and time of day, and `calendar` gives those of a time in microseconds since 1970;
-//! - `ring` chooses how many segments and slots a store has, for so many frames or within so many bytes; `room` for what
-//!   the configuration asks, how much of a store is free, and how many frames may wait before it;
+//! - `ring` chooses how many segments and slots a store has, for so many frames or within so many bytes; `room` for
+//!   what the configuration asks, how much of a store is free, and how many frames may wait before it;
 //! - `config` reads the configuration file, which says which cameras there are. `fields` reads the value at a key
 //!   there, `shape` reads what the pattern's frames look like, and `fault` says what is wrong with that file;
 //! - `lines` has the lines of the program's output, as text and as JSON, each of parts (`part`); `answers` has the
-//! status   of a camera, what a line begins with, and what the file of a clip is called.
+//!   status of a camera, what a line begins with, and what the file of a clip is called.
 //!
-//! What a line asks for, which time a text means, which ring is chosen, how much of a store is free, and what a configuration says at each of its
-//! keys is proved (`specs/`). So is that its cameras have names and stores of their own. Why a file is refused, and
-//! what is printed, is tested.
+//! What a line asks for, which time a text means, which ring is chosen, how much of a store is free, and what a
+//! configuration says at each of its keys is proved (`specs/`). So is that its cameras have names and stores of their
+//! own. Why a file is refused, and what is printed, is tested.
 //!
 //! docs/station.md says why it is so.
 #![tactic(auto)]

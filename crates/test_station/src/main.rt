@@ -1,6 +1,7 @@
 //! The station's decisions in simulation. Frames come early, late and in bursts, disks are slow, stall and fail,
-//! stores are moved away, several writers order, the program is killed at any step and begins again; time passes as the seed says, and no
-//! clock is read. A plain list of all frames, one of all saves and what was told last judge each answer.
+//! stores are moved away, several writers order, the program is killed at any step and begins again; time passes as the
+//! seed says, and no clock is read. A plain list of all frames, one of all saves and what was told last judge each
+//! answer.
 //!
 //! A line of the input is `seeds FROM TO STEPS`: for each seed from one number to another it prints a line, with the
 //! step at which it ended, and `ok` or what didn't hold there. Any other line is printed as it is.
