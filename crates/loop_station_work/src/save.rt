@@ -18,7 +18,6 @@ use crate::places::Places;
 use crate::state::CameraState;
 use loop_station_core::{Asked, Cancelled, Retries, SaveEnd, SaveKey, SaveLine, after_save};
 use loop_station_words::Lines;
-use loop_store::Clip;
 pub use not_saved::NotSaved;
 use std::alloc::{AllocError, AllocGlobal, Global};
 use std::sync::atomic::{AtomicBool, Ordering};
@@ -62,18 +61,9 @@ impl Save {
         self.camera
     }
 
-    /// The clip that it writes.
-    pub fn clip(&self) -> Clip {
-        self.found.clip
-    }
-
-    // The clip that it reads, as loop_station_core names it.
-    fn key(&self) -> SaveKey {
-        SaveKey {
-            camera: self.camera,
-            id: self.found.clip.id,
-            first: self.found.clip.from,
-        }
+    /// The clip that it reads, as loop_station_core names it.
+    pub fn key(&self) -> SaveKey {
+        self.found.key(self.camera)
     }
 
     // Whether it begins by itself.
@@ -490,7 +480,7 @@ fn run_save<R: AllocGlobal + Places + Wait + Clock>(
         tell_save(rt, saves, state, ours, path.as_str(), came);
     }
     if is_released {
-        state.release_saved(rt, save.found.clip);
+        state.release_saved(rt, save.key());
     }
 }
 
