@@ -16,6 +16,7 @@ use crate::answering::{Answering, KeptClip, SaveOrder};
 use crate::clerk::FoundClip;
 use crate::places::Places;
 use crate::state::CameraState;
+use loop_station_core::laws::withdrawn_saves_leave_nothing;
 use loop_station_core::{Asked, Cancelled, Retries, SaveEnd, SaveKey, SaveLine, after_save};
 use loop_station_words::Lines;
 pub use not_saved::NotSaved;
@@ -300,9 +301,13 @@ enum NotBegun {
 }
 
 impl Inside {
-    // Asks for a place for a save: it begins there, or waits for one. Where it does neither, no place is taken for it:
-    // by `Saves::ask` of loop_station_core, and its law of saves that are withdrawn.
-    fn ask(&mut self, save: Arc<Save>) -> Result<(), NotBegun> {
+    // Asks for a place for a save: it begins there, or waits for one. Where it does neither, nothing is changed, and so
+    // no place is taken for it.
+    fn ask(&mut self, save: Arc<Save>) -> Result<(), NotBegun>
+        ensures refused { IfErr result (λ why. shown self.new.decided ≡ shown self.old.decided) }
+    {
+        // A save that is told to wait, and for which there is no memory, is withdrawn: that leaves nothing of it.
+        withdrawn_saves_leave_nothing();
         match self.decided.ask(save.key(), save.is_automatic()) {
             Asked::Begins(place) => {
                 self.put(place, save);
