@@ -28,7 +28,7 @@
  *               each sync of a file NAME.loop, of one that is made for it (NAME.loop.new), or of
  *               one beside it (NAME.loop.sync) that comes within HOLD ends only after that, and
  *               each other one takes EACH more; all in milliseconds, FROM of CLOCK_MONOTONIC
- *   LOOP_STALLED   NAME   LOOP_STALL stalls only files whose path has this name
+ *   LOOP_STALLED   NAME   LOOP_STALL stalls the files whose path has this name, and no others
  *   LOOP_CLOSE  MILLIS   a named pipe is closed only so much later
  *   LOOP_THREADS   COUNT   the thread of that number, from 0, can't be started (EAGAIN)
  *   LOOP_CLIP   COUNT, or COUNT:on   the call of that number, from 0, that writes LOOP_FILE's clip
@@ -337,11 +337,10 @@ static void stall(int fd) {
     ssize_t length = syscall(SYS_readlink, link, name, sizeof name);
     if (length < 0 || length >= (ssize_t)sizeof name) return;
     name[length] = 0;
-    const char *end = strstr(name, END);
-    if (!end) return;
-    if (strcmp(end, ".loop") && strcmp(end, ".loop.new") && strncmp(end, ".loop.sync", 10)) return;
-    const char *only = getenv("LOOP_STALLED");
-    if (only && !strstr(name, only)) return;
+    const char *end = strstr(name, END), *only = getenv("LOOP_STALLED");
+    int is_store = end
+        && (!strcmp(end, ".loop") || !strcmp(end, ".loop.new") || !strncmp(end, ".loop.sync", 10));
+    if (only ? !strstr(name, only) : !is_store) return;
     struct timespec now;
     clock_gettime(CLOCK_MONOTONIC, &now);
     long long at = now.tv_sec * 1000LL + now.tv_nsec / 1000000 - from;

@@ -1,11 +1,11 @@
 -- A clip is read by as many saves as were taken in and haven't ended.
-use Rattle.std.proofs.Common.{◌≡◌, ◌⊎◌, inl, inr, ℕ, ◌+◌, ◌++◌, ◌&&◌, ◌==◌, ◌<◌, Bool, true, false, not, List, [], ◌∷◌, Option, Some, None, is_some, zero, suc, length, nat_lt, slice_get, slice_set, remove, replicate, arith, refl}
+use Rattle.std.proofs.Common.{◌≡◌, ◌⊎◌, inl, inr, ℕ, ◌+◌, ◌++◌, ◌&&◌, ◌==◌, ◌<◌, Bool, true, false, not, List, [], ◌∷◌, Option, Some, None, is_some, zero, suc, length, nat_lt, slice_get, slice_set, remove, replicate, ap, arith, refl}
 use Rattle.std.specs.List.{position, position_or_len}
 use Rattle.std.proofs.lemmas.Grind.{common_steps}
 use Rattle.loop_station_core.proofs.ReleaseLaws.{first-at}
-use Rattle.loop_station_core.specs.Clips.{may_release}
+use Rattle.loop_station_core.specs.Clips.{may_release, may_release_saved}
 use Rattle.loop_station_core.specs.Releases.{SaveStep, after_all, asks, ends, cancels, stops, ended_by, ended_in, is_clip, no_saves, one_if, stepped, taken_by, taken_in}
-use Rattle.loop_station_core.specs.Saving.{Places, after_end, asked, begun, cancelled, cancelled_at, earns, ended, finished, freed, held_at, holds, in_place, is_read, left_by, new_save, picks, place_of, reads, stopped, turn_of, update, wanted, with_cancel, with_release, with_wish}
+use Rattle.loop_station_core.specs.Saving.{Places, after_end, asked, begun, cancelled, cancelled_at, earns, ended, finished, freed, held_at, holds, in_place, is_read, is_same, left_by, new_save, picks, place_of, place_with, reads, stopped, turn_of, turn_with, update, wanted, with_cancel, with_release, with_wish}
 use Rattle.loop_station_core.specs.declared.clips.MayRelease.TheVariants.{Now}
 use Rattle.loop_station_core.specs.declared.save_end.SaveEnd.{SaveEnd}
 use Rattle.loop_station_core.specs.declared.saves.SaveKey.{SaveKey}
@@ -140,10 +140,10 @@ cancel-reads : (camera id : ℕ) (o : Option Save)
 cancel-reads camera id None = refl
 cancel-reads camera id (Some s) = refl
 
-wanted-counts : (camera id : ℕ) (p : Places) (c i : ℕ) → readers camera id (wanted p c i).0 ≡ readers camera id p
-wanted-counts camera id p c i = at (place_of p c i true) (turn_of p c i) refl refl where
-  at : (a b : Option ℕ) → place_of p c i true ≡ a → turn_of p c i ≡ b
-      → readers camera id (wanted p c i).0 ≡ readers camera id p
+wanted-counts : (camera id : ℕ) (p : Places) (k : SaveKey) → readers camera id (wanted p k).0 ≡ readers camera id p
+wanted-counts camera id p k = at (place_with p k) (turn_with p k) refl refl where
+  at : (a b : Option ℕ) → place_with p k ≡ a → turn_with p k ≡ b
+      → readers camera id (wanted p k).0 ≡ readers camera id p
   at (Some place) b e n =
       let u = update-counts (holds (reads camera id)) (in_place with_release) p.running place (release-reads camera id) in
       grind (arith, common_steps)
@@ -163,11 +163,11 @@ held-read camera id p place = at (slice_get p.running place) refl where
   at None e = grind (arith, common_steps)
   at (Some o) e = grind (arith, common_steps)
 
-wanted-held : (camera id : ℕ) (p : Places) (c i place : ℕ)
-    → read_at camera id (wanted p c i).0 place ≡ read_at camera id p place
-wanted-held camera id p c i place = at (place_of p c i true) (turn_of p c i) refl refl where
-  at : (a b : Option ℕ) → place_of p c i true ≡ a → turn_of p c i ≡ b
-      → read_at camera id (wanted p c i).0 place ≡ read_at camera id p place
+wanted-held : (camera id : ℕ) (p : Places) (k : SaveKey) (place : ℕ)
+    → read_at camera id (wanted p k).0 place ≡ read_at camera id p place
+wanted-held camera id p k place = at (place_with p k) (turn_with p k) refl refl where
+  at : (a b : Option ℕ) → place_with p k ≡ a → turn_with p k ≡ b
+      → read_at camera id (wanted p k).0 place ≡ read_at camera id p place
   at (Some j) b e n =
       let u = update-gets (holds (reads camera id)) (in_place with_release) p.running j place (release-reads camera id) in
       grind (arith, common_steps)
@@ -182,14 +182,14 @@ release-stays (Some s) = refl
 abbrev holds_one : Places → ℕ → Bool
 holds_one p place = passes (λ (o : Option Save). not (is_some o)) (slice_get p.running place)
 
-wanted-free : (p : Places) (c i place : ℕ) → holds_one (wanted p c i).0 place ≡ holds_one p place
-wanted-free p c i place = at (place_of p c i true) (turn_of p c i) refl refl where
+wanted-free : (p : Places) (k : SaveKey) (place : ℕ) → holds_one (wanted p k).0 place ≡ holds_one p place
+wanted-free p k place = at (place_with p k) (turn_with p k) refl refl where
   kept : (o : Option Save) → not (is_some (in_place with_release o)) ≡ not (is_some o)
   kept None = refl
   kept (Some s) = refl
 
-  at : (a b : Option ℕ) → place_of p c i true ≡ a → turn_of p c i ≡ b
-      → holds_one (wanted p c i).0 place ≡ holds_one p place
+  at : (a b : Option ℕ) → place_with p k ≡ a → turn_with p k ≡ b
+      → holds_one (wanted p k).0 place ≡ holds_one p place
   at (Some j) b e n =
       let u = update-gets (λ (o : Option Save). not (is_some o)) (in_place with_release) p.running j place kept in
       grind (arith, common_steps)
@@ -199,13 +199,13 @@ wanted-free p c i place = at (place_of p c i true) (turn_of p c i) refl refl whe
 left-counts : (camera id : ℕ) (p : Places) (s : Save) → readers camera id (left_by p s).0 ≡ readers camera id p
 left-counts camera id p s = at s.release refl where
   at : (b : Bool) → s.release ≡ b → readers camera id (left_by p s).0 ≡ readers camera id p
-  at true e = let w = wanted-counts camera id p s.key.camera s.key.id in grind (arith, common_steps)
+  at true e = let w = wanted-counts camera id p s.key in grind (arith, common_steps)
   at false e = grind (arith, common_steps)
 
 left-free : (p : Places) (s : Save) (place : ℕ) → holds_one (left_by p s).0 place ≡ holds_one p place
 left-free p s place = at s.release refl where
   at : (b : Bool) → s.release ≡ b → holds_one (left_by p s).0 place ≡ holds_one p place
-  at true e = let w = wanted-free p s.key.camera s.key.id place in grind (arith, common_steps)
+  at true e = let w = wanted-free p s.key place in grind (arith, common_steps)
   at false e = grind (arith, common_steps)
 
 begun-counts : (camera id : ℕ) (p : Places) (place : ℕ) → holds_one p place ≡ true
@@ -250,8 +250,8 @@ wish-counts camera id p place end releases = at (held_at p place) refl where
       × (read_at camera id (with_wish p place end releases) place ≡ read_at camera id p place)
   by-earning s false e m = grind (arith, common_steps)
   by-earning s true e m =
-      let w = wanted-counts camera id p s.key.camera s.key.id in
-      let h = wanted-held camera id p s.key.camera s.key.id place in
+      let w = wanted-counts camera id p s.key in
+      let h = wanted-held camera id p s.key place in
       grind (arith, common_steps)
 
   at : (o : Option Save) → held_at p place ≡ o
@@ -390,3 +390,33 @@ orders-spare places camera id steps said first h =
     all-add camera id (no_saves places) steps in
     let begin : readers camera id (no_saves places) ≡ 0 = let e = none-reads camera id places in omega (arith, e) in
     (omega (arith, none, all, begin), both.1)
+
+-- clips that are the same are one
+same-keys : (a b : SaveKey) → is_same a b ≡ true → b ≡ a
+same-keys a b h =
+    let camera : b.camera ≡ a.camera = grind (arith, common_steps) in
+    let id : b.id ≡ a.id = grind (arith, common_steps) in
+    let first : b.first ≡ a.first = grind (arith, common_steps) in
+    let last : b.last ≡ a.last = grind (arith, common_steps) in
+    let tag : b.tag ≡ a.tag = grind (arith, common_steps) in
+    let time : b.time ≡ a.time = grind (arith, common_steps) in
+    grind (arith, common_steps)
+
+-- what saves may release isn't read, and is what was saved
+spares-saved : (read : Bool) (saved : SaveKey) (there : Option SaveKey) → may_release_saved read saved there ≡ Now
+    → (read ≡ false) × (there ≡ Some saved)
+spares-saved read saved None h = grind (arith, common_steps)
+spares-saved read saved (Some clip) h = at (is_same saved clip) read refl refl where
+  at : (b r : Bool) → is_same saved clip ≡ b → read ≡ r → (read ≡ false) × (Some clip ≡ Some saved)
+  at false r e n = grind (arith, common_steps)
+  at true true e n = grind (arith, common_steps)
+  at true false e n = (n, ap (λ (k : SaveKey). Some k) (same-keys saved clip e))
+
+pub saved-released : (places : ℕ) (saved : SaveKey) (steps : List SaveStep) (there : Option SaveKey)
+    → may_release_saved (is_read (after_all (no_saves places) steps) saved.camera saved.id) saved there ≡ Now
+    → (there ≡ Some saved)
+    × (taken_in saved.camera saved.id (no_saves places) steps ≡ ended_in saved.camera saved.id (no_saves places) steps)
+saved-released places saved steps there h =
+    let both = spares-saved (is_read (after_all (no_saves places) steps) saved.camera saved.id) saved there h in
+    let rest = orders-spare places saved.camera saved.id steps None None (rw both.0 refl) in
+    (both.1, rest.0)

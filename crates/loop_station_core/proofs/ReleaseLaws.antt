@@ -2,8 +2,8 @@
 use Rattle.std.proofs.Common.{◌≡◌, ℕ, ◌&&◌, Bool, true, false, not, List, [], ◌∷◌, Option, Some, None, is_some, zero, suc, slice_get, slice_set, remove, replicate, arith, refl}
 use Rattle.std.specs.List.{list_any, position, position_or_len}
 use Rattle.std.proofs.lemmas.Grind.{common_steps}
-use Rattle.loop_station_core.specs.Releases.{SaveStep, asks, ends, cancels, stops, frees, frees_in, is_clip, lets, lets_in, no_saves, says_release, stepped}
-use Rattle.loop_station_core.specs.Saving.{Places, after_end, asked, begun, cancelled, cancelled_at, earns, ended, freed, held_at, holds, in_place, left_by, new_save, picks, place_of, reads, stopped, turn_of, update, wanted, with_cancel, with_release, with_wish}
+use Rattle.loop_station_core.specs.Releases.{SaveStep, asks, ends, cancels, stops, frees, frees_in, lets, lets_in, next_reader, no_saves, says_release, stepped}
+use Rattle.loop_station_core.specs.Saving.{Places, after_end, asked, begun, cancelled, cancelled_at, earns, ended, freed, held_at, holds, in_place, is_of, is_same, left_by, new_save, picks, place_of, place_with, reads, stopped, turn_of, turn_with, update, wanted, with_cancel, with_release, with_wish}
 use Rattle.loop_station_core.specs.declared.save_end.SaveEnd.{SaveEnd}
 use Rattle.loop_station_core.specs.declared.saves.SaveKey.{SaveKey}
 use Rattle.loop_station_core.specs.declared.saves.Save.{Save}
@@ -67,183 +67,178 @@ module _ {X : Type 0} where
         let rest = any-set f xs i (g x) h is in
         grind (arith, common_steps)
 
--- the end of a save releases the clip of an id
-abbrev bears : ℕ → ℕ → Save → Bool
-bears camera id s = reads camera id s && s.release
+-- the end of a save releases a clip
+abbrev bears : SaveKey → Save → Bool
+bears key s = is_of key s && s.release
 
 -- that of no save does
-abbrev Free : ℕ → ℕ → Places → Type 0
-Free camera id p = (list_any (holds (bears camera id)) p.running ≡ false)
-    × (list_any (bears camera id) p.waiting ≡ false)
+abbrev Free : SaveKey → Places → Type 0
+Free key p = (list_any (holds (bears key)) p.running ≡ false)
+    × (list_any (bears key) p.waiting ≡ false)
 
-wish-of : (camera id c i : ℕ) → is_clip camera id c i ≡ false → (s : Save) → reads c i s ≡ true
-    → bears camera id (with_release s) ≡ false
-wish-of camera id c i d s r = grind (arith, common_steps)
+wish-of : (key k : SaveKey) → is_same key k ≡ false → (s : Save) → is_of k s ≡ true
+    → bears key (with_release s) ≡ false
+wish-of key k d s r = grind (arith, common_steps)
 
-wish-in : (camera id c i : ℕ) → is_clip camera id c i ≡ false → (o : Option Save)
-    → holds (picks c i true) o ≡ true → holds (bears camera id) o ≡ false
-    → holds (bears camera id) (in_place with_release o) ≡ false
-wish-in camera id c i d None r h = grind (arith, common_steps)
-wish-in camera id c i d (Some s) r h =
-    let read : reads c i s ≡ true = grind (arith, common_steps) in
-    let w = wish-of camera id c i d s read in
+wish-in : (key k : SaveKey) → is_same key k ≡ false → (o : Option Save)
+    → holds (is_of k) o ≡ true → holds (bears key) o ≡ false
+    → holds (bears key) (in_place with_release o) ≡ false
+wish-in key k d None r h = grind (arith, common_steps)
+wish-in key k d (Some s) r h =
+    let read : is_of k s ≡ true = grind (arith, common_steps) in
+    let w = wish-of key k d s read in
     grind (arith, common_steps)
 
-wanted-free : (camera id : ℕ) (p : Places) (c i : ℕ) → is_clip camera id c i ≡ false → Free camera id p
-    → Free camera id (wanted p c i).0
-wanted-free camera id p c i d h = at (place_of p c i true) (turn_of p c i) refl refl where
-  at : (a b : Option ℕ) → place_of p c i true ≡ a → turn_of p c i ≡ b → Free camera id (wanted p c i).0
+wanted-free : (key : SaveKey) (p : Places) (k : SaveKey) → is_same key k ≡ false → Free key p
+    → Free key (wanted p k).0
+wanted-free key p k d h = at (place_with p k) (turn_with p k) refl refl where
+  at : (a b : Option ℕ) → place_with p k ≡ a → turn_with p k ≡ b → Free key (wanted p k).0
   at (Some place) b e n =
-      let u = any-update (holds (bears camera id)) (holds (picks c i true)) (in_place with_release) p.running place e
-      (wish-in camera id c i d) h.0 in
+      let u = any-update (holds (bears key)) (holds (is_of k)) (in_place with_release) p.running place e
+      (wish-in key k d) h.0 in
       grind (arith, common_steps)
   at None (Some t) e n =
-      let u = any-update (bears camera id) (reads c i) with_release p.waiting t n
-      (λ s r was. wish-of camera id c i d s r) h.1 in
+      let u = any-update (bears key) (is_of k) with_release p.waiting t n
+      (λ s r was. wish-of key k d s r) h.1 in
       grind (arith, common_steps)
   at None None e n = grind (arith, common_steps)
 
-left-free : (camera id : ℕ) (p : Places) (s : Save) → bears camera id s ≡ false → Free camera id p
-    → Free camera id (left_by p s).0 × ((reads camera id s && (left_by p s).1) ≡ false)
-left-free camera id p s d h = at s.release refl where
+left-free : (key : SaveKey) (p : Places) (s : Save) → bears key s ≡ false → Free key p
+    → Free key (left_by p s).0 × ((is_of key s && (left_by p s).1) ≡ false)
+left-free key p s d h = at s.release refl where
   at : (b : Bool) → s.release ≡ b
-      → Free camera id (left_by p s).0 × ((reads camera id s && (left_by p s).1) ≡ false)
+      → Free key (left_by p s).0 × ((is_of key s && (left_by p s).1) ≡ false)
   at false e = grind (arith, common_steps)
   at true e =
-      let other : is_clip camera id s.key.camera s.key.id ≡ false = grind (arith, common_steps) in
-      let w = wanted-free camera id p s.key.camera s.key.id other h in
+      let other : is_same key s.key ≡ false = grind (arith, common_steps) in
+      let w = wanted-free key p s.key other h in
       grind (arith, common_steps)
 
-begun-free : (camera id : ℕ) (p : Places) (place : ℕ) → Free camera id p → Free camera id (begun p place).0
-begun-free camera id p place h = at p.waiting refl where
-  at : (ws : List Save) → p.waiting ≡ ws → Free camera id (begun p place).0
+begun-free : (key : SaveKey) (p : Places) (place : ℕ) → Free key p → Free key (begun p place).0
+begun-free key p place h = at p.waiting refl where
+  at : (ws : List Save) → p.waiting ≡ ws → Free key (begun p place).0
   at [] e = grind (arith, common_steps)
   at (s ∷ ss) e =
-      let one : bears camera id s ≡ false = grind (arith, common_steps) in
-      let rest : list_any (bears camera id) ss ≡ false = grind (arith, common_steps) in
-      let put = any-set (holds (bears camera id)) p.running place (Some s) h.0 one in
+      let one : bears key s ≡ false = grind (arith, common_steps) in
+      let rest : list_any (bears key) ss ≡ false = grind (arith, common_steps) in
+      let put = any-set (holds (bears key)) p.running place (Some s) h.0 one in
       grind (arith, common_steps)
 
-freed-free : (camera id : ℕ) (p : Places) (place : ℕ) → Free camera id p → Free camera id (freed p place)
-freed-free camera id p place h = (any-set (holds (bears camera id)) p.running place None h.0 refl, h.1)
+freed-free : (key : SaveKey) (p : Places) (place : ℕ) → Free key p → Free key (freed p place)
+freed-free key p place h = (any-set (holds (bears key)) p.running place None h.0 refl, h.1)
 
-after-free : (camera id : ℕ) (p : Places) (place : ℕ) (s : Save) → bears camera id s ≡ false → Free camera id p
-    → Free camera id (after_end p place s).0 × ((reads camera id s && (after_end p place s).1.release) ≡ false)
-after-free camera id p place s d h =
-    let left = left-free camera id (freed p place) s d (freed-free camera id p place h) in
-    (begun-free camera id (left_by (freed p place) s).0 place left.0, left.1)
+after-free : (key : SaveKey) (p : Places) (place : ℕ) (s : Save) → bears key s ≡ false → Free key p
+    → Free key (after_end p place s).0 × ((is_of key s && (after_end p place s).1.release) ≡ false)
+after-free key p place s d h =
+    let left = left-free key (freed p place) s d (freed-free key p place h) in
+    (begun-free key (left_by (freed p place) s).0 place left.0, left.1)
 
-held-free : (camera id : ℕ) (p : Places) (place : ℕ) (s : Save) → held_at p place ≡ Some s → Free camera id p
-    → bears camera id s ≡ false
-held-free camera id p place s e h =
+held-free : (key : SaveKey) (p : Places) (place : ℕ) (s : Save) → held_at p place ≡ Some s → Free key p
+    → bears key s ≡ false
+held-free key p place s e h =
     let there : slice_get p.running place ≡ Some (Some s) = grind (arith, common_steps) in
-    any-get (holds (bears camera id)) p.running place (Some s) h.0 there
+    any-get (holds (bears key)) p.running place (Some s) h.0 there
 
-ended-free : (camera id : ℕ) (p : Places) (place : ℕ) → Free camera id p
-    → Free camera id (ended p place).0
-    × ((holds (reads camera id) (held_at p place) && (ended p place).1.release) ≡ false)
-ended-free camera id p place h = at (held_at p place) refl where
-  at : (o : Option Save) → held_at p place ≡ o → Free camera id (ended p place).0
-      × ((holds (reads camera id) (held_at p place) && (ended p place).1.release) ≡ false)
+ended-free : (key : SaveKey) (p : Places) (place : ℕ) → Free key p
+    → Free key (ended p place).0
+    × ((holds (is_of key) (held_at p place) && (ended p place).1.release) ≡ false)
+ended-free key p place h = at (held_at p place) refl where
+  at : (o : Option Save) → held_at p place ≡ o → Free key (ended p place).0
+      × ((holds (is_of key) (held_at p place) && (ended p place).1.release) ≡ false)
   at None e = grind (arith, common_steps)
   at (Some s) e =
-      let d = held-free camera id p place s e h in
-      let a = after-free camera id p place s d h in
+      let d = held-free key p place s e h in
+      let a = after-free key p place s d h in
       grind (arith, common_steps)
 
-wish-free : (camera id : ℕ) (p : Places) (place : ℕ) (end : SaveEnd) (releases : Bool) → Free camera id p
-    → lets camera id p (ends place end releases) ≡ false → Free camera id (with_wish p place end releases)
-wish-free camera id p place end releases h n = at (held_at p place) refl where
+wish-free : (key : SaveKey) (p : Places) (place : ℕ) (end : SaveEnd) (releases : Bool) → Free key p
+    → lets key p (ends place end releases) ≡ false → Free key (with_wish p place end releases)
+wish-free key p place end releases h n = at (held_at p place) refl where
   by-earning : (s : Save) (b : Bool) → held_at p place ≡ Some s → earns s end releases ≡ b
-      → Free camera id (with_wish p place end releases)
+      → Free key (with_wish p place end releases)
   by-earning s false e m = grind (arith, common_steps)
   by-earning s true e m =
-      let other : is_clip camera id s.key.camera s.key.id ≡ false = grind (arith, common_steps) in
-      let w = wanted-free camera id p s.key.camera s.key.id other h in
+      let other : is_same key s.key ≡ false = grind (arith, common_steps) in
+      let w = wanted-free key p s.key other h in
       grind (arith, common_steps)
 
-  at : (o : Option Save) → held_at p place ≡ o → Free camera id (with_wish p place end releases)
+  at : (o : Option Save) → held_at p place ≡ o → Free key (with_wish p place end releases)
   at None e = grind (arith, common_steps)
   at (Some s) e = by-earning s (earns s end releases) e refl
 
 -- a cancel changes nothing of what is released
-cancel-in : (camera id c i : ℕ) (o : Option Save) → holds (picks c i false) o ≡ true
-    → holds (bears camera id) o ≡ false → holds (bears camera id) (in_place with_cancel o) ≡ false
-cancel-in camera id c i None r h = grind (arith, common_steps)
-cancel-in camera id c i (Some s) r h = grind (arith, common_steps)
+cancel-in : (key : SaveKey) (c i : ℕ) (o : Option Save) → holds (picks c i false) o ≡ true
+    → holds (bears key) o ≡ false → holds (bears key) (in_place with_cancel o) ≡ false
+cancel-in key c i None r h = grind (arith, common_steps)
+cancel-in key c i (Some s) r h = grind (arith, common_steps)
 
-same-clip : (camera id c i : ℕ) (s : Save) → reads c i s ≡ true → reads camera id s ≡ is_clip camera id c i
-same-clip camera id c i s r = grind (arith, common_steps)
-
-turned-free : (camera id : ℕ) (p : Places) (c i t : ℕ) → turn_of p c i ≡ Some t → Free camera id p
-    → Free camera id (cancelled_at p t).0 × ((is_clip camera id c i && says_release (cancelled_at p t).1) ≡ false)
-turned-free camera id p c i t e h = at (slice_get p.waiting t) refl where
-  at : (o : Option Save) → slice_get p.waiting t ≡ o → Free camera id (cancelled_at p t).0
-      × ((is_clip camera id c i && says_release (cancelled_at p t).1) ≡ false)
+turned-free : (key : SaveKey) (p : Places) (c i t : ℕ) → turn_of p c i ≡ Some t → Free key p
+    → Free key (cancelled_at p t).0 × ((holds (is_of key) (next_reader p c i) && says_release (cancelled_at p t).1) ≡ false)
+turned-free key p c i t e h = at (slice_get p.waiting t) refl where
+  at : (o : Option Save) → slice_get p.waiting t ≡ o → Free key (cancelled_at p t).0
+      × ((holds (is_of key) (next_reader p c i) && says_release (cancelled_at p t).1) ≡ false)
   at None n = grind (arith, common_steps)
   at (Some s) n =
-      let read = first-at (reads c i) p.waiting t s e n in
-      let same = same-clip camera id c i s read in
-      let d = any-get (bears camera id) p.waiting t s h.1 n in
-      let gone = any-remove (bears camera id) p.waiting t h.1 in
-      let left = left-free camera id (record p { waiting = remove p.waiting t }) s d (h.0, gone) in
+      let d = any-get (bears key) p.waiting t s h.1 n in
+      let gone = any-remove (bears key) p.waiting t h.1 in
+      let left = left-free key (record p { waiting = remove p.waiting t }) s d (h.0, gone) in
       grind (arith, common_steps)
 
-cancelled-free : (camera id : ℕ) (p : Places) (c i : ℕ) → Free camera id p
-    → Free camera id (cancelled p c i).0 × ((is_clip camera id c i && says_release (cancelled p c i).1) ≡ false)
-cancelled-free camera id p c i h = at (place_of p c i false) (turn_of p c i) refl refl where
-  at : (a b : Option ℕ) → place_of p c i false ≡ a → turn_of p c i ≡ b → Free camera id (cancelled p c i).0
-      × ((is_clip camera id c i && says_release (cancelled p c i).1) ≡ false)
+cancelled-free : (key : SaveKey) (p : Places) (c i : ℕ) → Free key p
+    → Free key (cancelled p c i).0 × ((holds (is_of key) (next_reader p c i) && says_release (cancelled p c i).1) ≡ false)
+cancelled-free key p c i h = at (place_of p c i false) (turn_of p c i) refl refl where
+  at : (a b : Option ℕ) → place_of p c i false ≡ a → turn_of p c i ≡ b → Free key (cancelled p c i).0
+      × ((holds (is_of key) (next_reader p c i) && says_release (cancelled p c i).1) ≡ false)
   at (Some place) b e n =
-      let u = any-update (holds (bears camera id)) (holds (picks c i false)) (in_place with_cancel) p.running place e
-      (cancel-in camera id c i) h.0 in
+      let u = any-update (holds (bears key)) (holds (picks c i false)) (in_place with_cancel) p.running place e
+      (cancel-in key c i) h.0 in
       grind (arith, common_steps)
   at None (Some t) e n =
-      let r = turned-free camera id p c i t n h in
+      let r = turned-free key p c i t n h in
       grind (arith, common_steps)
   at None None e n = grind (arith, common_steps)
 
-stopped-free : (camera id : ℕ) (p : Places) → Free camera id p → Free camera id (stopped p).0
-stopped-free camera id p h = at (position is_some p.running) p.waiting refl refl where
+stopped-free : (key : SaveKey) (p : Places) → Free key p → Free key (stopped p).0
+stopped-free key p h = at (position is_some p.running) p.waiting refl refl where
   at : (a : Option ℕ) (ws : List Save) → position is_some p.running ≡ a → p.waiting ≡ ws
-      → Free camera id (stopped p).0
-  at (Some place) ws e n = let f = freed-free camera id p place h in grind (arith, common_steps)
+      → Free key (stopped p).0
+  at (Some place) ws e n = let f = freed-free key p place h in grind (arith, common_steps)
   at None [] e n = grind (arith, common_steps)
   at None (s ∷ ss) e n = grind (arith, common_steps)
 
-asked-free : (camera id : ℕ) (p : Places) (key : SaveKey) (automatic : Bool) → Free camera id p
-    → Free camera id (asked p key automatic).0
-asked-free camera id p key automatic h = at (position (λ o. not (is_some o)) p.running) refl where
-  at : (a : Option ℕ) → position (λ o. not (is_some o)) p.running ≡ a → Free camera id (asked p key automatic).0
+asked-free : (key : SaveKey) (p : Places) (new : SaveKey) (automatic : Bool) → Free key p
+    → Free key (asked p new automatic).0
+asked-free key p new automatic h = at (position (λ o. not (is_some o)) p.running) refl where
+  at : (a : Option ℕ) → position (λ o. not (is_some o)) p.running ≡ a → Free key (asked p new automatic).0
   at (Some place) e =
-      let put = any-set (holds (bears camera id)) p.running place (Some (new_save key automatic)) h.0
+      let put = any-set (holds (bears key)) p.running place (Some (new_save new automatic)) h.0
       (grind (arith, common_steps)) in
       grind (arith, common_steps)
   at None e = grind (arith, common_steps)
 
-one-step : (camera id : ℕ) (p : Places) (s : SaveStep) → Free camera id p → lets camera id p s ≡ false
-    → Free camera id (stepped p s) × (frees camera id p s ≡ false)
-one-step camera id p (asks key automatic) h n = (asked-free camera id p key automatic h, refl)
-one-step camera id p (ends place end releases) h n =
-    ended-free camera id (with_wish p place end releases) place (wish-free camera id p place end releases h n)
-one-step camera id p (cancels c i) h n = cancelled-free camera id p c i h
-one-step camera id p stops h n = (stopped-free camera id p h, refl)
+one-step : (key : SaveKey) (p : Places) (s : SaveStep) → Free key p → lets key p s ≡ false
+    → Free key (stepped p s) × (frees key p s ≡ false)
+one-step key p (asks new automatic) h n = (asked-free key p new automatic h, refl)
+one-step key p (ends place end releases) h n =
+    ended-free key (with_wish p place end releases) place (wish-free key p place end releases h n)
+one-step key p (cancels c i) h n = cancelled-free key p c i h
+one-step key p stops h n = (stopped-free key p h, refl)
 
-from-free : (camera id : ℕ) (p : Places) (steps : List SaveStep) → Free camera id p → lets_in camera id p steps ≡ false
-    → frees_in camera id p steps ≡ false
-from-free camera id p [] h n = refl
-from-free camera id p (s ∷ ss) h n =
-    let not_now : lets camera id p s ≡ false = grind (arith, common_steps) in
-    let later : lets_in camera id (stepped p s) ss ≡ false = grind (arith, common_steps) in
-    let one = one-step camera id p s h not_now in
-    let rest = from-free camera id (stepped p s) ss one.0 later in
+from-free : (key : SaveKey) (p : Places) (steps : List SaveStep) → Free key p → lets_in key p steps ≡ false
+    → frees_in key p steps ≡ false
+from-free key p [] h n = refl
+from-free key p (s ∷ ss) h n =
+    let not_now : lets key p s ≡ false = grind (arith, common_steps) in
+    let later : lets_in key (stepped p s) ss ≡ false = grind (arith, common_steps) in
+    let one = one-step key p s h not_now in
+    let rest = from-free key (stepped p s) ss one.0 later in
     grind (arith, common_steps)
 
-none-bears : (camera id places : ℕ) → list_any (holds (bears camera id)) (replicate places None) ≡ false
-none-bears camera id zero = refl
-none-bears camera id (suc n) = none-bears camera id n
+none-bears : (key : SaveKey) (places : ℕ) → list_any (holds (bears key)) (replicate places None) ≡ false
+none-bears key zero = refl
+none-bears key (suc n) = none-bears key n
 
-pub releases-earned : (places camera id : ℕ) (steps : List SaveStep) → lets_in camera id (no_saves places) steps ≡ false
-    → frees_in camera id (no_saves places) steps ≡ false
-releases-earned places camera id steps n =
-    from-free camera id (no_saves places) steps (none-bears camera id places, refl) n
+pub releases-earned : (places : ℕ) (key : SaveKey) (steps : List SaveStep) → lets_in key (no_saves places) steps ≡ false
+    → frees_in key (no_saves places) steps ≡ false
+releases-earned places key steps n =
+    from-free key (no_saves places) steps (none-bears key places, refl) n

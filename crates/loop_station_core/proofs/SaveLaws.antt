@@ -1,18 +1,18 @@
--- Clips that are read aren't released by the end of a save, and a save that is withdrawn leaves nothing.
+-- Clips of which there is a save aren't released by the end of another one, and a save that is withdrawn leaves nothing.
 use Rattle.std.proofs.Common.{◌≡◌, ◌++◌, ◌-◌, ℕ, Bool, true, false, not, List, [], ◌∷◌, Option, Some, None, is_some, length, take, refl, ap, length-append, arith}
 use Rattle.std.specs.List.{position}
 use Rattle.std.proofs.lemmas.Grind.{common_steps}
-use Rattle.loop_station_core.specs.Saving.{Places, asked, is_read, left_by, new_save, wanted, withdrawn}
+use Rattle.loop_station_core.specs.Saving.{Places, asked, is_saving, left_by, new_save, wanted, withdrawn}
 use Rattle.loop_station_core.specs.declared.saves.Asked.TheVariants.{Waits}
 use Rattle.loop_station_core.specs.declared.saves.Save.{Save}
 use Rattle.loop_station_core.specs.declared.saves.SaveKey.{SaveKey}
 
-read-waits : (p : Places) (camera id : ℕ) → (wanted p camera id).1 ≡ is_read p camera id
-read-waits p camera id = grind (arith, common_steps)
+saving-waits : (p : Places) (key : SaveKey) → (wanted p key).1 ≡ is_saving p key
+saving-waits p key = grind (arith, common_steps)
 
-pub releases-free : (p : Places) (s : Save) → (left_by p s).1 ≡ true → is_read p s.key.camera s.key.id ≡ false
+pub releases-free : (p : Places) (s : Save) → (left_by p s).1 ≡ true → is_saving p s.key ≡ false
 releases-free p s h =
-    let waits = read-waits p s.key.camera s.key.id in
+    let waits = saving-waits p s.key in
     grind (arith, common_steps)
 
 front : (xs ys : List Save) → take (length xs) (xs ++ ys) ≡ xs

@@ -1,8 +1,10 @@
 -- Which clips may be released, and how many keeps have room.
 use Rattle.std.specs.Int.{div_ceil}
 use Rattle.std.specs.Prelude.{ℕ, ◌+◌, ◌-◌, ◌/◌, ◌^◌, ◌==◌, Bool, Option, Some, None, max, min, if◌then◌else◌}
+use Rattle.loop_station_core.specs.Saving.{is_same}
 use Rattle.loop_station_core.specs.declared.clips.MayRelease.{MayRelease}
 use Rattle.loop_station_core.specs.declared.clips.MayRelease.TheVariants.{Now, Saving, Other}
+use Rattle.loop_station_core.specs.declared.saves.SaveKey.{SaveKey}
 
 -- the clip of an id begins with the frame that an order says
 abbrev pub by_first : ℕ → Option ℕ → MayRelease
@@ -15,6 +17,13 @@ may_release is_read asked first = if is_read then Saving else elim asked [
   | None ↦ Now
   | Some number ↦ by_first number first
 ]
+
+-- what saves release is the clip that has its id by now, if that is the one that was saved
+abbrev pub may_release_saved : Bool → SaveKey → Option SaveKey → MayRelease
+may_release_saved is_read saved None = Other saved.first
+may_release_saved is_read saved (Some clip) = if is_same saved clip
+    then (if is_read then Saving else Now)
+    else Other saved.first
 
 -- how many keeps of so many frames have room, each with a block more than it fills
 abbrev pub keeps_in : ℕ → ℕ → ℕ → ℕ

@@ -8,12 +8,12 @@ use Rattle.loop_station_core.specs.Frames.{Step, after, all_of, come_in, no_fram
 use Rattle.loop_station_core.specs.Gaps.{AreWithin, gaps, missing}
 use Rattle.loop_station_core.specs.Keeps.{AreInOrder, EachTurn, HasTimesOf, IsRight, IsTimely}
 use Rattle.loop_station_core.specs.Orders.{OrderStep, after_all, handed_in, no_orders, taken_in}
-use Rattle.loop_station_core.specs.Clips.{may_release}
+use Rattle.loop_station_core.specs.Clips.{may_release, may_release_saved}
 use Rattle.loop_station_core.specs.Releases.{SaveStep, after_all as all_happened, ended_in, frees_in, lets_in, no_saves, taken_in as saves_taken_in}
 use Rattle.loop_station_core.specs.SaveEnds.{waits_in}
 use Rattle.loop_station_core.specs.Search.{has_gap, mark_at, most, told, turn}
 use Rattle.loop_station_core.specs.Texts.{AllThreeCame, FirstCame, after_steps}
-use Rattle.loop_station_core.specs.Saving.{Places, asked, is_read, left_by, withdrawn}
+use Rattle.loop_station_core.specs.Saving.{Places, asked, is_read, is_saving, left_by, withdrawn}
 use Rattle.loop_station_core.specs.declared.clips.MayRelease.TheVariants.{Now}
 use Rattle.loop_station_core.specs.declared.saves.Asked.TheVariants.{Waits}
 use Rattle.loop_station_core.specs.declared.saves.SaveKey.{SaveKey}
@@ -51,9 +51,9 @@ abbrev pub GapsAddUp : Type 0
 GapsAddUp = (period since until : ℕ) (runs : List Run) → AreWithin since runs until
     → until - since - missing (gaps period since runs until) + missing (gaps period since runs until) ≡ until - since
 
--- A clip is released by the end of a save only where no other save reads it.
+-- A clip is released by the end of a save only where no other save is of it.
 abbrev pub ReleasesAreFree : Type 0
-ReleasesAreFree = (p : Places) (s : Save) → (left_by p s).1 ≡ true → is_read p s.key.camera s.key.id ≡ false
+ReleasesAreFree = (p : Places) (s : Save) → (left_by p s).1 ≡ true → is_saving p s.key ≡ false
 
 -- An order releases a clip only where each save of it that was taken in has ended, and only the clip that it means. So
 -- it is after each list of what happens to saves.
@@ -66,8 +66,17 @@ OrdersSpareReadClips = (places camera id : ℕ) (steps : List SaveStep) (said fi
 -- Saves release a clip only where a save of it that began by itself has come to an end with its text whole, or saved
 -- already, and clips of its camera are released then. So it is of each list of what happens to saves.
 abbrev pub ReleasesAreEarned : Type 0
-ReleasesAreEarned = (places camera id : ℕ) (steps : List SaveStep)
-    → lets_in camera id (no_saves places) steps ≡ false → frees_in camera id (no_saves places) steps ≡ false
+ReleasesAreEarned = (places : ℕ) (key : SaveKey) (steps : List SaveStep)
+    → lets_in key (no_saves places) steps ≡ false → frees_in key (no_saves places) steps ≡ false
+
+-- What is released since it is saved is the very clip that was saved, and only once each save of its id that was taken
+-- in has ended. So a save of a store that was moved away releases no clip of the new one.
+abbrev pub SavedClipsAreReleased : Type 0
+SavedClipsAreReleased = (places : ℕ) (saved : SaveKey) (steps : List SaveStep) (there : Option SaveKey)
+    → let p = no_saves places in
+    may_release_saved (is_read (all_happened p steps) saved.camera saved.id) saved there ≡ Now
+    → (there ≡ Some saved)
+    × (saves_taken_in saved.camera saved.id p steps ≡ ended_in saved.camera saved.id p steps)
 
 -- A save that is withdrawn once it was told to wait leaves all as if it hadn't been asked for.
 abbrev pub WithdrawnSavesLeaveNothing : Type 0

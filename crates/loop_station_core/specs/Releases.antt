@@ -1,7 +1,8 @@
 -- Which clips are released, by what happens to saves one after the other.
-use Rattle.std.specs.Prelude.{ℕ, ◌+◌, ◌==◌, ◌&&◌, ◌||◌, Bool, true, false, List, [], ◌∷◌, Option, Some, None, replicate}
-use Rattle.loop_station_core.specs.Saving.{Places, asked, cancelled, earns, finished, held_at, holds, reads, stopped, with_wish, withdrawn}
+use Rattle.std.specs.Prelude.{ℕ, ◌+◌, ◌==◌, ◌&&◌, ◌||◌, Bool, true, false, List, [], ◌∷◌, Option, Some, None, replicate, slice_get}
+use Rattle.loop_station_core.specs.Saving.{Places, asked, cancelled, earns, finished, held_at, holds, is_of, reads, stopped, turn_of, with_wish, withdrawn}
 use Rattle.loop_station_core.specs.declared.save_end.SaveEnd.{SaveEnd}
+use Rattle.loop_station_core.specs.declared.saves.Save.{Save}
 use Rattle.loop_station_core.specs.declared.saves.SaveKey.{SaveKey}
 use Rattle.loop_station_core.specs.declared.saves.Asked.{Asked}
 use Rattle.loop_station_core.specs.declared.saves.Asked.TheVariants.{Begins, Waits}
@@ -37,27 +38,31 @@ says_release _ = false
 abbrev pub is_clip : ℕ → ℕ → ℕ → ℕ → Bool
 is_clip camera id c i = (c == camera) && (i == id)
 
--- what happens releases the clip of an id of a camera
-abbrev pub frees : ℕ → ℕ → Places → SaveStep → Bool
-frees camera id p (ends place end releases) =
-    holds (reads camera id) (held_at (with_wish p place end releases) place)
+-- the save that waits and reads the clip of an id first
+abbrev pub next_reader : Places → ℕ → ℕ → Option Save
+next_reader p camera id = elim (turn_of p camera id) [ None ↦ None | Some at ↦ slice_get p.waiting at ]
+
+-- what happens releases a clip
+abbrev pub frees : SaveKey → Places → SaveStep → Bool
+frees key p (ends place end releases) =
+    holds (is_of key) (held_at (with_wish p place end releases) place)
     && (finished p place end releases).1.release
-frees camera id p (cancels c i) = is_clip camera id c i && says_release (cancelled p c i).1
-frees camera id p _ = false
+frees key p (cancels c i) = holds (is_of key) (next_reader p c i) && says_release (cancelled p c i).1
+frees key p _ = false
 
 -- a save that began by itself has come to an end with its text whole, or saved already, and that releases its clip
-abbrev pub lets : ℕ → ℕ → Places → SaveStep → Bool
-lets camera id p (ends place end releases) = holds (λ s. reads camera id s && earns s end releases) (held_at p place)
-lets camera id p _ = false
+abbrev pub lets : SaveKey → Places → SaveStep → Bool
+lets key p (ends place end releases) = holds (λ s. is_of key s && earns s end releases) (held_at p place)
+lets key p _ = false
 
 -- the same of each of a list
-abbrev pub frees_in : ℕ → ℕ → Places → List SaveStep → Bool
-frees_in camera id p [] = false
-frees_in camera id p (s ∷ ss) = frees camera id p s || frees_in camera id (stepped p s) ss
+abbrev pub frees_in : SaveKey → Places → List SaveStep → Bool
+frees_in key p [] = false
+frees_in key p (s ∷ ss) = frees key p s || frees_in key (stepped p s) ss
 
-abbrev pub lets_in : ℕ → ℕ → Places → List SaveStep → Bool
-lets_in camera id p [] = false
-lets_in camera id p (s ∷ ss) = lets camera id p s || lets_in camera id (stepped p s) ss
+abbrev pub lets_in : SaveKey → Places → List SaveStep → Bool
+lets_in key p [] = false
+lets_in key p (s ∷ ss) = lets key p s || lets_in key (stepped p s) ss
 
 -- one or none
 abbrev pub one_if : Bool → ℕ

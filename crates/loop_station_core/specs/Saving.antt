@@ -29,11 +29,16 @@ new_save key automatic = record { key = key; automatic = automatic; release = fa
 
 -- two saves are of one clip
 abbrev pub is_same : SaveKey → SaveKey → Bool
-is_same a b = (a.camera == b.camera) && ((a.id == b.id) && (a.first == b.first))
+is_same a b = (a.camera == b.camera) && ((a.id == b.id) && ((a.first == b.first)
+    && ((a.last == b.last) && ((a.tag == b.tag) && (a.time == b.time)))))
 
 -- a save of a clip began by itself, and isn't to end before its text is whole
 abbrev pub saves_itself : SaveKey → Save → Bool
 saves_itself key s = s.automatic && (not s.cancelled && is_same key s.key)
+
+-- it is of a clip
+abbrev pub is_of : SaveKey → Save → Bool
+is_of key s = is_same key s.key
 
 -- it reads the clip of an id
 abbrev pub reads : ℕ → ℕ → Save → Bool
@@ -57,7 +62,7 @@ abbrev pub in_place : (Save → Save) → Option Save → Option Save
 in_place f None = None
 in_place f (Some s) = Some (f s)
 
--- the place in which a save of a clip runs, and where one waits
+-- the place in which a save that reads the clip of an id runs, and where one waits
 abbrev pub place_of : Places → ℕ → ℕ → Bool → Option ℕ
 place_of p camera id any = position (holds (picks camera id any)) p.running
 
@@ -77,20 +82,31 @@ has_automatic p key = is_some (position (holds (saves_itself key)) p.running)
 abbrev pub with_release : Save → Save
 with_release s = record s { release = true }
 
--- A clip is to be released once no save reads it: the first save that reads it bears that. Whether there is one.
-abbrev pub wanted : Places → ℕ → ℕ → Places × Bool
-wanted p camera id = elim (place_of p camera id true) [
+-- the place in which a save of a clip runs, and where one waits
+abbrev pub place_with : Places → SaveKey → Option ℕ
+place_with p key = position (holds (is_of key)) p.running
+
+abbrev pub turn_with : Places → SaveKey → Option ℕ
+turn_with p key = position (is_of key) p.waiting
+
+-- a save of a clip runs or waits
+abbrev pub is_saving : Places → SaveKey → Bool
+is_saving p key = is_some (place_with p key) || is_some (turn_with p key)
+
+-- A clip is to be released once no save is of it: the first save of it bears that. Whether there is one.
+abbrev pub wanted : Places → SaveKey → Places × Bool
+wanted p key = elim (place_with p key) [
   | Some place ↦ (record p { running = update (in_place with_release) place p.running }, true)
-  | None ↦ elim (turn_of p camera id) [
+  | None ↦ elim (turn_with p key) [
     | Some at ↦ (record p { waiting = update with_release at p.waiting }, true)
     | None ↦ (p, false)
   ]
 ]
 
--- what a save that is gone leaves to the others that read its clip; whether the clip is released now
+-- what a save that is gone leaves to the others of its clip; whether the clip is released now
 abbrev pub left_by : Places → Save → Places × Bool
 left_by p s = if s.release
-    then (let w = wanted p s.key.camera s.key.id in (w.0, not w.1))
+    then (let w = wanted p s.key in (w.0, not w.1))
     else (p, false)
 
 -- the first save that waits begins in a free place
@@ -141,7 +157,7 @@ earns s end releases = s.automatic && is_saved end && releases
 abbrev pub with_wish : Places → ℕ → SaveEnd → Bool → Places
 with_wish p place end releases = elim (held_at p place) [
   | None ↦ p
-  | Some s ↦ if earns s end releases then (wanted p s.key.camera s.key.id).0 else p
+  | Some s ↦ if earns s end releases then (wanted p s.key).0 else p
 ]
 
 -- the save of a place has come to its end by itself

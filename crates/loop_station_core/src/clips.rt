@@ -1,7 +1,9 @@
 //! Which clips may be released, and how many keeps have room.
 
 ghost use Rattle.std.specs.Prelude.{◌≡◌};
-ghost use Rattle.loop_station_core.specs.Clips.{keeps_in, may_release};
+ghost use Rattle.loop_station_core.specs.Clips.{keeps_in, may_release, may_release_saved};
+
+use crate::saves::SaveKey;
 
 /// Whether a clip may be released.
 #[derive(Clone, Copy, PartialEq, Eq)]
@@ -26,6 +28,17 @@ pub fn may_release(is_read: bool, asked: Option<u64>, first: Option<u64>) -> May
         (None, _) => MayRelease::Now,
         (Some(asked), Some(first)) if asked == first => MayRelease::Now,
         (Some(asked), _) => MayRelease::Other(asked),
+    }
+}
+
+/// Whether a clip is released now that is saved (`Ended`); `there`: the clip that has its id by now, if one has;
+/// `is_read`: a save reads that one.
+pub fn may_release_saved(is_read: bool, saved: SaveKey, there: Option<SaveKey>) -> MayRelease
+    ensures { result ≡ may_release_saved is_read saved there }
+{
+    match there {
+        Some(clip) if saved.is_same(&clip) => may_release(is_read, None, Some(clip.first)),
+        _ => MayRelease::Other(saved.first),
     }
 }
 

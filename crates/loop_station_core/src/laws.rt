@@ -1,6 +1,6 @@
 //! What holds over any list of events. Each function does nothing: its contract is the law.
 
-ghost use Rattle.loop_station_core.specs.Laws.{DisksAreToldOnce, FilmingsGoOn, FoundGapsAreSo, FramesAddUp, GapsAddUp, GapsAreLookedFor, KeepsAreRight, LinesAreSo, LockedLinesAlternate, LostAreToldOnce, MovedStoresAreLeft, OrdersAreAnsweredOnce, OrdersAreHandedOut, OrdersSpareReadClips, ReleasesAreEarned, ReleasesAreFree, SavedTextsAreThere, SavesWaitOnce, SilentSourcesWait, StopsAreForGood, WithdrawnSavesLeaveNothing};
+ghost use Rattle.loop_station_core.specs.Laws.{DisksAreToldOnce, FilmingsGoOn, FoundGapsAreSo, FramesAddUp, GapsAddUp, GapsAreLookedFor, KeepsAreRight, LinesAreSo, LockedLinesAlternate, LostAreToldOnce, MovedStoresAreLeft, OrdersAreAnsweredOnce, OrdersAreHandedOut, OrdersSpareReadClips, ReleasesAreEarned, ReleasesAreFree, SavedClipsAreReleased, SavedTextsAreThere, SavesWaitOnce, SilentSourcesWait, StopsAreForGood, WithdrawnSavesLeaveNothing};
 ghost use Rattle.loop_station_core.specs.Marks.{MarksAreRead};
 ghost use Rattle.loop_station_core.specs.Retries.{RetriesAreDue};
 ghost use Rattle.loop_station_core.specs.Timing.{GapsAreToldApart, TimesRise};
@@ -52,7 +52,7 @@ pub fn saved_texts_are_there()
     ensures { SavedTextsAreThere }
 {}
 
-/// A clip is released by the end of a save only where no other save reads it.
+/// A clip is released by the end of a save only where no other save is of it.
 pub fn releases_are_free()
     ensures { ReleasesAreFree }
 {}
@@ -66,6 +66,12 @@ pub fn orders_spare_read_clips()
 /// then.
 pub fn releases_are_earned()
     ensures { ReleasesAreEarned }
+{}
+
+/// What is released since it is saved is the very clip that was saved, and not one of another store, with the same id
+/// and the same number. Each save of its id has ended then.
+pub fn saved_clips_are_released()
+    ensures { SavedClipsAreReleased }
 {}
 
 /// A save that is withdrawn once it was told to wait takes no place.

@@ -56,7 +56,7 @@ pub use camera::{Act, Camera, Event, FilmingEvent, SourceEvent};
 pub use changes::{
     Change, Changes, DiskSeen, KINDS, NOT_THERE_YET, Reported, Seen, SourceSeen, StoreSeen,
 };
-pub use clips::{MayRelease, keeps_in, may_release};
+pub use clips::{MayRelease, keeps_in, may_release, may_release_saved};
 pub use growth::{
     EventEnd, GrowthTurn, KeptAnswer, OpenEvent, event_end, is_saved_at_start, kept_answer,
     next_growth,

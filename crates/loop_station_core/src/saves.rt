@@ -2,18 +2,22 @@
 
 ghost use Rattle.std.specs.Prelude.{◌≡◌, ◌≢◌, ◌++◌, ◌∷◌, if◌then◌else◌, ◌<◌, ◌==◌, IfOk, IfSome, Some, None, is_some, not, length, replicate, [], true, false};
 ghost use Rattle.std.specs.List.{position};
-ghost use Rattle.loop_station_core.specs.Saving.{asked, begun, cancelled, cancelled_at, ended, finished, has_automatic, held_at, holds, is_read, is_same, left_by, picks, reads, saves_itself, shown, stopped, wanted, with_wish, withdrawn};
+ghost use Rattle.loop_station_core.specs.Saving.{asked, begun, cancelled, cancelled_at, ended, finished, has_automatic, held_at, holds, is_of, is_read, is_same, left_by, picks, reads, saves_itself, shown, stopped, wanted, with_wish, withdrawn};
 ghost use Rattle.loop_station_core.specs.declared.saves.Asked.TheVariants.{NoMemory, Waits};
 
 use crate::save_end::{SaveEnd, is_saved};
 use std::alloc::{AllocError, Global};
 
-/// The clip of a save: its camera, its id, and the number of its first frame.
+/// The clip of a save: its camera, its id, the numbers of its first and its last frame, its tag, and when its first
+/// frame came. After a store was moved away, a clip of the new one may have the same numbers, but another time.
 #[derive(Clone, Copy)]
 pub struct SaveKey {
     pub camera: usize,
     pub id: u32,
     pub first: u64,
+    pub last: u64,
+    pub tag: u64,
+    pub time: u64,
 }
 
 impl SaveKey {
@@ -21,7 +25,12 @@ impl SaveKey {
     pub fn is_same(&self, other: &SaveKey) -> bool
         ensures { result ≡ is_same self.now other.now }
     {
-        self.camera == other.camera && self.id == other.id && self.first == other.first
+        self.camera == other.camera
+            && self.id == other.id
+            && self.first == other.first
+            && self.last == other.last
+            && self.tag == other.tag
+            && self.time == other.time
     }
 }
 
@@ -122,7 +131,7 @@ fn waiting_itself(waiting: &[Save], key: SaveKey) -> Option<usize>
     waiting.iter().position(|save| saves_itself(save, key))
 }
 
-// The first place whose save reads a clip; `any`: also one that is to end already.
+// The first place whose save reads the clip of an id; `any`: also one that is to end already.
 fn running_at(running: &[Option<Save>], camera: usize, id: u32, any: bool) -> Option<usize>
     ensures place { result ≡ position (holds (picks camera id any)) running.now }
     ensures bound { IfSome result (λ i. i < length running.now) }
@@ -133,7 +142,26 @@ fn running_at(running: &[Option<Save>], camera: usize, id: u32, any: bool) -> Op
     })
 }
 
-// The first save that waits and reads a clip.
+// The first place whose save is of a clip.
+fn running_of(running: &[Option<Save>], key: SaveKey) -> Option<usize>
+    ensures place { result ≡ position (holds (is_of key)) running.now }
+    ensures bound { IfSome result (λ i. i < length running.now) }
+{
+    running.iter().position(|place| match place {
+        Some(save) => key.is_same(&save.key),
+        None => false,
+    })
+}
+
+// The first save that waits and is of a clip.
+fn waiting_of(waiting: &[Save], key: SaveKey) -> Option<usize>
+    ensures place { result ≡ position (is_of key) waiting.now }
+    ensures bound { IfSome result (λ i. i < length waiting.now) }
+{
+    waiting.iter().position(|save| key.is_same(&save.key))
+}
+
+// The first save that waits and reads the clip of an id.
 fn waiting_at(waiting: &[Save], camera: usize, id: u32) -> Option<usize>
     ensures place { result ≡ position (reads camera id) waiting.now }
     ensures bound { IfSome result (λ i. i < length waiting.now) }
@@ -259,7 +287,7 @@ impl Saves {
         if let Some(save) = self.held(place) {
             if save.automatic && is_saved(end) && releases {
                 // The end of the last save that reads the clip says when.
-                let _later = self.wants_release(save.key.camera, save.key.id);
+                let _later = self.wants_release(save.key);
             }
         }
     }
@@ -280,7 +308,7 @@ impl Saves {
         ensures { (shown self.new, result) ≡ left_by (shown self.old) save }
     {
         if save.release {
-            return !self.wants_release(save.key.camera, save.key.id);
+            return !self.wants_release(save.key);
         }
         false
     }
@@ -313,18 +341,18 @@ impl Saves {
             || waiting_at(&self.waiting, camera, id).is_some()
     }
 
-    // A clip is to be released. Returns whether that waits for the saves that read it: then the end of the last one
-    // says so (`Ended`). Otherwise it is released now.
-    fn wants_release(&mut self, camera: usize, id: u32) -> bool
-        ensures { (shown self.new, result) ≡ wanted (shown self.old) camera id }
+    // A clip is to be released. Returns whether that waits for the saves of it: then the end of the last one says so
+    // (`Ended`). Otherwise it is released now.
+    fn wants_release(&mut self, key: SaveKey) -> bool
+        ensures { (shown self.new, result) ≡ wanted (shown self.old) key }
     {
-        if let Some(place) = running_at(&self.running, camera, id, true) {
+        if let Some(place) = running_of(&self.running, key) {
             if let Some(save) = &mut self.running[place] {
                 save.release = true;
             }
             return true;
         }
-        if let Some(at) = waiting_at(&self.waiting, camera, id) {
+        if let Some(at) = waiting_of(&self.waiting, key) {
             self.waiting[at].release = true;
             return true;
         }

@@ -4,7 +4,7 @@
 use crate::absent::Absent;
 use crate::answering::{Answering, NotTaken};
 use circular_buffer::HeapCircularBuffer;
-use loop_station_core::{AddedOrder, Attended, MOST_ORDERS, Orders};
+use loop_station_core::{AddedOrder, Attended, MOST_ORDERS, Orders, SaveKey};
 use std::alloc::{AllocError, Global};
 use std::sync::{Arc, Mutex, Wait};
 
@@ -15,6 +15,8 @@ pub(crate) enum Request {
     Keep(AskedKeep),
     /// Unlock the clip of an id, if its first frame has this number, where one is given.
     Release(u32, Option<u64>),
+    /// Unlock a clip that is saved, if it is still the one that has its id.
+    ReleaseSaved(SaveKey),
     /// Find the clip of an id, which is to be written to a path; a file that exists is replaced, or isn't.
     Save(u32, String, bool),
     /// End a save of the clip of an id.

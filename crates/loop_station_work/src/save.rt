@@ -16,9 +16,9 @@ use crate::answering::{Answering, KeptClip, SaveOrder};
 use crate::clerk::FoundClip;
 use crate::places::Places;
 use crate::state::CameraState;
+use loop_station_core::laws::withdrawn_saves_leave_nothing;
 use loop_station_core::{Asked, Cancelled, Retries, SaveEnd, SaveKey, SaveLine, after_save};
 use loop_station_words::Lines;
-use loop_store::Clip;
 pub use not_saved::NotSaved;
 use std::alloc::{AllocError, AllocGlobal, Global};
 use std::sync::atomic::{AtomicBool, Ordering};
@@ -62,18 +62,9 @@ impl Save {
         self.camera
     }
 
-    /// The clip that it writes.
-    pub fn clip(&self) -> Clip {
-        self.found.clip
-    }
-
-    // The clip that it reads, as loop_station_core names it.
-    fn key(&self) -> SaveKey {
-        SaveKey {
-            camera: self.camera,
-            id: self.found.clip.id,
-            first: self.found.clip.from,
-        }
+    /// The clip that it reads, as loop_station_core names it.
+    pub fn key(&self) -> SaveKey {
+        self.found.key(self.camera)
     }
 
     // Whether it begins by itself.
@@ -310,9 +301,13 @@ enum NotBegun {
 }
 
 impl Inside {
-    // Asks for a place for a save: it begins there, or waits for one. Where it does neither, no place is taken for it:
-    // by `Saves::ask` of loop_station_core, and its law of saves that are withdrawn.
-    fn ask(&mut self, save: Arc<Save>) -> Result<(), NotBegun> {
+    // Asks for a place for a save: it begins there, or waits for one. Where it does neither, nothing is changed, and so
+    // no place is taken for it.
+    fn ask(&mut self, save: Arc<Save>) -> Result<(), NotBegun>
+        ensures refused { IfErr result (λ why. shown self.new.decided ≡ shown self.old.decided) }
+    {
+        // A save that is told to wait, and for which there is no memory, is withdrawn: that leaves nothing of it.
+        withdrawn_saves_leave_nothing();
         match self.decided.ask(save.key(), save.is_automatic()) {
             Asked::Begins(place) => {
                 self.put(place, save);
@@ -490,7 +485,7 @@ fn run_save<R: AllocGlobal + Places + Wait + Clock>(
         tell_save(rt, saves, state, ours, path.as_str(), came);
     }
     if is_released {
-        state.release_saved(rt, save.found.clip);
+        state.release_saved(rt, save.key());
     }
 }
 

@@ -20,7 +20,8 @@ use loop_disk::Disk;
 use loop_pipeline::{Back, Guide, Link, LostFrame, Visits};
 use loop_record::Geometry;
 use loop_station_core::{
-    Act, EventEnd, FilmingEvent, Keep, MayRelease, OpenEvent, Run, Tally, event_end, may_release,
+    Act, EventEnd, FilmingEvent, Keep, MayRelease, OpenEvent, Run, SaveKey, Tally, event_end,
+    may_release, may_release_saved,
 };
 use loop_station_words::{CameraConfig, Lines, micros_of};
 use loop_store::{Clip, ReadFrame, StoreFault};
@@ -166,6 +167,21 @@ impl CameraState {
         }
     }
 
+    /// Whether a clip is released now that is saved; `there`: the clip that has its id by now, if one has.
+    pub(crate) fn may_release_saved<R: Wait>(
+        &self,
+        rt: &R,
+        saved: SaveKey,
+        there: Option<FoundClip>,
+    ) -> MayRelease {
+        let is_read = self.saves.reads(rt, self.place, saved.id);
+        let there = match there {
+            Some(found) => Some(found.key(self.place)),
+            None => None,
+        };
+        may_release_saved(is_read, saved, there)
+    }
+
     /// The clips of a keep, for the saves that begin by themselves. None where the camera has no folder for them, or
     /// memory is refused.
     pub(crate) fn kept_clips(&self, alloc: Global, found: &[FoundClip]) -> Option<Vec<KeptClip>> {
@@ -217,7 +233,7 @@ impl CameraState {
             Some((save, is_released)) => {
                 tell_ended(rt, self, &save, NotSaved::Cancelled);
                 if is_released {
-                    self.release_saved(rt, save.clip());
+                    self.release_saved(rt, save.key());
                 }
                 true
             }
@@ -297,7 +313,7 @@ impl CameraState {
     }
 
     /// A clip is released, since it is saved. An answer that can't be given is none that anybody waits for.
-    pub(crate) fn release_saved<R: Wait>(&self, rt: &R, clip: Clip) {
+    pub(crate) fn release_saved<R: Wait>(&self, rt: &R, saved: SaveKey) {
         let Ok(answering) = Answering::new(self.alloc, None, 0, 1) else {
             return;
         };
@@ -305,7 +321,7 @@ impl CameraState {
             return;
         };
         let job = Job {
-            request: Request::Release(clip.id, Some(clip.from)),
+            request: Request::ReleaseSaved(saved),
             answering,
             place: 0,
         };

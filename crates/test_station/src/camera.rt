@@ -227,7 +227,7 @@ impl Camera {
             !self.life.films(1, 0),
             "the filming into a store that was moved away ends",
         );
-        self.store_rest(judge);
+        self.store_rest(judge, now);
         self.give_up_rest(now);
         self.happens(FilmingEvent::End(false), Act::MakeAnew);
         self.happens(FilmingEvent::Leave, Act::MakeAnew);
@@ -238,9 +238,10 @@ impl Camera {
     }
 
     // All that comes to the desk is stored, up to the first frame for which there is no block.
-    fn store_rest(&mut self, judge: &mut Judge) {
+    fn store_rest(&mut self, judge: &mut Judge, now: u64) {
         for _ in self.brought..self.taken {
             self.bring(judge, false);
+            self.moves_on(now);
         }
         let mut count = 0u32;
         for _ in 0..self.desk.len() {
@@ -252,6 +253,7 @@ impl Camera {
         self.tally = self.tally.store(count);
         if count > 0 {
             self.happens(FilmingEvent::Store(count), Act::GoOn);
+            self.moves_on(now);
         }
     }
 

@@ -1,7 +1,7 @@
 //! The orders that wait for a camera, beside a plain count of those that came.
 
 use crate::judge::Judge;
-use loop_station_core::{AddedOrder, MOST_ORDERS, Orders};
+use loop_station_core::{AddedOrder, MOST_ORDERS, Orders, SaveKey};
 use std::alloc::Global;
 
 /// What an order asks for of the clip of an id.
@@ -9,6 +9,8 @@ use std::alloc::Global;
 pub enum Wish {
     /// It is released, if it begins with this frame, where one is said.
     Release(u32, Option<u64>),
+    /// It is released, since it is saved; this is the file of its store. Nobody waits for that.
+    ReleaseSaved(SaveKey, u64),
     Save(u32),
     Cancel(u32),
 }

@@ -10,6 +10,9 @@ use std::alloc::{AllocError, Global};
 // After how many microseconds a save that failed is tried again.
 const MINUTE: u64 = 60_000_000;
 
+// The tag of the first camera's clips.
+const OWN_TAG: u64 = 7;
+
 /// A save that was asked for and hasn't ended.
 #[derive(Clone, Copy)]
 pub struct Asking {
@@ -32,14 +35,23 @@ pub struct Saving {
     places: usize,
 }
 
-// Whether a save reads a clip.
+// Whether a save reads the clip of an id, of whatever store.
 fn reads(asking: &Asking, camera: usize, id: u32) -> bool {
     asking.key.camera == camera && asking.key.id == id
 }
 
-// Whether two clips are the same.
+// Whether a save is of a clip of a store.
+fn is_of(asking: &Asking, key: &SaveKey, file: u64) -> bool {
+    asking.file == file && is_same(&asking.key, key)
+}
+
+// Whether two clips of a store are the same.
 fn is_same(a: &SaveKey, b: &SaveKey) -> bool {
-    a.camera == b.camera && a.id == b.id && a.first == b.first
+    a.camera == b.camera
+        && a.id == b.id
+        && a.first == b.first
+        && a.last == b.last
+        && a.tag == b.tag
 }
 
 impl Saving {
@@ -89,10 +101,33 @@ impl Saving {
         false
     }
 
-    // Whether a clip is to be released once no save reads it.
-    fn is_wanted(&self, camera: usize, id: u32) -> bool {
+    /// Whether there is a save of a clip of a store, as the list has it.
+    pub fn has_save(&self, key: &SaveKey, file: u64) -> bool {
         for asking in self.list.as_slice() {
-            if reads(asking, camera, id) && asking.wanted {
+            if is_of(asking, key, file) {
+                return true;
+            }
+        }
+        false
+    }
+
+    // Whether a clip of a store is being saved by itself, or waits for that. The core says the same.
+    fn has_automatic(&self, judge: &mut Judge, key: SaveKey, file: u64) -> bool {
+        let mut is_there = false;
+        for asking in self.list.as_slice() {
+            is_there = is_there || asking.automatic && !asking.cancelled && is_of(asking, &key, file);
+        }
+        judge.holds(
+            self.core.has_automatic(key) == is_there,
+            "a clip is saved by itself once at a time, and one of another store for itself",
+        );
+        is_there
+    }
+
+    // Whether a clip of a store is to be released once no save is of it.
+    fn is_wanted(&self, key: &SaveKey, file: u64) -> bool {
+        for asking in self.list.as_slice() {
+            if is_of(asking, key, file) && asking.wanted {
                 return true;
             }
         }
@@ -139,7 +174,7 @@ impl Saving {
             self.core.withdraw();
             return false;
         }
-        let wanted = self.is_wanted(key.camera, key.id);
+        let wanted = self.is_wanted(&key, file);
         let asking = Asking {
             key,
             place: free,
@@ -163,8 +198,9 @@ impl Saving {
     ) -> u64 {
         let mut count = 0u64;
         for clip in clips {
-            if clip.unsaved && !self.is_read(judge, camera, clip.id) {
-                let is_taken = self.ask(judge, key_of(camera, clip), true, file, lacks);
+            let key = key_of(camera, clip);
+            if clip.unsaved && !self.has_automatic(judge, key, file) {
+                let is_taken = self.ask(judge, key, true, file, lacks);
                 judge.holds(is_taken || lacks, "an automatic save is never refused");
                 count = count.saturating_add(u64::from(is_taken));
             }
@@ -193,11 +229,11 @@ impl Saving {
         let Some(asking) = self.removed(at) else {
             return false;
         };
-        let release = asking.wanted && !self.has_reader(asking.key.camera, asking.key.id);
+        let release = asking.wanted && !self.has_save(&asking.key, asking.file);
         let ended = self.core.finish(place, end, releases);
         judge.holds(
             ended.release == release,
-            "the last save that reads a clip releases it, if that is wanted",
+            "the last save of a clip releases it, if that is wanted",
         );
         self.begins(judge, place, ended.begun);
         release
@@ -208,11 +244,11 @@ impl Saving {
         let Some(asking) = self.list.get(at) else {
             return;
         };
-        let (key, automatic) = (asking.key, asking.automatic);
+        let (key, file, automatic) = (asking.key, asking.file, asking.automatic);
         let is_saved = end == SaveEnd::Whole || end == SaveEnd::Already;
         if automatic && is_saved && releases {
             for asking in self.list.iter_mut() {
-                if reads(asking, key.camera, key.id) {
+                if is_of(asking, &key, file) {
                     asking.wanted = true;
                 }
             }
@@ -293,7 +329,7 @@ impl Saving {
             asking.place.is_none(),
             "a save that runs is cancelled before one that waits",
         );
-        let due = asking.wanted && !self.has_reader(asking.key.camera, asking.key.id);
+        let due = asking.wanted && !self.has_save(&asking.key, asking.file);
         judge.holds(
             release == due,
             "a cancelled save that was the last releases its clip, if that is wanted",
@@ -364,11 +400,14 @@ fn is_right(answer: Asked, free: Option<usize>, automatic: bool) -> bool {
     }
 }
 
-/// The save of a clip.
+/// The save of a clip. All clips of the first camera have one tag, and those of the others that of their event.
 pub fn key_of(camera: usize, clip: &Clip) -> SaveKey {
     SaveKey {
         camera,
         id: clip.id,
         first: clip.from,
+        last: clip.to,
+        tag: if camera == 0 { OWN_TAG } else { clip.event },
+        time: clip.time,
     }
 }

@@ -24,6 +24,8 @@ pub struct Clip {
     pub event: u64,
     pub from: u64,
     pub to: u64,
+    /// When its first frame came.
+    pub time: u64,
     /// It is to be saved, and isn't yet.
     pub unsaved: bool,
 }
@@ -199,10 +201,21 @@ impl Store {
             event,
             from: span.from,
             to: span.to,
+            time: self.time_of(span.from),
             unsaved: false,
         };
         judge.put(&mut self.clips, clip);
         true
+    }
+
+    // When the frame of a number came.
+    fn time_of(&self, number: u64) -> u64 {
+        for frame in self.held.as_slice() {
+            if frame.number == number {
+                return frame.time;
+            }
+        }
+        0
     }
 
     // The least id that no clip has.

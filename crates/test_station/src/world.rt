@@ -180,6 +180,8 @@ impl Station {
         };
         if camera.source == SourceSeen::On {
             for _ in 0..count {
+                // No two frames have one time.
+                self.now = self.now.saturating_add(1);
                 camera.gives(&mut self.judge, self.now);
             }
         }
@@ -353,7 +355,12 @@ impl Station {
             "a clip that a save reads is there, and the one that was asked for",
         );
         let end = if !is_there {
-            SaveEnd::Final
+            // All may have been read before its store was moved away, and the folder may be slow.
+            match self.random.below(8) {
+                0 => SaveEnd::Final,
+                1 if !asking.cancelled => SaveEnd::Whole,
+                _ => return,
+            }
         } else if asking.cancelled {
             camera.store.mark_saved(id);
             SaveEnd::Final
@@ -372,7 +379,7 @@ impl Station {
             .saving
             .finish(&mut self.judge, place, end, camera.releases)
         {
-            self.release(camera, id, first);
+            self.release(camera, asking.key, asking.file);
         }
     }
 

@@ -6,7 +6,7 @@ use crate::keeping::Waiting;
 use crate::ordering::Wish;
 use crate::saving::key_of;
 use crate::store::MOST_CLIPS;
-use loop_station_core::{MayRelease, may_release};
+use loop_station_core::{MayRelease, SaveKey, may_release, may_release_saved};
 
 impl Station {
     // An order comes to a camera. One that isn't taken in is answered at once.
@@ -22,6 +22,7 @@ impl Station {
     pub(super) fn order_turns(&mut self, camera: &mut Camera) {
         match camera.orders.take(&mut self.judge) {
             Some(Wish::Release(id, asked)) => self.release_ordered(camera, id, asked),
+            Some(Wish::ReleaseSaved(saved, file)) => self.release_saved(camera, saved, file),
             Some(Wish::Save(id)) => self.save_ordered(camera, id),
             Some(Wish::Cancel(id)) => self.cancel_ordered(camera, id),
             None => {}
@@ -100,16 +101,44 @@ impl Station {
             camera.store.mark_saved(id);
         }
         if is_released {
-            self.release(camera, id, asking.key.first);
+            self.release(camera, asking.key, asking.file);
         }
     }
 
-    // A clip is released, since it is saved and no save reads it: by an order, which nobody waits for.
-    pub(super) fn release(&mut self, camera: &mut Camera, id: u32, first: u64) {
-        let is_read = self.saving.is_read(&mut self.judge, camera.place, id);
+    // A clip of a store is released, since it is saved and no save is of it: by an order, which nobody waits for.
+    pub(super) fn release(&mut self, camera: &mut Camera, saved: SaveKey, file: u64) {
+        let has_save = self.saving.has_save(&saved, file);
         self.judge
-            .holds(!is_read, "a clip that is read isn't released");
-        self.order(camera, Wish::Release(id, Some(first)));
+            .holds(!has_save, "a clip of which there is a save isn't released");
+        self.order(camera, Wish::ReleaseSaved(saved, file));
+    }
+
+    // A clip that was saved is released, if it is still there.
+    fn release_saved(&mut self, camera: &mut Camera, saved: SaveKey, file: u64) {
+        let is_read = self
+            .saving
+            .is_read(&mut self.judge, camera.place, saved.id);
+        let there = match camera.store.clip(saved.id) {
+            Some(clip) => Some(key_of(camera.place, &clip)),
+            None => None,
+        };
+        let is_there = match there {
+            Some(clip) => {
+                file == camera.file
+                    && clip.first == saved.first
+                    && clip.last == saved.last
+                    && clip.tag == saved.tag
+            }
+            None => false,
+        };
+        let may = may_release_saved(is_read, saved, there) == MayRelease::Now;
+        self.judge.holds(
+            may == (is_there && !is_read),
+            "the clip that was saved is released, and none of another store",
+        );
+        if may {
+            camera.store.unlock(saved.id);
+        }
     }
 
     // A camera's disk fails: its store is opened again later.
