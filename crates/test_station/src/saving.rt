@@ -47,11 +47,7 @@ fn is_of(asking: &Asking, key: &SaveKey, file: u64) -> bool {
 
 // Whether two clips of a store are the same.
 fn is_same(a: &SaveKey, b: &SaveKey) -> bool {
-    a.camera == b.camera
-        && a.id == b.id
-        && a.first == b.first
-        && a.last == b.last
-        && a.tag == b.tag
+    a.camera == b.camera && a.id == b.id && a.first == b.first && a.last == b.last && a.tag == b.tag
 }
 
 impl Saving {
@@ -115,7 +111,8 @@ impl Saving {
     fn has_automatic(&self, judge: &mut Judge, key: SaveKey, file: u64) -> bool {
         let mut is_there = false;
         for asking in self.list.as_slice() {
-            is_there = is_there || asking.automatic && !asking.cancelled && is_of(asking, &key, file);
+            is_there = is_there
+                || asking.automatic && !asking.cancelled && is_of(asking, &key, file);
         }
         judge.holds(
             self.core.has_automatic(key) == is_there,

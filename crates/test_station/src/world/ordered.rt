@@ -108,16 +108,13 @@ impl Station {
     // A clip of a store is released, since it is saved and no save is of it: by an order, which nobody waits for.
     pub(super) fn release(&mut self, camera: &mut Camera, saved: SaveKey, file: u64) {
         let has_save = self.saving.has_save(&saved, file);
-        self.judge
-            .holds(!has_save, "a clip of which there is a save isn't released");
+        self.judge.holds(!has_save, "a clip of which there is a save isn't released");
         self.order(camera, Wish::ReleaseSaved(saved, file));
     }
 
     // A clip that was saved is released, if it is still there.
     fn release_saved(&mut self, camera: &mut Camera, saved: SaveKey, file: u64) {
-        let is_read = self
-            .saving
-            .is_read(&mut self.judge, camera.place, saved.id);
+        let is_read = self.saving.is_read(&mut self.judge, camera.place, saved.id);
         let there = match camera.store.clip(saved.id) {
             Some(clip) => Some(key_of(camera.place, &clip)),
             None => None,
