@@ -11,8 +11,9 @@ use Rattle.loop_record.specs.declared.segment.SegmentHead.{SegmentHead}
 use Rattle.loop_record.proofs.TestFacts.{at_most, at_most_test, clash, untrue}
 use Rattle.loop_record.proofs.NumberOrder.{Among}
 use Rattle.loop_record.specs.declared.image.Found.{Found}
+use Rattle.loop_record.specs.Reading.{put_before}
 use Rattle.loop_ring.specs.Entries.{IsIndexed}
-use Rattle.loop_ring.specs.Heads.{found_at, in_order, put_before, floor_block, free_block, has_frame, held_block, is_free}
+use Rattle.loop_ring.specs.Heads.{found_at, in_order, floor_block, free_block, has_frame, held_block, is_free}
 use Rattle.loop_ring.proofs.VictimByHeads.{among-filter, filter-among, greatest, least, none-greatest, none-least}
 use Rattle.loop_ring.proofs.IndexOrder.{IsOpen, blocks-rise, entry-there, there-entry}
 use Rattle.loop_ring.proofs.SegmentOrder.{count-put}
@@ -282,14 +283,14 @@ from-entries heads (Some h ∷ hs) j b same = go (ltb 0 h.frames) refl (leb b h.
     here = let first : j ≡ j + 0 = omega arith in ap (λ (n : ℕ). get_or heads n None) first ∙ same 0
 
     front : (t u : Bool) → ltb 0 h.frames ≡ t → leb b h.block ≡ u
-        → count_by (is_from heads b) (put_before (λ t. leb h.block t.block) (found_at j h) rest) ≡ mark (t && u) + count_by (is_from heads b) rest
+        → count_by (is_from heads b) (put_before (λ (t : Found). leb h.block t.block) (found_at j h) rest) ≡ mark (t && u) + count_by (is_from heads b) rest
     front t u has is = count-put (is_from heads b) _ (found_at j h) rest
         ∙ ap (λ (o : Option SegmentHead). mark (has_frame o && leb b h.block) + count_by (is_from heads b) rest) here
         ∙ (λ i. mark (has i && is i) + count_by (is_from heads b) rest)
 
     go : (t : Bool) → ltb 0 h.frames ≡ t → (u : Bool) → leb b h.block ≡ u
         → count_by (is_from heads b) rest ≡ count_by (leb b) blocks
-        → count_by (is_from heads b) (put_before (λ t. leb h.block t.block) (found_at j h) rest) ≡ count_by (leb b)
+        → count_by (is_from heads b) (put_before (λ (t : Found). leb h.block t.block) (found_at j h) rest) ≡ count_by (leb b)
         (cons_option (cond t (Some h.block) None) blocks)
     go false has u is ih = omega (arith, front false u has is, ih)
     go true has true is ih =

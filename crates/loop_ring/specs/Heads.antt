@@ -7,6 +7,7 @@ use Rattle.loop_record.specs.declared.image.Found.{Found}
 use Rattle.loop_record.specs.declared.segment.SegmentHead.{SegmentHead}
 use Rattle.loop_record.specs.Geometry.{segment_at}
 use Rattle.loop_record.specs.Layout.{header_at}
+use Rattle.loop_record.specs.Reading.{put_before}
 use Rattle.loop_record.specs.Recording.{Ring, meets}
 
 -- what the header of each segment says
@@ -34,18 +35,13 @@ has_number slots number (Some head) = (head.block == number / slots) && nat_lt (
 abbrev pub found_at : ℕ → SegmentHead → Found
 found_at j h = record { segment = j; block = h.block; frames = h.frames }
 
--- a segment before the first of these that passes a test, or last
-abbrev pub put_before : (Found → Bool) → Found → List Found → List Found
-put_before p f [] = f ∷ []
-put_before p f (t ∷ ts) = if p t then f ∷ t ∷ ts else t ∷ put_before p f ts
-
 -- the open ones of the segments numbered from j on, in the order of their blocks; those of one block in the order in
 -- which they lie on the disk
 abbrev pub in_order : ℕ → List (Option SegmentHead) → List Found
 in_order j [] = []
 in_order j (None ∷ heads) = in_order (j + 1) heads
 in_order j (Some head ∷ heads) =
-    put_before (λ t. nat_le head.block t.block) (found_at j head) (in_order (j + 1) heads)
+    put_before (λ (t : Found). nat_le head.block t.block) (found_at j head) (in_order (j + 1) heads)
 
 -- ---- the block that goes
 

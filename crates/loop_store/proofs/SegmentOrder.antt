@@ -7,10 +7,10 @@ use Rattle.loop_record.specs.declared.segment.SegmentHead.{SegmentHead}
 use Rattle.loop_record.specs.Geometry.{segment_at}
 use Rattle.loop_record.specs.Layout.{Segment, header_at, is_open, segment_in, whole_frames}
 use Rattle.loop_record.specs.Plain.{AreIn, IsIn, segment_of, segments_of}
-use Rattle.loop_record.specs.Reading.{by_block, in_place, open_segments}
+use Rattle.loop_record.specs.Reading.{by_block, in_place, open_segments, put_before}
 use Rattle.loop_record.specs.Parts.{parts_of}
 use Rattle.byteorder.specs.Endian.{little_from}
-use Rattle.loop_ring.specs.Heads.{found_at, heads_of, in_order, put_before}
+use Rattle.loop_ring.specs.Heads.{found_at, heads_of, in_order}
 use Rattle.loop_ring.proofs.SegmentOrder.{Each, order-each}
 use Rattle.loop_store.specs.Found.{IsHeadIn}
 
@@ -37,13 +37,13 @@ segment-said g image j = go (is_open image (segment_at g j))
     go false = refl
 
 put-in_place : (g : Geometry) (image : List ℕ) (f : Found) (fs : List Found)
-    → segments_of g image (put_before (λ t. leb f.block t.block) f fs) ≡ in_place (segment_of g image f) (segments_of g image fs)
+    → segments_of g image (put_before (λ (t : Found). leb f.block t.block) f fs) ≡ in_place (segment_of g image f) (segments_of g image fs)
 put-in_place g image f [] = refl
 put-in_place g image f (x ∷ xs) = go (leb f.block x.block) (put-in_place g image f xs)
   where
-    go : (t : Bool) → segments_of g image (put_before (λ t. leb f.block t.block) f xs) ≡ in_place (segment_of g image f)
+    go : (t : Bool) → segments_of g image (put_before (λ (t : Found). leb f.block t.block) f xs) ≡ in_place (segment_of g image f)
         (segments_of g image xs)
-        → segments_of g image (cond t (f ∷ x ∷ xs) (x ∷ put_before (λ t. leb f.block t.block) f xs)) ≡
+        → segments_of g image (cond t (f ∷ x ∷ xs) (x ∷ put_before (λ (t : Found). leb f.block t.block) f xs)) ≡
         cond t (segment_of g image f ∷ segment_of g image x ∷ segments_of g image xs)
         (segment_of g image x ∷ in_place (segment_of g image f) (segments_of g image xs))
     go true rest = refl
