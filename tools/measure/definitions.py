@@ -1,9 +1,10 @@
 #!/usr/bin/env python3
 """Counts the definitions of specs/ that contracts rest on: of the store's public calls and the
 trait `Disk`, of the calls that write and open, of a desk's calls, of `lane_run`, of a camera's
-`film_camera`, of `film_all`, and of a camera with all calls of the recorder's library. For the calls that write, a
-desk's, `lane_run` and `film_camera` it also counts only those on which it rests what a power loss
-leaves: the clauses in LOSS, and of the records in FIELDS the fields that are listed there.
+`film_camera`, of `film_all`, and of a camera with all calls of the recorder's library. For the
+calls that write, a desk's, `lane_run` and `film_camera` it also counts only those on which it rests
+what a power loss leaves: the clauses in LOSS, and of the records in FIELDS the fields that are
+listed there.
 
 Run it at the top of the repository: `python3 tools/measure/definitions.py`. With names after it
 (`after Goes`) it says which definitions of these names there are, and what each rests on. It is no
