@@ -347,8 +347,11 @@ class State:
             if old is None:
                 self.archived.append(new)
                 self.counts[new.clip.camera] = self.counts.get(new.clip.camera, 0) + 1
-            else:
-                self.archived[self.archived.index(old)] = new
+            for place, it in enumerate(self.archived):
+                if old and (it.name, it.archive) == (old.name, old.archive):
+                    # A look may have seen meanwhile that the clip isn't held any more.
+                    is_released = new.is_released or it.is_released
+                    self.archived[place] = replace(new, is_released=is_released)
             self.write()
 
     def write(self, is_synced: bool = True) -> None:

@@ -426,6 +426,20 @@ def test_what_all_may_read_does_not_name_the_place(station, make):
     assert stat.S_IMODE((archive.state.parent / "archive.json.places").stat().st_mode) == 0o600
 
 
+def test_a_release_that_a_look_has_seen_first_stays_one(tmp_path):
+    """The look's thread may ask the page between a release and its entry in the state."""
+    clip = program.Clip("left", 3, 0, 9, 7, 7, 1_000_000, 2_000_000)
+    state = program.State(tmp_path / "archive.json")
+    state.change(None, program.Archived(clip, clip.front(), "lab:x", 10, "00", 1.0))
+    entry = state.entry(clip)
+    state.archived[0] = program.replace(entry, is_released=True)
+    noted = program.replace(clip, note="late")
+    state.change(entry, program.replace(entry, clip=noted))
+    state.change(entry, program.replace(entry, is_released=True))
+    assert [it.is_released for it in state.archived] == [True]
+    assert state.entry(clip) is None and state.counts == {"left": 1}
+
+
 def test_a_state_that_cannot_be_read_is_compared_anew(station, dav, make):
     station.keep(1)
     archive = make().start().has(1)
