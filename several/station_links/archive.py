@@ -13,6 +13,7 @@ import hashlib
 import json
 import os
 import queue
+import re
 import secrets
 import shutil
 import signal
@@ -21,6 +22,7 @@ import sys
 import tempfile
 import threading
 import time
+import traceback
 from dataclasses import asdict, dataclass, replace
 from pathlib import Path
 from urllib.parse import quote
@@ -46,6 +48,9 @@ PATIENT = ["--retries", "1", "--low-level-retries", "2", "--contimeout", "15s", 
 # transfers at once two are refused by a server that is slow.
 PATIENT += ["--transfers", "1"]
 UNHASHED = "could not be checked"
+# A place up to its folder: the name of a remote, or of a kind of storage, and parameters.
+VALUE = r"""(?:'(?:[^']|'')*'|"(?:[^"]|"")*"|[^,:]*)"""
+REMOTE = rf"(:?[^:,'\"/]*)((?:,[^=,:]+(?:={VALUE})?)*):"
 
 
 class Fault(Exception):
@@ -282,6 +287,15 @@ class Rclone:
         return lines
 
 
+def hidden(said: str, archive: str) -> str:
+    """What rclone said, without the parameters that its words for a place have."""
+    found = re.match(REMOTE, archive)
+    if found and found[2]:
+        for remote in (found[0], found[0].replace('"', r"\""), found[0].replace('"', '""')):
+            said = said.replace(remote, f"{found[1]}:")
+    return said
+
+
 def last_line(said: str) -> str:
     """The last line of what was told, without its time."""
     lines = [line for line in said.splitlines() if line.strip()]
@@ -451,8 +465,7 @@ class Camera:
                 except Stopped:
                     raise
                 except Exception as fault:
-                    is_known = isinstance(fault, (Fault, PageFault, OSError))
-                    self.refuse(str(fault) if is_known else repr(fault))
+                    self.refuse(self.all.why(fault))
                     self.all.pause(min(PAUSE_SECONDS * 2 ** (self.faults - 1), MOST_PAUSE_SECONDS))
 
     def refuse(self, why: str) -> None:
@@ -638,6 +651,21 @@ class Archive:
         for place in self.state.begun:
             self.left.put(place)
         self.written, self.state_fault = 0.0, ""
+
+    def why(self, fault: Exception) -> str:
+        """What is told of a fault: no word of a place that may have a password in it."""
+        if not isinstance(fault, (Fault, PageFault, OSError)):
+            last = traceback.extract_tb(fault.__traceback__)[-1]
+            return f"{type(fault).__name__} in {os.path.basename(last.filename)}:{last.lineno}"
+        said, known = str(fault), [self.settings.place, *self.settings.places.values()]
+        for archive in [it.archive for it in known if it] + list(self.archives()):
+            said = hidden(said, archive)
+        return said
+
+    def archives(self) -> set[str]:
+        """Where clips are that were archived."""
+        with self.state.lock:
+            return {it.archive for it in self.state.archived}
 
     def lock_of(self, archive: str) -> threading.Lock:
         """One copy at a time to a place, so that its bandwidth is bounded."""

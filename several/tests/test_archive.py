@@ -426,6 +426,31 @@ def test_what_all_may_read_does_not_name_the_place(station, make):
     assert stat.S_IMODE((archive.state.parent / "archive.json.places").stat().st_mode) == 0o600
 
 
+def test_what_is_told_of_a_fault_does_not_name_it_either(station, dav, make):
+    dav.run.end(signal.SIGKILL)
+    station.keep(1)
+    archive = make().start()
+    until(lambda: archive.camera().get("fault"), "fault")
+    assert ":webdav:kept" in archive.camera()["fault"]
+    assert "vendor" not in archive.state.read_text() + archive.run.printed()
+
+
+@pytest.mark.parametrize(
+    "place, told",
+    [
+        ("lab:cameras", "lab:cameras"),
+        ("/mnt/a:b", "/mnt/a:b"),
+        (":sftp,host=h,user=u,pass=abc:/x/y", ":sftp:/x/y"),
+        ("lab,pass='a,b:''c':x", "lab:x"),
+        ('lab,pass="a,b:c":x', "lab:x"),
+    ],
+)
+def test_the_parameters_of_a_place_are_not_told(place, told):
+    quoted = place.replace('"', r"\"")
+    said = f'Failed for "{quoted}/.incoming": refused'
+    assert program.hidden(said, place) == f'Failed for "{told}/.incoming": refused'
+
+
 def test_a_release_that_a_look_has_seen_first_stays_one(tmp_path):
     """The look's thread may ask the page between a release and its entry in the state."""
     clip = program.Clip("left", 3, 0, 9, 7, 7, 1_000_000, 2_000_000)
