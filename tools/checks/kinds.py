@@ -656,6 +656,26 @@ KINDS = {
                 says="ffmpeg was killed: .*not within",
             ),
             Wrong(
+                "a station whose stop doesn't wait for its end",
+                given={
+                    "STATION_UNIT": changed_copy(
+                        "packaging/loop_station.service",
+                        '; while kill -0 "$MAINPID" 2>/dev/null; do sleep 0.1; done',
+                        "",
+                    )
+                },
+                says="they are stopped, and end with",
+            ),
+            Wrong(
+                "a stop that waits for a station that has ended",
+                given={
+                    "STATION_UNIT": changed_copy(
+                        "packaging/loop_station.service", '[ -z "$MAINPID" ] || ', ""
+                    )
+                },
+                says="isn't over in time",
+            ),
+            Wrong(
                 "a camera that may write a file",
                 given={
                     "CAMERA_UNIT": changed_copy(
