@@ -21,3 +21,4 @@ pub mod Order
 pub mod Blind
 pub mod DiskFailures
 pub mod Crossing
+mod Spaces

@@ -2,6 +2,7 @@ pub mod Desk
 pub mod Bare
 pub mod Seen
 pub mod Keeps
+pub mod Space
 pub mod Footage
 pub mod Front
 pub mod Lane

@@ -1,21 +1,22 @@
 //! A desk: frames that wait, before a store.
 
-ghost use Rattle.std.specs.Prelude.{◌≡◌, ◌≢◌, ◌≤◌, ◌+◌, ◌∷◌, [], Err, List, None, Ok, ℕ, IfErr, IfOk, drop, false, length, true};
+ghost use Rattle.std.specs.Prelude.{◌≡◌, ◌≢◌, ◌≤◌, ◌+◌, ◌-◌, ◌%◌, ◌∷◌, [], Err, List, None, Ok, ℕ, IfErr, IfOk, drop, false, length, true};
 ghost use Rattle.circular_buffer.specs.Buffer.{buffer};
 ghost use Rattle.loop_record.specs.Geometry.{frame_bytes};
 ghost use Rattle.loop_record.specs.Plain.{pictures};
-ghost use Rattle.loop_record.specs.Recording.{last_number, picture, ring_of};
+ghost use Rattle.loop_record.specs.Recording.{Recording, last_number, picture, ring_of};
 ghost use Rattle.loop_desk.specs.Desk.{DeskState, clip_locked, clip_unlocked, flushed, frame_read, layout_upgraded, runs_told, submit_answer, submitted};
 ghost use Rattle.loop_desk.specs.Keeps.{HaveTime, KeepsTime};
+ghost use Rattle.loop_desk.specs.Space.{TellsOldest, TellsSpace};
 ghost use Rattle.loop_desk.specs.Seen.{DeskGoes, IsDesk, Opens, OutlineRefuses, SeenDesk, TellsDesk, TellsOutline, TellsStatus, answer_of, rules_of};
 ghost use Rattle.loop_store.specs.Calls.{read_with};
 ghost use Rattle.loop_store.specs.Reopen.{TellsOne};
 ghost use Rattle.loop_store.specs.Runs.{read_of};
-ghost use Rattle.loop_store.specs.Seen.{Refused};
+ghost use Rattle.loop_store.specs.Seen.{Refused, StandsFor, ring_in};
 
 use crate::group::append_first;
 use crate::keep::keep_at;
-use crate::{DeskLimits, Flushed, Kept, Outline, Status};
+use crate::{DeskLimits, Flushed, Kept, Outline, Space, Status};
 use circular_buffer::HeapCircularBuffer;
 use loop_disk::Disk;
 use loop_record::{Frame, FrameHead, Geometry, Span, Times};
@@ -129,6 +130,36 @@ impl<D: Disk + Drop, A: Allocator> Desk<D, A> {
         ensures { result ≡ self.now.limits }
     {
         self.limits
+    }
+
+    /// How many frames the block of the next number still takes, as `Store::room`.
+    pub fn room(&self) -> u32
+        ensures { result
+            ≡ self.now.store.geometry.slots - self.now.store.next % self.now.store.geometry.slots }
+    {
+        self.store.room()
+    }
+
+    // The time of the first frame of the block that goes when room is needed; None where none may go.
+    fn oldest(&self) -> Option<u64>
+        ensures { (r : Recording) → StandsFor D.medium self.now.store r
+            → TellsOldest (ring_in self.now.store) self.now.store.keep r result }
+    {
+        let block = self.store.victim()?;
+        let slots = u64::from(self.store.geometry().slots);
+        let first = self.store.next_held(block.saturating_mul(slots))?;
+        Some(self.store.time(first))
+    }
+
+    /// What the store tells of the room that it has for a block. It takes no memory and makes no call of the disk.
+    pub fn space(&self) -> Space
+        ensures { (r : Recording) → StandsFor D.medium self.now.store r
+            → TellsSpace (ring_in self.now.store) self.now.store.keep r result }
+    {
+        Space {
+            free: self.store.held_blocks() < self.store.geometry().segments,
+            oldest: self.oldest(),
+        }
     }
 
     // The number that a frame will have, or why it isn't accepted.

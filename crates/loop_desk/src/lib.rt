@@ -34,5 +34,5 @@ pub use event::{LaneEvent, LaneReply};
 pub use hand::{Hand, LaneFault};
 pub use keep::Kept;
 pub use lane::{Lane, lane_run};
-pub use limits::{DeskLimits, Flushed, Outline, Status};
+pub use limits::{DeskLimits, Flushed, Outline, Space, Status};
 pub use loop_store::frame_memory;

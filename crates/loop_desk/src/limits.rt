@@ -38,6 +38,15 @@ pub struct Status {
     pub must_reopen: bool,
 }
 
+/// What a store tells of the room that it has for a block.
+#[derive(Clone, Copy, Debug, PartialEq, Eq)]
+pub struct Space {
+    /// Whether a segment holds no block.
+    pub free: bool,
+    /// The time of the first frame of the block that goes when room is needed, in microseconds; None where none may go.
+    pub oldest: Option<u64>,
+}
+
 /// What a desk holds, without pixels.
 #[derive(Drop)]
 pub struct Outline<A: Allocator = Global> {

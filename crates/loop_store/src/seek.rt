@@ -12,8 +12,8 @@ use crate::look::held_numbers;
 use loop_record::{Span, Times};
 use std::alloc::{AllocError, Allocator};
 
-// The time at the slot of a number, in the segment that has its block; 0 where no segment has it.
-fn time_of<A: Allocator>(index: &Index<A>, number: u64) -> u64
+/// The time at the slot of a number, in the segment that has its block; 0 where no segment has it.
+pub(crate) fn time_of<A: Allocator>(index: &Index<A>, number: u64) -> u64
     requires { IsIndex index.now }
     ensures { result ≡ time_under index.now.ring.geometry.slots index.now.table.heads index.now.times.items number }
 {

@@ -1,11 +1,11 @@
 //! A store: a disk that holds a recording, and what is known of it in memory.
 
-ghost use Rattle.std.specs.Prelude.{◌≡◌, ◌≢◌, ◌+◌, ◌-◌, ◌%◌, ◌≤◌, ◌↔◌, ◌⊎◌, ◌∷◌, [], All, Ok, Err, List, ℕ, IfErr, IfOk, IsTrue, false, length, map, ◌<◌, IfSome};
+ghost use Rattle.std.specs.Prelude.{◌≡◌, ◌≢◌, ◌+◌, ◌-◌, ◌%◌, ◌≤◌, ◌↔◌, ◌⊎◌, ◌∷◌, [], All, Ok, Err, List, ℕ, IfErr, IfOk, IsTrue, false, length, map, ◌<◌, IfSome, Some};
 ghost use Rattle.loop_clips.specs.Table.{clip_list};
 ghost use Rattle.loop_disk.specs.Calls.{Stays};
 ghost use Rattle.loop_record.specs.Geometry.{frame_bytes, is_good};
 ghost use Rattle.loop_record.specs.Plain.{pictures};
-ghost use Rattle.loop_record.specs.Recording.{Recording, last_number, picture, room, victim, numbers_end};
+ghost use Rattle.loop_record.specs.Recording.{Picture, Recording, frame_under, held_blocks, last_number, picture, room, victim, numbers_end};
 ghost use Rattle.loop_store.specs.Calls.{appended, locked, read_with, runs_with, sought, unlocked, upgraded, was_read, part_with, was_read_part};
 ghost use Rattle.loop_store.specs.Goes.{Goes};
 ghost use Rattle.loop_store.specs.Numbers.{IsLeastFrom, is_among};
@@ -19,7 +19,7 @@ use crate::look::{
     count_held, held_numbers, next_held, read_held, read_held_head, read_held_part, segment_with,
 };
 use crate::put::put;
-use crate::seek::seek;
+use crate::seek::{seek, time_of};
 use crate::upgrade::upgrade_layout;
 use loop_clips::Clip;
 use loop_disk::Disk;
@@ -135,6 +135,21 @@ impl<D: Disk + Drop, A: Allocator> Store<D, A> {
             → result ≡ victim (ring_in self.now) self.now.keep r }
     {
         self.index.table.victim()
+    }
+
+    /// How many segments hold a block. It looks at no segment.
+    pub fn held_blocks(&self) -> u32
+        ensures { (r : Recording) → StandsFor D.medium self.now r → result ≡ length (held_blocks (ring_in self.now) r) }
+    {
+        self.index.table.held_blocks()
+    }
+
+    /// The time of a held frame, from memory, in microseconds. Where no frame has this number, it means nothing.
+    pub fn time(&self, number: u64) -> u64
+        ensures { (r : Recording) → StandsFor D.medium self.now r → (p : Picture)
+            → frame_under r.frames number ≡ Some p → result ≡ p.timestamp }
+    {
+        time_of(&self.index, number)
     }
 
     /// The disk, as the calls left it.
