@@ -13,6 +13,7 @@ pub mod Retries
 pub mod SaveEnds
 pub mod Saving
 pub mod Search
+pub mod Sets
 pub mod Spools
 pub mod Still
 pub mod Stores

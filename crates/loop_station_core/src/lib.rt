@@ -24,7 +24,7 @@
 //!
 //! Each call is a step of the model in `specs`: `Frames` for tallies, `Cameras`, `Keeps`, `Growth`, `Gaps` for runs,
 //! `Search`, `Saving`, `SaveEnds`, `Retries`, `Clips`, `Texts`, `Orders`, `Answers` for replies, `Telling` for lines,
-//! `Spools`, `Stores`, `Still`. `Laws` says what follows of it: frames add up; a keep locks only the times of its line,
+//! `Spools`, `Stores`, `Still`, `Sets`. `Laws` says what follows of it: frames add up; a keep locks only the times of its line,
 //! and only once each frame that had come before that line is at the desk or lost, or every block is locked, or no
 //! frame has made progress for a minute; what is held of a time and its gaps are all of it; a clip that a save reads
 //! isn't released, and one that a save releases has a whole text; a text is told as saved once it is on the disk; an
@@ -45,6 +45,7 @@ mod runs;
 mod save_end;
 mod saves;
 mod search;
+mod sets;
 mod spool;
 mod still;
 mod stores;
@@ -72,6 +73,7 @@ pub use runs::{ClipSpan, Gap, Run, Shortfall, is_covered, shortfall_of};
 pub use save_end::{AfterSave, SaveEnd, SaveLine, after_save};
 pub use saves::{Asked, Cancelled, Ended, SaveKey, Saves, StoppedSave};
 pub use search::{Mark, Search, SearchTurn};
+pub use sets::{clip_id, held_after, id_parts, is_written_since};
 pub use spool::{MOST_SPOOLED, drops_oldest, says_dropped, takes_line};
 pub use still::stood_still;
 pub use stores::{goes_on, is_moved};
