@@ -3,7 +3,7 @@ use Rattle.std.proofs.Common.{◌≡◌, ◌≢◌, Bool, ℕ, ◌+◌, ◌<◌,
 use Rattle.std.specs.Prelude.{IsTrue, string_bytes}
 use Rattle.std.specs.List.{list_any}
 use Rattle.std.specs.Str.{bytes_eq}
-use Rattle.std.proofs.lemmas.Bool.{false≢true}
+use Rattle.std.proofs.lemmas.Bool.{false_from_ne_true, false≢true}
 use Rattle.std.proofs.lemmas.List.{take_more}
 use Rattle.std.proofs.lemmas.List.Elements.{All-push}
 use Rattle.std.proofs.lemmas.List.Folds.{list_any_at}
@@ -14,14 +14,20 @@ use Rattle.toml.specs.Data.{Data, Items, no_items, item, push_item}
 use Rattle.toml.specs.View.{items_view, view}
 use Rattle.toml.specs.declared.value.Value.{Value}
 use Rattle.loop_station_words.specs.Config.{AreCameras, HasBuffers, SayCameras, SaysOne}
+use Rattle.loop_station_words.specs.Files.{share_file}
 use Rattle.loop_station_words.specs.Names.{is_name}
 use Rattle.loop_station_words.specs.declared.config.CameraConfig.{CameraConfig}
 
--- a camera with another name and another store than those before it, and a good number of buffers
+-- where no element passes, none at a place does
+none-at : {A : Type 0} (p : A → Bool) (xs : List A) (k : ℕ) (d : A) → list_any p xs ≡ false → k < length xs
+    → p (get_or xs k d) ≡ false
+none-at p xs k d none inside = false_from_ne_true (p (get_or xs k d)) (λ yes. false≢true (sym none ∙ list_any_at p xs k d inside yes))
+
+-- a camera with another name and other files than those before it, and a good number of buffers
 pub cameras-push : (cameras : List CameraConfig) (camera : CameraConfig) (name store : List ℕ) → AreCameras cameras
     → IsTrue (is_name name) → string_bytes camera.name ≡ name → string_bytes camera.store ≡ store
     → list_any (λ c. bytes_eq (string_bytes c.name) name) cameras ≡ false
-    → list_any (λ c. bytes_eq (string_bytes c.store) store) cameras ≡ false → HasBuffers camera.buffers → AreCameras (cameras ++ camera ∷ [])
+    → list_any (λ c. share_file (string_bytes c.store) store) cameras ≡ false → HasBuffers camera.buffers → AreCameras (cameras ++ camera ∷ [])
 cameras-push cameras camera name store are good called kept names stores buffers = record {
   named = All-push (λ c. IsTrue (is_name (string_bytes c.name))) cameras camera are.named
       (subst (λ bytes. IsTrue (is_name bytes)) (sym called) good);
@@ -29,20 +35,19 @@ cameras-push cameras camera name store are good called kept names stores buffers
       let here = list_any_at (λ c. bytes_eq (string_bytes c.name) name) cameras k d inside
       ((bytes_eq-Decides (string_bytes (get_or cameras k d).name) name).1 (same ∙ called)) in
       false≢true (sym names ∙ here));
-  stores = all_pairs_push (λ a b. string_bytes a.store ≢ string_bytes b.store) cameras camera are.stores (λ k d inside same.
-      let here = list_any_at (λ c. bytes_eq (string_bytes c.store) store) cameras k d inside
-      ((bytes_eq-Decides (string_bytes (get_or cameras k d).store) store).1 (same ∙ kept)) in
-      false≢true (sym stores ∙ here));
+  stores = all_pairs_push (λ a b. share_file (string_bytes a.store) (string_bytes b.store) ≡ false) cameras camera are.stores
+      (λ k d inside. subst (λ bytes. share_file (string_bytes (get_or cameras k d).store) bytes ≡ false) (sym kept)
+      (none-at (λ c. share_file (string_bytes c.store) store) cameras k d stores inside));
   buffers = All-push (λ c. HasBuffers c.buffers) cameras camera are.buffers buffers;
 }
 
 -- no camera has such a text
-pub no-camera : (f : CameraConfig → List ℕ) (found : Bool) (text bytes : List ℕ) (slice items : List CameraConfig)
-    → found ≡ list_any (λ c. bytes_eq (f c) text) slice → found ≡ false → text ≡ bytes → slice ≡ items
-    → list_any (λ c. bytes_eq (f c) bytes) items ≡ false
+pub no-camera : (f : CameraConfig → List ℕ → Bool) (found : Bool) (text bytes : List ℕ) (slice items : List CameraConfig)
+    → found ≡ list_any (λ c. f c text) slice → found ≡ false → text ≡ bytes → slice ≡ items
+    → list_any (λ c. f c bytes) items ≡ false
 no-camera f found text bytes slice items is lacks same all =
-    subst (λ b. list_any (λ c. bytes_eq (f c) b) items ≡ false) same
-    (subst (λ s. list_any (λ c. bytes_eq (f c) text) s ≡ false) all (sym is ∙ lacks))
+    subst (λ b. list_any (λ c. f c b) items ≡ false) same
+    (subst (λ s. list_any (λ c. f c text) s ≡ false) all (sym is ∙ lacks))
 
 -- one more table, and the camera that it describes
 says-push : (tables : Items) (cameras : List CameraConfig) (one : Data) (camera : CameraConfig)

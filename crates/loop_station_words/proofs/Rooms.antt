@@ -1,4 +1,4 @@
--- How much of a store is free, and how many minutes fit into the largest.
+-- How much of a store is free, and how many minutes fit into the most.
 use Rattle.std.proofs.Common.{◌≡◌, ◌≤◌, ◌<◌, ◌+◌, ◌-◌, ◌*◌, ◌/◌, ◌^◌, ℕ, zero, suc, max, min, Bool, true, false, nat_le, nat_lt, List, [], ◌∷◌, Option, Some, None, refl, add-one, arith}
 use Rattle.std.proofs.lemmas.Grind.{common_steps}
 use Rattle.std.proofs.lemmas.Nat.{le-div}
@@ -14,18 +14,18 @@ below-next x m h = omega arith
 six-more : (t n : ℕ) → 6 * (t + 1) * n ≡ 6 * n * t + 6 * n
 six-more t n = grind (arith, common_steps)
 
-more-come : (n d t : ℕ) → 1 ≤ n → 1 ≤ d → t ≡ 16129 * d / (6 * n) → 16130 ≤ (6 * (t + 1) * n + (d - 1)) / d
+more-come : (n d t : ℕ) → 1 ≤ n → 1 ≤ d → t ≡ 4194049 * d / (6 * n) → 4194050 ≤ (6 * (t + 1) * n + (d - 1)) / d
 more-come n d t some rate is =
-    let next : 16129 * d < 6 * n * (16129 * d / (6 * n)) + 6 * n = below-next (16129 * d) (6 * n) (omega arith) in
-    let that : 16129 * d < 6 * n * t + 6 * n = rw is next in
-    le-div 16130 (6 * (t + 1) * n + (d - 1)) d rate (omega (arith, six-more t n, that))
+    let next : 4194049 * d < 6 * n * (4194049 * d / (6 * n)) + 6 * n = below-next (4194049 * d) (6 * n) (omega arith) in
+    let that : 4194049 * d < 6 * n * t + 6 * n = rw is next in
+    le-div 4194050 (6 * (t + 1) * n + (d - 1)) d rate (omega (arith, six-more t n, that))
 
 pub none_more : (n d a b : ℕ) → 1 ≤ n → 1 ≤ d → a ≡ d → b ≡ max n 1
-    → 16129 < min (divided_up (6 * (16129 * a / (6 * b) + 1) * n) (max d 1)) (2 ^ 64 - 1)
+    → 4194049 < min (divided_up (6 * (4194049 * a / (6 * b) + 1) * n) (max d 1)) (2 ^ 64 - 1)
 none_more n d a b some rate same large =
     let rate-is : max d 1 ≡ d = omega arith in
     let num-is : b ≡ n = omega arith in
-    let more = more-come n d (16129 * d / (6 * n)) some rate refl in
+    let more = more-come n d (4194049 * d / (6 * n)) some rate refl in
     rw (rate-is, num-is, same) (omega (arith, more))
 
 -- ---- which blocks clips meet

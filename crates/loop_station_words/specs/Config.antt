@@ -7,17 +7,18 @@ use Rattle.loop_station_words.specs.declared.config.Config.{Config}
 use Rattle.loop_station_words.specs.declared.config.Source.{Source}
 use Rattle.loop_station_words.specs.declared.config.Source.TheVariants.{Path, Pattern}
 use Rattle.loop_station_words.specs.Fields.{form_of, memory_of, number_or, path_of, pattern_of, room_of, text_of, times_of, truth_of}
+use Rattle.loop_station_words.specs.Files.{share_file}
 use Rattle.loop_station_words.specs.Names.{is_name}
 
 -- how many buffers a camera may have
 abbrev pub HasBuffers : ℕ → Type 0
 HasBuffers count = (4 ≤ count) × (count ≤ 32)
 
--- each has a name and 4 to 32 buffers, no two have the same name, and no two have the same store
+-- each has a name and 4 to 32 buffers, no two have the same name, and no two could have one file
 pub record AreCameras (cameras : List CameraConfig) : Type 0 where
   pub named : All (λ c. IsTrue (is_name (string_bytes c.name))) cameras
   pub names : AllPairs (λ a b. string_bytes a.name ≢ string_bytes b.name) cameras
-  pub stores : AllPairs (λ a b. string_bytes a.store ≢ string_bytes b.store) cameras
+  pub stores : AllPairs (λ a b. share_file (string_bytes a.store) (string_bytes b.store) ≡ false) cameras
   pub buffers : All (λ c. HasBuffers c.buffers) cameras
 
 -- 1 to 16 cameras
@@ -42,7 +43,8 @@ pub record SaysCamera (keys : Members) (camera : CameraConfig) : Type 0 where
   pub name : text_of (get_member (codes "name") keys) ≡ Some (string_bytes camera.name)
   pub source : SaysSource keys camera.source
   pub store : text_of (get_member (codes "store") keys) ≡ Some (string_bytes camera.store)
-  pub room : room_of (get_member (codes "minutes") keys) (get_member (codes "bytes") keys) ≡ Some camera.room
+  pub room : room_of (get_member (codes "hours") keys) (get_member (codes "minutes") keys)
+      (get_member (codes "bytes") keys) ≡ Some camera.room
   pub seconds : number_or 60 (2 ^ 32 - 1) (get_member (codes "keep") keys) ≡ Some camera.seconds
   pub after : number_or 0 3600 (get_member (codes "after") keys) ≡ Some camera.after
   pub tag : number_or 0 (2 ^ 64 - 1) (get_member (codes "tag") keys) ≡ Some camera.tag

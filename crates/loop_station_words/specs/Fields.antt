@@ -80,23 +80,24 @@ memory_of _ = None
 abbrev pub whole_float : ℕ → Float
 whole_float n = Ieee.of_int binary64 (pos n)
 
--- the seconds in minutes that aren't a whole number, rounded up
-unfoldable pub part_seconds : Float → Option ℕ
-part_seconds x =
+-- the seconds in a time that isn't a whole number of a unit of so many seconds, rounded up
+unfoldable pub part_seconds : Float → Float → Option ℕ
+part_seconds unit x =
     if Ieee.lt float_zero x && Ieee.lt x (whole_float (10 ^ 15))
-    then Some (float_to_unsigned w64 (ceil binary64 (Ieee.mul binary64 x (whole_float 60)))) else None
+    then Some (float_to_unsigned w64 (ceil binary64 (Ieee.mul binary64 x unit))) else None
 
--- the seconds in so many minutes above 0, at most what 64 bits hold
-abbrev pub seconds_of_minutes : Data → Option ℕ
-seconds_of_minutes (integer (pos n)) = option_map (λ whole. min (whole * 60) (2 ^ 64 - 1)) (positive n)
-seconds_of_minutes (float x) = part_seconds x
-seconds_of_minutes _ = None
+-- the seconds in a time above 0 of a unit of so many seconds, at most what 64 bits hold
+abbrev pub seconds_of : ℕ → Data → Option ℕ
+seconds_of unit (integer (pos n)) = option_map (λ whole. min (whole * unit) (2 ^ 64 - 1)) (positive n)
+seconds_of unit (float x) = part_seconds (whole_float unit) x
+seconds_of unit _ = None
 
--- the room of a store, by the values at `minutes` and at `bytes`: exactly one of them is there
-abbrev pub room_of : Option Data → Option Data → Option StoreSize
-room_of (Some minutes) None = option_map RoomSeconds (seconds_of_minutes minutes)
-room_of None (Some bytes) = option_map RoomBytes (bytes_of bytes)
-room_of _ _ = None
+-- the room of a camera, by the values at `hours`, `minutes` and `bytes`: exactly one of them is there
+abbrev pub room_of : Option Data → Option Data → Option Data → Option StoreSize
+room_of (Some hours) None None = option_map RoomSeconds (seconds_of 3600 hours)
+room_of None (Some minutes) None = option_map RoomSeconds (seconds_of 60 minutes)
+room_of None None (Some bytes) = option_map RoomBytes (bytes_of bytes)
+room_of _ _ _ = None
 
 -- the text of the pattern's shape, which is the usual one where the key is missing
 abbrev pub shape_text : Option Data → Option (List ℕ)

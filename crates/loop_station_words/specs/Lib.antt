@@ -1,9 +1,11 @@
 pub mod Names
+pub mod Files
 pub mod Cuts
 pub mod Calendar
 pub mod Times
 pub mod Orders
 pub mod Rings
+pub mod Sets
 pub mod Rooms
 pub mod Shapes
 pub mod Fields

@@ -2,7 +2,7 @@
 use Rattle.std.specs.Prelude.{◌≡◌, ℕ, List, [], ◌∷◌, ◌++◌, Some, None, decimal}
 use Rattle.json.specs.Token.{Token, key, string, number}
 use Rattle.loop_station_words.specs.declared.part.Part.{Part}
-use Rattle.loop_station_words.specs.declared.part.Part.TheVariants.{Maybe, Millis, Number, Seconds, Text, Time, Words}
+use Rattle.loop_station_words.specs.declared.part.Part.TheVariants.{Lasting, Maybe, Millis, Number, Seconds, Text, Time, Words}
 
 -- a part is its key and its value; words alone are nothing, and a time is some text
 abbrev pub IsMember : Part → List Token → Type 0
@@ -14,6 +14,7 @@ IsMember (Maybe words name (Some n)) tokens = tokens ≡ key name.now ∷ number
 IsMember (Time name micros) tokens = (text : List ℕ) × (tokens ≡ key name.now ∷ string text ∷ [])
 IsMember (Seconds name micros) tokens = tokens ≡ key name.now ∷ number (decimal micros) ∷ []
 IsMember (Millis name micros) tokens = tokens ≡ key name.now ∷ number (decimal micros) ∷ []
+IsMember (Lasting name micros) tokens = tokens ≡ key name.now ∷ number (decimal micros) ∷ []
 
 -- the members of all parts, in their order
 abbrev pub AreMembers : List Part → List Token → Type 0

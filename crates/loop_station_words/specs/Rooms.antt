@@ -1,10 +1,11 @@
--- How large a store has to be, how much of one is free, and how many frames may wait before it.
-use Rattle.std.specs.Prelude.{◌≡◌, ◌<◌, ℕ, ◌+◌, ◌-◌, ◌*◌, ◌/◌, ◌^◌, IsTrue, Bool, ◌&&◌, List, [], ◌∷◌, Option, Some, None, Result, Ok, Err, zero, suc, max, min, nat_le, if◌then◌else◌}
+-- How many and how large stores have to be, how much of one is free, and how many frames may wait before it.
+use Rattle.std.specs.Prelude.{◌≡◌, ◌≤◌, ◌<◌, ◌⊎◌, ℕ, ◌+◌, ◌-◌, ◌*◌, ◌/◌, ◌^◌, IsTrue, Bool, ◌&&◌, List, [], ◌∷◌, Option, Some, None, Result, Ok, Err, zero, suc, max, min, nat_le, if◌then◌else◌}
 use Rattle.std.specs.List.{list_any}
 use Rattle.loop_clips.specs.declared.clip.Clip.{Clip}
 use Rattle.loop_record.specs.Geometry.{divided_up, frame_bytes, is_good}
 use Rattle.loop_record.specs.declared.geometry.Geometry.{Geometry}
-use Rattle.loop_station_words.specs.Rings.{IsLargestWithin, IsLeastFor, file_size}
+use Rattle.loop_station_words.specs.Rings.{file_size}
+use Rattle.loop_station_words.specs.Sets.{IsCount, IsLeastCount, IsLeastSetFor, IsSetWithin, held_by}
 use Rattle.loop_station_words.specs.declared.config.MemoryLimit.{MemoryLimit}
 use Rattle.loop_station_words.specs.declared.config.MemoryLimit.TheVariants.{Bytes as MemoryBytes, Seconds as MemorySeconds}
 use Rattle.loop_station_words.specs.declared.config.StoreSize.{StoreSize}
@@ -12,32 +13,49 @@ use Rattle.loop_station_words.specs.declared.config.StoreSize.TheVariants.{Bytes
 use Rattle.loop_station_words.specs.declared.ring.RingSize.{RingSize}
 use Rattle.loop_station_words.specs.declared.room.NoRing.{NoRing}
 use Rattle.loop_station_words.specs.declared.room.NoRing.TheVariants.{TooManyFrames, TooFewBytes, BadFrames}
+use Rattle.loop_station_words.specs.declared.sets.SetSize.{SetSize}
 
 -- how many frames come in so many seconds, as a u64 counts them
 abbrev pub frames_of : Geometry → ℕ → ℕ
 frames_of g seconds = min (divided_up (seconds * g.rate_num) (max g.rate_den 1)) (2 ^ 64 - 1)
 
--- how many tenths of a minute of them the largest ring holds
+-- how many tenths of a minute of them the most stores hold
 abbrev pub most_tenths : Geometry → ℕ
-most_tenths g = 16129 * g.rate_den / (6 * max g.rate_num 1)
+most_tenths g = 4194049 * g.rate_den / (6 * max g.rate_num 1)
 
--- the ring that the configuration asks for, or why there is none
-abbrev pub IsAsked : Geometry → StoreSize → Result RingSize NoRing → Type 0
-IsAsked g (Seconds s) (Ok ring) = IsLeastFor (frames_of g s) ring
-IsAsked g (Seconds s) (Err why) = (why ≡ TooManyFrames (most_tenths g)) × (16129 < frames_of g s)
-IsAsked g (Bytes b) (Ok ring) = IsTrue (is_good g) × IsLargestWithin (frame_bytes g) b ring
+-- the stores that the configuration asks for, or why there are none
+abbrev pub IsAsked : Geometry → StoreSize → Result SetSize NoRing → Type 0
+IsAsked g (Seconds s) (Ok set) = IsLeastSetFor (frames_of g s) set
+IsAsked g (Seconds s) (Err why) = (why ≡ TooManyFrames (most_tenths g)) × (4194049 < frames_of g s)
+IsAsked g (Bytes b) (Ok set) = IsTrue (is_good g) × IsSetWithin (frame_bytes g) b set
 IsAsked g (Bytes b) (Err why) = (why ≡ (if is_good g then TooFewBytes else BadFrames))
     × (IsTrue (is_good g) → b < file_size (frame_bytes g) (record { segments = 2; slots = 1 }))
 
--- how many frames a ring always holds
-abbrev pub held_by : ℕ → ℕ → ℕ
-held_by segments slots = (segments - 1) * slots + 1
+-- the ring of a store
+abbrev pub ring_of : Geometry → RingSize
+ring_of g = record { segments = g.segments; slots = g.slots }
+
+-- as many stores of a ring have files of at most so many bytes together, but one where none has, and 256 at most
+pub record IsMostWithin (frame bytes : ℕ) (ring : RingSize) (stores : ℕ) : Type 0 where
+  pub count : IsCount stores
+  pub fits : 2 ≤ stores → stores * file_size frame ring ≤ bytes
+  pub most : (n : ℕ) → n ≤ 256 → n * file_size frame ring ≤ bytes → n ≤ stores
+
+-- as many stores of a store's kind are asked for, but 256 where they have too little
+abbrev pub IsAskedCount : Geometry → StoreSize → ℕ → Type 0
+IsAskedCount g (Seconds s) stores = IsLeastCount (frames_of g s) (ring_of g) stores
+    ⊎ ((stores ≡ 256) × (held_by 256 (ring_of g) < frames_of g s))
+IsAskedCount g (Bytes b) stores = IsMostWithin (frame_bytes g) b (ring_of g) stores
+
+-- how many frames so many stores of a ring always hold, as a u64 counts them
+abbrev pub held_frames : ℕ → RingSize → ℕ
+held_frames stores ring = min (held_by stores ring) (2 ^ 64 - 1)
 
 -- as many frames of a store's kind are asked for
 abbrev pub AreAsked : Geometry → StoreSize → ℕ → Type 0
 AreAsked g (Seconds s) frames = frames ≡ frames_of g s
-AreAsked g (Bytes b) frames = (asked : Result RingSize NoRing) × IsAsked g (Bytes b) asked
-    × (frames ≡ elim asked [ Ok ring ↦ held_by ring.segments ring.slots | Err why ↦ 0 ])
+AreAsked g (Bytes b) frames = (asked : Result SetSize NoRing) × IsAsked g (Bytes b) asked
+    × (frames ≡ elim asked [ Ok set ↦ held_frames set.stores set.ring | Err why ↦ 0 ])
 
 -- how many microseconds so many frames last
 abbrev pub micros_of : ℕ → Geometry → ℕ
@@ -48,11 +66,11 @@ abbrev pub asked_micros : Geometry → StoreSize → ℕ → ℕ
 asked_micros g (Seconds s) frames = min (s * 1000000) (2 ^ 64 - 1)
 asked_micros g (Bytes b) frames = micros_of frames g
 
--- what a store always holds, and what is asked for, unless it holds that
-abbrev pub HoldsLess : Geometry → StoreSize → Option (ℕ × ℕ) → Type 0
-HoldsLess g room less = (frames : ℕ) × AreAsked g room frames
-    × (less ≡ (if nat_le frames (held_by g.segments g.slots) then None
-    else Some (micros_of (held_by g.segments g.slots) g, asked_micros g room frames)))
+-- what so many stores of a kind always hold, and what is asked for, unless they hold that
+abbrev pub HoldsLess : Geometry → ℕ → StoreSize → Option (ℕ × ℕ) → Type 0
+HoldsLess g stores room less = (frames : ℕ) × AreAsked g room frames
+    × (less ≡ (if nat_le frames (held_frames stores (ring_of g)) then None
+    else Some (micros_of (held_frames stores (ring_of g)) g, asked_micros g room frames)))
 
 -- how many frames of so many bytes have room in memory: those of four seconds and 256 MB at most where nothing is said
 abbrev pub in_memory : Option MemoryLimit → ℕ → Geometry → ℕ

@@ -27,6 +27,17 @@ pub struct CameraStatus<'a> {
     pub gaps: Option<u64>,
 }
 
+/// How far a camera's stores are open, where it has several.
+#[derive(Clone, Copy, Debug, PartialEq, Eq)]
+pub struct StoresStatus {
+    /// How many are open.
+    pub open: u64,
+    /// How many there are to be.
+    pub wanted: u64,
+    /// The duration of the frames that those that are open hold, in microseconds.
+    pub held: u64,
+}
+
 /// What each line begins with: the time of day, in UTC with milliseconds, and a label, if there are any.
 pub fn print_head<W: Write>(out: &mut W, time: Option<u64>, label: Option<&str>) -> io::Result<()> {
     if let Some(micros) = time {

@@ -5,6 +5,7 @@ ghost use Rattle.std.specs.Str.{bytes_eq};
 ghost use Rattle.toml.specs.Data.{array, get_member};
 ghost use Rattle.toml.specs.View.{items_view, table_view, view};
 ghost use Rattle.loop_station_words.specs.Config.{AreCameras, HasBuffers, IsConfig, SayCameras, SaysConfig, SaysOne, SaysSource, SaysText};
+ghost use Rattle.loop_station_words.specs.Files.{share_file};
 ghost use Rattle.loop_station_words.specs.Names.{is_name};
 
 use crate::fault::{CameraFault, ConfigFault};
@@ -12,6 +13,7 @@ use crate::fields::{
     after_at, buffers_at, check_keys, form_at, memory_at, number_at, path_at, room_at, shape_at,
     small_at, text_at, times_at, truth_at, value_at,
 };
+use crate::files::share_file;
 use crate::name::is_name;
 use crate::shape::FrameShape;
 use std::alloc::{AllocError, Global};
@@ -66,9 +68,9 @@ pub struct CameraConfig {
     pub name: String,
     /// Where its frames come from.
     pub source: Source,
-    /// The file of its store.
+    /// The file of its store; of several stores, their files have its path with a number.
     pub store: String,
-    /// How large the store is where it is created.
+    /// How much its stores hold, where they are created.
     pub room: StoreSize,
     /// How many seconds before the order `keep` locks.
     pub seconds: u32,
@@ -106,7 +108,7 @@ pub enum Source {
     Path(String),
 }
 
-/// How large a store is.
+/// How large the stores of a camera are.
 #[derive(Clone, Copy, Debug, PartialEq, Eq)]
 pub enum StoreSize {
     /// Enough for this many seconds.
@@ -253,11 +255,13 @@ fn has_name(cameras: &[CameraConfig], name: &str) -> bool
     cameras.iter().any(|camera| camera.name.as_str() == name)
 }
 
-// Whether a camera has this store.
+// Whether a camera could have a file of this store.
 fn has_store(cameras: &[CameraConfig], store: &str) -> bool
-    ensures { result ≡ list_any (λ c. bytes_eq (string_bytes c.store) store.now) cameras.now }
+    ensures { result ≡ list_any (λ c. share_file (string_bytes c.store) store.now) cameras.now }
 {
-    cameras.iter().any(|camera| camera.store.as_str() == store)
+    cameras
+        .iter()
+        .any(|camera| share_file(camera.store.as_str(), store))
 }
 
 // What a table says of a camera.

@@ -74,15 +74,18 @@ pub enum CameraFault {
     /// `store` isn't a text, is empty, or is missing.
     #[error("store is a path")]
     BadStore,
-    /// An earlier camera has this store.
+    /// An earlier camera has this store, or its path with a number.
     #[error("another camera has this store")]
     SameStore,
-    /// Neither `minutes` nor `bytes` is there.
-    #[error("minutes or bytes has to be there")]
+    /// Neither `hours` nor `minutes` nor `bytes` is there.
+    #[error("hours, minutes or bytes has to be there")]
     NoRoom,
-    /// Both `minutes` and `bytes` are there.
-    #[error("minutes and bytes can't both be there")]
+    /// Two of `hours`, `minutes` and `bytes` are there.
+    #[error("of hours, minutes and bytes only one can be there")]
     TwoRooms,
+    /// `hours` isn't a number above 0.
+    #[error("hours is a number above 0")]
+    BadHours,
     /// `minutes` isn't a number above 0.
     #[error("minutes is a number above 0")]
     BadMinutes,

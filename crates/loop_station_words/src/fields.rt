@@ -4,7 +4,7 @@ ghost use Rattle.toml.specs.Data.{get_member, integer};
 ghost use Rattle.toml.specs.View.{table_view, view};
 ghost use Rattle.loop_station_words.specs.Config.{HasBuffers};
 ghost use Rattle.loop_station_words.specs.Cuts.{cut};
-ghost use Rattle.loop_station_words.specs.Fields.{SaysShape, bytes_of, duration_cut, form_of, memory_of, number_or, part_seconds, path_of, positive, room_of, seconds_of_minutes, shape_text, text_of, times_of, truth_of};
+ghost use Rattle.loop_station_words.specs.Fields.{SaysShape, bytes_of, duration_cut, form_of, memory_of, number_or, part_seconds, path_of, positive, room_of, seconds_of, shape_text, whole_float, text_of, times_of, truth_of};
 
 use crate::config::{AnswersForm, MemoryLimit, StoreSize, TimesFrom};
 use crate::cut::cut;
@@ -15,10 +15,11 @@ use std::num::saturating_f64_to_u64;
 use toml::{Table, Value};
 
 // The keys of a camera.
-const KEYS: [&str; 14] = [
+const KEYS: [&str; 15] = [
     "name",
     "source",
     "store",
+    "hours",
     "minutes",
     "bytes",
     "keep",
@@ -44,11 +45,13 @@ const BUFFERS: u64 = 8;
 // The most buffers of a camera: as many as a queue may have.
 const MAX_BUFFERS: u64 = 32;
 
-// The seconds of a minute.
+// The seconds of an hour, and of a minute.
+const HOUR: f64 = 3600.0;
+
 const MINUTE: f64 = 60.0;
 
-// Minutes that aren't a whole number have to be below this.
-const MOST_MINUTES: f64 = 1e15;
+// Hours and minutes that aren't a whole number have to be below this.
+const MOST: f64 = 1e15;
 
 // The pattern's shape where it is left out.
 const SHAPE: &str = "640x480 YM12 25:1";
@@ -187,45 +190,57 @@ pub(crate) fn shape_at(table: &Table, source: &str) -> Result<Option<FrameShape>
     }
 }
 
-/// How large the store is, by minutes or by bytes: exactly one of them has to be there.
+/// How large the store is, by hours, minutes or bytes: exactly one of them has to be there.
 pub(crate) fn room_at(table: &Table) -> Result<StoreSize, CameraFault>
-    ensures { IfOk result (λ room. room_of (get_member (codes "minutes") (table_view table.now))
+    ensures { IfOk result (λ room. room_of (get_member (codes "hours") (table_view table.now))
+        (get_member (codes "minutes") (table_view table.now))
         (get_member (codes "bytes") (table_view table.now)) ≡ Some room) }
 {
-    match (value_at(table, "minutes"), value_at(table, "bytes")) {
-        (None, None) => Err(CameraFault::NoRoom),
-        (Some(_), Some(_)) => Err(CameraFault::TwoRooms),
-        (Some(minutes), None) => match seconds_of_minutes(minutes) {
+    match (
+        value_at(table, "hours"),
+        value_at(table, "minutes"),
+        value_at(table, "bytes"),
+    ) {
+        (None, None, None) => Err(CameraFault::NoRoom),
+        (Some(hours), None, None) => match seconds_of(hours, 3600, HOUR) {
+            Some(seconds) => Ok(StoreSize::Seconds(seconds)),
+            None => Err(CameraFault::BadHours),
+        },
+        (None, Some(minutes), None) => match seconds_of(minutes, 60, MINUTE) {
             Some(seconds) => Ok(StoreSize::Seconds(seconds)),
             None => Err(CameraFault::BadMinutes),
         },
-        (None, Some(bytes)) => match bytes_of(bytes) {
+        (None, None, Some(bytes)) => match bytes_of(bytes) {
             Some(bytes) => Ok(StoreSize::Bytes(bytes)),
             None => Err(CameraFault::BadBytes),
         },
+        _ => Err(CameraFault::TwoRooms),
     }
 }
 
-// The seconds in these minutes, rounded up; `None` where they aren't a number above 0.
-fn seconds_of_minutes(minutes: &Value) -> Option<u64>
-    ensures { result ≡ seconds_of_minutes (view minutes.now) }
+// The seconds in a time of so many of a unit of so many seconds, which is given as a float too, rounded up; `None`
+// where it isn't a number above 0.
+fn seconds_of(time: &Value, unit: u64, as_float: f64) -> Option<u64>
+    requires { as_float ≡ whole_float unit }
+    ensures { result ≡ seconds_of unit (view time.now) }
 {
-    match minutes {
+    match time {
         Value::Integer(whole) => match positive(*whole) {
-            Some(whole) => Some(whole.saturating_mul(60)),
+            Some(whole) => Some(whole.saturating_mul(unit)),
             None => None,
         },
-        Value::Float(part) => part_seconds(*part),
+        Value::Float(part) => part_seconds(*part, as_float),
         _ => None,
     }
 }
 
-// The seconds in minutes that aren't a whole number, rounded up; `None` where they aren't above 0, or are too many.
-fn part_seconds(part: f64) -> Option<u64>
-    ensures { result ≡ part_seconds part }
+// The seconds in a time that isn't a whole number of its unit, rounded up; `None` where it isn't above 0, or is too
+// long.
+fn part_seconds(part: f64, unit: f64) -> Option<u64>
+    ensures { result ≡ part_seconds unit part }
 {
-    if part > 0.0 && part < MOST_MINUTES {
-        Some(saturating_f64_to_u64((part * MINUTE).ceil()))
+    if part > 0.0 && part < MOST {
+        Some(saturating_f64_to_u64((part * unit).ceil()))
     } else {
         None
     }

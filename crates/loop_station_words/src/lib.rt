@@ -3,8 +3,9 @@
 //! - `order` reads what a line asks for, `name` says how a camera may be named, and `cut` cuts a text at a character;
 //!   `laws` has lines and their meanings, as rows of a table;
 //! - `time` reads a date and time of day, and `calendar` gives those of a time in microseconds since 1970;
-//! - `ring` chooses how many segments and slots a store has, for so many frames or within so many bytes; `room` for
-//!   what the configuration asks, how much of a store is free, and how many frames may wait before it;
+//! - `ring` chooses how many segments and slots a store has, for so many frames or within so many bytes, and `sets`
+//!   how many stores a camera has where one isn't enough; `room` for what the configuration asks, how much of a store is
+//!   free, and how many frames may wait before it;
 //! - `config` reads the configuration file, which says which cameras there are. `fields` reads the value at a key
 //!   there, `shape` reads what the pattern's frames look like, and `fault` says what is wrong with that file;
 //! - `lines` has the lines of the program's output, as text and as JSON, each of parts (`part`); `answers` has the
@@ -23,6 +24,7 @@ mod config;
 mod cut;
 mod fault;
 mod fields;
+mod files;
 pub mod laws;
 mod lines;
 mod name;
@@ -30,22 +32,26 @@ mod order;
 mod part;
 mod ring;
 mod room;
+mod sets;
 mod shape;
 mod time;
 
-pub use answers::{CameraStatus, print_clip_path, print_head};
+pub use answers::{CameraStatus, StoresStatus, print_clip_path, print_head};
 pub use calendar::{CivilTime, civil_time_of};
 pub use config::{
     AnswersForm, CameraConfig, Config, MAX_CAMERAS, MemoryLimit, Source, StoreSize, TimesFrom,
     read_config,
 };
 pub use fault::{CameraFault, ConfigFault};
+pub use files::{number_of, numbered};
 pub use lines::Lines;
 pub use name::{Name, is_name};
 pub use order::{Order, label_of, read_order};
 pub use ring::{RingSize, frames_in, ring_for, ring_within};
 pub use room::{
-    NoRing, asked_ring, frames_before, free_blocks, held_of_asked, micros_of, newest_block, size_of,
+    NoRing, asked_set, asked_stores, frames_before, free_blocks, held_of_asked, micros_of,
+    newest_block, size_of,
 };
+pub use sets::{MAX_STORES, SetSize, set_for, set_within, stores_for, stores_within};
 pub use shape::{FrameShape, read_shape};
 pub use time::read_time;

@@ -4,8 +4,8 @@
 mod listed;
 mod told;
 
-use crate::answers::{CameraStatus, print_head};
-use crate::part::Part::{Maybe, Number, Seconds, Text, Time, Words};
+use crate::answers::{CameraStatus, StoresStatus, print_head};
+use crate::part::Part::{Lasting, Maybe, Number, Seconds, Text, Time, Words};
 use crate::part::{Part, UtcTime, json_line, text_line};
 use json::Writer;
 use listed::camera_json;
@@ -556,7 +556,33 @@ impl Lines {
         if !self.with_json {
             return self.append(&text, &[]);
         }
-        let json = camera_json(self.alloc, camera, listing)?;
+        let json = camera_json(self.alloc, camera, None, listing)?;
+        self.append(&text, &json)
+    }
+
+    /// `camera CAMERA store N`, and below it what that one of its stores holds, where it has several.
+    ///
+    /// JSON, one object of kind `camera`: as above, with `store` after `camera`.
+    pub fn camera_store<A: Allocator + Copy>(
+        &mut self,
+        camera: &str,
+        store: u32,
+        listing: &Listing<A>,
+    ) -> io::Result<()> {
+        let mut text = text_line(
+            self.alloc,
+            &[
+                Words("camera "),
+                Words(camera),
+                Words(" store "),
+                Number("store", u64::from(store)),
+            ],
+        )?;
+        listing.print(&mut text)?;
+        if !self.with_json {
+            return self.append(&text, &[]);
+        }
+        let json = camera_json(self.alloc, camera, Some(store), listing)?;
         self.append(&text, &json)
     }
 
@@ -566,29 +592,29 @@ impl Lines {
     /// JSON: `camera`, `stored`, `given_up`, `waiting`, `behind_micros`, `room`, `keeps` where it is known, `faults`,
     /// `source`, `gaps` where they are known.
     pub fn status<'a>(&mut self, camera: &'a str, status: &CameraStatus<'a>) -> io::Result<()> {
-        self.line(
-            "status",
-            &[
-                Words("status "),
-                Text("camera", camera),
-                Words(" stored "),
-                Number("stored", status.stored),
-                Words(" given up "),
-                Number("given_up", status.given_up),
-                Words(" waiting "),
-                Number("waiting", status.waiting),
-                Words(" behind "),
-                Seconds("behind_micros", status.behind),
-                Words(" room "),
-                Number("room", status.room),
-                Maybe(" keeps ", "keeps", status.keeps),
-                Words(" faults "),
-                Number("faults", status.faults),
-                Words(" source "),
-                Text("source", status.source),
-                Maybe(" gaps ", "gaps", status.gaps),
-            ],
-        )
+        self.line("status", &status_parts(camera, status))
+    }
+
+    /// The same of a camera that has several stores: ` stores N of M held 2 h 13 min` follows.
+    ///
+    /// JSON, of kind `status`: also `stores`, `stores_wanted`, `held_micros`.
+    pub fn status_of_set<'a>(
+        &mut self,
+        camera: &'a str,
+        status: &CameraStatus<'a>,
+        stores: &StoresStatus,
+    ) -> io::Result<()> {
+        let mut parts = Vec::new(self.alloc);
+        parts.extend_from_slice(&status_parts(camera, status))?;
+        parts.extend_from_slice(&[
+            Words(" stores "),
+            Number("stores", stores.open),
+            Words(" of "),
+            Number("stores_wanted", stores.wanted),
+            Words(" held "),
+            Lasting("held_micros", stores.held),
+        ])?;
+        self.line("status", &parts)
     }
 
     /// `status CAMERA making PATH 40 %`: the status of a camera whose store is being made.
@@ -685,4 +711,28 @@ fn printable(byte: u8) -> u8 {
     } else {
         b'?'
     }
+}
+
+// The parts of a camera's status.
+fn status_parts<'a>(camera: &'a str, status: &CameraStatus<'a>) -> [Part<'a>; 18] {
+    [
+        Words("status "),
+        Text("camera", camera),
+        Words(" stored "),
+        Number("stored", status.stored),
+        Words(" given up "),
+        Number("given_up", status.given_up),
+        Words(" waiting "),
+        Number("waiting", status.waiting),
+        Words(" behind "),
+        Seconds("behind_micros", status.behind),
+        Words(" room "),
+        Number("room", status.room),
+        Maybe(" keeps ", "keeps", status.keeps),
+        Words(" faults "),
+        Number("faults", status.faults),
+        Words(" source "),
+        Text("source", status.source),
+        Maybe(" gaps ", "gaps", status.gaps),
+    ]
 }

@@ -28,6 +28,8 @@ pub(crate) enum Part<'a> {
     Seconds(&'a str, u64),
     /// A key, and a duration in microseconds. As text it has whole milliseconds.
     Millis(&'a str, u64),
+    /// A key, and a duration in microseconds. As text it has hours and minutes.
+    Lasting(&'a str, u64),
 }
 
 impl Part<'_> {
@@ -41,6 +43,7 @@ impl Part<'_> {
             Part::Time(_, micros) => write!(out, "{}", UtcTime(micros)),
             Part::Seconds(_, micros) => write!(out, "{}", Seconds(micros)),
             Part::Millis(_, micros) => write!(out, "{}", micros / 1_000),
+            Part::Lasting(_, micros) => write!(out, "{}", Lasting(micros)),
         }
     }
 
@@ -58,7 +61,8 @@ impl Part<'_> {
             Part::Number(key, number)
             | Part::Maybe(_, key, Some(number))
             | Part::Seconds(key, number)
-            | Part::Millis(key, number) => {
+            | Part::Millis(key, number)
+            | Part::Lasting(key, number) => {
                 out.key(key)?;
                 out.u64(number)
             }
@@ -119,6 +123,24 @@ impl Display for UtcTime {
             f,
             "{year:04}-{month:02}-{day:02}T{hour:02}:{minute:02}:{second:02}.{milli:03}Z"
         )
+    }
+}
+
+// Microseconds, printed as hours and minutes; less than a minute as seconds with one decimal.
+#[derive(Clone, Copy)]
+struct Lasting(u64);
+
+impl Display for Lasting {
+    fn fmt<W: fmt::Write>(&self, f: &mut Formatter<W>) -> fmt::Result {
+        let minutes = self.0 / 60_000_000;
+        if minutes == 0 {
+            return write!(f, "{} s", Seconds(self.0));
+        }
+        let (hours, rest) = (minutes / 60, minutes % 60);
+        if hours == 0 {
+            return write!(f, "{rest} min");
+        }
+        write!(f, "{hours} h {rest} min")
     }
 }
 

@@ -84,8 +84,8 @@ pub fn ring_within(frame_bytes: u32, bytes: u64) -> Option<RingSize>
     Some(ring(2, slots))
 }
 
-// How many slots each of so many segments may have in so much room, at most 256; 0 where not even one fits.
-fn slots_within(room: u64, segments: u64, slot: u64) -> u64
+/// How many slots each of so many segments may have in so much room, at most 256; 0 where not even one fits.
+pub(crate) fn slots_within(room: u64, segments: u64, slot: u64) -> u64
     requires segments { (2 ≤ segments) × (segments ≤ 64) }
     requires slot { (1 ≤ slot) × (slot < 2 ^ 33) }
     ensures few { result ≤ 256 }
@@ -99,8 +99,8 @@ fn slots_within(room: u64, segments: u64, slot: u64) -> u64
     )
 }
 
-// How many things of a size fit into so much room, `most` at most.
-fn fitting(room: u64, size: u64, most: u64) -> u64
+/// How many things of a size fit into so much room, `most` at most.
+pub(crate) fn fitting(room: u64, size: u64, most: u64) -> u64
     requires { 1 ≤ size }
     ensures few { result ≤ most }
     ensures fits { result * size ≤ room }

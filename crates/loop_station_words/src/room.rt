@@ -1,16 +1,17 @@
-// How large a store has to be by what the configuration says of its camera, how much of a store is free, and how many
-// frames may wait before it.
+// How many and how large a camera's stores have to be by what the configuration says of it, how much of a store is free,
+// and how many frames may wait before it.
 ghost use Rattle.std.specs.Prelude.{◌≡◌, ◌≤◌, ◌<◌, ◌+◌, ◌*◌, IsTrue, Some, None, if◌then◌else◌};
 ghost use Rattle.loop_record.specs.Geometry.{frame_bytes, is_good};
-ghost use Rattle.loop_station_words.specs.Rooms.{AreAsked, HoldsLess, IsAsked, frames_before, frames_of, free_blocks, held_by, locked_below, lowest_in, lowest_met, micros_of, most_tenths, newest_block, nearer};
+ghost use Rattle.loop_station_words.specs.Rooms.{AreAsked, HoldsLess, IsAsked, IsAskedCount, frames_before, frames_of, free_blocks, held_frames, locked_below, lowest_in, lowest_met, micros_of, most_tenths, newest_block, nearer, ring_of};
 
 use crate::config::{MemoryLimit, StoreSize};
-use crate::ring::{RingSize, frames_in, ring_for, ring_within};
+use crate::ring::{RingSize, frames_in};
+use crate::sets::{MAX_STORES, SetSize, set_for, set_within, stores_for, stores_within};
 use loop_record::Geometry;
 use loop_store::Clip;
 
-// How many frames the largest ring always holds.
-const MOST_FRAMES: u64 = 16_129;
+// How many frames 256 of the largest stores always hold.
+const MOST_FRAMES: u64 = 4_194_049;
 
 // How many frames may wait for the disk where the configuration doesn't say: those of so many seconds,
 const SECONDS: u64 = 4;
@@ -21,10 +22,10 @@ const MOST_BYTES: u64 = 256_000_000;
 // The most frames that may wait, whatever the configuration says: their places alone take 50 bytes each.
 const MOST_WAITING: u64 = 1_000_000;
 
-/// Why no ring is as large as the configuration asks.
+/// Why no stores are as large as the configuration asks.
 #[derive(Clone, Copy, Debug, PartialEq, Eq)]
 pub enum NoRing {
-    /// No store holds as many frames as come in its minutes. So many tenths of a minute fit.
+    /// No 256 stores hold as many frames as come in its hours or minutes. So many tenths of a minute fit.
     TooManyFrames(u64),
     /// Its bytes are too few for two blocks of a frame.
     TooFewBytes,
@@ -42,25 +43,51 @@ pub fn size_of(geometry: &Geometry) -> Option<u32>
     }
 }
 
-/// The ring that has room for as much as the configuration asks, of frames like these. The geometry's own ring means
+/// The stores that have room for as much as the configuration asks, of frames like these. The geometry's own ring means
 /// nothing, but has to be one that a store may have.
-pub fn asked_ring(frames: &Geometry, room: StoreSize) -> Result<RingSize, NoRing>
+pub fn asked_set(frames: &Geometry, room: StoreSize) -> Result<SetSize, NoRing>
     ensures { IsAsked frames.now room result }
 {
     match room {
-        StoreSize::Seconds(seconds) => match ring_for(frames_of(frames, seconds)) {
-            Some(ring) => Ok(ring),
+        StoreSize::Seconds(seconds) => match set_for(frames_of(frames, seconds)) {
+            Some(set) => Ok(set),
             None => Err(NoRing::TooManyFrames(most_tenths(frames))),
         },
         StoreSize::Bytes(bytes) => {
             let Some(size) = size_of(frames) else {
                 return Err(NoRing::BadFrames);
             };
-            match ring_within(size, bytes) {
-                Some(ring) => Ok(ring),
+            match set_within(size, bytes) {
+                Some(set) => Ok(set),
                 None => Err(NoRing::TooFewBytes),
             }
         }
+    }
+}
+
+/// How many stores like this one have room for as much as the configuration asks; 256 where they have too little.
+pub fn asked_stores(store: &Geometry, room: StoreSize) -> u32
+    ensures { IsTrue (is_good store.now) → IsAskedCount store.now room result }
+{
+    let Some(size) = size_of(store) else {
+        return 1;
+    };
+    let ring = ring_of(store);
+    match room {
+        StoreSize::Seconds(seconds) => {
+            stores_for(frames_of(store, seconds), ring).unwrap_or(MAX_STORES)
+        }
+        StoreSize::Bytes(bytes) => stores_within(size, bytes, ring),
+    }
+}
+
+// The ring of a store.
+fn ring_of(store: &Geometry) -> RingSize
+    ensures { result ≡ ring_of store.now }
+{
+    RingSize {
+        segments: store.segments,
+        slots: store.slots,
     }
 }
 
@@ -71,20 +98,21 @@ fn frames_of(frames: &Geometry, seconds: u64) -> u64
     frames_in(seconds, frames.rate_num, frames.rate_den.max(1))
 }
 
-// How many tenths of a minute of these frames fit into the largest ring.
+// How many tenths of a minute of these frames fit into the most stores.
 fn most_tenths(frames: &Geometry) -> u64
     ensures value { result ≡ most_tenths frames.now }
-    ensures fits { 1 ≤ frames.now.rate_den → frames_of frames.now (6 * result) ≤ 16129 }
-    ensures most { 1 ≤ frames.now.rate_num → 1 ≤ frames.now.rate_den → 16129 < frames_of frames.now (6 * (result + 1)) }
+    ensures fits { 1 ≤ frames.now.rate_den → frames_of frames.now (6 * result) ≤ 4194049 }
+    ensures most { 1 ≤ frames.now.rate_num → 1 ≤ frames.now.rate_den → 4194049 < frames_of frames.now (6 * (result + 1)) }
 {
     MOST_FRAMES * u64::from(frames.rate_den) / (6 * u64::from(frames.rate_num.max(1)))
 }
 
-/// How many microseconds a store always holds, and how many the configuration asks for, where that is more.
-pub fn held_of_asked(store: &Geometry, room: StoreSize) -> Option<(u64, u64)>
-    ensures { HoldsLess store.now room result }
+/// How many microseconds so many stores like this one always hold, and how many the configuration asks for, where that
+/// is more.
+pub fn held_of_asked(store: &Geometry, stores: u32, room: StoreSize) -> Option<(u64, u64)>
+    ensures { HoldsLess store.now stores room result }
 {
-    let held = held_by(store.segments, store.slots);
+    let held = held_frames(stores, ring_of(store));
     let asked = asked_frames(store, room);
     if asked <= held {
         return None;
@@ -96,24 +124,27 @@ pub fn held_of_asked(store: &Geometry, room: StoreSize) -> Option<(u64, u64)>
     Some((micros_of(held, store), asked))
 }
 
-// How many frames like a store's the configuration asks a store to hold; 0 where no ring is as it asks.
+// How many frames like a store's the configuration asks stores to hold; 0 where none are as it asks.
 fn asked_frames(store: &Geometry, room: StoreSize) -> u64
     ensures { AreAsked store.now room result }
 {
     match room {
         StoreSize::Seconds(seconds) => frames_of(store, seconds),
-        StoreSize::Bytes(_) => match asked_ring(store, room) {
-            Ok(ring) => held_by(ring.segments, ring.slots),
+        StoreSize::Bytes(_) => match asked_set(store, room) {
+            Ok(set) => held_frames(set.stores, set.ring),
             Err(_) => 0,
         },
     }
 }
 
-// How many frames a ring always holds.
-fn held_by(segments: u32, slots: u32) -> u64
-    ensures { result ≡ held_by segments slots }
+// How many frames so many stores of a ring always hold, at most the greatest u64.
+fn held_frames(stores: u32, ring: RingSize) -> u64
+    ensures { result ≡ held_frames stores ring }
 {
-    u64::from(segments.saturating_sub(1)) * u64::from(slots) + 1
+    (u64::from(stores) * u64::from(ring.segments))
+        .saturating_sub(1)
+        .saturating_mul(u64::from(ring.slots))
+        .saturating_add(1)
 }
 
 /// How many microseconds so many frames of a geometry last, at most the greatest u64.

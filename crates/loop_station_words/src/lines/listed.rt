@@ -6,10 +6,11 @@ use loop_script::{Listing, run_length};
 use loop_store::Clip;
 use std::alloc::{AllocError, Allocator, Global};
 
-/// What a camera's store holds, without the brace that opens the object.
+/// What a camera's store holds, with the number of it where it has several, without the brace that opens the object.
 pub fn camera_json<A: Allocator + Copy>(
     alloc: Global,
     camera: &str,
+    store: Option<u32>,
     listing: &Listing<A>,
 ) -> Result<Vec<u8>, AllocError> {
     let mut out = Writer::new(Vec::new(alloc));
@@ -17,6 +18,10 @@ pub fn camera_json<A: Allocator + Copy>(
     out.string("camera")?;
     out.key("camera")?;
     out.string(camera)?;
+    if let Some(store) = store {
+        out.key("store")?;
+        out.u64(u64::from(store))?;
+    }
     out.key("next")?;
     out.u64(listing.next)?;
     out.key("frames")?;

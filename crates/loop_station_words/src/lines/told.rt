@@ -238,6 +238,34 @@ impl Lines {
         self.why_line("store_absent", "store ", camera, " absent ", why)
     }
 
+    /// `store CAMERA PATH absent WHY`: one of a camera's stores can't be used; the others go on.
+    ///
+    /// JSON: `camera`, `path`, `why`.
+    pub fn one_absent<'a, Y: Display>(
+        &mut self,
+        camera: &'a str,
+        path: &'a str,
+        why: &Y,
+    ) -> io::Result<()> {
+        let why = why.to_string(self.alloc)?;
+        self.line_of_one(camera, path, why.as_str())
+    }
+
+    // The same, of the words of why.
+    fn line_of_one<'a>(&mut self, camera: &'a str, path: &'a str, why: &'a str) -> io::Result<()> {
+        self.line(
+            "one_absent",
+            &[
+                Words("store "),
+                Text("camera", camera),
+                Words(" "),
+                Text("path", path),
+                Words(" absent "),
+                Text("why", why),
+            ],
+        )
+    }
+
     /// `not a store CAMERA PATH: ..`: the file where a camera's store belongs isn't a store, and what to do about it.
     /// The path is given in two parts.
     ///
@@ -405,6 +433,22 @@ impl Lines {
                 Words("no answers "),
                 Text("path", path),
                 Words(": what is printed doesn't go there"),
+            ],
+        )
+    }
+
+    /// `not noted CAMERA PATH: ..`: the file of a camera's open events can't be written.
+    ///
+    /// JSON: `camera`, `path`.
+    pub fn not_noted<'a>(&mut self, camera: &'a str, path: &'a str) -> io::Result<()> {
+        self.line(
+            "not_noted",
+            &[
+                Words("not noted "),
+                Text("camera", camera),
+                Words(" "),
+                Text("path", path),
+                Words(": a stop or a loss of power would end its events"),
             ],
         )
     }
