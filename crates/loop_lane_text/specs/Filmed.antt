@@ -9,6 +9,7 @@ use Rattle.loop_store.specs.Calls.{StoreState}
 use Rattle.loop_capture.specs.declared.source.Next.{Next}
 use Rattle.loop_desk.specs.Desk.{DeskCall, accepted_in, frames_stored}
 use Rattle.loop_desk.specs.Footage.{steps_made}
+use Rattle.loop_pipeline.specs.Backs.{calls_at}
 use Rattle.loop_pipeline.specs.Cameras.{CameraKeeps, SeenCamera}
 use Rattle.loop_y4m.specs.Export.{frames_between}
 use Rattle.loop_y4m.specs.Text.{text}
@@ -23,7 +24,8 @@ pub record FilmsText {S D P : Type 0} (medium : D → Medium) (gives : S → Nex
   pub end : SeenCamera S D P
   pub keeps : CameraKeeps medium gives meaning asks gives_up due ends camera end lost.given_up lost.left lost.missed
       lost.failed true
-  pub stored : camera.desk.pending ++ accepted_in keeps.calls
-      ≡ frames_stored (steps_made camera.desk s keeps.calls) ++ end.desk.pending
+  pub stored : camera.desk.pending ++ accepted_in (calls_at 0 keeps.parts)
+      ≡ frames_stored (steps_made camera.desk s (calls_at 0 keeps.parts)) ++ end.desk.pending
   pub text_is : Appends before after (text camera.desk.store.geometry (frames_between from to
-      (plain (ring_of camera.desk.store.geometry) s.recording (steps_made camera.desk s keeps.calls)).frames))
+      (plain (ring_of camera.desk.store.geometry) s.recording
+      (steps_made camera.desk s (calls_at 0 keeps.parts))).frames))

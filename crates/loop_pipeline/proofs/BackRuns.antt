@@ -1,8 +1,10 @@
--- What a back has done, and a call or a frame more.
-use Rattle.std.proofs.Common.{◌≡◌, ◌++◌, ℕ, ◌+◌, Bool, true, false, List, [], ◌∷◌, All, length, map, Result, Ok, Err, refl, sym, ap, ◌∙◌, subst, arith}
+-- What a back has done, and a call, a frame or a desk more.
+use Rattle.std.proofs.Common.{◌≡◌, ◌==◌, ◌++◌, ◌<◌, ◌⊎◌, inl, inr, ne_eqb, ℕ, ◌+◌, Bool, true, false, cond, zero, suc, List, [], ◌∷◌, All, length, map, slice_get, slice_index_or, slice_set, Some, Result, Ok, Err, refl, sym, ap, ◌∙◌, subst, arith}
+use Rattle.std.proofs.lemmas.Bool.{eqb-true, eqb-false, eq-eqb}
 use Rattle.std.proofs.lemmas.Grind.{flat_map-append}
-use Rattle.std.proofs.lemmas.List.{append-nil, length-append, map-append}
+use Rattle.std.proofs.lemmas.List.{append-nil, length-append, length-set, map-append}
 use Rattle.std.proofs.lemmas.List.Elements.{All-append, All-cons, All-nil, Contains-append_left, Contains-push, filter-append}
+use Rattle.std.proofs.lemmas.Option.{slice_get_within}
 use Rattle.std.specs.List.{filter, flat_map}
 use Rattle.rtrb.specs.declared.AnyItems.{AnyItems}
 use Rattle.rtrb.specs.declared.consumer.Consumer.{Consumer}
@@ -16,7 +18,8 @@ use Rattle.loop_desk.specs.declared.limits.Flushed.{Flushed}
 use Rattle.loop_desk.specs.Desk.{DeskCall, flushed, submitted}
 use Rattle.loop_desk.specs.Seen.{DeskGoes, SeenDesk}
 use Rattle.loop_desk.proofs.CallRuns.{desk-joined, desk-none}
-use Rattle.loop_pipeline.specs.Backs.{BackKeeps, Came, GoesBy, IsFed, IsLast, IsRightful, MayGiveUp, Part, WasRefused, asked, calls_by, calls_of, is_submit, lost_by, own, picture_of, unasked, unasked_by, visited}
+use Rattle.loop_pipeline.specs.Backs.{BackKeeps, Came, EachServed, GoesBy, IsFed, IsLast, IsRightful, MayGiveUp, MayGiveUpAt, Part, Served, WasRefused, asked, calls_at, calls_by, calls_of, is_placed_submit, is_submit, lost_by, own, part_for, parts_at, picture_of, placed_calls, unasked, unasked_by, visited}
+use Rattle.loop_pipeline.proofs.Places.{get-joined, get-set-other, get-set-same, some-same, some-there}
 
 plus-none : (n : ℕ) → n + 0 ≡ n
 plus-none n = omega arith
@@ -24,35 +27,48 @@ plus-none n = omega arith
 -- ---- frames that came
 
 -- a frame more, and the desk's calls of it
-fed-more : (got : List Picture) (calls : List DeskCall) (given_up : ℕ) (came : List Came) (x : Came) (more : List DeskCall)
-    → IsFed got calls given_up came → filter is_submit more ≡ calls_by x
+fed-more : (got : List Picture) (calls : List (ℕ × DeskCall)) (given_up : ℕ) (came : List Came) (x : Came)
+    (more : List (ℕ × DeskCall)) → IsFed got calls given_up came → filter is_placed_submit more ≡ calls_by x
     → IsFed (got ++ picture_of x ∷ []) (calls ++ more) (given_up + length (lost_by x)) (came ++ x ∷ [])
 fed-more got calls given_up came x more fed is = record {
   whole = map-append picture_of came (x ∷ []) ∙ ap (λ l. l ++ picture_of x ∷ []) fed.whole;
   submits = flat_map-append calls_by came (x ∷ []) ∙ (ap (λ l. flat_map calls_by came ++ l) (append-nil (calls_by x))
-      ∙ (ap (λ l. l ++ calls_by x) fed.submits ∙ (ap (λ l. filter is_submit calls ++ l) (sym is)
-      ∙ sym (filter-append is_submit calls more))));
+      ∙ (ap (λ l. l ++ calls_by x) fed.submits ∙ (ap (λ l. filter is_placed_submit calls ++ l) (sym is)
+      ∙ sym (filter-append is_placed_submit calls more))));
   lost = ap length (flat_map-append lost_by came (x ∷ []) ∙ ap (λ l. flat_map lost_by came ++ l) (append-nil (lost_by x)))
       ∙ (length-append (flat_map lost_by came) (lost_by x) ∙ ap (λ n. n + length (lost_by x)) fed.lost);
 }
 
 -- calls that submit nothing
-fed-beside : (got : List Picture) (calls : List DeskCall) (given_up : ℕ) (came : List Came) (more : List DeskCall)
-    → IsFed got calls given_up came → filter is_submit more ≡ [] → IsFed got (calls ++ more) given_up came
+fed-beside : (got : List Picture) (calls : List (ℕ × DeskCall)) (given_up : ℕ) (came : List Came)
+    (more : List (ℕ × DeskCall)) → IsFed got calls given_up came → filter is_placed_submit more ≡ []
+    → IsFed got (calls ++ more) given_up came
 fed-beside got calls given_up came more fed none = record {
   whole = fed.whole;
-  submits = fed.submits ∙ (sym (append-nil (filter is_submit calls)) ∙ (ap (λ l. filter is_submit calls ++ l) (sym none)
-      ∙ sym (filter-append is_submit calls more)));
+  submits = fed.submits ∙ (sym (append-nil (filter is_placed_submit calls))
+      ∙ (ap (λ l. filter is_placed_submit calls ++ l) (sym none) ∙ sym (filter-append is_placed_submit calls more)));
   lost = fed.lost;
 }
 
--- a part more
-parts-more : (parts : List Part) (calls : List DeskCall) (part : Part) → calls ≡ flat_map calls_of parts
-    → calls ++ calls_of part ≡ flat_map calls_of (parts ++ part ∷ [])
-parts-more parts calls part are =
-    ap (λ l. l ++ calls_of part) are
-    ∙ (ap (λ l. flat_map calls_of parts ++ l) (sym (append-nil (calls_of part)))
-    ∙ sym (flat_map-append calls_of parts (part ∷ [])))
+-- ---- parts
+
+-- a part more, with each of its calls
+all-more : {X : Type 0} (f : ℕ × Part → List X) (parts : List (ℕ × Part)) (part : ℕ × Part)
+    → flat_map f (parts ++ part ∷ []) ≡ flat_map f parts ++ f part
+all-more f parts part = flat_map-append f parts (part ∷ []) ∙ ap (λ l. flat_map f parts ++ l) (append-nil (f part))
+
+-- a call that submits nothing
+placed-none : (place : ℕ) (calls : List DeskCall) → filter is_submit calls ≡ []
+    → filter is_placed_submit (map (λ call. (place, call)) calls) ≡ []
+placed-none place [] none = refl
+placed-none place (call ∷ calls) none = go (is_submit call) none (placed-none place calls)
+  where
+    go : (b : Bool) → cond b (call ∷ filter is_submit calls) (filter is_submit calls) ≡ []
+        → (filter is_submit calls ≡ [] → filter is_placed_submit (map (λ c. (place, c)) calls) ≡ [])
+        → cond b ((place, call) ∷ filter is_placed_submit (map (λ c. (place, c)) calls))
+        (filter is_placed_submit (map (λ c. (place, c)) calls)) ≡ []
+    go true e more = absurd (cc)
+    go false e more = more e
 
 by-more : {D : Type 0} (medium : D → Medium) (old mid new : SeenDesk D) (parts : List Part) (part : Part)
     → GoesBy medium old parts mid → DeskGoes medium mid new (calls_of part)
@@ -62,163 +78,386 @@ by-more medium old mid new [] part went goes =
 by-more medium old mid new (first ∷ parts) part went goes =
     (went.0, went.1, by-more medium went.0 mid new parts part went.2 goes)
 
-rightful-more : (asks : DeskCall → Type 0) (parts : List Part) (part : Part) → All (IsRightful asks) parts
-    → IsRightful asks part → All (IsRightful asks) (parts ++ part ∷ [])
-rightful-more asks parts part all is =
-    All-append (IsRightful asks) parts (part ∷ []) all
-    (All-cons (IsRightful asks) part [] is (All-nil (IsRightful asks)))
+-- one desk, a part more
+served-more : {D : Type 0} (medium : D → Medium) (old mid new : SeenDesk D) (parts : List Part) (part : Part)
+    → Served medium old mid parts → DeskGoes medium mid new (calls_of part) → Served medium old new (parts ++ part ∷ [])
+served-more medium old mid new parts part served goes = record {
+  goes = subst (λ l. DeskGoes medium old new l)
+      (sym (flat_map-append calls_of parts (part ∷ []) ∙ ap (λ l. flat_map calls_of parts ++ l) (append-nil (calls_of part))))
+      (desk-joined medium old mid new (flat_map calls_of parts) (calls_of part) served.goes goes);
+  went = by-more medium old mid new parts part served.went goes;
+}
+
+-- the parts of a place, and one more
+parts-here : (place : ℕ) (parts : List (ℕ × Part)) (part : Part)
+    → parts_at place (parts ++ (place, part) ∷ []) ≡ parts_at place parts ++ part ∷ []
+parts-here place parts part =
+    all-more (part_for place) parts (place, part)
+    ∙ ap (λ b. parts_at place parts ++ cond b (part ∷ []) []) (eq-eqb place place refl)
+
+parts-elsewhere : (place other : ℕ) (parts : List (ℕ × Part)) (part : Part) → (other == place) ≡ false
+    → parts_at place (parts ++ (other, part) ∷ []) ≡ parts_at place parts
+parts-elsewhere place other parts part apart =
+    all-more (part_for place) parts (other, part)
+    ∙ (ap (λ b. parts_at place parts ++ cond b (part ∷ []) []) apart ∙ append-nil (parts_at place parts))
+
+-- no part is of a place beyond the desks
+parts-none : (place : ℕ) (parts : List (ℕ × Part)) → All (λ part. part.0 < place) parts → parts_at place parts ≡ []
+parts-none place [] all = refl
+parts-none place (part ∷ parts) all =
+    let less : part.0 < place = all zero part (omega arith) in
+    let apart : (part.0 == place) ≡ false = ne_eqb part.0 place (λ e. omega (arith, e, less)) in
+    ap (λ b. cond b (part.1 ∷ []) [] ++ parts_at place parts) apart
+    ∙ parts-none place parts (λ k d l. all (suc k) d (omega (arith, l)))
+
+-- the calls of a place stay, and one more part may have some of them
+calls-more : (place : ℕ) (parts : List (ℕ × Part)) (part : ℕ × Part)
+    → calls_at place (parts ++ part ∷ []) ≡ calls_at place parts ++ flat_map calls_of (part_for place part)
+calls-more place parts part =
+    ap (flat_map calls_of) (all-more (part_for place) parts part)
+    ∙ flat_map-append calls_of (parts_at place parts) (part_for place part)
+
+-- a refused flush stays one of the calls
+still-refused : (gives_up : StoreFault → Type 0) (count : ℕ) (parts : List (ℕ × Part)) (part : ℕ × Part)
+    → MayGiveUpAt gives_up count parts → MayGiveUpAt gives_up count (parts ++ part ∷ [])
+still-refused gives_up count parts part why = record {
+  place = why.place;
+  among = why.among;
+  refused = subst (MayGiveUp gives_up) (sym (calls-more why.place parts part)) (
+    why.refused.0,
+    why.refused.1,
+    Contains-append_left (calls_at why.place parts) (flat_map calls_of (part_for why.place part)) (flushed (Err why.refused.0))
+        why.refused.2,
+  );
+}
+
+module _ {D : Type 0} (medium : D → Medium) where
+  -- each desk, after a part of one of them
+  each-more : (began desks : List (SeenDesk D)) (parts : List (ℕ × Part)) (place : ℕ) (old new : SeenDesk D) (part : Part)
+      → EachServed medium began desks parts → slice_get desks place ≡ Some old → DeskGoes medium old new (calls_of part)
+      → EachServed medium began (slice_set desks place new) (parts ++ (place, part) ∷ [])
+  each-more began desks parts place old new part each at goes i d e first last = go (place == i) refl
+    where
+      go : (b : Bool) → (place == i) ≡ b → Served medium d e (parts_at i (parts ++ (place, part) ∷ []))
+      go true here =
+          let same : place ≡ i = eqb-true place i here in
+          let is : e ≡ new = some-same e new
+          (sym last ∙ (ap (λ n. slice_get (slice_set desks place new) n) (sym same) ∙ get-set-same desks place old new at)) in
+          let served = served-more medium d old new (parts_at i parts) part
+          (each i d old first (ap (λ n. slice_get desks n) (sym same) ∙ at)) goes in
+          let there : parts_at i (parts ++ (place, part) ∷ []) ≡ parts_at i parts ++ part ∷ [] =
+          subst (λ n. parts_at n (parts ++ (place, part) ∷ []) ≡ parts_at n parts ++ part ∷ []) same
+          (parts-here place parts part) in
+          subst (λ l. Served medium d e l) (sym there)
+          (subst (λ x. Served medium d x (parts_at i parts ++ part ∷ [])) (sym is) served)
+      go false apart =
+          subst (λ l. Served medium d e l) (sym (parts-elsewhere i place parts part apart))
+          (each i d e first (get-set-other desks place i new e (λ s. eqb-false place i apart (sym s)) last))
 
 module _ {D A : Type 0} (medium : D → Medium) (asks : DeskCall → Type 0) (gives_up : StoreFault → Type 0) where
-  -- a new back has done nothing
+  -- a new back has one desk, and has done nothing
   pub begun : (desk : SeenDesk D) (from : Consumer (Frame A) A AnyItems) → TellsOne desk.store
       → ((medium desk.store.disk).honest → IsSound (medium desk.store.disk)) → received from ≡ []
-      → BackKeeps medium asks gives_up (record { began = desk; from = from; desk = desk }) from 0 false
+      → BackKeeps medium asks gives_up (record { began = desk ∷ []; from = from; desks = desk ∷ []; active = 0 }) from 0 false
   begun desk from one sound none = record {
     ring = ((refl, refl, refl, refl), refl);
-    calls = [];
-    goes = desk-none medium desk one sound;
+    all = refl;
+    inside = omega arith;
     parts = [];
-    are = refl;
-    went = refl;
-    rightful = All-nil (IsRightful asks);
+    among = λ k d l. absurd (omega (arith, l));
+    served = alone;
+    rightful = λ k d l. absurd (omega (arith, l));
     came = [];
     fed = record { whole = sym (ap (map picture) none); submits = refl; lost = refl };
     tried = λ e. absurd (cc);
     excused = λ e. refl;
   }
+    where
+      alone : EachServed medium (desk ∷ []) (desk ∷ []) []
+      alone zero d e first last =
+          let is : d ≡ desk = some-same d desk (sym first) in
+          let so : e ≡ desk = some-same e desk (sym last) in
+          record {
+            goes = subst (λ x. DeskGoes medium x e []) (sym is)
+                (subst (λ x. DeskGoes medium desk x []) (sym so) (desk-none medium desk one sound));
+            went = so ∙ sym is;
+          }
+      alone (suc n) d e first last = absurd (cc)
 
   same-ring : (a b c : Consumer (Frame A) A AnyItems) → SameConsumer a b → SameConsumer b c → SameConsumer a c
   same-ring a b c first second =
       ((second.0.0 ∙ first.0.0, second.0.1 ∙ first.0.1, second.0.2 ∙ first.0.2, second.0.3 ∙ first.0.3), second.1 ∙ first.1)
 
-  module _ (began old new : SeenDesk D) (before from up : Consumer (Frame A) A AnyItems) (given_up : ℕ) (refused : Bool)
-      (keeps : BackKeeps medium asks gives_up (record { began = began; from = before; desk = old }) from given_up refused) where
-    -- a refused flush stays one of the calls
-    still-tried : (more : List DeskCall) → refused ≡ true → MayGiveUp gives_up (keeps.calls ++ more)
-    still-tried more is =
-        let why = keeps.tried is in
-        (why.0, why.1, Contains-append_left keeps.calls more (flushed (Err why.0)) why.2)
+  module _ (began desks : List (SeenDesk D)) (active : ℕ) (before from up : Consumer (Frame A) A AnyItems) (given_up : ℕ)
+      (refused : Bool)
+      (keeps : BackKeeps medium asks gives_up (record { began = began; from = before; desks = desks; active = active })
+      from given_up refused)
+    where
+      -- a flush was refused
+      pub was-refused : refused ≡ true
+          → WasRefused medium gives_up (record { began = began; from = before; desks = desks; active = active })
+      was-refused is =
+          let why = keeps.tried is in
+          let old = some-there began why.place why.among in
+          let new = some-there desks why.place (subst (λ n. why.place < n) (sym keeps.all) why.among) in
+          record {
+            place = why.place;
+            began = old.0;
+            desk = new.0;
+            was = old.1;
+            is = new.1;
+            parts = parts_at why.place keeps.parts;
+            went = (keeps.served why.place old.0 new.0 old.1 new.1).went;
+            refused = why.refused;
+          }
 
-    -- a part that submits nothing
-    pub called : (part : Part) → IsRightful asks part → filter is_submit (calls_of part) ≡ []
-        → DeskGoes medium old new (calls_of part)
-        → BackKeeps medium asks gives_up (record { began = began; from = before; desk = new }) from given_up refused
-    called part is none goes = record {
-      ring = keeps.ring;
-      calls = keeps.calls ++ calls_of part;
-      goes = desk-joined medium began old new keeps.calls (calls_of part) keeps.goes goes;
-      parts = keeps.parts ++ part ∷ [];
-      are = parts-more keeps.parts keeps.calls part keeps.are;
-      went = by-more medium began old new keeps.parts part keeps.went goes;
-      rightful = rightful-more asks keeps.parts part keeps.rightful is;
-      came = keeps.came;
-      fed = fed-beside (map picture (received from)) keeps.calls given_up keeps.came (calls_of part) keeps.fed none;
-      tried = still-tried (calls_of part);
-      excused = keeps.excused;
-    }
+      module _ (place : ℕ) (old new : SeenDesk D) (at : slice_get desks place ≡ Some old) where
+        inside-began : place < length began
+        inside-began = subst (λ n. place < n) keeps.all (slice_get_within desks place old at)
 
-    -- a flush that was answered
-    pub flushed-on : (answer : Result Flushed StoreFault) → DeskGoes medium old new (flushed answer ∷ [])
-        → BackKeeps medium asks gives_up (record { began = began; from = before; desk = new }) from given_up refused
-    flushed-on answer goes = called (own (flushed answer)) refl refl goes
+        among-more : (part : Part) → All (λ part. part.0 < length began) (keeps.parts ++ (place, part) ∷ [])
+        among-more part =
+            All-append (λ part. part.0 < length began) keeps.parts ((place, part) ∷ []) keeps.among
+            (All-cons (λ part. part.0 < length began) (place, part) [] inside-began (All-nil (λ part. part.0 < length began)))
 
-    -- calls of a visitor
-    pub visits : (more : List DeskCall) → All asks more → filter is_submit more ≡ [] → DeskGoes medium old new more
-        → BackKeeps medium asks gives_up (record { began = began; from = before; desk = new }) from given_up refused
-    visits more all none goes = called (visited more) all none goes
+        rightful-more : (part : Part) → IsRightful asks part
+            → All (λ part. IsRightful asks part.1) (keeps.parts ++ (place, part) ∷ [])
+        rightful-more part is =
+            All-append (λ part. IsRightful asks part.1) keeps.parts ((place, part) ∷ []) keeps.rightful
+            (All-cons (λ part. IsRightful asks part.1) (place, part) [] is (All-nil (λ part. IsRightful asks part.1)))
 
-    -- one call of a visitor
-    pub visits-once : (call : DeskCall) → asks call → filter is_submit (call ∷ []) ≡ []
-        → DeskGoes medium old new (call ∷ [])
-        → BackKeeps medium asks gives_up (record { began = began; from = before; desk = new }) from given_up refused
-    visits-once call is none goes = visits (call ∷ []) (All-cons asks call [] is (All-nil asks)) none goes
+        fed-quiet : (part : Part) → filter is_submit (calls_of part) ≡ []
+            → IsFed (map picture (received from)) (flat_map placed_calls (keeps.parts ++ (place, part) ∷ [])) given_up keeps.came
+        fed-quiet part none =
+            subst (λ l. IsFed (map picture (received from)) l given_up keeps.came)
+            (sym (all-more placed_calls keeps.parts (place, part)))
+            (fed-beside (map picture (received from)) (flat_map placed_calls keeps.parts) given_up keeps.came
+            (placed_calls (place, part)) keeps.fed (placed-none place (calls_of part) none))
 
-    -- the call that was answered last
-    pub last : (call : DeskCall) → DeskGoes medium old new (call ∷ [])
-        → IsLast medium (record { began = began; from = before; desk = new }) call
-    last call goes = record { before = old; parts = keeps.parts; went = keeps.went; goes = goes }
-
-    -- a flush was refused
-    pub was-refused : refused ≡ true → WasRefused medium gives_up (record { began = began; from = before; desk = old })
-    was-refused is = record {
-      parts = keeps.parts;
-      went = keeps.went;
-      refused = subst (MayGiveUp gives_up) keeps.are (keeps.tried is);
-    }
-
-    -- a flush that was refused, and isn't tried again
-    pub refused-flush : (fault : StoreFault) → gives_up fault → DeskGoes medium old new (flushed (Err fault) ∷ [])
-        → BackKeeps medium asks gives_up (record { began = began; from = before; desk = new }) from given_up true
-    refused-flush fault gives goes =
-        let more = flushed (Err fault) ∷ [] in record {
+        -- a part that submits nothing
+        pub called : (part : Part) → IsRightful asks part → filter is_submit (calls_of part) ≡ []
+            → DeskGoes medium old new (calls_of part)
+            → BackKeeps medium asks gives_up
+            (record { began = began; from = before; desks = slice_set desks place new; active = active }) from given_up refused
+        called part is none goes = record {
           ring = keeps.ring;
-          calls = keeps.calls ++ more;
-          goes = desk-joined medium began old new keeps.calls more keeps.goes goes;
-          parts = keeps.parts ++ own (flushed (Err fault)) ∷ [];
-          are = parts-more keeps.parts keeps.calls (own (flushed (Err fault))) keeps.are;
-          went = by-more medium began old new keeps.parts (own (flushed (Err fault))) keeps.went goes;
-          rightful = rightful-more asks keeps.parts (own (flushed (Err fault))) keeps.rightful refl;
+          all = length-set desks place new ∙ keeps.all;
+          inside = subst (λ n. active < n) (sym (length-set desks place new)) keeps.inside;
+          parts = keeps.parts ++ (place, part) ∷ [];
+          among = among-more part;
+          served = each-more medium began desks keeps.parts place old new part keeps.served at goes;
+          rightful = rightful-more part is;
           came = keeps.came;
-          fed = fed-beside (map picture (received from)) keeps.calls given_up keeps.came more keeps.fed refl;
-          tried = λ e. (fault, gives, Contains-push keeps.calls (flushed (Err fault)));
-          excused = λ e. absurd (cc);
+          fed = fed-quiet part none;
+          tried = λ e. still-refused gives_up (length began) keeps.parts (place, part) (keeps.tried e);
+          excused = keeps.excused;
         }
 
-    -- a frame came out of the ring
-    came-out : (frame : Frame A) → received up ≡ received from ++ frame ∷ []
-        → map picture (received up) ≡ map picture (received from) ++ picture frame ∷ []
-    came-out frame got = ap (map picture) got ∙ map-append picture (received from) (frame ∷ [])
+        -- a flush that was answered
+        pub flushed-on : (answer : Result Flushed StoreFault) → DeskGoes medium old new (flushed answer ∷ [])
+            → BackKeeps medium asks gives_up
+            (record { began = began; from = before; desks = slice_set desks place new; active = active }) from given_up refused
+        flushed-on answer goes = called (own (flushed answer)) refl refl goes
 
-    -- and the desk was asked for it
-    pub brought : (frame : Frame A) (answer : Result ℕ StoreFault) → SameConsumer from up
-        → received up ≡ received from ++ frame ∷ []
-        → DeskGoes medium old new (submitted (picture frame) (length frame.bytes.items) answer ∷ [])
-        → BackKeeps medium asks gives_up (record { began = began; from = before; desk = new }) up
-        (given_up + length (lost_by (asked (picture frame) answer))) refused
-    brought frame answer same got goes =
-        let call = submitted (picture frame) (length frame.bytes.items) answer in
-        let x = asked (picture frame) answer in record {
-          ring = same-ring before from up keeps.ring same;
-          calls = keeps.calls ++ call ∷ [];
-          goes = desk-joined medium began old new keeps.calls (call ∷ []) keeps.goes goes;
-          parts = keeps.parts ++ own call ∷ [];
-          are = parts-more keeps.parts keeps.calls (own call) keeps.are;
-          went = by-more medium began old new keeps.parts (own call) keeps.went goes;
-          rightful = rightful-more asks keeps.parts (own call) keeps.rightful refl;
-          came = keeps.came ++ x ∷ [];
-          fed = subst (λ l. IsFed l (keeps.calls ++ call ∷ []) (given_up + length (lost_by x)) (keeps.came ++ x ∷ []))
-              (sym (came-out frame got))
-              (fed-more (map picture (received from)) keeps.calls given_up keeps.came x (call ∷ []) keeps.fed refl);
-          tried = still-tried (call ∷ []);
-          excused = λ e. flat_map-append unasked_by keeps.came (x ∷ [])
-              ∙ (append-nil (flat_map unasked_by keeps.came) ∙ keeps.excused e);
-        }
+        -- calls of a visitor
+        pub visits : (more : List DeskCall) → All asks more → filter is_submit more ≡ [] → DeskGoes medium old new more
+            → BackKeeps medium asks gives_up
+            (record { began = began; from = before; desks = slice_set desks place new; active = active }) from given_up refused
+        visits more all none goes = called (visited more) all none goes
 
-    -- and accepted it
-    pub accepted : (frame : Frame A) (number : ℕ) → SameConsumer from up → received up ≡ received from ++ frame ∷ []
-        → DeskGoes medium old new (submitted (picture frame) (length frame.bytes.items) (Ok number) ∷ [])
-        → BackKeeps medium asks gives_up (record { began = began; from = before; desk = new }) up given_up refused
-    accepted frame number same got goes =
-        subst (λ n. BackKeeps medium asks gives_up (record { began = began; from = before; desk = new }) up n refused) (plus-none given_up)
-        (brought frame (Ok number) same got goes)
+        -- one call of a visitor
+        pub visits-once : (call : DeskCall) → asks call → filter is_submit (call ∷ []) ≡ []
+            → DeskGoes medium old new (call ∷ [])
+            → BackKeeps medium asks gives_up
+            (record { began = began; from = before; desks = slice_set desks place new; active = active }) from given_up refused
+        visits-once call is none goes = visits (call ∷ []) (All-cons asks call [] is (All-nil asks)) none goes
 
-    -- or it was given up unasked
-    pub dropped : (frame : Frame A) → refused ≡ true → SameConsumer from up → received up ≡ received from ++ frame ∷ []
-        → BackKeeps medium asks gives_up (record { began = began; from = before; desk = old }) up (given_up + 1) refused
-    dropped frame is same got =
-        let x = unasked (picture frame) in record {
-          ring = same-ring before from up keeps.ring same;
-          calls = keeps.calls;
-          goes = keeps.goes;
-          parts = keeps.parts;
-          are = keeps.are;
-          went = keeps.went;
-          rightful = keeps.rightful;
-          came = keeps.came ++ x ∷ [];
-          fed = subst (λ l. IsFed l keeps.calls (given_up + 1) (keeps.came ++ x ∷ [])) (sym (came-out frame got))
-              (subst (λ l. IsFed (map picture (received from) ++ picture frame ∷ []) l (given_up + 1) (keeps.came ++ x ∷ []))
-              (append-nil keeps.calls)
-              (fed-more (map picture (received from)) keeps.calls given_up keeps.came x [] keeps.fed refl));
-          tried = keeps.tried;
-          excused = λ e. absurd (let both : true ≡ false = sym is ∙ e in cc);
-        }
+        -- a flush that was refused, and isn't tried again
+        pub refused-flush : (fault : StoreFault) → gives_up fault → DeskGoes medium old new (flushed (Err fault) ∷ [])
+            → BackKeeps medium asks gives_up
+            (record { began = began; from = before; desks = slice_set desks place new; active = active }) from given_up true
+        refused-flush fault gives goes =
+            let part = own (flushed (Err fault)) in record {
+              ring = keeps.ring;
+              all = length-set desks place new ∙ keeps.all;
+              inside = subst (λ n. active < n) (sym (length-set desks place new)) keeps.inside;
+              parts = keeps.parts ++ (place, part) ∷ [];
+              among = among-more part;
+              served = each-more medium began desks keeps.parts place old new part keeps.served at goes;
+              rightful = rightful-more part refl;
+              came = keeps.came;
+              fed = fed-quiet part refl;
+              tried = λ e. record {
+                place = place;
+                among = inside-began;
+                refused = subst (MayGiveUp gives_up)
+                    (sym (ap (flat_map calls_of) (parts-here place keeps.parts part)
+                    ∙ flat_map-append calls_of (parts_at place keeps.parts) (part ∷ [])))
+                    (fault, gives, Contains-push (calls_at place keeps.parts) (flushed (Err fault)));
+              };
+              excused = λ e. absurd (cc);
+            }
+
+        -- a frame came out of the ring
+        came-out : (frame : Frame A) → received up ≡ received from ++ frame ∷ []
+            → map picture (received up) ≡ map picture (received from) ++ picture frame ∷ []
+        came-out frame got = ap (map picture) got ∙ map-append picture (received from) (frame ∷ [])
+
+        -- and the desk was asked for it
+        pub brought : (frame : Frame A) (answer : Result ℕ StoreFault) → SameConsumer from up
+            → received up ≡ received from ++ frame ∷ []
+            → DeskGoes medium old new (submitted (picture frame) (length frame.bytes.items) answer ∷ [])
+            → BackKeeps medium asks gives_up
+            (record { began = began; from = before; desks = slice_set desks place new; active = active }) up
+            (given_up + length (lost_by (asked place (picture frame) answer))) refused
+        brought frame answer same got goes =
+            let part = own (submitted (picture frame) (length frame.bytes.items) answer) in
+            let x = asked place (picture frame) answer in record {
+              ring = same-ring before from up keeps.ring same;
+              all = length-set desks place new ∙ keeps.all;
+              inside = subst (λ n. active < n) (sym (length-set desks place new)) keeps.inside;
+              parts = keeps.parts ++ (place, part) ∷ [];
+              among = among-more part;
+              served = each-more medium began desks keeps.parts place old new part keeps.served at goes;
+              rightful = rightful-more part refl;
+              came = keeps.came ++ x ∷ [];
+              fed = subst (λ l. IsFed l (flat_map placed_calls (keeps.parts ++ (place, part) ∷ []))
+                  (given_up + length (lost_by x)) (keeps.came ++ x ∷ []))
+                  (sym (came-out frame got))
+                  (subst (λ l. IsFed (map picture (received from) ++ picture frame ∷ []) l (given_up + length (lost_by x))
+                  (keeps.came ++ x ∷ []))
+                  (sym (all-more placed_calls keeps.parts (place, part)))
+                  (fed-more (map picture (received from)) (flat_map placed_calls keeps.parts) given_up keeps.came x
+                  (placed_calls (place, part)) keeps.fed refl));
+              tried = λ e. still-refused gives_up (length began) keeps.parts (place, part) (keeps.tried e);
+              excused = λ e. flat_map-append unasked_by keeps.came (x ∷ [])
+                  ∙ (append-nil (flat_map unasked_by keeps.came) ∙ keeps.excused e);
+            }
+
+        -- and accepted it
+        pub accepted : (frame : Frame A) (number : ℕ) → SameConsumer from up → received up ≡ received from ++ frame ∷ []
+            → DeskGoes medium old new (submitted (picture frame) (length frame.bytes.items) (Ok number) ∷ [])
+            → BackKeeps medium asks gives_up
+            (record { began = began; from = before; desks = slice_set desks place new; active = active }) up given_up refused
+        accepted frame number same got goes =
+            subst (λ n. BackKeeps medium asks gives_up
+            (record { began = began; from = before; desks = slice_set desks place new; active = active }) up n refused)
+            (plus-none given_up) (brought frame (Ok number) same got goes)
+
+      -- the call that the active desk answered last
+      pub last : (old new : SeenDesk D) (call : DeskCall) → slice_get desks active ≡ Some old
+          → DeskGoes medium old new (call ∷ [])
+          → IsLast medium (record { began = began; from = before; desks = slice_set desks active new; active = active }) call
+      last old new call at goes =
+          let was = some-there began active (subst (λ n. active < n) keeps.all keeps.inside) in record {
+            began = was.0;
+            desk = new;
+            was = was.1;
+            is = get-set-same desks active old new at;
+            before = old;
+            parts = parts_at active keeps.parts;
+            went = (keeps.served active was.0 old was.1 at).went;
+            goes = goes;
+          }
+
+      -- none came out of the ring
+      pub nothing : SameConsumer from up → received up ≡ received from
+          → BackKeeps medium asks gives_up (record { began = began; from = before; desks = desks; active = active }) up
+          given_up refused
+      nothing same none = record {
+        ring = same-ring before from up keeps.ring same;
+        all = keeps.all;
+        inside = keeps.inside;
+        parts = keeps.parts;
+        among = keeps.among;
+        served = keeps.served;
+        rightful = keeps.rightful;
+        came = keeps.came;
+        fed = subst (λ l. IsFed (map picture l) (flat_map placed_calls keeps.parts) given_up keeps.came) (sym none) keeps.fed;
+        tried = keeps.tried;
+        excused = keeps.excused;
+      }
+
+      -- or it was given up unasked
+      pub dropped : (frame : Frame A) → refused ≡ true → SameConsumer from up → received up ≡ received from ++ frame ∷ []
+          → BackKeeps medium asks gives_up (record { began = began; from = before; desks = desks; active = active }) up
+          (given_up + 1) refused
+      dropped frame is same got =
+          let x = unasked (picture frame) in record {
+            ring = same-ring before from up keeps.ring same;
+            all = keeps.all;
+            inside = keeps.inside;
+            parts = keeps.parts;
+            among = keeps.among;
+            served = keeps.served;
+            rightful = keeps.rightful;
+            came = keeps.came ++ x ∷ [];
+            fed = subst (λ l. IsFed l (flat_map placed_calls keeps.parts) (given_up + 1) (keeps.came ++ x ∷ []))
+                (sym (ap (map picture) got ∙ map-append picture (received from) (frame ∷ [])))
+                (subst (λ l. IsFed (map picture (received from) ++ picture frame ∷ []) l (given_up + 1) (keeps.came ++ x ∷ []))
+                (append-nil (flat_map placed_calls keeps.parts))
+                (fed-more (map picture (received from)) (flat_map placed_calls keeps.parts) given_up keeps.came x [] keeps.fed refl));
+            tried = keeps.tried;
+            excused = λ e. absurd (let both : true ≡ false = sym is ∙ e in cc);
+          }
+
+  -- a desk more
+  pub one-more : (began desks : List (SeenDesk D)) (active : ℕ) (before from : Consumer (Frame A) A AnyItems)
+      (given_up : ℕ) (refused : Bool) (desk : SeenDesk D) → TellsOne desk.store
+      → ((medium desk.store.disk).honest → IsSound (medium desk.store.disk))
+      → BackKeeps medium asks gives_up (record { began = began; from = before; desks = desks; active = active }) from
+      given_up refused
+      → BackKeeps medium asks gives_up
+      (record { began = began ++ desk ∷ []; from = before; desks = desks ++ desk ∷ []; active = active }) from given_up refused
+  one-more began desks active before from given_up refused desk one sound keeps = record {
+    ring = keeps.ring;
+    all = length-append desks (desk ∷ []) ∙ (ap (λ n. n + 1) keeps.all ∙ sym (length-append began (desk ∷ [])));
+    inside = subst (λ n. active < n) (sym (length-append desks (desk ∷ []))) (omega (arith, keeps.inside));
+    parts = keeps.parts;
+    among = λ k part l. subst (λ n. (slice_index_or keeps.parts k part).0 < n) (sym (length-append began (desk ∷ [])))
+        (omega (arith, keeps.among k part l));
+    served = λ place d e first last. go place d e (get-joined began desk d place first) (get-joined desks desk e place last);
+    rightful = keeps.rightful;
+    came = keeps.came;
+    fed = keeps.fed;
+    tried = λ e. let why = keeps.tried e in record {
+      place = why.place;
+      among = subst (λ n. why.place < n) (sym (length-append began (desk ∷ []))) (omega (arith, why.among));
+      refused = why.refused;
+    };
+    excused = keeps.excused;
+  }
+    where
+      go : (place : ℕ) (d e : SeenDesk D)
+          → ((place < length began) × (slice_get began place ≡ Some d)) ⊎ ((place ≡ length began) × (d ≡ desk))
+          → ((place < length desks) × (slice_get desks place ≡ Some e)) ⊎ ((place ≡ length desks) × (e ≡ desk))
+          → Served medium d e (parts_at place keeps.parts)
+      go place d e (inl first) (inl last) = keeps.served place d e first.1 last.1
+      go place d e (inl first) (inr last) = absurd (omega (arith, first.0, last.0, keeps.all))
+      go place d e (inr first) (inl last) = absurd (omega (arith, first.0, last.0, keeps.all))
+      go place d e (inr first) (inr last) =
+          subst (λ l. Served medium d e l)
+          (sym (parts-none place keeps.parts (subst (λ n. All (λ part. part.0 < n) keeps.parts) (sym first.0) keeps.among)))
+          (subst (λ x. Served medium x e []) (sym first.1) (subst (λ x. Served medium desk x []) (sym last.1)
+          (record { goes = desk-none medium desk one sound; went = refl })))
+
+  -- another desk is active
+  pub turned-to : (began desks : List (SeenDesk D)) (active place : ℕ) (before from : Consumer (Frame A) A AnyItems)
+      (given_up : ℕ) (refused : Bool) → place < length desks
+      → BackKeeps medium asks gives_up (record { began = began; from = before; desks = desks; active = active }) from
+      given_up refused
+      → BackKeeps medium asks gives_up (record { began = began; from = before; desks = desks; active = place }) from
+      given_up refused
+  turned-to began desks active place before from given_up refused inside keeps = record {
+    ring = keeps.ring;
+    all = keeps.all;
+    inside = inside;
+    parts = keeps.parts;
+    among = keeps.among;
+    served = keeps.served;
+    rightful = keeps.rightful;
+    came = keeps.came;
+    fed = keeps.fed;
+    tried = keeps.tried;
+    excused = keeps.excused;
+  }

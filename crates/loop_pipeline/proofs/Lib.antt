@@ -1,10 +1,19 @@
-mod SeveralStarts
-mod SeveralSteps
+mod Alone
 mod BackRuns
-pub mod Crossing
-mod RingEnds
-mod KeepCalls
-mod FrontRuns
+mod Earliest
 mod EmptyQueue
 mod FrameSteps
+mod FrontRuns
+mod Joining
+mod KeepCalls
+mod OldestGoes
+mod RingEnds
+mod Searching
+mod SeveralStarts
+mod SeveralSteps
 mod TickSteps
+mod Turning
+pub mod Places
+pub mod DeskPlaces
+pub mod OneDesk
+pub mod Crossing

@@ -1,5 +1,5 @@
 -- A camera's front and back, on the two ends of one ring.
-use Rattle.std.proofs.Common.{◌≡◌, ◌⊎◌, inl, inr, ◌++◌, ◌+◌, ℕ, Bool, true, false, List, [], ◌∷◌, length, map, refl, sym, ap, ◌∙◌}
+use Rattle.std.proofs.Common.{◌≡◌, ◌⊎◌, inl, inr, ◌++◌, ◌+◌, ℕ, Bool, true, false, List, [], ◌∷◌, length, map, refl, sym, ap, ◌∙◌, subst, arith}
 use Rattle.std.proofs.lemmas.Grind.{flat_map-append}
 use Rattle.std.proofs.lemmas.List.{append-nil, length-append, length-map, map-append}
 use Rattle.std.specs.List.{flat_map}
@@ -17,9 +17,10 @@ use Rattle.loop_capture.specs.Ticks.{SeenDevice}
 use Rattle.loop_store.specs.declared.fault.StoreFault.{StoreFault}
 use Rattle.loop_desk.specs.Desk.{DeskCall}
 use Rattle.loop_desk.specs.Lane.{without_flags}
+use Rattle.loop_desk.specs.Seen.{SeenDesk}
 use Rattle.loop_desk.specs.Waiting.{frames_waiting}
 use Rattle.loop_desk.proofs.FootageRuns.{keeps-footage}
-use Rattle.loop_pipeline.specs.Backs.{BackKeeps, Came, IsFed, MayGiveUp, SeenBack, calls_by, lost_by, picture_of, unasked, unasked_by}
+use Rattle.loop_pipeline.specs.Backs.{BackKeeps, Came, IsFed, MayGiveUpAt, SeenBack, calls_at, calls_by, lost_by, picture_of, placed_calls, unasked, unasked_by}
 use Rattle.loop_pipeline.specs.Cameras.{CameraKeeps}
 use Rattle.loop_pipeline.specs.Fronts.{FrontKeeps, SeenFront}
 
@@ -41,7 +42,7 @@ left-unasked [] = refl
 left-unasked (p ∷ ps) = ap (λ l. p ∷ l) (left-unasked ps)
 
 -- with these, all that came is what was sent
-fed-all : (got : List Picture) (calls : List DeskCall) (given_up : ℕ) (came : List Came) (left : List Picture)
+fed-all : (got : List Picture) (calls : List (ℕ × DeskCall)) (given_up : ℕ) (came : List Came) (left : List Picture)
     → IsFed got calls given_up came → IsFed (got ++ left) calls (given_up + length left) (came ++ map unasked left)
 fed-all got calls given_up came left fed = record {
   whole = map-append picture_of came (map unasked left)
@@ -56,16 +57,20 @@ fed-all got calls given_up came left fed = record {
 
 module _ {S D P G A : Type 0} (medium : D → Medium) (gives : S → Next → List ℕ → S → Type 0) (m : P → Plane)
     (asks : DeskCall → Type 0) (gives_up : StoreFault → Type 0) (due : ℕ → ℕ → Type 0) (ends : ℕ → Type 0) where
-  pub both : (seen : SeenFront S P G A) (back : SeenBack D A) (device : SeenDevice S) (queue : Lined P)
-      (to up : Producer (Frame A) A AnyItems) (from down : Consumer (Frame A) A AnyItems) (given_up left missed failed : ℕ) (over refused : Bool)
+  pub both : (seen : SeenFront S P G A) (back : SeenBack D A) (first desk : SeenDesk D) (others joined : List (SeenDesk D))
+      (device : SeenDevice S) (queue : Lined P) (to up : Producer (Frame A) A AnyItems)
+      (from down : Consumer (Frame A) A AnyItems) (given_up left missed failed : ℕ) (over refused : Bool)
+      → back.began ≡ first ∷ others → desk ∷ joined ≡ back.desks
       → FrontKeeps gives m due ends seen device queue to missed failed over → BackKeeps medium asks gives_up back from given_up refused
       → ProducerLooked to up → ConsumerLooked from down → received down ++ known_items down ≡ sent up
       → left ≡ length (known_items down)
-      → CameraKeeps medium gives m asks gives_up due ends (record { device = seen.device; queue = seen.queue; desk = back.began })
-      (record { device = device; queue = queue; desk = back.desk }) given_up left missed failed over
-  both seen back device queue to up from down given_up left missed failed over refused front keeps up_looked down_looked fifo count =
+      → CameraKeeps medium gives m asks gives_up due ends
+      (record { device = seen.device; queue = seen.queue; desk = first; joined = others })
+      (record { device = device; queue = queue; desk = desk; joined = joined }) given_up left missed failed over
+  both seen back first desk others joined device queue to up from down given_up left missed failed over refused was is front kept
+      up_looked down_looked fifo count =
       let items = map picture (known_items down) in
-      let fed = fed-all (map picture (received from)) keeps.calls given_up keeps.came items keeps.fed in
+      let fed = fed-all (map picture (received from)) (flat_map placed_calls keeps.parts) given_up keeps.came items keeps.fed in
       let all : map picture (received from) ++ items ≡ map picture (sent to) =
       ap (λ l. map picture l ++ items) (sym down_looked.1)
       ∙ (sym (map-append picture (received down) (known_items down)) ∙ ap (map picture) (fifo ∙ up_looked.1)) in
@@ -84,17 +89,22 @@ module _ {S D P G A : Type 0} (medium : D → Medium) (gives : S → Next → Li
         whole = front.whole ∙ ap (λ l. map without_flags l ++ map without_flags (frames_waiting queue front.last))
             (sym (fed.whole ∙ all));
         lost = fed.lost ∙ ap (λ n. given_up + n) (length-map (known_items down) picture ∙ sym count);
-        calls = keeps.calls;
-        submits = fed.submits;
-        goes = keeps.goes;
+        all = omega (arith, keeps.all);
         parts = keeps.parts;
-        are = keeps.are;
-        went = keeps.went;
+        among = keeps.among;
+        submits = fed.submits;
+        served = keeps.served;
         rightful = keeps.rightful;
         excused = excuse refused refl;
-        footage = λ s stands now. keeps-footage medium back.began back.desk keeps.calls s keeps.goes stands now;
+        footage = λ place d e first last s stands now.
+            keeps-footage medium d e (calls_at place keeps.parts) s (keeps.served place d e first last).goes stands now;
       }
     where
+      keeps : BackKeeps medium asks gives_up
+          (record { began = first ∷ others; from = back.from; desks = desk ∷ joined; active = back.active }) from given_up refused
+      keeps = subst (λ b. BackKeeps medium asks gives_up b from given_up refused)
+          (λ i. record { began = was i; from = back.from; desks = (sym is) i; active = back.active }) kept
+
       none-asked : refused ≡ false → length (flat_map unasked_by (keeps.came ++ map unasked (map picture (known_items down)))) ≡ left
       none-asked on =
           let items = map picture (known_items down) in
@@ -104,6 +114,6 @@ module _ {S D P G A : Type 0} (medium : D → Medium) (gives : S → Next → Li
 
       excuse : (b : Bool) → refused ≡ b
           → (length (flat_map unasked_by (keeps.came ++ map unasked (map picture (known_items down)))) ≡ left)
-          ⊎ MayGiveUp gives_up keeps.calls
+          ⊎ MayGiveUpAt gives_up (length (first ∷ others)) keeps.parts
       excuse true is = inr (keeps.tried is)
       excuse false is = inl (none-asked is)

@@ -1,5 +1,5 @@
--- What one thread keeps that has a camera's desk and the end of a ring.
-use Rattle.std.specs.Prelude.{◌≡◌, ◌⊎◌, ℕ, Bool, true, false, List, [], ◌∷◌, All, Contains, length, map, Option, Result, Ok, Err}
+-- What one thread keeps that has a camera's desks and the end of a ring.
+use Rattle.std.specs.Prelude.{◌≡◌, ◌==◌, ◌<◌, ◌≤◌, ◌-◌, ◌%◌, ◌⊎◌, ℕ, Bool, true, false, if◌then◌else◌, List, [], ◌∷◌, ◌++◌, All, Contains, length, map, slice_get, slice_set, Option, Some, Result, Ok, Err}
 use Rattle.std.specs.List.{filter, flat_map}
 use Rattle.rtrb.specs.declared.AnyItems.{AnyItems}
 use Rattle.rtrb.specs.declared.consumer.Consumer.{Consumer}
@@ -16,30 +16,35 @@ use Rattle.loop_pipeline.specs.declared.back.Brought.{Brought}
 use Rattle.loop_pipeline.specs.declared.back.Brought.TheVariants.{GivenUp, Submitted}
 use Rattle.loop_pipeline.specs.declared.back.LostFrame.{LostFrame}
 
--- A frame that came out of the ring: it was submitted to the desk, with this answer, or it was given up without that.
+-- ---- frames that came
+
+-- A frame that came out of the ring: it was submitted to the desk at this place, with this answer, or it was given up
+-- without that.
 pub data Came : Type 0 where
-  asked : Picture → Result ℕ StoreFault → Came
+  asked : ℕ → Picture → Result ℕ StoreFault → Came
   unasked : Picture → Came
 
 abbrev pub picture_of : Came → Picture
-picture_of (asked p result) = p
+picture_of (asked place p result) = p
 picture_of (unasked p) = p
 
--- the desk's call
-abbrev pub calls_by : Came → List DeskCall
-calls_by (asked p result) = submitted p (length p.bytes) result ∷ []
+-- the desk's call, with its place
+abbrev pub calls_by : Came → List (ℕ × DeskCall)
+calls_by (asked place p result) = (place, submitted p (length p.bytes) result) ∷ []
 calls_by (unasked p) = []
 
 -- the frame, unless the desk accepted it
 abbrev pub lost_by : Came → List Picture
-lost_by (asked p (Ok number)) = []
-lost_by (asked p (Err fault)) = p ∷ []
+lost_by (asked place p (Ok number)) = []
+lost_by (asked place p (Err fault)) = p ∷ []
 lost_by (unasked p) = p ∷ []
 
--- the frame, if it was given up without asking the desk
+-- the frame, if it was given up without asking a desk
 abbrev pub unasked_by : Came → List Picture
-unasked_by (asked p result) = []
+unasked_by (asked place p result) = []
 unasked_by (unasked p) = p ∷ []
+
+-- ---- calls of a desk
 
 -- a flush was refused by a fault for which frames are given up
 abbrev pub MayGiveUp : (StoreFault → Type 0) → List DeskCall → Type 0
@@ -76,20 +81,6 @@ MayKeep asks =
     ((times : Times) (place : ℕ) (run : Option Span) → asks (run_told times place run))
     × ((span : Span) (answer : Result ℕ StoreFault) → asks (clip_locked span answer))
 
--- a back as its callers see it: its desk and the end of its ring as they were when it was made, and the desk as it is
--- now
-pub record SeenBack (D A : Type 0) : Type 0 where
-  pub began : SeenDesk D
-  pub from : Consumer (Frame A) A AnyItems
-  pub desk : SeenDesk D
-
--- Each frame of the ring came out once, in order; each submit was of one of them; those that weren't accepted are
--- counted.
-pub record IsFed (got : List Picture) (calls : List DeskCall) (given_up : ℕ) (came : List Came) : Type 0 where
-  pub whole : map picture_of came ≡ got
-  pub submits : flat_map calls_by came ≡ filter is_submit calls
-  pub lost : length (flat_map lost_by came) ≡ given_up
-
 -- From one desk to another by these parts, one after the other: each was answered before the next one began, and there
 -- is a desk after it.
 abbrev pub GoesBy : {D : Type 0} → (D → Medium) → SeenDesk D → List Part → SeenDesk D → Type 0
@@ -97,37 +88,138 @@ GoesBy medium old [] new = new ≡ old
 GoesBy {D} medium old (part ∷ parts) new =
     (mid : SeenDesk D) × DeskGoes medium old mid (calls_of part) × GoesBy medium mid parts new
 
+-- ---- calls of several desks: each part with the place of its desk
+
+-- each call of a part, with the place of its desk
+abbrev pub placed_calls : ℕ × Part → List (ℕ × DeskCall)
+placed_calls part = map (λ call. (part.0, call)) (calls_of part.1)
+
+abbrev pub is_placed_submit : ℕ × DeskCall → Bool
+is_placed_submit call = is_submit call.1
+
+-- the parts of one place
+abbrev pub part_for : ℕ → ℕ × Part → List Part
+part_for place part = if part.0 == place then part.1 ∷ [] else []
+
+abbrev pub parts_at : ℕ → List (ℕ × Part) → List Part
+parts_at place parts = flat_map (part_for place) parts
+
+-- and their calls
+abbrev pub calls_at : ℕ → List (ℕ × Part) → List DeskCall
+calls_at place parts = flat_map calls_of (parts_at place parts)
+
+-- one desk, by its own parts: what a part was answered is on the disk before the next one
+pub record Served {D : Type 0} (medium : D → Medium) (old new : SeenDesk D) (parts : List Part) : Type 0 where
+  pub goes : DeskGoes medium old new (flat_map calls_of parts)
+  pub went : GoesBy medium old parts new
+
+-- each desk of a list, by the parts of its place
+abbrev pub EachServed : {D : Type 0} → (D → Medium) → List (SeenDesk D) → List (SeenDesk D) → List (ℕ × Part) → Type 0
+EachServed {D} medium old new parts =
+    (place : ℕ) (d e : SeenDesk D) → slice_get old place ≡ Some d → slice_get new place ≡ Some e
+    → Served medium d e (parts_at place parts)
+
+-- a flush of one of so many desks was refused by such a fault
+pub record MayGiveUpAt (gives_up : StoreFault → Type 0) (count : ℕ) (parts : List (ℕ × Part)) : Type 0 where
+  pub place : ℕ
+  pub among : place < count
+  pub refused : MayGiveUp gives_up (calls_at place parts)
+
+-- Each frame of the ring came out once, in order; each submit, of whichever desk, was of one of them, in the same
+-- order; those that weren't accepted are counted.
+pub record IsFed (got : List Picture) (calls : List (ℕ × DeskCall)) (given_up : ℕ) (came : List Came) : Type 0 where
+  pub whole : map picture_of came ≡ got
+  pub submits : flat_map calls_by came ≡ filter is_placed_submit calls
+  pub lost : length (flat_map lost_by came) ≡ given_up
+
+-- ---- a back
+
+-- a back as its callers see it: its desks as they were when it took them, the end of its ring as it was when it was
+-- made, the desks as they are now, and the place of the one to which frames are brought
+pub record SeenBack (D A : Type 0) : Type 0 where
+  pub began : List (SeenDesk D)
+  pub from : Consumer (Frame A) A AnyItems
+  pub desks : List (SeenDesk D)
+  pub active : ℕ
+
+-- the desk at a place goes on so, and all else stays
+pub record GoesAt {D A : Type 0} (place : ℕ) (old new : SeenBack D A) (P : SeenDesk D → SeenDesk D → Type 0) : Type 0 where
+  pub before : SeenDesk D
+  pub after : SeenDesk D
+  pub at : slice_get old.desks place ≡ Some before
+  pub goes : P before after
+  pub same : new ≡ record old { desks = slice_set old.desks place after }
+
+-- there is a desk at a place, and this is true of it
+abbrev pub IsAt : {D A : Type 0} → ℕ → SeenBack D A → (SeenDesk D → Type 0) → Type 0
+IsAt {D} place back P = (desk : SeenDesk D) × (slice_get back.desks place ≡ Some desk) × P desk
+
+-- nothing changed but the desk at a place
+abbrev pub IsChangedAt : {D A : Type 0} → ℕ → SeenBack D A → SeenBack D A → Type 0
+IsChangedAt {D} place old new = (desk : SeenDesk D) × (new ≡ record old { desks = slice_set old.desks place desk })
+
+-- the block of the next number has room for what waits, and for one frame more
+abbrev pub FitsBlock : {D : Type 0} → SeenDesk D → Type 0
+FitsBlock d = length d.pending ≤ d.store.geometry.slots - d.store.next % d.store.geometry.slots
+
+abbrev pub HasRoom : {D : Type 0} → SeenDesk D → Type 0
+HasRoom d = length d.pending < d.store.geometry.slots - d.store.next % d.store.geometry.slots
+
+-- another desk is active
+abbrev pub turned : {D A : Type 0} → ℕ → SeenBack D A → SeenBack D A
+turned place back = record back { active = place }
+
+-- a desk joins the others
+abbrev pub joined : {D A : Type 0} → SeenDesk D → SeenBack D A → SeenBack D A
+joined desk back = record back { began = back.began ++ desk ∷ []; desks = back.desks ++ desk ∷ [] }
+
+-- Some desks joined; none where the door is shut. Those that were there may have gone on, and another one may be active.
+pub record Joins {D A : Type 0} (shut : Type 0) (old new : SeenBack D A) : Type 0 where
+  pub others : List (SeenDesk D)
+  pub none : shut → others ≡ []
+  pub began : new.began ≡ old.began ++ others
+  pub from : new.from ≡ old.from
+
 -- ---- what was answered last
 
--- The last call of a back's desk is this one: parts led to the desk before it.
+-- The last call of a back's active desk is this one: parts led to the desk before it.
 pub record IsLast {D A : Type 0} (medium : D → Medium) (seen : SeenBack D A) (call : DeskCall) : Type 0 where
+  pub began : SeenDesk D
+  pub desk : SeenDesk D
+  pub was : slice_get seen.began seen.active ≡ Some began
+  pub is : slice_get seen.desks seen.active ≡ Some desk
   pub before : SeenDesk D
   pub parts : List Part
-  pub went : GoesBy medium seen.began parts before
-  pub goes : DeskGoes medium before seen.desk (call ∷ [])
+  pub went : GoesBy medium began parts before
+  pub goes : DeskGoes medium before desk (call ∷ [])
 
--- the desk has just accepted a frame under this number
+-- the active desk has just accepted a frame under this number
 abbrev pub IsAccepted : {D A : Type 0} → (D → Medium) → SeenBack D A → ℕ → Type 0
 IsAccepted medium seen number = (p : Picture) × IsLast medium seen (submitted p (length p.bytes) (Ok number))
 
--- a flush of the back's desk was refused, by a fault for which frames are given up
+-- a flush of one of the back's desks was refused, by a fault for which frames are given up
 pub record WasRefused {D A : Type 0} (medium : D → Medium) (gives_up : StoreFault → Type 0) (seen : SeenBack D A)
     : Type 0 where
+  pub place : ℕ
+  pub began : SeenDesk D
+  pub desk : SeenDesk D
+  pub was : slice_get seen.began place ≡ Some began
+  pub is : slice_get seen.desks place ≡ Some desk
   pub parts : List Part
-  pub went : GoesBy medium seen.began parts seen.desk
+  pub went : GoesBy medium began parts desk
   pub refused : MayGiveUp gives_up (flat_map calls_of parts)
 
--- the desk has just refused this frame
+-- the active desk has just refused this frame
 abbrev pub IsTurnedDown : {D A : Type 0} → (D → Medium) → SeenBack D A → LostFrame → Type 0
 IsTurnedDown medium seen lost =
     (p : Picture) × (fault : StoreFault) × (lost ≡ record { sequence = p.sequence; timestamp = p.timestamp })
     × IsLast medium seen (submitted p (length p.bytes) (Err fault))
 
--- a frame was given up for a reason: the desk has just refused it, or a flush was refused
+-- a frame was given up for a reason: the active desk has just refused it, or a flush was refused
 abbrev pub IsGivenUp : {D A : Type 0} → (D → Medium) → (StoreFault → Type 0) → SeenBack D A → LostFrame → Type 0
 IsGivenUp medium gives_up seen lost = IsTurnedDown medium seen lost ⊎ WasRefused medium gives_up seen
 
--- what is said of a frame that was brought to the desk is so
+-- what is said of a frame that was brought to the active desk is so
 abbrev pub IsBrought : {D A : Type 0} → (D → Medium) → SeenBack D A → Brought → Type 0
 IsBrought medium seen (Submitted number) = IsAccepted medium seen number
 IsBrought medium seen (GivenUp fault lost) = IsTurnedDown medium seen lost
@@ -135,20 +227,20 @@ IsBrought medium seen _ = Unit {0}
 
 -- ---- what a back keeps
 
--- From the desk that the back was made with to the desk as it is, whatever its disk, there were just these calls; their
--- submits are of the frames that came out of the ring, and `asks` says which calls visits may make.
+-- From the desks that the back took to the desks as they are, whatever their disks, there were just these calls, each
+-- desk's own; their submits are of the frames that came out of the ring, and `asks` says which calls visits may make.
 pub record BackKeeps {D A : Type 0} (medium : D → Medium) (asks : DeskCall → Type 0) (gives_up : StoreFault → Type 0)
     (seen : SeenBack D A) (from : Consumer (Frame A) A AnyItems) (given_up : ℕ) (refused : Bool) : Type 0 where
   pub ring : SameConsumer seen.from from
-  pub calls : List DeskCall
-  pub goes : DeskGoes medium seen.began seen.desk calls
-  -- part by part, so what a part was answered is on the disk before the next one
-  pub parts : List Part
-  pub are : calls ≡ flat_map calls_of parts
-  pub went : GoesBy medium seen.began parts seen.desk
-  pub rightful : All (IsRightful asks) parts
+  pub all : length seen.desks ≡ length seen.began
+  pub inside : seen.active < length seen.desks
+  -- in the order in which they were made over all desks, each with the place of its desk
+  pub parts : List (ℕ × Part)
+  pub among : All (λ part. part.0 < length seen.began) parts
+  pub served : EachServed medium seen.began seen.desks parts
+  pub rightful : All (λ part. IsRightful asks part.1) parts
   pub came : List Came
-  pub fed : IsFed (map picture (received from)) calls given_up came
-  -- no frame is given up without asking the desk, unless a flush was refused by such a fault
-  pub tried : refused ≡ true → MayGiveUp gives_up calls
+  pub fed : IsFed (map picture (received from)) (flat_map placed_calls parts) given_up came
+  -- no frame is given up without asking a desk, unless a flush was refused by such a fault
+  pub tried : refused ≡ true → MayGiveUpAt gives_up (length seen.began) parts
   pub excused : refused ≡ false → flat_map unasked_by came ≡ []

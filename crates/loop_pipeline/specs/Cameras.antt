@@ -1,5 +1,5 @@
 -- What one camera keeps of its frames, from its device to its disk.
-use Rattle.std.specs.Prelude.{◌≡◌, ◌⊎◌, ℕ, ◌+◌, Bool, List, ◌++◌, All, length, map}
+use Rattle.std.specs.Prelude.{◌≡◌, ◌⊎◌, ℕ, ◌+◌, ◌<◌, Bool, Some, List, [], ◌∷◌, ◌++◌, All, length, map, slice_get}
 use Rattle.std.specs.List.{filter, flat_map}
 use Rattle.loop_disk.specs.Medium.{Medium}
 use Rattle.loop_plane.specs.Plane.{Plane}
@@ -10,25 +10,30 @@ use Rattle.loop_store.specs.Goes.{Stands}
 use Rattle.loop_vb2.specs.State.{Lined, QueueState, StandsQueue}
 use Rattle.loop_capture.specs.declared.source.Next.{Next}
 use Rattle.loop_capture.specs.Ticks.{SeenDevice}
-use Rattle.loop_desk.specs.Desk.{DeskCall}
+use Rattle.loop_desk.specs.Desk.{DeskCall, submitted}
 use Rattle.loop_desk.specs.Footage.{KeepsFootage}
 use Rattle.loop_desk.specs.Lane.{without_flags}
 use Rattle.loop_desk.specs.Waiting.{frames_waiting}
 use Rattle.loop_desk.specs.Seen.{DeskGoes, SeenDesk}
-use Rattle.loop_pipeline.specs.Backs.{Came, GoesBy, IsRightful, MayGiveUp, Part, calls_by, calls_of, is_submit, lost_by, picture_of, unasked_by}
+use Rattle.loop_pipeline.specs.Backs.{Came, EachServed, GoesBy, IsRightful, MayGiveUp, MayGiveUpAt, Part, asked, calls_at, calls_by, calls_of, is_placed_submit, is_submit, lost_by, picture_of, placed_calls, unasked, unasked_by}
 use Rattle.loop_pipeline.specs.Fronts.{AreTold, GoesOn, TickRecord, shown, shown_given}
 
--- a camera: its device, its queue and its desk
+-- a camera: its device, its queue, its desk, and those that joined it
 pub record SeenCamera (S D P : Type 0) : Type 0 where
   pub device : SeenDevice S
   pub queue : Lined P
   pub desk : SeenDesk D
+  pub joined : List (SeenDesk D)
+
+-- all its desks, each at its place
+abbrev pub desks_of : {S D P : Type 0} → SeenCamera S D P → List (SeenDesk D)
+desks_of camera = camera.desk ∷ camera.joined
 
 -- From one moment of a camera to another: the frames that waited in its queue, and those that its source gave at ticks
--- that completed a buffer, are, in order and with all bytes, those that came to the desk and those that still wait.
--- Each that came was accepted, or is counted: as given up, or as left where nobody brought it. Of the other ticks those
--- that lost a frame are counted; each was when the guide said, and they are over where guide or source said so. The
--- footage of the frames that were accepted is kept, whenever the power fails.
+-- that completed a buffer, are, in order and with all bytes, those that came to a desk and those that still wait. Each
+-- that came was accepted, or is counted: as given up, or as left where nobody brought it. Of the other ticks those that
+-- lost a frame are counted; each was when the guide said, and they are over where guide or source said so. At each desk
+-- the footage of the frames that it accepted is kept, whenever the power fails.
 pub record CameraKeeps {S D P : Type 0} (medium : D → Medium) (gives : S → Next → List ℕ → S → Type 0)
     (meaning : P → Plane) (asks : DeskCall → Type 0) (gives_up : StoreFault → Type 0) (due : ℕ → ℕ → Type 0)
     (ends : ℕ → Type 0) (old new : SeenCamera S D P) (given_up left missed failed : ℕ) (over : Bool) : Type 0 where
@@ -48,17 +53,49 @@ pub record CameraKeeps {S D P : Type 0} (medium : D → Medium) (gives : S → N
   pub whole : map without_flags (frames_waiting old.queue first) ++ completed
       ≡ map without_flags (map picture_of came) ++ map without_flags (frames_waiting new.queue last)
   pub lost : length (flat_map lost_by came) ≡ given_up + left
-  -- the desk, by its calls
+  -- the desks, each by the calls of its place, in the order in which they were made over all
+  pub all : length new.joined ≡ length old.joined
+  pub parts : List (ℕ × Part)
+  pub among : All (λ part. part.0 < length (desks_of old)) parts
+  pub submits : flat_map calls_by came ≡ filter is_placed_submit (flat_map placed_calls parts)
+  pub served : EachServed medium (desks_of old) (desks_of new) parts
+  pub rightful : All (λ part. IsRightful asks part.1) parts
+  -- a desk was asked for each frame but those that were left at the end, unless a flush was refused by a fault for
+  -- which the guide gives frames up
+  pub excused : (length (flat_map unasked_by came) ≡ left) ⊎ MayGiveUpAt gives_up (length (desks_of old)) parts
+  pub footage : (place : ℕ) (d e : SeenDesk D) → slice_get (desks_of old) place ≡ Some d
+      → slice_get (desks_of new) place ≡ Some e → (s : StoreState) → Stands medium d.store s
+      → (medium d.store.disk).honest → KeepsFootage medium d e (calls_at place parts) s
+
+-- So it is of a camera that other desks joined meanwhile, each from when it joined; none did where the door is shut.
+pub record KeepsJoined {S D P : Type 0} (medium : D → Medium) (gives : S → Next → List ℕ → S → Type 0)
+    (meaning : P → Plane) (asks : DeskCall → Type 0) (gives_up : StoreFault → Type 0) (due : ℕ → ℕ → Type 0)
+    (ends : ℕ → Type 0) (shut : Type 0) (old new : SeenCamera S D P) (given_up left missed failed : ℕ) (over : Bool)
+    : Type 0 where
+  pub others : List (SeenDesk D)
+  pub none : shut → others ≡ []
+  pub keeps : CameraKeeps medium gives meaning asks gives_up due ends
+      (record old { joined = old.joined ++ others }) new given_up left missed failed over
+
+-- ---- one desk alone
+
+-- the desk's call, without its place
+abbrev pub desk_calls_by : Came → List DeskCall
+desk_calls_by (asked place p result) = submitted p (length p.bytes) result ∷ []
+desk_calls_by (unasked p) = []
+
+-- What is kept of a camera that had one desk, in that desk's own calls, without places.
+pub record OneDeskKeeps {S D P : Type 0} (medium : D → Medium) (asks : DeskCall → Type 0)
+    (gives_up : StoreFault → Type 0) (old : SeenDesk D) (new : SeenCamera S D P) (came : List Came) (left : ℕ)
+    : Type 0 where
+  pub alone : new.joined ≡ []
   pub calls : List DeskCall
-  pub submits : flat_map calls_by came ≡ filter is_submit calls
-  pub goes : DeskGoes medium old.desk new.desk calls
-  -- part by part, so what a part was answered is on the disk before the next one
+  pub submits : flat_map desk_calls_by came ≡ filter is_submit calls
+  pub goes : DeskGoes medium old new.desk calls
   pub parts : List Part
   pub are : calls ≡ flat_map calls_of parts
-  pub went : GoesBy medium old.desk parts new.desk
+  pub went : GoesBy medium old parts new.desk
   pub rightful : All (IsRightful asks) parts
-  -- the desk was asked for each frame but those that were left at the end, unless a flush was refused by a fault for
-  -- which the guide gives frames up
   pub excused : (length (flat_map unasked_by came) ≡ left) ⊎ MayGiveUp gives_up calls
-  pub footage : (s : StoreState) → Stands medium old.desk.store s → (medium old.desk.store.disk).honest
-      → KeepsFootage medium old.desk new.desk calls s
+  pub footage : (s : StoreState) → Stands medium old.store s → (medium old.store.disk).honest
+      → KeepsFootage medium old new.desk calls s

@@ -3,4 +3,6 @@ pub mod Cameras
 pub mod Fronts
 pub mod Legal
 pub mod Returns
+pub mod Nexts
+pub mod Turns
 pub mod Several

@@ -7,7 +7,7 @@ use Rattle.loop_store.specs.declared.fault.StoreFault.{StoreFault}
 use Rattle.loop_desk.specs.Desk.{DeskCall}
 use Rattle.loop_pipeline.specs.declared.film.Unfilmed.{Unfilmed}
 use Rattle.loop_pipeline.specs.declared.film.Unfilmed.TheVariants.{NoMemory, NoThread}
-use Rattle.loop_pipeline.specs.Cameras.{CameraKeeps, SeenCamera}
+use Rattle.loop_pipeline.specs.Cameras.{CameraKeeps, KeepsJoined, SeenCamera}
 
 -- what comes back where a camera wasn't filmed: the camera, or what is left of it, which kept the same of its frames
 abbrev pub GivesBack : {S D P : Type 0} → (D → Medium) → (S → Next → List ℕ → S → Type 0) → (P → Plane)
@@ -16,4 +16,15 @@ abbrev pub GivesBack : {S D P : Type 0} → (D → Medium) → (S → Next → L
 GivesBack medium gives meaning asks gives_up due ends camera (NoMemory c) = c ≡ camera
 GivesBack medium gives meaning asks gives_up due ends camera (NoThread e) =
     CameraKeeps medium gives meaning asks gives_up due ends camera
-    (record { device = e.device; queue = e.queue; desk = e.desk }) e.given_up e.left e.missed e.failed e.over
+    (record { device = e.device; queue = e.queue; desk = e.desk; joined = e.joined.items })
+    e.given_up e.left e.missed e.failed e.over
+
+-- the same where desks may have joined it
+abbrev pub GivesJoined : {S D P : Type 0} → (D → Medium) → (S → Next → List ℕ → S → Type 0) → (P → Plane)
+    → (DeskCall → Type 0) → (StoreFault → Type 0) → (ℕ → ℕ → Type 0) → (ℕ → Type 0) → Type 0 → SeenCamera S D P
+    → Unfilmed S D P → Type 0
+GivesJoined medium gives meaning asks gives_up due ends shut camera (NoMemory c) = c ≡ camera
+GivesJoined medium gives meaning asks gives_up due ends shut camera (NoThread e) =
+    KeepsJoined medium gives meaning asks gives_up due ends shut camera
+    (record { device = e.device; queue = e.queue; desk = e.desk; joined = e.joined.items })
+    e.given_up e.left e.missed e.failed e.over

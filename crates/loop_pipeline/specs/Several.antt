@@ -23,7 +23,8 @@ pub record IsFilmed {S D P : Type 0} (medium : D → Medium) (gives : S → Next
     (ends : ℕ → Type 0) (camera : SeenCamera S D P) (filmed : Result (Ended S D P Global) (Unfilmed S D P))
     : Type 0 where
   pub keeps : IfOk filmed (λ e. CameraKeeps medium gives meaning asks gives_up due ends camera
-      (record { device = e.device; queue = e.queue; desk = e.desk }) e.given_up e.left e.missed e.failed e.over)
+      (record { device = e.device; queue = e.queue; desk = e.desk; joined = e.joined.items })
+      e.given_up e.left e.missed e.failed e.over)
   pub ended : IfOk filmed (λ e. e.over ≡ true)
   pub again : IfOk filmed (λ e. e.hand ≡ Empty → IsOpen meaning e.queue e.table)
   pub held : IfOk filmed (λ e. IsHeld e.queue e.hand)

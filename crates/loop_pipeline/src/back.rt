@@ -1,16 +1,19 @@
-//! A desk, and the end of the ring from which its frames come: owned by one thread.
+//! A camera's desks, and the end of the ring from which their frames come: owned by one thread.
 
-ghost use Rattle.std.specs.Prelude.{◌≡◌, ◌∷◌, ℕ, ⊤, List, IfErr, IfOk, IfSome, None, Result, []};
+ghost use Rattle.std.specs.Prelude.{◌≡◌, ◌∷◌, ◌<◌, ◌≤◌, ◌↔◌, ◌+◌, ℕ, ⊤, List, IfErr, IfOk, IfSome, None, Result, [], length, false, true};
 ghost use Rattle.rtrb.specs.Ring.{received};
 ghost use Rattle.loop_desk.specs.Desk.{clip_unlocked, flushed, frame_read};
 ghost use Rattle.loop_desk.specs.Keeps.{HaveTime, KeepsTime};
 ghost use Rattle.loop_desk.specs.Seen.{DeskGoes, OutlineRefuses, TellsOutline, TellsStatus};
-ghost use Rattle.loop_pipeline.specs.Backs.{BackKeeps, IsBrought, IsLast, MayKeep, WasRefused};
+ghost use Rattle.loop_pipeline.specs.declared.back.Brought.TheVariants.{Submitted};
+ghost use Rattle.loop_pipeline.specs.Backs.{BackKeeps, FitsBlock, GoesAt, HasRoom, IsAt, IsBrought, IsChangedAt, IsLast, MayKeep, WasRefused, joined, turned};
+ghost use Rattle.loop_pipeline.specs.Turns.{AllLocked, Chooses, IsBetween, MayBegin, MayTurn, Searches, Turns};
 ghost use Rattle.loop_record.specs.declared.frame.FrameHead.{FrameHead};
 ghost use Rattle.loop_store.specs.declared.fault.StoreFault.{StoreFault};
 ghost use Rattle.loop_store.specs.Calls.{read_with};
 ghost use Rattle.loop_store.specs.Runs.{read_of};
 
+use crate::next::{Search, is_full};
 use crate::{Guide, Visits};
 use loop_desk::{Desk, Flushed, Kept, Outline, Status};
 use loop_disk::Disk;
@@ -22,13 +25,17 @@ use std::marker::{Model, PhantomData};
 use std::snapshot::Snapshot;
 use std::sync::Wait;
 
-/// What came of bringing the next frame of the ring to the desk.
+// The memory of how many stored frames a desk keeps at most.
+const SPARES: usize = 64;
+
+/// What came of bringing the next frame of the ring to the active desk.
 #[derive(Drop)]
 pub enum Brought {
     /// No frame is in the ring.
     Nothing,
-    /// The desk is full; the frame stays in the ring.
-    DeskFull,
+    /// The desk is full, or what waits there fills the block of its next number, or its store has no room for that
+    /// block; the frame stays in the ring.
+    NoRoom,
     /// The desk accepted it, under this number.
     Submitted(u64),
     /// The desk refused it; it is given up and counted.
@@ -44,16 +51,18 @@ pub struct LostFrame {
     pub timestamp: u64,
 }
 
-/// A camera's desk, and the end of the ring from which its frames come. Contracts see desk and ring as they were when
-/// it was made, and the desk as it is now. `K` says what visitors may call.
+/// A camera's desks, one of which is active, and the end of the ring from which their frames come. A desk is named by
+/// its place: the order in which they came. Contracts see desks and ring as they were when it took them, and the desks
+/// as they are now. `K` says what visitors may call.
 #[derive(Drop)]
 pub struct Back<D: Disk + Drop, K: Visits, A: Allocator + Copy = Global> {
-    desk: Desk<D, A>,
+    desks: Vec<Desk<D, A>, A>,
+    active: usize,
     from: Consumer<Frame<A>, A>,
     given_up: u64,
-    /// A flush was refused, and isn't tried again.
+    /// A flush of a desk was refused, and isn't tried again.
     refused: bool,
-    desk_before: Snapshot<Desk<D, A>>,
+    desks_before: Vec<Snapshot<Desk<D, A>>, A>,
     from_before: Snapshot<Consumer<Frame<A>, A>>,
     visits: PhantomData<K>,
 }
@@ -61,58 +70,93 @@ pub struct Back<D: Disk + Drop, K: Visits, A: Allocator + Copy = Global> {
 /// What is left of a back.
 #[derive(Drop)]
 pub struct BackParts<D: Disk + Drop, A: Allocator + Copy = Global> {
-    /// Its desk.
+    /// Its first desk.
     pub desk: Desk<D, A>,
+    /// The desks that joined it, in the order in which they came.
+    pub joined: Vec<Desk<D, A>, A>,
     /// The end of its ring.
     pub from: Consumer<Frame<A>, A>,
-    /// How many frames came out of the ring and weren't accepted by the desk.
+    /// How many frames came out of the ring and weren't accepted by a desk.
     pub given_up: u64,
     /// Whether a flush was refused, and wasn't tried again.
     pub refused: bool,
 }
 
 impl<D: Disk + Drop, K: Visits, A: Allocator + Copy> Model for Back<D, K, A> {
+    ghost use Rattle.std.specs.Prelude.{map};
     ghost use Rattle.loop_pipeline.specs.Backs.{BackKeeps, SeenBack};
 
     ghost Value = { SeenBack D A };
 
-    ghost view = { λ b. record { began = b.desk_before.value; from = b.from_before.value; desk = b.desk } };
+    ghost view = { λ b. record {
+      began = map (λ s. s.value) b.desks_before.items;
+      from = b.from_before.value;
+      desks = b.desks.items;
+      active = b.active;
+    } };
 
     ghost invariant = { λ b. BackKeeps D.medium K.asks K.gives_up
-        (record { began = b.desk_before.value; from = b.from_before.value; desk = b.desk })
-        b.from b.given_up b.refused };
+        (record {
+          began = map (λ s. s.value) b.desks_before.items;
+          from = b.from_before.value;
+          desks = b.desks.items;
+          active = b.active;
+        }) b.from b.given_up b.refused };
 }
 
 impl<D: Disk + Drop, K: Visits, A: Allocator + Copy> Back<D, K, A> {
-    /// A back with this desk, and the end of a ring from which nothing was taken yet.
-    pub fn new(desk: Desk<D, A>, from: Consumer<Frame<A>, A>) -> Self
-        requires { received from ≡ [] }
-        ensures { result ≡ record { began = desk; from = from; desk = desk } }
+    /// A back with this desk, memory for `most` desks, and the end of a ring from which nothing was taken yet. If
+    /// memory is refused, both come back.
+    pub fn new(
+        alloc: A,
+        most: usize,
+        desk: Desk<D, A>,
+        from: Consumer<Frame<A>, A>,
+    ) -> Result<Self, (Desk<D, A>, Consumer<Frame<A>, A>)>
+        requires ring { received from ≡ [] }
+        requires room { 1 ≤ most }
+        ensures made { IfOk result (λ back. back
+            ≡ record { began = desk ∷ []; from = from; desks = desk ∷ []; active = 0 }) }
+        ensures refused { IfErr result (λ parts. parts ≡ (desk, from)) }
     {
+        let (Ok(mut desks), Ok(mut desks_before)) = (
+            Vec::with_capacity(alloc, most),
+            Vec::with_capacity(alloc, most),
+        ) else {
+            return Err((desk, from));
+        };
         desk.opens();
-        let desk_before = Snapshot::of(&desk);
+        desks_before.push_reserved(Snapshot::of(&desk));
+        desks.push_reserved(desk);
         let from_before = Snapshot::of(&from);
-        Back {
-            desk,
+        Ok(Back {
+            desks,
+            active: 0,
             from,
             given_up: 0,
             refused: false,
-            desk_before,
+            desks_before,
             from_before,
             visits: PhantomData,
-        }
+        })
     }
 
-    /// Brings the next frame of the ring to the desk.
-    pub fn bring(&mut self) -> Brought
+    /// Brings the next frame of the ring to the active desk. Where there are several desks, what waits there never
+    /// passes the end of a block; and none comes to a store that has no room for its block, unless it is brought
+    /// `anyway`.
+    pub fn bring(&mut self, anyway: bool) -> Brought
         ensures told { IsBrought D.medium self.new result }
-        ensures same { self.new ≡ record self.old { desk = self.new.desk } }
+        ensures same { IsChangedAt self.old.active self.old self.new }
+        ensures fits { (n : ℕ) → result ≡ Submitted n → 2 ≤ length self.old.desks
+            → IsAt self.old.active self.new FitsBlock }
+        ensures begins { (n : ℕ) → result ≡ Submitted n → anyway ≡ false → 2 ≤ length self.old.desks
+            → IsAt self.old.active self.old (MayBegin D.medium) }
     {
         if self.given_up == u64::MAX {
             return Brought::Nothing;
         }
-        if self.is_full() {
-            return Brought::DeskFull;
+        if !self.has_room(anyway) {
+            return Brought::NoRoom;
         }
         let Ok(frame) = self.from.pop() else {
             return Brought::Nothing;
@@ -121,11 +165,12 @@ impl<D: Disk + Drop, K: Visits, A: Allocator + Copy> Back<D, K, A> {
             sequence: frame.sequence,
             timestamp: frame.timestamp,
         };
-        match self.desk.submit(frame) {
+        let desk = &mut self.desks[self.active];
+        match desk.submit(frame) {
             Ok(number) => Brought::Submitted(number),
             Err((fault, frame)) => {
                 self.given_up += 1;
-                self.desk.return_memory(frame.bytes);
+                desk.return_memory(frame.bytes);
                 Brought::GivenUp(fault, lost)
             }
         }
@@ -151,17 +196,17 @@ impl<D: Disk + Drop, K: Visits, A: Allocator + Copy> Back<D, K, A> {
             timestamp: frame.timestamp,
         };
         self.given_up += 1;
-        self.desk.return_memory(frame.bytes);
+        self.desks[self.active].return_memory(frame.bytes);
         Some(lost)
     }
 
-    /// Stores the first frames that wait, as `Desk::flush`.
+    /// Stores the first frames that wait at the active desk, as `Desk::flush`.
     pub fn flush(&mut self) -> Result<Flushed, StoreFault>
-        ensures goes { DeskGoes D.medium self.old.desk self.new.desk (flushed result ∷ []) }
+        ensures goes { GoesAt self.old.active self.old self.new
+            (λ d e. DeskGoes D.medium d e (flushed result ∷ [])) }
         ensures last { IsLast D.medium self.new (flushed result) }
-        ensures same { self.new ≡ record self.old { desk = self.new.desk } }
     {
-        self.desk.flush()
+        self.desks[self.active].flush()
     }
 
     /// Whether a flush was refused, and isn't tried again. It promises nothing.
@@ -169,93 +214,263 @@ impl<D: Disk + Drop, K: Visits, A: Allocator + Copy> Back<D, K, A> {
         self.refused
     }
 
-    /// The counts of the desk, as `Desk::status`.
-    pub fn status(&self) -> Status
-        ensures { TellsStatus D.medium self.now.desk result }
+    /// How many desks it has.
+    pub fn count(&self) -> usize
+        ensures { result ≡ length self.now.desks }
     {
-        self.desk.status()
+        self.desks.len()
     }
 
-    /// Whether the desk is full. It promises nothing.
-    pub fn is_full(&self) -> bool {
-        self.desk.status().pending >= self.desk.limits().pending
+    /// The place of the active desk, to which frames are brought.
+    pub fn active(&self) -> usize
+        ensures place { result ≡ self.now.active }
+        ensures inside { result < length self.now.desks }
+    {
+        self.active
     }
 
-    /// How many frames a flush of the desk stores at most. It promises nothing.
+    /// The counts of the desk at a place, as `Desk::status`.
+    pub fn status(&self, place: usize) -> Status
+        requires { place < length self.now.desks }
+        ensures { IsAt place self.now (λ desk. TellsStatus D.medium desk result) }
+    {
+        self.desks[place].status()
+    }
+
+    /// Whether the active desk isn't full; and where there are several desks, whether the block of its next number
+    /// takes one frame more than those that wait, and its store has room for that block, unless frames are brought
+    /// `anyway`.
+    pub fn has_room(&self, anyway: bool) -> bool
+        ensures frame { result ≡ true → 2 ≤ length self.now.desks → IsAt self.now.active self.now HasRoom }
+        ensures block { result ≡ true → anyway ≡ false → 2 ≤ length self.now.desks
+            → IsAt self.now.active self.now (MayBegin D.medium) }
+    {
+        let desk = &self.desks[self.active];
+        let waiting = desk.status().pending;
+        if waiting >= desk.limits().pending {
+            return false;
+        }
+        if self.desks.len() < 2 {
+            return true;
+        }
+        if waiting >= desk.room() {
+            return false;
+        }
+        anyway || !self.is_locked()
+    }
+
+    /// How many frames a flush of the active desk stores at most. It promises nothing.
     pub fn group(&self) -> u32 {
-        self.desk.limits().group
+        self.desks[self.active].limits().group
     }
 
-    /// Memory of a stored frame, for a later one, as `Desk::spare_memory`.
+    /// Memory of a frame that the active desk stored, for a later one, as `Desk::spare_memory`.
     pub fn spare_memory(&mut self) -> Option<Vec<u8, A>>
         ensures { self.new ≡ self.old }
     {
-        self.desk.spare_memory()
+        self.desks[self.active].spare_memory()
     }
 
-    /// What the desk holds, as `Desk::outline`.
-    pub fn outline(&self, alloc: A) -> Result<Outline<A>, StoreFault>
-        ensures outline { IfOk result (TellsOutline D.medium self.now.desk) }
-        ensures refused { IfErr result (λ fault. OutlineRefuses self.now.desk fault) }
+    // Moves the memory of one stored frame from the active desk to the one at a place; returns whether there was some.
+    fn hand_over(&mut self, place: usize) -> bool
+        requires { place < length self.old.desks }
+        ensures { self.new ≡ self.old }
     {
-        self.desk.outline(alloc)
+        let Some(bytes) = self.spare_memory() else {
+            return false;
+        };
+        self.desks[place].return_memory(bytes);
+        true
     }
 
-    /// Reads a stored frame, as `Desk::read_frame`.
-    pub fn read_frame(&mut self, alloc: A, number: u64) -> Result<ReadFrame<A>, StoreFault>
-        requires { (answer : Result (FrameHead × List ℕ) StoreFault) → K.asks (frame_read number answer) }
-        ensures goes { DeskGoes D.medium self.old.desk self.new.desk
-            (frame_read number (read_of result) ∷ []) }
-        ensures same { self.new ≡ record self.old { desk = self.new.desk } }
+    // Moves the memory of stored frames from the active desk to the one at a place, if that is another one.
+    fn hand_all_over(&mut self, place: usize)
+        requires { place < length self.old.desks }
+        ensures { self.new ≡ self.old }
     {
-        self.desk.read_frame(alloc, number)
+        if place == self.active {
+            return;
+        }
+        'frames: for _ in 0..SPARES {
+            if !self.hand_over(place) {
+                break;
+            }
+        }
     }
 
-    /// Reads the head of a stored frame and none of its bytes, as `Desk::read_head`.
-    pub fn read_head(&mut self, number: u64) -> Result<FrameHead, StoreFault>
-        requires { (answer : Result (FrameHead × List ℕ) StoreFault) → K.asks (frame_read number answer) }
-        ensures goes { (bytes : List ℕ)
-            × DeskGoes D.medium self.old.desk self.new.desk (frame_read number (read_with result bytes) ∷ []) }
-        ensures same { self.new ≡ record self.old { desk = self.new.desk } }
+    // Makes the desk at a place the active one.
+    fn set_active(&mut self, place: usize)
+        requires { place < length self.old.desks }
+        ensures { self.new ≡ turned place self.old }
     {
-        self.desk.read_head(number)
+        self.active = place;
     }
 
-    /// Locks the held frames of a time with a tag, as `Desk::keep_time`.
-    pub fn keep(&mut self, alloc: A, times: Times, tag: u64) -> Kept<A>
-        requires { MayKeep K.asks }
-        ensures goes { KeepsTime D.medium times tag self.old.desk self.new.desk result }
-        ensures whole { result.fault ≡ None → HaveTime times self.old.desk result.clips.items }
-        ensures same { self.new ≡ record self.old { desk = self.new.desk } }
+    // Makes the desk at a place the active one, and hands the memory of stored frames on to it.
+    fn turn_to(&mut self, place: usize)
+        requires { place < length self.old.desks }
+        ensures { self.new ≡ turned place self.old }
     {
-        self.desk.keep_time(alloc, times, tag)
+        self.hand_all_over(place);
+        self.set_active(place);
     }
 
-    /// Unlocks the clip of an id, as `Desk::unlock_clip`.
-    pub fn unlock_clip(&mut self, id: u32) -> Result<(), StoreFault>
-        requires { (answer : Result ⊤ StoreFault) → K.asks (clip_unlocked id answer) }
-        ensures goes { DeskGoes D.medium self.old.desk self.new.desk (clip_unlocked id result ∷ []) }
-        ensures same { self.new ≡ record self.old { desk = self.new.desk } }
+    // Whether the active desk is between two blocks: nothing waits there, and its next number begins a block.
+    fn is_between(&self) -> bool
+        ensures { IsAt self.now.active self.now (λ desk. (result ≡ true) ↔ IsBetween desk) }
     {
-        self.desk.unlock_clip(id)
+        let desk = &self.desks[self.active];
+        desk.status().pending == 0 && desk.room() == desk.geometry().slots
+    }
+
+    // Whether the active desk is between two blocks, and its store has no room for a block.
+    fn is_locked(&self) -> bool
+        ensures { result ≡ false → IsAt self.now.active self.now (MayBegin D.medium) }
+    {
+        if !self.is_between() {
+            return false;
+        }
+        is_full(self.desks[self.active].space())
+    }
+
+    // What the first desks' stores have told, and that of the desk at the next place.
+    fn told(&self, search: Search, place: usize) -> Search
+        requires place { place < length self.now.desks }
+        requires so_far { Searches D.medium self.now place search }
+        ensures { Searches D.medium self.now (place + 1) result }
+    {
+        search.with(self.active, place, self.desks[place].space())
+    }
+
+    /// The place of the desk that takes the next block, by what each store tells: the active one, if it has a segment
+    /// that holds no block; else the first that has one; else the one whose block that may go begins earliest, the
+    /// first of such. None where no block may go.
+    pub fn next_desk(&self) -> Option<usize>
+        ensures { Chooses D.medium self.now result }
+    {
+        let mut search = Search::new();
+        'desks: for place in 0..self.desks.len() {
+            search = self.told(search, place);
+        }
+        search.next(self.active)
+    }
+
+    /// Where there are several desks and the active one is between two blocks, makes the desk active that takes the
+    /// next block (`next_desk`). Returns whether there is none: all is locked. It takes no memory.
+    pub fn turn(&mut self) -> bool
+        ensures turns { MayTurn self.old → Turns D.medium self.old self.new result }
+        ensures stays { (MayTurn self.old → ⊥) → (self.new ≡ self.old) × (result ≡ false) }
+        ensures locked { result ≡ true → AllLocked D.medium self.new }
+        ensures same { self.new ≡ record self.old { active = self.new.active } }
+    {
+        if self.count() < 2 || !self.is_between() {
+            return false;
+        }
+        match self.next_desk() {
+            Some(place) => {
+                self.turn_to(place);
+                false
+            }
+            None => true,
+        }
+    }
+
+    /// Whether it has memory for another desk. It promises nothing.
+    pub fn may_join(&self) -> bool {
+        self.desks.len() < self.desks.capacity()
+            && self.desks_before.len() < self.desks_before.capacity()
+    }
+
+    /// Takes another desk, and returns its place; if there is no memory for it, it comes back.
+    pub fn join(&mut self, desk: Desk<D, A>) -> Result<usize, Desk<D, A>>
+        ensures done { IfOk result (λ place. (place ≡ length self.old.desks) × (self.new ≡ joined desk self.old)) }
+        ensures refused { IfErr result (λ back. (back ≡ desk) × (self.new ≡ self.old)) }
+    {
+        let place = self.desks.len();
+        if place == self.desks.capacity()
+            || self.desks_before.len() == self.desks_before.capacity()
+        {
+            return Err(desk);
+        }
+        desk.opens();
+        self.desks_before.push_reserved(Snapshot::of(&desk));
+        self.desks.push_reserved(desk);
+        Ok(place)
+    }
+
+    /// What the desk at a place holds, as `Desk::outline`.
+    pub fn outline(&self, alloc: A, place: usize) -> Result<Outline<A>, StoreFault>
+        requires { place < length self.now.desks }
+        ensures outline { IfOk result (λ outline. IsAt place self.now (λ desk. TellsOutline D.medium desk outline)) }
+        ensures refused { IfErr result (λ fault. IsAt place self.now (λ desk. OutlineRefuses desk fault)) }
+    {
+        self.desks[place].outline(alloc)
+    }
+
+    /// Reads a stored frame of the desk at a place, as `Desk::read_frame`.
+    pub fn read_frame(
+        &mut self,
+        alloc: A,
+        place: usize,
+        number: u64,
+    ) -> Result<ReadFrame<A>, StoreFault>
+        requires place { place < length self.old.desks }
+        requires may { (answer : Result (FrameHead × List ℕ) StoreFault) → K.asks (frame_read number answer) }
+        ensures { GoesAt place self.old self.new
+            (λ d e. DeskGoes D.medium d e (frame_read number (read_of result) ∷ [])) }
+    {
+        self.desks[place].read_frame(alloc, number)
+    }
+
+    /// Reads the head of a stored frame of the desk at a place and none of its bytes, as `Desk::read_head`.
+    pub fn read_head(&mut self, place: usize, number: u64) -> Result<FrameHead, StoreFault>
+        requires place { place < length self.old.desks }
+        requires may { (answer : Result (FrameHead × List ℕ) StoreFault) → K.asks (frame_read number answer) }
+        ensures { (bytes : List ℕ) × GoesAt place self.old self.new
+            (λ d e. DeskGoes D.medium d e (frame_read number (read_with result bytes) ∷ [])) }
+    {
+        self.desks[place].read_head(number)
+    }
+
+    /// Locks the held frames of a time at a place with a tag, as `Desk::keep_time`.
+    pub fn keep(&mut self, alloc: A, place: usize, times: Times, tag: u64) -> Kept<A>
+        requires place { place < length self.old.desks }
+        requires may { MayKeep K.asks }
+        ensures goes { GoesAt place self.old self.new (λ d e. KeepsTime D.medium times tag d e result) }
+        ensures whole { result.fault ≡ None → IsAt place self.old (λ desk. HaveTime times desk result.clips.items) }
+    {
+        self.desks[place].keep_time(alloc, times, tag)
+    }
+
+    /// Unlocks the clip of an id at a place, as `Desk::unlock_clip`.
+    pub fn unlock_clip(&mut self, place: usize, id: u32) -> Result<(), StoreFault>
+        requires place { place < length self.old.desks }
+        requires may { (answer : Result ⊤ StoreFault) → K.asks (clip_unlocked id answer) }
+        ensures { GoesAt place self.old self.new
+            (λ d e. DeskGoes D.medium d e (clip_unlocked id result ∷ [])) }
+    {
+        self.desks[place].unlock_clip(id)
     }
 
     /// What is left of it.
     pub fn into_parts(self) -> BackParts<D, A>
-        ensures desk { result.desk ≡ self.desk }
+        ensures desks { result.desk ∷ result.joined.items ≡ self.desks }
         ensures keeps { BackKeeps D.medium K.asks K.gives_up self result.from result.given_up result.refused }
     {
         let Back {
-            desk,
+            mut desks,
+            active: _,
             from,
             given_up,
             refused,
-            desk_before: _,
+            desks_before: _,
             from_before: _,
             visits: _,
         } = self;
+        let desk = desks.remove(0);
         BackParts {
             desk,
+            joined: desks,
             from,
             given_up,
             refused,
@@ -264,13 +479,13 @@ impl<D: Disk + Drop, K: Visits, A: Allocator + Copy> Back<D, K, A> {
 }
 
 impl<D: Disk + Drop, G: Guide, A: Allocator + Copy> Back<D, G, A> {
-    /// Stores the first frames that wait, as `flush`. Where that is refused and the guide doesn't try it again, frames
-    /// may be given up from then on.
+    /// Stores the first frames that wait at the active desk, as `flush`. Where that is refused and the guide doesn't
+    /// try it again, frames may be given up from then on.
     pub fn flush_for<R: Wait>(&mut self, rt: &R, guide: &G) -> Result<Flushed, StoreFault>
         ensures last { IsLast D.medium self.new (flushed result) }
-        ensures same { self.new ≡ record self.old { desk = self.new.desk } }
+        ensures same { IsChangedAt self.old.active self.old self.new }
     {
-        match self.desk.flush() {
+        match self.desks[self.active].flush() {
             Ok(flushed) => Ok(flushed),
             Err(fault) => {
                 if !guide.flushes_again(rt, fault) {

@@ -1,6 +1,6 @@
 //! A camera: its device, its queue and its desk.
 
-ghost use Rattle.std.specs.Prelude.{◌≡◌};
+ghost use Rattle.std.specs.Prelude.{◌≡◌, []};
 ghost use Rattle.loop_pipeline.specs.Fronts.{IsOpen};
 
 use loop_capture::{Device, FrameSource};
@@ -20,12 +20,13 @@ pub struct Camera<S: FrameSource + Drop, D: Disk + Drop, P: PlaneMemory> {
 }
 
 impl<S: FrameSource + Drop, D: Disk + Drop, P: PlaneMemory> Model for Camera<S, D, P> {
+    ghost use Rattle.std.specs.Prelude.{[]};
     ghost use Rattle.loop_pipeline.specs.Cameras.{SeenCamera};
     ghost use Rattle.loop_pipeline.specs.Fronts.{IsOpen};
 
     ghost Value = { SeenCamera S D P };
 
-    ghost view = { λ c. record { device = c.device; queue = c.queue; desk = c.desk } };
+    ghost view = { λ c. record { device = c.device; queue = c.queue; desk = c.desk; joined = [] } };
 
     ghost invariant = { λ c. IsOpen P.plane c.queue c.table };
 }
@@ -34,7 +35,7 @@ impl<S: FrameSource + Drop, D: Disk + Drop, P: PlaneMemory> Camera<S, D, P> {
     /// A camera with these parts.
     pub fn new(device: Device<S>, queue: Queue<P>, table: FdTable<P>, desk: Desk<D>) -> Self
         requires { IsOpen P.plane queue table }
-        ensures { result ≡ record { device = device; queue = queue; desk = desk } }
+        ensures { result ≡ record { device = device; queue = queue; desk = desk; joined = [] } }
     {
         Camera {
             device,

@@ -1,8 +1,9 @@
 //! The end of a camera: its front and its back, brought together.
 
-ghost use Rattle.std.specs.Prelude.{◌≡◌};
+ghost use Rattle.std.specs.Prelude.{◌≡◌, ◌∷◌, List};
 ghost use Rattle.rtrb.specs.Ring.{IsPair};
 ghost use Rattle.loop_desk.specs.declared.hand.Hand.TheVariants.{Empty};
+ghost use Rattle.loop_desk.specs.Seen.{SeenDesk};
 ghost use Rattle.loop_pipeline.specs.Cameras.{CameraKeeps};
 ghost use Rattle.loop_pipeline.specs.Fronts.{IsHeld, IsOpen, Leaves, made_of};
 
@@ -30,9 +31,11 @@ pub struct Ended<
     pub table: FdTable<P, A>,
     /// The buffer that isn't queued again, if there is one.
     pub hand: Hand<P, A>,
-    /// Its desk.
+    /// The desk that it had.
     pub desk: Desk<D, A>,
-    /// How many frames the desk refused, or were given up before they came to it.
+    /// The desks that joined it, in the order in which they came.
+    pub joined: Vec<Desk<D, A>, A>,
+    /// How many frames a desk refused, or were given up before they came to one.
     pub given_up: u64,
     /// How many frames were still in the ring, and are lost.
     pub left: u64,
@@ -54,14 +57,15 @@ pub fn end<S: FrameSource + Drop, D: Disk + Drop, P: PlaneMemory, G: Guide, A: A
     requires front { Leaves S.next_gives P.plane (G.due begun.guide.value) (G.ends begun.guide.value)
         (made_of begun) front }
     requires pair { IsPair begun.to.value back.from }
-    ensures keeps { CameraKeeps D.medium S.next_gives P.plane G.asks G.gives_up
+    ensures keeps { (first : SeenDesk D) (others : List (SeenDesk D)) → back.began ≡ first ∷ others
+        → CameraKeeps D.medium S.next_gives P.plane G.asks G.gives_up
         (G.due begun.guide.value) (G.ends begun.guide.value)
-        (record { device = begun.device.value; queue = begun.queue.value; desk = back.began })
-        (record { device = result.device; queue = result.queue; desk = result.desk })
+        (record { device = begun.device.value; queue = begun.queue.value; desk = first; joined = others })
+        (record { device = result.device; queue = result.queue; desk = result.desk; joined = result.joined.items })
         result.given_up result.left result.missed result.failed result.over }
     ensures again { result.hand ≡ Empty → IsOpen P.plane result.queue result.table }
     ensures held { IsHeld result.queue result.hand }
-    ensures desk { result.desk ≡ back.desk }
+    ensures desks { result.desk ∷ result.joined.items ≡ back.desks }
     ensures over { result.over ≡ front.over }
 {
     let Begun {
@@ -82,6 +86,7 @@ pub fn end<S: FrameSource + Drop, D: Disk + Drop, P: PlaneMemory, G: Guide, A: A
     } = front;
     let BackParts {
         desk,
+        joined,
         mut from,
         given_up,
         refused: _,
@@ -93,6 +98,7 @@ pub fn end<S: FrameSource + Drop, D: Disk + Drop, P: PlaneMemory, G: Guide, A: A
         table,
         hand,
         desk,
+        joined,
         given_up,
         left,
         missed,

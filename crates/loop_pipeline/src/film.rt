@@ -1,19 +1,21 @@
 //! What the two threads of a camera do: one has its front, the other its back. docs/threads.md says why it is so.
 
-ghost use Rattle.std.specs.Prelude.{◌≡◌, [], IfErr, IfOk, true};
+ghost use Rattle.std.specs.Prelude.{◌≡◌, ◌∷◌, [], IfErr, IfOk, List, false, true};
 ghost use Rattle.loop_desk.specs.declared.hand.Hand.TheVariants.{Empty};
-ghost use Rattle.loop_pipeline.specs.Cameras.{CameraKeeps};
-ghost use Rattle.loop_pipeline.specs.Returns.{GivesBack};
+ghost use Rattle.loop_desk.specs.Seen.{SeenDesk};
+ghost use Rattle.loop_pipeline.specs.Backs.{Joins};
+ghost use Rattle.loop_pipeline.specs.Cameras.{CameraKeeps, KeepsJoined};
+ghost use Rattle.loop_pipeline.specs.Returns.{GivesBack, GivesJoined};
 ghost use Rattle.rtrb.specs.Ring.{IsPair, sent};
 ghost use Rattle.loop_pipeline.specs.Fronts.{IsHeld, IsOpen, Leaves, LeavesCarried, made_of};
 
 use crate::bell::Bell;
 use crate::start_barrier::StartBarrier;
 use crate::{
-    Back, Begun, Brought, Camera, Ended, Front, FrontParts, Guide, TakeOutcome, Visits, end,
+    Back, Begun, Brought, Camera, Door, Ended, Front, FrontParts, Guide, TakeOutcome, Visits, end,
 };
 use loop_capture::{Device, FrameSource};
-use loop_desk::Hand;
+use loop_desk::{Desk, Hand};
 use loop_disk::Disk;
 use loop_plane::{FdTable, PlaneMemory};
 use loop_record::Frame;
@@ -27,6 +29,9 @@ use std::time::{Clock, Duration};
 
 // The memory of how many stored frames is kept for the front at most: as many as a flush may store at once.
 const SPARES: usize = 64;
+
+// How many desks a camera has at most, where some may join it.
+const DESKS: usize = 256;
 
 // How many milliseconds a desk's thread sleeps at most, unless it is woken, before it serves what others ask of it.
 const LOOK_AGAIN: u64 = 250;
@@ -184,23 +189,24 @@ fn run_front<R: Wait + Clock, S: FrameSource + Drop, P: PlaneMemory, G: Guide>(
     front
 }
 
-// Brings the frames in the ring to the desk; returns whether one came out of it. If the desk is full and no flush is
-// tried any more, frames are given up.
+// Brings the frames in the ring to the active desk, where all is locked only `anyway`; returns whether one came out of
+// it. If that has no room and no flush is tried any more, frames are given up.
 fn bring_all<R: Wait, D: Disk + Drop, G: Guide>(
     rt: &R,
     link: &Link,
     guide: &G,
     back: &mut Back<D, G>,
+    anyway: bool,
 ) -> bool
-    ensures { back.new ≡ record back.old { desk = back.new.desk } }
+    ensures { back.new ≡ record back.old { desks = back.new.desks } }
 {
     let mut some = false;
     let most = back.group();
     'frames: for _ in 0..most {
-        match back.bring() {
+        match back.bring(anyway) {
             Brought::Submitted(number) => guide.brought(rt, back, number),
             Brought::GivenUp(_, frame) => guide.gave_up(rt, back, frame),
-            Brought::DeskFull => {
+            Brought::NoRoom => {
                 let Some(frame) = back.give_up() else {
                     break;
                 };
@@ -229,41 +235,95 @@ fn give_memory<R: Wait, D: Disk + Drop, K: Visits>(rt: &R, link: &Link, back: &m
     }
 }
 
-/// The whole work of a back's thread: it brings frames to the desk, serves what others ask, and flushes, until the
-/// front's thread has ended and nothing is left to flush.
+// Takes the desks that wait at the door.
+fn join_all<R: Wait, D: Disk + Drop, K: Visits>(rt: &R, door: &Door<D>, back: &mut Back<D, K>)
+    ensures { Joins (door.now ≡ false) back.old back.new }
+{
+    'desks: for _ in 0..DESKS {
+        if !back.may_join() {
+            break;
+        }
+        let Some(desk) = door.take(rt) else {
+            break;
+        };
+        // There is memory for it.
+        let _joined = back.join(desk);
+    }
+}
+
+// Turns to the desk that takes the next block. Where all is locked, it tells the guide, and returns whether frames are
+// brought even so.
+fn turn_for<R: Wait, D: Disk + Drop, G: Guide>(rt: &R, guide: &G, back: &mut Back<D, G>) -> bool
+    ensures { back.new ≡ record back.old { active = back.new.active } }
+{
+    back.turn() && !guide.all_locked(rt, back)
+}
+
+// Takes desks, turns to the one that takes the next block, brings frames, serves what others ask, and gives memory
+// back; returns whether a frame came out of the ring.
+fn serve<R: Wait + Clock, D: Disk + Drop, G: Guide>(
+    rt: &R,
+    alloc: Global,
+    link: &Link,
+    guide: &G,
+    door: &Door<D>,
+    back: &mut Back<D, G>,
+) -> bool
+    ensures { Joins (door.now ≡ false) back.old back.new }
+{
+    join_all(rt, door, back);
+    let anyway = turn_for(rt, guide, back);
+    let some = bring_all(rt, link, guide, back, anyway);
+    if G::VISITED {
+        guide.visit(rt, alloc, back);
+    }
+    give_memory(rt, link, back);
+    some
+}
+
+// Flushes the active desk. None: nothing waits there, or no flush is tried any more. Otherwise how many milliseconds
+// its thread may rest then.
+fn flush_some<R: Wait, D: Disk + Drop, G: Guide>(
+    rt: &R,
+    guide: &G,
+    back: &mut Back<D, G>,
+) -> Option<u64>
+    ensures { back.new ≡ record back.old { desks = back.new.desks } }
+{
+    if back.is_refused() || back.status(back.active()).pending == 0 {
+        return None;
+    }
+    match back.flush_for(rt, guide) {
+        Ok(flushed) => {
+            guide.stored(rt, back, flushed);
+            Some(0)
+        }
+        Err(_) if back.is_refused() => Some(0),
+        Err(_) => Some(FLUSH_AGAIN),
+    }
+}
+
+/// The whole work of a back's thread: it takes the desks that wait at the door, brings frames to the active one, serves
+/// what others ask, and flushes, until the front's thread has ended and nothing is left to flush.
 pub fn film_back<R: Wait + Clock, D: Disk + Drop, G: Guide>(
     rt: &R,
     alloc: Global,
     link: &Link,
     guide: &G,
+    door: &Door<D>,
     mut back: Back<D, G>,
 ) -> Back<D, G>
-    ensures { result ≡ record back { desk = result.desk } }
+    ensures { Joins (door.now ≡ false) back result }
 {
     'turns: for _ in rt.forever() {
         let seen = link.given.count(rt);
         let over = link.over.load(Ordering::SeqCst);
-        let some = bring_all(rt, link, guide, &mut back);
-        if G::VISITED {
-            guide.visit(rt, alloc, &mut back);
-        }
-        give_memory(rt, link, &mut back);
-        let rest = if !back.is_refused() && back.status().pending > 0 {
-            match back.flush_for(rt, guide) {
-                Ok(flushed) => {
-                    guide.stored(rt, &back, flushed);
-                    0
-                }
-                Err(_) if back.is_refused() => 0,
-                Err(_) => FLUSH_AGAIN,
-            }
-        } else if some {
-            0
-        } else {
-            if over {
-                break;
-            }
-            LOOK_AGAIN
+        let some = serve(rt, alloc, link, guide, door, &mut back);
+        let rest = match flush_some(rt, guide, &mut back) {
+            Some(rest) => rest,
+            None if some => 0,
+            None if over => break,
+            None => LOOK_AGAIN,
         };
         if rest > 0 {
             // Rung or not, the next turn looks again.
@@ -418,6 +478,7 @@ fn run_in<
     queue: Queue<P>,
     table: FdTable<P>,
     to: W,
+    door: &Door<D>,
     back: Back<D, G>,
 ) -> Both<S, D, P, G, W>
     requires begun { made_of begun
@@ -426,14 +487,14 @@ fn run_in<
     requires ring { sent (W.inside to) ≡ [] }
     ensures front { LeavesCarried W.inside S.next_gives P.plane
         (G.due begun.guide.value) (G.ends begun.guide.value) (made_of begun) result.front }
-    ensures back { result.back ≡ record back { desk = result.back.desk } }
+    ensures back { Joins (door.now ≡ false) back result.back }
 {
     let work = move || -> Left<S, P, W> {
         film_carried(rt, alloc, link, guide, device, queue, table, to)
     };
     match scope.spawn_with(begun, work) {
         Ok(handle) => {
-            let back = film_back(rt, alloc, link, guide, back);
+            let back = film_back(rt, alloc, link, guide, door, back);
             Both {
                 front: handle.join(rt),
                 back,
@@ -460,10 +521,11 @@ fn end_both<S: FrameSource + Drop, D: Disk + Drop, P: PlaneMemory, G: Guide, W: 
     requires front { LeavesCarried W.inside S.next_gives P.plane
         (G.due begun.guide.value) (G.ends begun.guide.value) (made_of begun) front }
     requires pair { IsPair begun.to.value back.from }
-    ensures keeps { CameraKeeps D.medium S.next_gives P.plane G.asks G.gives_up
+    ensures keeps { (first : SeenDesk D) (others : List (SeenDesk D)) → back.began ≡ first ∷ others
+        → CameraKeeps D.medium S.next_gives P.plane G.asks G.gives_up
         (G.due begun.guide.value) (G.ends begun.guide.value)
-        (record { device = begun.device.value; queue = begun.queue.value; desk = back.began })
-        (record { device = result.device; queue = result.queue; desk = result.desk })
+        (record { device = begun.device.value; queue = begun.queue.value; desk = first; joined = others })
+        (record { device = result.device; queue = result.queue; desk = result.desk; joined = result.joined.items })
         result.given_up result.left result.missed result.failed result.over }
     ensures again { result.hand ≡ Empty → IsOpen P.plane result.queue result.table }
     ensures held { IsHeld result.queue result.hand }
@@ -502,7 +564,76 @@ pub enum Unfilmed<S: FrameSource + Drop, D: Disk + Drop, P: PlaneMemory> {
 }
 
 /// Films a camera until its guide or its source ends it and nothing is left to flush. The front runs in a new thread of
-/// this scope, the back in the caller's thread. The link may serve no other camera meanwhile.
+/// this scope, the back in the caller's thread. Desks that are put at the door meanwhile join the camera's own, which has
+/// 256 at most. The link may serve no other camera meanwhile.
+pub fn film_desks<
+    's,
+    E,
+    R: Threads + Wait + Clock + Sync,
+    S: FrameSource + Drop + Send + 's,
+    D: Disk + Drop,
+    P: PlaneMemory + Send + 's,
+    G: Guide + Sync,
+>(
+    rt: &'s R,
+    alloc: Global,
+    scope: &Scope<'s, E>,
+    link: &'s Link,
+    guide: &'s G,
+    door: &Door<D>,
+    camera: Camera<S, D, P>,
+) -> Result<Ended<S, D, P>, Unfilmed<S, D, P>>
+    ensures keeps { IfOk result (λ e. KeepsJoined D.medium S.next_gives P.plane G.asks G.gives_up
+        (G.due guide.now) (G.ends guide.now) (door.now ≡ false) camera
+        (record { device = e.device; queue = e.queue; desk = e.desk; joined = e.joined.items })
+        e.given_up e.left e.missed e.failed e.over) }
+    ensures ended { IfOk result (λ e. e.over ≡ true) }
+    ensures again { IfOk result (λ e. e.hand ≡ Empty → IsOpen P.plane e.queue e.table) }
+    ensures held { IfOk result (λ e. IsHeld e.queue e.hand) }
+    ensures refused { IfErr result (GivesJoined D.medium S.next_gives P.plane G.asks G.gives_up
+        (G.due guide.now) (G.ends guide.now) (door.now ≡ false) camera) }
+{
+    link.begin();
+    // The ring takes as many frames as a flush stores at once: they come while the flush before it lasts.
+    let most = camera.group() as usize;
+    let Ok((to, from)) = RingBuffer::new(alloc, most) else {
+        link.close(rt);
+        return Err(Unfilmed::NoMemory(camera));
+    };
+    let Camera {
+        device,
+        queue,
+        table,
+        desk,
+    } = camera;
+    let desks = if door.is_open() { DESKS } else { 1 };
+    let back = match Back::new(alloc, desks, desk, from) {
+        Ok(back) => back,
+        Err((desk, _)) => {
+            link.close(rt);
+            return Err(Unfilmed::NoMemory(Camera {
+                device,
+                queue,
+                table,
+                desk,
+            }));
+        }
+    };
+    let begun = Begun::of(&queue, &device, &to, guide);
+    let again = Begun::of(&queue, &device, &to, guide);
+    let to = Carried { to };
+    let Both { front, back, began } = run_in(
+        rt, alloc, scope, link, guide, begun, device, queue, table, to, door, back,
+    );
+    let ended = end_both(again, front, back);
+    if began && ended.over {
+        Ok(ended)
+    } else {
+        Err(Unfilmed::NoThread(ended))
+    }
+}
+
+/// Films a camera with its one desk, as `film_desks` at a door that is shut.
 pub fn film_camera<
     's,
     E,
@@ -521,7 +652,7 @@ pub fn film_camera<
 ) -> Result<Ended<S, D, P>, Unfilmed<S, D, P>>
     ensures keeps { IfOk result (λ e. CameraKeeps D.medium S.next_gives P.plane G.asks G.gives_up
         (G.due guide.now) (G.ends guide.now) camera
-        (record { device = e.device; queue = e.queue; desk = e.desk })
+        (record { device = e.device; queue = e.queue; desk = e.desk; joined = e.joined.items })
         e.given_up e.left e.missed e.failed e.over) }
     ensures ended { IfOk result (λ e. e.over ≡ true) }
     ensures again { IfOk result (λ e. e.hand ≡ Empty → IsOpen P.plane e.queue e.table) }
@@ -529,30 +660,6 @@ pub fn film_camera<
     ensures refused { IfErr result (GivesBack D.medium S.next_gives P.plane G.asks G.gives_up
         (G.due guide.now) (G.ends guide.now) camera) }
 {
-    link.begin();
-    // The ring takes as many frames as a flush stores at once: they come while the flush before it lasts.
-    let most = camera.group() as usize;
-    let Ok((to, from)) = RingBuffer::new(alloc, most) else {
-        link.close(rt);
-        return Err(Unfilmed::NoMemory(camera));
-    };
-    let Camera {
-        device,
-        queue,
-        table,
-        desk,
-    } = camera;
-    let begun = Begun::of(&queue, &device, &to, guide);
-    let again = Begun::of(&queue, &device, &to, guide);
-    let back = Back::new(desk, from);
-    let to = Carried { to };
-    let Both { front, back, began } = run_in(
-        rt, alloc, scope, link, guide, begun, device, queue, table, to, back,
-    );
-    let ended = end_both(again, front, back);
-    if began && ended.over {
-        Ok(ended)
-    } else {
-        Err(Unfilmed::NoThread(ended))
-    }
+    let door = Door::shut(alloc);
+    film_desks(rt, alloc, scope, link, guide, &door, camera)
 }

@@ -3,6 +3,7 @@
 ghost use Rattle.std.specs.Prelude.{◌≡◌, IfSome, None, Ok, false};
 ghost use Rattle.loop_desk.specs.Desk.{flushed};
 ghost use Rattle.loop_pipeline.specs.Backs.{IsAccepted, IsGivenUp, IsLast};
+ghost use Rattle.loop_pipeline.specs.Turns.{AllLocked};
 
 use crate::{Back, LostFrame, Visits};
 use loop_capture::Tick;
@@ -35,7 +36,7 @@ pub trait Guide: Visits {
     /// A buffer came back without a frame, which its tick couldn't get.
     fn lacked<R: Wait>(&self, rt: &R) {}
 
-    /// The desk accepted a frame under this number.
+    /// The active desk accepted a frame under this number.
     fn brought<R: Wait, D: Disk + Drop>(&self, rt: &R, back: &Back<D, Self>, number: u64)
         requires { IsAccepted D.medium back.now number }
     {}
@@ -55,13 +56,23 @@ pub trait Guide: Visits {
     fn flushes_again<R: Wait>(&self, rt: &R, fault: StoreFault) -> bool
         ensures { result ≡ false → Self.gives_up fault };
 
-    /// Serves what others ask of the desk. It is called between flushes, by the desk's own thread.
+    /// All is locked: there are several desks, the active one is between two blocks, and no store has a free segment or
+    /// a block that may go. It is called each time round in which that is so. Whether frames wait in the ring
+    /// meanwhile; if not, they are brought to the active desk, where a flush is refused. By default they wait if such a
+    /// flush is tried again.
+    fn all_locked<R: Wait, D: Disk + Drop>(&self, rt: &R, back: &Back<D, Self>) -> bool
+        requires { AllLocked D.medium back.now }
+    {
+        self.flushes_again(rt, StoreFault::AllLocked)
+    }
+
+    /// Serves what others ask of the desks. It is called between flushes, by the desks' own thread.
     fn visit<R: Wait + Clock, D: Disk + Drop>(
         &self,
         rt: &R,
         alloc: Global,
         back: &mut Back<D, Self>,
     )
-        ensures { back.new ≡ record back.old { desk = back.new.desk } }
+        ensures { back.new ≡ record back.old { desks = back.new.desks } }
     {}
 }

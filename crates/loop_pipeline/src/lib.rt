@@ -1,9 +1,11 @@
 //! The way of a camera's frames from its device to its disk, by two threads. Each owns its half.
 //!
 //! - `front`: a device, its queue with the buffers, and the end of the ring to which its frames go; `back`: the other
-//!   end of the ring, and a desk before a store; `ending`: both halves, brought together; `camera`: what is filmed;
-//! - `film`: `film_camera`, which runs both, and what each does; `guide`: what they ask and report; `visits`: what
-//!   visitors of the desk may call; `bell`: where one sleeps until the other has work for it; `laws`: what follows;
+//!   end of the ring, and desks before stores; `ending`: both halves, brought together; `camera`: what is filmed;
+//! - `film`: `film_camera` and `film_desks`, which run both, and what each does; `door`: where desks wait that join a
+//!   camera meanwhile; `guide`: what they ask and report; `visits`: what visitors of the desks may call; `bell`: where
+//!   one sleeps until the other has work for it; `laws`: what follows;
+//! - `next`: which desk takes the next block;
 //! - `several`: `film_all`, which films several cameras; `start_barrier`: where they wait until all have begun;
 //! - `start`: a queue that a front may begin with, and how it is started; `buffers`: the memory of its buffers.
 //!
@@ -22,11 +24,13 @@ mod back;
 mod bell;
 mod buffers;
 mod camera;
+mod door;
 mod ending;
 mod film;
 mod front;
 mod guide;
 pub mod laws;
+mod next;
 mod several;
 mod start;
 mod start_barrier;
@@ -35,8 +39,9 @@ mod visits;
 pub use back::{Back, BackParts, Brought, LostFrame};
 pub use buffers::{Start, heap_start, mapped_start};
 pub use camera::Camera;
+pub use door::Door;
 pub use ending::{Ended, end};
-pub use film::{Link, Unfilmed, film_back, film_camera, film_front};
+pub use film::{Link, Unfilmed, film_back, film_camera, film_desks, film_front};
 pub use front::{Begun, Front, FrontParts, TakeOutcome};
 pub use guide::Guide;
 pub use several::{Filmed, Outcome, Shot, film_all};

@@ -1,2 +1,5 @@
 pub mod SaveFrames
 pub mod FlushRuns
+pub mod KeepRuns
+pub mod Served
+pub mod Sweeps

@@ -38,6 +38,8 @@ pub enum Absent {
     NoGeometry,
     /// There is no memory for the buffers of its frames.
     NoBuffers,
+    /// It is one of several, and has another geometry than the one that is filmed into.
+    OtherGeometry,
     /// Its path names another file by now, or none.
     Moved,
     /// The program ends.
@@ -88,6 +90,7 @@ impl Absent {
             Absent::TooFewBytes => "TooFewBytes",
             Absent::NoGeometry => "NoGeometry",
             Absent::NoBuffers => "NoBuffers",
+            Absent::OtherGeometry => "OtherGeometry",
             Absent::Moved => "Moved",
             Absent::Stopped => "Stopped",
         }

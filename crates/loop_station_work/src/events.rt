@@ -99,7 +99,9 @@ impl LastReported {
             Change::SourceSilent => lines.source_silent(name),
             Change::StoreOpen => {
                 let less = match state.life.store(rt) {
-                    Some(geometry) => held_of_asked(&geometry, state.config.room),
+                    Some(geometry) => {
+                        held_of_asked(&geometry, state.stores_wanted(rt), state.config.room)
+                    }
                     None => None,
                 };
                 lines.store_open(name, less)
@@ -116,9 +118,10 @@ impl LastReported {
             Change::CaughtUp => lines.caught_up(name),
             Change::Waited { micros, since } => lines.waited(name, micros, since),
             Change::SourceUnusable(_) => lines.source_unusable(name, state.life.unusable(rt).0),
-            Change::Made(percent) => {
-                lines.making(name, state.config.store.as_str(), u64::from(percent))
-            }
+            Change::Made(percent) => match state.path_of(state.alloc, state.life.made_number(rt)) {
+                Ok(path) => lines.making(name, path.as_str(), u64::from(percent)),
+                Err(_) => Ok(()),
+            },
             Change::Syncs(micros) => lines.syncs(name, micros),
             Change::TooSlow { micros, frames } => lines.too_slow(name, micros, frames),
         }
@@ -139,11 +142,9 @@ fn disk_seen<R: Wait>(rt: &R, state: &CameraState) -> Option<DiskSeen> {
 // What is seen of a camera now.
 fn seen_of<R: Wait + Clock>(rt: &R, state: &CameraState, store: StoreSeen) -> Seen {
     let camera = state.life.camera(rt);
-    let (_, room, _) = state.stored_room(rt);
-    let blocks = match state.life.store(rt) {
-        Some(geometry) if matches!(store, StoreSeen::Open) => u64::from(
-            geometry.segments,
-        ).saturating_sub(1),
+    let room = state.room(rt);
+    let blocks = match store {
+        StoreSeen::Open => room.blocks,
         _ => 0,
     };
     Seen {
@@ -156,7 +157,7 @@ fn seen_of<R: Wait + Clock>(rt: &R, state: &CameraState, store: StoreSeen) -> Se
         locked: camera.locked,
         behind: state.behind_micros(rt),
         waited: state.feed.waited(rt),
-        room,
+        room: room.free,
         blocks,
         stopping: camera.stopping,
     }

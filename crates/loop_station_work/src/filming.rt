@@ -1,4 +1,4 @@
-//! A camera's thread: it opens or makes the store, and films the camera into it, again and again.
+//! A camera's thread: it films the camera into its stores, again and again. `opening` has how they are opened and made.
 
 ghost use Rattle.std.specs.Prelude.{◌≡◌, ◌≤◌};
 
@@ -7,18 +7,21 @@ use crate::answering::Message;
 use crate::clerk::FoundClip;
 use crate::feed::FeedSource;
 use crate::notes::read_events;
+use crate::opening::{OpenStore, Opened, member_of, open_first, open_others};
 use crate::outlet::Outlet;
 use crate::places::Places;
 use crate::state::CameraState;
 use loop_capture::Device;
 use loop_desk::{Desk, DeskLimits};
-use loop_file::{FileDisk, FileFault};
-use loop_pipeline::{Camera, Ended, Unfilmed, film_camera, heap_start, new_queue, start_queue};
+use loop_file::FileDisk;
+use loop_pipeline::{
+    Camera, Door, Ended, Unfilmed, film_desks, heap_start, new_queue, start_queue,
+};
 use loop_plane::HeapPlane;
 use loop_record::Geometry;
 use loop_station_core::{Act, FilmingEvent, Keep, OpenEvent, bits_of, is_saved_at_start};
-use loop_station_words::{RingSize, StoreSize, asked_ring, size_of};
-use loop_store::{Clip, OpenRefused, Store, StoreFault};
+use loop_station_words::{RingSize, size_of};
+use loop_store::{Clip, Store, StoreFault};
 use std::alloc::{AllocGlobal, Global};
 use std::io::Write;
 use std::sync::{Arc, Wait};
@@ -39,6 +42,9 @@ const LOOK_AGAIN: u64 = 100;
 const MOST: u32 = 64;
 
 const FEWEST: u32 = 8;
+
+// How many desks may wait to join a camera.
+const DESKS: usize = 256;
 
 // How many bytes the frames of a flush have together at most, where they are more than the fewest.
 const FLUSH_BYTES: u32 = 67_108_864;
@@ -63,10 +69,10 @@ pub(crate) fn run_camera<
         if state.is_stopped(rt) {
             break;
         }
-        let why = match open_store(rt, state) {
-            Ok(store) => {
+        let why = match open_first(rt, state) {
+            Ok(opened) => {
                 measure(rt, state);
-                film_into(rt, state, store)
+                film_into(rt, state, outlet, opened)
             }
             Err(why) => why,
         };
@@ -123,44 +129,8 @@ fn tell_absence<R: AllocGlobal + Wait + Clock, W: Write + Drop>(
     true
 }
 
-// The store of a camera, made for its source where it isn't there.
-fn open_store<R: AllocGlobal + Places + Wait + Clock>(
-    rt: &R,
-    state: &CameraState,
-) -> Result<Store<FileDisk>, Absent> {
-    let path = state.config.store.as_str();
-    let disk = match rt.open_store(path) {
-        Ok(disk) => disk,
-        Err(FileFault::Missing) => return make_store(rt, state),
-        Err(fault) => return Err(Absent::of(path, fault)),
-    };
-    let place = rt.place_of(path).unwrap_or_default();
-    state.life.set_place(rt, place);
-    match Store::open(rt.alloc(), disk) {
-        Ok(store) => Ok(store),
-        Err(OpenRefused { fault, disk: _ }) => Err(Absent::Store(fault)),
-    }
-}
-
-// Makes the store of a camera for the frames that its source's header describes, once that is there.
-fn make_store<R: AllocGlobal + Places + Wait + Clock>(
-    rt: &R,
-    state: &CameraState,
-) -> Result<Store<FileDisk>, Absent> {
-    state.leave(rt, Absent::NoStore);
-    let Some(header) = wait_header(rt, state) else {
-        return Err(Absent::Stopped);
-    };
-    let geometry = geometry_for(&header, state.config.room)?;
-    let made = rt.make_store(rt, state, geometry);
-    state.life.set_making(rt, None);
-    let place = rt.place_of(state.config.store.as_str());
-    state.life.set_place(rt, place.unwrap_or_default());
-    made
-}
-
-// What the source's header says, once it is there; None where the camera is stopped before that.
-fn wait_header<R: Wait + Clock>(rt: &R, state: &CameraState) -> Option<Geometry> {
+/// What the source's header says, once it is there; None where the camera is stopped before that.
+pub(crate) fn wait_header<R: Wait + Clock>(rt: &R, state: &CameraState) -> Option<Geometry> {
     for _ in rt.forever() {
         if state.is_stopped(rt) {
             return None;
@@ -172,9 +142,9 @@ fn wait_header<R: Wait + Clock>(rt: &R, state: &CameraState) -> Option<Geometry>
     unreachable!()
 }
 
-// The geometry of a store for a header, with room for as much as the configuration asks.
-fn geometry_for(header: &Geometry, room: StoreSize) -> Result<Geometry, Absent> {
-    let RingSize { segments, slots } = asked_ring(header, room)?;
+/// The geometry of a store with this ring for a header.
+pub(crate) fn geometry_for(header: &Geometry, ring: RingSize) -> Result<Geometry, Absent> {
+    let RingSize { segments, slots } = ring;
     let geometry = Geometry {
         segments,
         slots,
@@ -186,13 +156,19 @@ fn geometry_for(header: &Geometry, room: StoreSize) -> Result<Geometry, Absent> 
     }
 }
 
-// Films into a store, until the camera is stopped or the store must be reopened. Returns why it ended.
-fn film_into<R: AllocGlobal + Places + Threads + Wait + Clock + Sync>(
+// Films into the stores of a camera, until it is stopped or one of them must be reopened. Returns why it ended.
+fn film_into<R: AllocGlobal + Places + Threads + Wait + Clock + Sync, W: Write + Drop + Send>(
     rt: &R,
     state: &CameraState,
-    store: Store<FileDisk>,
+    outlet: &Outlet<W>,
+    opened: Opened,
 ) -> Absent {
-    let mut store = store;
+    let Opened {
+        first: OpenStore { number, mut store },
+        others,
+        there,
+        wanted,
+    } = opened;
     let (geometry, next) = (store.geometry(), store.next());
     let newest = store.read_head(next.saturating_sub(1)).ok();
     let bits = newest.map(|head| bits_of(head.flags));
@@ -201,26 +177,55 @@ fn film_into<R: AllocGlobal + Places + Threads + Wait + Clock + Sync>(
         state.feed.clear(rt);
         state.lose_rest(rt);
     }
-    let Ok(clips) = store.clips(rt.alloc()) else {
-        return Absent::NoBuffers;
+    let member = match member_of(rt, state, number, &store) {
+        Ok(member) => member,
+        Err(why) => return why,
     };
     let events = read_events(rt, rt.alloc(), state.config.store.as_str());
-    tell_clips(rt, state, &mut store, clips.as_slice(), events.as_slice());
+    tell_clips(
+        rt,
+        state,
+        &mut store,
+        member.clips.as_slice(),
+        events.as_slice(),
+    );
     let Some(camera) = camera_before(rt.alloc(), state, store) else {
         return Absent::NoBuffers;
     };
-    state.begin(rt, geometry, next, clips);
+    state.begin(rt, member, wanted, there.len() > 1);
+    // Events that went on while the stores were opened again have clips here.
+    state.desk.adopt(rt, 0, state);
     go_on_with(rt, state, events.as_slice());
     let before = state.tally(rt).lost();
-    let filmed = film(rt, state, camera);
+    let rest = Unopened {
+        geometry,
+        number,
+        others,
+        there,
+        events,
+        wanted,
+    };
+    let filmed = film(rt, state, outlet, camera, rest);
     count_lost(rt, state, before, &filmed);
     state.lose_rest(rt);
     why_ended(rt, state, filmed)
 }
 
-// Tells the printer which clips a store has: those that aren't saved yet are saved by themselves, where the camera has
-// a folder for them (`is_saved_at_start`). A clip whose frames can't be read is left out.
-fn tell_clips<R: AllocGlobal + Wait>(
+// What the thread that opens the other stores begins with.
+#[derive(Drop)]
+struct Unopened {
+    geometry: Geometry,
+    number: Option<u32>,
+    others: Vec<OpenStore>,
+    there: Vec<u32>,
+    events: Vec<OpenEvent>,
+    wanted: u32,
+}
+
+/// Tells the printer which clips a store has, by the ids that users know: those that aren't saved yet are saved by
+/// themselves, where the camera has a folder for them (`is_saved_at_start`). A clip whose frames can't be read is left
+/// out.
+pub(crate) fn tell_clips<R: AllocGlobal + Wait>(
     rt: &R,
     state: &CameraState,
     store: &mut Store<FileDisk>,
@@ -273,7 +278,7 @@ fn go_on_with<R: AllocGlobal + Wait + Clock>(rt: &R, state: &CameraState, events
             come,
             &state.tally(rt),
         );
-        let clips = state.clips_tagged(rt, alloc, event.event);
+        let clips = state.clips_tagged(rt, alloc, 0, event.event);
         // Its clips are among those that `tell_clips` leaves out, so the next start saves them where too many go on.
         let _goes_on = state.begin_growing(rt, alloc, keep, clips);
     }
@@ -298,7 +303,8 @@ fn why_ended<R: Wait>(rt: &R, state: &CameraState, filmed: Filmed) -> Absent {
     let Ok(ended) = filmed else {
         return Absent::NoBuffers;
     };
-    let must_reopen = ended.desk.status().must_reopen;
+    let must_reopen = ended.desk.status().must_reopen
+        || ended.joined.iter().any(|desk| desk.status().must_reopen);
     match state.life.on(rt, FilmingEvent::End(must_reopen)) {
         Act::Finish => Absent::Stopped,
         Act::MakeAnew => Absent::Moved,
@@ -333,14 +339,64 @@ fn camera_before(alloc: Global, state: &CameraState, store: Store<FileDisk>) -> 
     }
 }
 
-// Films a camera until its state ends it.
-fn film<R: AllocGlobal + Threads + Wait + Clock + Sync>(
+// The door by which the desks of further stores join a camera: shut where it has one store, or where memory is refused.
+fn door_for(alloc: Global, has_several: bool) -> Door<FileDisk> {
+    if has_several {
+        if let Ok(door) = Door::new(alloc, DESKS) {
+            return door;
+        }
+    }
+    Door::shut(alloc)
+}
+
+// Films a camera until its state ends it. Where it has several stores, a thread opens and makes the others meanwhile.
+fn film<R: AllocGlobal + Places + Threads + Wait + Clock + Sync, W: Write + Drop + Send>(
     rt: &R,
     state: &CameraState,
+    outlet: &Outlet<W>,
     camera: FileCamera,
+    rest: Unopened,
 ) -> Filmed {
-    let (rt, state) = (&*rt, &*state);
+    let (rt, state, outlet) = (&*rt, &*state, &*outlet);
+    let door = door_for(rt.alloc(), rest.number.is_some());
+    let door = &door;
     thread::scope(thread::scope_env(), rt, move |scope| -> Filmed {
-        film_camera(rt, rt.alloc(), scope, &state.threads, state, camera)
+        if door.is_open() {
+            // Where a thread is refused, the camera is filmed into the one store that is open.
+            let _alone = scope.spawn(move || open_rest(rt, state, outlet, door, rest));
+        }
+        let filmed = film_desks(rt, rt.alloc(), scope, &state.threads, state, door, camera);
+        state.stored.close(rt);
+        filmed
     })
+}
+
+// Opens and makes the other stores of a camera, until its filming ends.
+fn open_rest<R: AllocGlobal + Places + Wait + Clock, W: Write + Drop>(
+    rt: &R,
+    state: &CameraState,
+    outlet: &Outlet<W>,
+    door: &Door<FileDisk>,
+    rest: Unopened,
+) {
+    let Unopened {
+        geometry,
+        number,
+        others,
+        there,
+        events,
+        wanted,
+    } = rest;
+    open_others(
+        rt,
+        state,
+        outlet,
+        door,
+        geometry,
+        number.unwrap_or(0),
+        others,
+        there.as_slice(),
+        events.as_slice(),
+        wanted,
+    );
 }

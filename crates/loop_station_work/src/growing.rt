@@ -1,9 +1,11 @@
 //! Events whose end lies ahead: what is there is locked at once, and the rest as it comes.
 
 use crate::clerk::Waiting;
+use crate::state::CameraState;
+use crate::stored::store_of;
 use circular_buffer::HeapCircularBuffer;
 use loop_desk::Kept;
-use loop_station_core::{ClipSpan, Keep, is_covered};
+use loop_station_core::{ClipSpan, Keep, SaveKey, is_covered};
 use loop_store::{Clip, StoreFault};
 use std::alloc::{AllocError, Global};
 use std::sync::{Mutex, Wait};
@@ -23,6 +25,8 @@ pub(crate) struct Growing {
     fault: Option<StoreFault>,
     // Its end is over, and locked.
     is_done: bool,
+    // The numbers of the stores in which all that they held of it was locked, each with its next number then.
+    settled: Vec<(u32, u64)>,
 }
 
 impl Growing {
@@ -34,6 +38,7 @@ impl Growing {
             covered: Vec::new(alloc),
             fault: None,
             is_done: false,
+            settled: Vec::new(alloc),
         }
     }
 
@@ -42,6 +47,28 @@ impl Growing {
         self.keep = self.keep.anew();
         self.clips.clear();
         self.covered.clear();
+        self.settled.clear();
+    }
+
+    /// Whether all that the store of a number holds of it is locked, where its next number is this one.
+    pub fn is_settled(&self, store: u32, next: u64) -> bool {
+        self.settled
+            .iter()
+            .any(|known| known.0 == store && known.1 == next)
+    }
+
+    /// All that the store of a number holds of it is locked, up to this next number.
+    pub fn settle(&mut self, store: u32, next: u64) {
+        self.unsettle(store);
+        // Where memory is refused, it is locked once more.
+        let _again = self.settled.push((store, next));
+    }
+
+    /// What the store of a number holds of it may be locked no more.
+    pub fn unsettle(&mut self, store: u32) {
+        if let Some(at) = self.settled.iter().position(|known| known.0 == store) {
+            self.settled.remove(at);
+        }
     }
 
     /// Whether a longer clip of it covers one that isn't released yet.
@@ -64,6 +91,22 @@ impl Growing {
         self.fault
     }
 
+    /// These clips of it are in a store that was opened. Those that it knows already stay as they are: a clip that is
+    /// released twice may be another one by then.
+    pub fn adopt(&mut self, clips: &[Clip]) {
+        for clip in clips {
+            if !self.knows(clip.id) {
+                // Where memory is refused, the clip stays locked, and isn't named at the end.
+                let _unnamed = self.clips.push(*clip);
+            }
+        }
+    }
+
+    // Whether the clip of an id is one of it, or is to be released.
+    fn knows(&self, id: u32) -> bool {
+        self.clips.iter().any(|clip| clip.id == id) || self.covered.iter().any(|known| *known == id)
+    }
+
     /// What is locked of it.
     pub fn clips(&self) -> &[Clip] {
         self.clips.as_slice()
@@ -78,27 +121,40 @@ impl Growing {
         is_whole: bool,
     ) {
         let Kept { clips, fault } = kept;
-        let mut spans = Vec::new(alloc);
-        for clip in clips.as_slice() {
-            // Where memory is refused, a clip that this one covers stays locked.
-            let _stays = spans.push(span_of(clip));
-        }
         let before = std::mem::replace(&mut self.clips, clips);
+        let mut others = Vec::new(alloc);
         for clip in before {
-            if is_covered(&span_of(&clip), spans.as_slice()) {
+            if is_covered_by(&clip, self.clips.as_slice()) {
                 // Where memory is refused, the clip stays locked.
                 let _stays = self.covered.push(clip.id);
             } else {
                 // Where memory is refused, the clip stays locked, and isn't named at the end.
-                let _unnamed = self.clips.push(clip);
+                let _unnamed = others.push(clip);
             }
         }
+        // As above.
+        let _unnamed = self.clips.extend_from_slice(&others);
         self.fault = match fault {
             Some(fault) => Some(fault),
             None => refused,
         };
         self.is_done = is_whole;
     }
+}
+
+// Whether a clip lies within one of others of its store.
+fn is_covered_by(clip: &Clip, others: &[Clip]) -> bool {
+    let span = span_of(clip);
+    others.iter().any(|other| store_of(other.id) == store_of(clip.id)
+        && is_covered(&span, &[span_of(other)]))
+}
+
+// Takes the first of some clips, if there is one.
+fn take_first(saved: &mut Vec<SaveKey>) -> Option<SaveKey> {
+    if saved.is_empty() {
+        return None;
+    }
+    Some(saved.remove(0))
 }
 
 // The numbers of a clip.
@@ -113,6 +169,8 @@ fn span_of(clip: &Clip) -> ClipSpan {
 struct Inner {
     waiting: Option<Waiting>,
     growing: HeapCircularBuffer<Growing>,
+    // Clips that are saved and are to be released, which had to wait.
+    saved: Vec<SaveKey>,
 }
 
 /// What the thread of a camera's desk goes on with from one visit to the next.
@@ -128,6 +186,7 @@ impl Ongoing {
             inner: Mutex::new(Inner {
                 waiting: None,
                 growing: HeapCircularBuffer::with_capacity(alloc, MOST_OPEN)?,
+                saved: Vec::new(alloc),
             }),
         })
     }
@@ -173,9 +232,33 @@ impl Ongoing {
         }
     }
 
-    /// Whether an event goes on.
-    pub fn has_growing<R: Wait>(&self, rt: &R) -> bool {
-        !self.inner.lock(rt).growing.is_empty()
+    /// A clip of the store of a number was released, which may be one of an event that goes on.
+    pub fn unsettle<R: Wait>(&self, rt: &R, store: u32) {
+        let mut inner = self.inner.lock(rt);
+        for _ in 0..inner.growing.len() {
+            let Some(mut growing) = inner.growing.pop_front() else {
+                break;
+            };
+            growing.unsettle(store);
+            inner.growing.push_back(growing);
+        }
+    }
+
+    /// Whether an event goes on, or a clip that is saved has to be released.
+    pub fn has_more<R: Wait>(&self, rt: &R) -> bool {
+        let inner = self.inner.lock(rt);
+        !inner.growing.is_empty() || !inner.saved.is_empty()
+    }
+
+    /// A clip that is saved is to be released later: a save reads it by now, or too many orders wait.
+    pub fn put_saved<R: Wait>(&self, rt: &R, saved: SaveKey) {
+        // Where memory is refused, the next start releases it.
+        let _later = self.inner.lock(rt).saved.push(saved);
+    }
+
+    /// The clip that is next to be released, since it is saved. It has to be put back where it waits on.
+    pub fn next_saved<R: Wait>(&self, rt: &R) -> Option<SaveKey> {
+        take_first(&mut self.inner.lock(rt).saved)
     }
 
     /// Whether the event of a number goes on.
@@ -185,6 +268,19 @@ impl Ongoing {
             .growing
             .iter()
             .any(|growing| growing.keep.event == event)
+    }
+
+    /// Takes the clips of a store that was opened into the events that they belong to.
+    pub fn adopt<R: Wait>(&self, rt: &R, place: usize, state: &CameraState) {
+        let mut inner = self.inner.lock(rt);
+        for _ in 0..inner.growing.len() {
+            let Some(mut growing) = inner.growing.pop_front() else {
+                break;
+            };
+            let clips = state.clips_tagged(rt, state.alloc, place, growing.keep.event);
+            growing.adopt(&clips);
+            inner.growing.push_back(growing);
+        }
     }
 
     /// The keeps of the events that go on. None where memory is refused.

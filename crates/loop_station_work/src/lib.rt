@@ -1,7 +1,9 @@
 //! A station: it records from cameras without end, and does orders meanwhile.
 //!
 //! Each camera has a thread for its source (`source`), which puts frames into a `feed`, and two threads that film it
-//! (`filming`): the store is opened or made, and loop_pipeline's `film_camera` brings the frames to it. `state` is
+//! (`filming`): the store is opened or made, and loop_pipeline's `film_desks` brings the frames to it. Where a camera has
+//! several stores, one more thread opens and makes the others meanwhile (`opening`), and `stored` has what they hold.
+//! `state` is
 //! what the threads of a camera share, and guides them. `life` is what is known and counted of it under one lock,
 //! `stored` what its store holds, and `absent` why that isn't there. `input` has what a source's pipe brings, and finds
 //! the next header in it. `clock` has the time of frames.
@@ -34,6 +36,7 @@ mod input;
 mod jobs;
 mod life;
 mod notes;
+mod opening;
 mod orders;
 mod outlet;
 mod part;

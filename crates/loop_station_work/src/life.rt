@@ -25,8 +25,9 @@ struct Known {
     bits: Option<u32>,
     // The device and the inode of the store's file while it is recorded into.
     place: Option<(u64, u64)>,
-    // How much of a store is made, in percent, while one is made.
+    // How much of a store is made, in percent, while one is made, and the number of that, if it has one.
     making: Option<u32>,
+    made: Option<u32>,
     // How long a sync of the store's disk takes, in microseconds.
     sync: Option<u64>,
 }
@@ -53,6 +54,7 @@ impl Life {
                 bits: None,
                 place: None,
                 making: None,
+                made: None,
                 sync: None,
             }),
             changed: Condvar::new(),
@@ -197,6 +199,16 @@ impl Life {
     /// Sets that.
     pub fn set_making<R: Wait>(&self, rt: &R, percent: Option<u32>) {
         self.known.lock(rt).making = percent;
+    }
+
+    /// The number of the store that is made or was made last, if it has one.
+    pub fn made_number<R: Wait>(&self, rt: &R) -> Option<u32> {
+        self.known.lock(rt).made
+    }
+
+    /// Sets that.
+    pub fn set_made<R: Wait>(&self, rt: &R, number: Option<u32>) {
+        self.known.lock(rt).made = number;
     }
 
     /// How long a sync of the store's disk takes, in microseconds, once it is measured.

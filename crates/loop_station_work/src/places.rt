@@ -8,6 +8,7 @@ use crate::state::CameraState;
 use loop_file::{FileDisk, FileFault, FilePlace, open_file, open_to_read};
 use loop_record::Geometry;
 use loop_station_core::goes_on;
+use loop_station_words::{number_of, numbered};
 use loop_store::{OpenRefused, Store, StoreFault, format};
 use std::alloc::AllocGlobal;
 use std::fs::{File, OpenFile, OpenOptions};
@@ -15,8 +16,8 @@ use std::io::{ErrorKind, Read};
 use std::os::unix::fs::{FileExt, FileTypeExt, MetadataExt};
 use std::rt::Files;
 use std::sync::Wait;
-use std::time::Clock;
-use std::{fs, io};
+use std::time::{Clock, Duration};
+use std::{fs, io, thread};
 
 // Where the system says how long it has run.
 const UPTIME: &str = "/proc/uptime";
@@ -30,6 +31,9 @@ const SYNC_MOST: u64 = 1_000_000;
 const PIECE: usize = 1_048_576;
 
 const SYNCED: u64 = 16;
+
+// How many microseconds it rests at most between such writes.
+const REST_MOST: u64 = 1_000_000;
 
 static ZEROS: [u8; PIECE] = [0; PIECE];
 
@@ -75,6 +79,10 @@ pub trait Places {
     /// Whether two paths lead to the same file, or would.
     fn is_same(&self, path: &str, other: &str) -> bool;
 
+    /// Whether a path leads to a file of a camera with this path of its stores that has a number, also while that is
+    /// made; or would, where there is none yet.
+    fn is_numbered(&self, path: &str, store: &str) -> bool;
+
     /// Removes a file.
     fn remove(&self, path: &str) -> io::Result<()>;
 
@@ -87,20 +95,27 @@ pub trait Places {
     /// Opens the file of a store.
     fn open_store(&self, path: &str) -> Result<FileDisk, FileFault>;
 
-    /// Makes the store of a camera where there is no file, and opens it. It is made as NAME.new in the same folder,
-    /// and is renamed once it is complete. A NAME.new that an earlier run left is made anew, or just renamed where it
+    /// Makes a store of a camera at a path where there is no file, and opens it. It is made as NAME.new in the same
+    /// folder, and is renamed once it is complete. A NAME.new that an earlier run left is made anew, or just renamed where it
     /// is a store already. It is made in steps, after each of which the camera learns how much of the file is on the
     /// disk. Where it is stopped meanwhile, the file is removed, and the answer is `Stopped`.
-    fn make_store<R: Wait>(
+    fn make_store<R: Wait + Clock>(
         &self,
         waits: &R,
         state: &CameraState,
+        path: &str,
         geometry: Geometry,
     ) -> Result<Store<FileDisk>, Absent>;
 
     /// Opens the named pipe of orders, so that it never comes to an end: this end of it can write too. A file is opened
     /// to be read.
     fn open_orders(&self, path: &str) -> io::Result<File>;
+
+    /// The numbers of the files beside a path that have it with a number, in no order.
+    fn numbers_beside(&self, path: &str) -> io::Result<Vec<u32>>;
+
+    /// When what a path leads to was written last, in microseconds since 1970; None where that can't be seen.
+    fn written_at(&self, path: &str) -> Option<u64>;
 
     /// The device and the inode of what a path leads to; None where nothing is there.
     fn place_of(&self, path: &str) -> io::Result<Option<(u64, u64)>>;
@@ -146,6 +161,20 @@ impl Places for HostRuntime {
         lead_to_one(self, path, other)
     }
 
+    fn is_numbered(&self, path: &str, store: &str) -> bool {
+        if is_named_so(self, path, store) {
+            return true;
+        }
+        // A file may have two names.
+        let Ok(numbers) = self.numbers_beside(store) else {
+            return false;
+        };
+        numbers.iter().any(|number| match numbered(self.alloc(), store, (*number).min(999)) {
+            Ok(other) => lead_to_one(self, path, other.as_str()),
+            Err(_) => false,
+        })
+    }
+
     fn remove(&self, path: &str) -> io::Result<()> {
         fs::remove_file(self, path)
     }
@@ -164,13 +193,14 @@ impl Places for HostRuntime {
         FileDisk::open(self, path)
     }
 
-    fn make_store<R: Wait>(
+    fn make_store<R: Wait + Clock>(
         &self,
         waits: &R,
         state: &CameraState,
+        path: &str,
         geometry: Geometry,
     ) -> Result<Store<FileDisk>, Absent> {
-        make_at(self, waits, state, geometry)
+        make_at(self, waits, state, path, geometry)
     }
 
     fn open_orders(&self, path: &str) -> io::Result<File> {
@@ -188,6 +218,28 @@ impl Places for HostRuntime {
             Err(fault) if fault.kind() == ErrorKind::NotFound => Ok(None),
             Err(fault) => Err(fault),
         }
+    }
+
+    fn numbers_beside(&self, path: &str) -> io::Result<Vec<u32>> {
+        let (folder, name) = parted(path);
+        let mut numbers = Vec::new(self.alloc());
+        for entry in fs::read_dir(self, folder)? {
+            if let Some(number) = number_of(name, entry?.file_name()) {
+                numbers.push(number)?;
+            }
+        }
+        Ok(numbers)
+    }
+
+    fn written_at(&self, path: &str) -> Option<u64> {
+        let metadata = fs::metadata(self, path).ok()?;
+        let seconds = u64::try_from(metadata.mtime()).ok()?;
+        let nanos = u64::try_from(metadata.mtime_nsec()).ok()?;
+        Some(
+            seconds
+                .saturating_mul(1_000_000)
+                .saturating_add(nanos / 1_000),
+        )
     }
 
     fn uptime(&self) -> Option<u64> {
@@ -234,6 +286,13 @@ fn lead_to_one<R: Files>(rt: &R, path: &str, other: &str) -> bool {
         }
         _ => false,
     }
+}
+
+// Whether a path is that of a store with a number, also while that is made.
+fn is_named_so<R: Files>(rt: &R, path: &str, store: &str) -> bool {
+    let ((folder, name), (others, called)) = (parted(path), parted(store));
+    let whole = name.strip_suffix(".new").unwrap_or(name);
+    number_of(called, whole).is_some() && lead_to_one(rt, folder, others)
 }
 
 // The folder of a path, and the name in it.
@@ -302,13 +361,13 @@ fn sync_time_beside<R: AllocGlobal + Files<File = File> + Clock>(
 }
 
 // Makes a store where there is no file, under another name first, and opens it.
-fn make_at<H: AllocGlobal + Files<File = File>, R: Wait>(
+fn make_at<H: AllocGlobal + Files<File = File>, R: Wait + Clock>(
     rt: &H,
     waits: &R,
     state: &CameraState,
+    path: &str,
     geometry: Geometry,
 ) -> Result<Store<FileDisk>, Absent> {
-    let path = state.config.store.as_str();
     let place = match FilePlace::of(rt, path) {
         Ok(place) => place,
         Err(fault) => return Err(Absent::of(path, fault)),
@@ -317,7 +376,7 @@ fn make_at<H: AllocGlobal + Files<File = File>, R: Wait>(
     let store = match left_at(rt, &made, &geometry) {
         Ok(Some(store)) => store,
         Ok(None) if is_link(rt, path) => format_at(rt, &mut made, geometry)?,
-        Ok(None) => format_in_steps(rt, waits, state, geometry)?,
+        Ok(None) => format_in_steps(rt, waits, state, path, geometry)?,
         Err(Absent::File(fault)) => return Err(Absent::of(path, fault)),
         Err(why) => return Err(why),
     };
@@ -335,13 +394,13 @@ fn is_link<R: Files>(rt: &R, path: &str) -> bool {
 
 // Makes the file of a store, whose path ends in no link, under another name, with a store in it. A file that isn't made
 // to its end is removed.
-fn format_in_steps<H: AllocGlobal + Files<File = File>, R: Wait>(
+fn format_in_steps<H: AllocGlobal + Files<File = File>, R: Wait + Clock>(
     rt: &H,
     waits: &R,
     state: &CameraState,
+    path: &str,
     geometry: Geometry,
 ) -> Result<Store<FileDisk>, Absent> {
-    let path = state.config.store.as_str();
     match geometry.check() {
         Ok(()) => {}
         Err(_) => return Err(Absent::NoGeometry),
@@ -375,8 +434,9 @@ fn format_in_steps<H: AllocGlobal + Files<File = File>, R: Wait>(
     }
 }
 
-// Gives a file so many bytes of zero, each written and on the disk, in steps.
-fn fill_in_steps<R: Wait>(
+// Gives a file so many bytes of zero, each written and on the disk, in steps. While the camera is filmed into another
+// store, it rests as long as it has written.
+fn fill_in_steps<R: Wait + Clock>(
     rt: &R,
     file: &File,
     size: u64,
@@ -386,7 +446,7 @@ fn fill_in_steps<R: Wait>(
     if let Err(fault) = grow_anew(file, size) {
         return Err(Absent::File(FileFault::from(fault)));
     }
-    let mut at = 0u64;
+    let (mut at, mut began) = (0u64, state.timeline.now(rt));
     let pieces = size / PIECE as u64 + 1;
     for piece in 0..pieces {
         let percent = at.saturating_mul(100) / size.max(1);
@@ -403,6 +463,11 @@ fn fill_in_steps<R: Wait>(
             return Err(Absent::File(FileFault::from(fault)));
         }
         at = at.saturating_add(count);
+        if piece % SYNCED == SYNCED - 1 && state.is_filmed(rt) {
+            let passed = state.timeline.now(rt).saturating_sub(began);
+            thread::sleep(rt, Duration::from_micros(passed.min(REST_MOST)));
+            began = state.timeline.now(rt);
+        }
     }
     match file.sync_all() {
         Ok(()) => Ok(()),

@@ -3,6 +3,7 @@
 use circular_buffer::HeapCircularBuffer;
 use std::alloc::{AllocError, Global};
 use std::sync::{Condvar, Mutex, Wait};
+use std::time::{Clock, Duration};
 
 /// Values on their way to the thread that takes them, first come, first served.
 #[derive(Drop)]
@@ -39,6 +40,19 @@ impl<T: Drop> Post<T> {
         let mut waiting = self
             .changed
             .wait_while(rt, self.waiting.lock(rt), |waiting| waiting.is_empty());
+        let first = waiting.pop_front();
+        self.changed.notify_all();
+        first
+    }
+
+    /// The same, but waits for so long at most.
+    pub fn take_within<R: Wait + Clock>(&self, rt: &R, most: Duration) -> Option<T> {
+        let (mut waiting, _) = self.changed.wait_timeout_while(
+            rt,
+            self.waiting.lock(rt),
+            most,
+            |waiting| waiting.is_empty(),
+        );
         let first = waiting.pop_front();
         self.changed.notify_all();
         first

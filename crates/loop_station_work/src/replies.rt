@@ -7,8 +7,8 @@ use crate::state::CameraState;
 use crate::times::gaps_of;
 use loop_desk::{Kept, Outline};
 use loop_script::Listing;
-use loop_station_core::{Keep, Run, kept_answer, shortfall_of};
-use loop_station_words::{CameraStatus, Lines};
+use loop_station_core::{Keep, Run, clip_id, kept_answer, shortfall_of};
+use loop_station_words::{CameraStatus, Lines, StoresStatus};
 use loop_store::StoreFault;
 use std::io;
 use std::sync::Wait;
@@ -108,16 +108,24 @@ pub(crate) fn tell_released(
     }
 }
 
-/// Tells what a camera holds.
+/// Tells what a store of a camera holds: the one of a number, where it has several.
 pub(crate) fn tell_listed(
     state: &CameraState,
+    number: Option<u32>,
     outline: Result<Outline, StoreFault>,
     lines: &mut Lines,
 ) -> io::Result<()> {
     let name = state.config.name.as_str();
-    match outline {
-        Ok(outline) => lines.camera(name, &Listing::of_outline(outline)),
-        Err(fault) => lines.refused(name, fault),
+    match (outline, number) {
+        (Ok(outline), None) => lines.camera(name, &Listing::of_outline(outline)),
+        (Ok(outline), Some(number)) => {
+            let mut listing = Listing::of_outline(outline);
+            for clip in listing.clips.as_mut_slice() {
+                clip.id = clip_id(number, clip.id);
+            }
+            lines.camera_store(name, number, &listing)
+        }
+        (Err(fault), _) => lines.refused(name, fault),
     }
 }
 
@@ -132,9 +140,10 @@ pub(crate) fn tell_status<R: Wait>(
         Some(Ok(())) => {}
         Some(Err(why)) => {
             return match state.life.making(rt) {
-                Some(percent) => {
-                    lines.status_making(name, state.config.store.as_str(), u64::from(percent))
-                }
+                Some(percent) => match state.path_of(state.alloc, state.life.made_number(rt)) {
+                    Ok(path) => lines.status_making(name, path.as_str(), u64::from(percent)),
+                    Err(_) => Ok(()),
+                },
                 None => lines.absent(name, &why),
             };
         }
@@ -142,19 +151,28 @@ pub(crate) fn tell_status<R: Wait>(
     }
     let (tally, camera) = (state.tally(rt), state.life.camera(rt));
     let source = source_name(camera.source_seen());
-    let (stored, room, keeps) = state.stored_room(rt);
-    lines.status(
-        name,
-        &CameraStatus {
-            stored,
-            given_up: tally.lost(),
-            waiting: tally.submitted.saturating_sub(tally.left),
-            behind: state.behind_micros(rt),
-            room,
-            keeps: Some(keeps),
-            faults: camera.faults,
-            source,
-            gaps: gaps_of(rt, state),
-        },
-    )
+    let room = state.room(rt);
+    let status = CameraStatus {
+        stored: room.stored,
+        given_up: tally.lost(),
+        waiting: tally.submitted.saturating_sub(tally.left),
+        behind: state.behind_micros(rt),
+        room: room.free,
+        keeps: Some(room.keeps),
+        faults: camera.faults,
+        source,
+        gaps: gaps_of(rt, state),
+    };
+    match room.extent {
+        None => lines.status(name, &status),
+        Some(extent) => lines.status_of_set(
+            name,
+            &status,
+            &StoresStatus {
+                open: u64::from(extent.open),
+                wanted: u64::from(extent.wanted),
+                held: extent.held,
+            },
+        ),
+    }
 }

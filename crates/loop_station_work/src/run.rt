@@ -5,6 +5,7 @@ use crate::clock::Timeline;
 use crate::events::LastReported;
 use crate::filming::run_camera;
 use crate::notes::run_notes;
+use crate::opening::has_stores;
 use crate::orders::{Station, status, take_orders};
 use crate::outlet::{Outlet, run_outlet};
 use crate::places::{PathKind, Places};
@@ -16,7 +17,7 @@ use crate::tap::{Tap, run_tap};
 use crate::watch::run_watch;
 use loop_script::MAX_LINE;
 use loop_station_core::Numbers;
-use loop_station_words::{AnswersForm, CameraConfig, Config, Lines, NoRing, Source, asked_ring};
+use loop_station_words::{AnswersForm, CameraConfig, Config, Lines, NoRing, Source, asked_set};
 use std::alloc::{AllocError, AllocGlobal, Global};
 use std::io::{BufReader, Read, Write};
 use std::sync::{Arc, Mutex, Wait};
@@ -41,7 +42,8 @@ pub enum NotBegun {
     NoClock,
     /// This path of `answers` is one of a store, a source, the configuration or the pipe of orders.
     AnswersInUse(String),
-    /// No store holds as many frames as come in the minutes of this camera. So many tenths of a minute fit.
+    /// No 256 stores hold as many frames as come in the hours or minutes of this camera. So many tenths of a minute
+    /// fit.
     TooManyMinutes(String, u64),
 }
 
@@ -90,6 +92,7 @@ fn station_of<R: AllocGlobal + Places + Wait + Clock, W: Write + Drop>(
 ) -> Result<(Station<W>, Option<Arc<Tap>>, Option<String>), NotBegun> {
     let alloc = rt.alloc();
     let taken = taken_paths(alloc, path, &config)?;
+    let stores = store_paths(alloc, &config)?;
     let Config {
         orders,
         answers,
@@ -101,7 +104,7 @@ fn station_of<R: AllocGlobal + Places + Wait + Clock, W: Write + Drop>(
     } = config;
     let json = answers.is_some() && answers_form == AnswersForm::Json;
     let timeline = timeline_of(rt)?;
-    let saves = shared(alloc, Saves::new(alloc, taken, saves)?)?;
+    let saves = shared(alloc, Saves::new(alloc, taken, stores, saves)?)?;
     let posts = shared(alloc, Posts::new(alloc)?)?;
     let states = states_of(alloc, cameras, timeline, json, &posts, &saves)?;
     let times = times.then_some(timeline);
@@ -190,6 +193,15 @@ fn taken_paths(alloc: Global, path: &str, config: &Config) -> Result<Vec<String>
     Ok(taken)
 }
 
+// The paths of the cameras' stores.
+fn store_paths(alloc: Global, config: &Config) -> Result<Vec<String>, NotBegun> {
+    let mut stores = Vec::new(alloc);
+    for camera in config.cameras.as_slice() {
+        add_path(alloc, &mut stores, camera.store.as_str())?;
+    }
+    Ok(stores)
+}
+
 // The configuration, and what it names to be read or recorded into.
 fn own_paths(alloc: Global, path: &str, config: &Config) -> Result<Vec<String>, NotBegun> {
     let mut taken = Vec::new(alloc);
@@ -225,9 +237,11 @@ fn check_answers<R: AllocGlobal + Places>(
         return Ok(());
     };
     let taken = own_paths(rt.alloc(), path, config)?;
+    let cameras = config.cameras.as_slice();
     if taken
         .iter()
         .any(|other| rt.is_same(answers.as_str(), other.as_str()))
+        || cameras.iter().any(|camera| rt.is_numbered(answers.as_str(), camera.store.as_str()))
     {
         let path = String::from_str(rt.alloc(), answers.as_str())?;
         return Err(NotBegun::AnswersInUse(path));
@@ -235,17 +249,17 @@ fn check_answers<R: AllocGlobal + Places>(
     Ok(())
 }
 
-// Refuses a camera whose store would have to be made for more frames than any holds, where its frames are known
+// Refuses a camera whose stores would have to be made for more frames than 256 of them hold, where its frames are known
 // already.
 fn check_minutes<R: AllocGlobal + Places>(rt: &R, config: &Config) -> Result<(), NotBegun> {
     for camera in config.cameras.as_slice() {
-        if rt.path_kind(camera.store.as_str()) != PathKind::Nothing {
+        if has_stores(rt, camera.store.as_str()) {
             continue;
         }
         let Some(frames) = known_frames(rt, &camera.source) else {
             continue;
         };
-        if let Err(NoRing::TooManyFrames(tenths)) = asked_ring(&frames, camera.room) {
+        if let Err(NoRing::TooManyFrames(tenths)) = asked_set(&frames, camera.room) {
             let name = String::from_str(rt.alloc(), camera.name.as_str())?;
             return Err(NotBegun::TooManyMinutes(name, tenths));
         }
@@ -443,8 +457,8 @@ fn start_cameras<
     handles.push(handle).is_ok()
 }
 
-// Tells events of the cameras, wakes the threads that an open event waits for, tries saves again, and shows the status
-// of each camera every second where someone watches, until the program ends.
+// Tells events of the cameras, wakes the threads that an open event or a release waits for, tries saves again, and shows
+// the status of each camera every second where someone watches, until the program ends.
 fn watch<R: AllocGlobal + Wait + Clock, W: Write + Drop>(
     rt: &R,
     station: &Station<W>,
@@ -483,7 +497,7 @@ fn look<R: AllocGlobal + Wait + Clock, W: Write + Drop>(
 ) {
     let mut place = 0usize;
     for state in station.cameras.as_slice() {
-        if state.desk.has_growing(rt) {
+        if state.desk.has_more(rt) {
             state.threads.wake(rt);
         }
         if let Some(reported) = reported.get_mut(place) {

@@ -123,15 +123,19 @@ pub(crate) struct Saves {
     stopped: AtomicBool,
     /// The files and pipes of the station, which no clip is written to.
     taken: Vec<String>,
+    /// The paths of the cameras' stores: no clip is written to one with a number either.
+    stores: Vec<String>,
     /// The only folder in which orders may write, if there is one.
     folder: Option<String>,
 }
 
 impl Saves {
-    /// No saves yet. No clip is written to these files and pipes, and by orders only into this folder, if there is one.
+    /// No saves yet. No clip is written to these files and pipes and the stores with a number of these, and by orders only
+    /// into this folder, if there is one.
     pub fn new(
         alloc: Global,
         taken: Vec<String>,
+        stores: Vec<String>,
         folder: Option<String>,
     ) -> Result<Saves, AllocError> {
         let mut places = Vec::with_capacity(alloc, MOST_SAVES)?;
@@ -153,6 +157,7 @@ impl Saves {
             changed: Condvar::new(),
             stopped: AtomicBool::new(false),
             taken,
+            stores,
             folder,
         })
     }
@@ -161,6 +166,11 @@ impl Saves {
     fn is_taken<R: Places>(&self, rt: &R, path: &str) -> bool {
         for taken in self.taken.as_slice() {
             if rt.is_same(path, taken.as_str()) {
+                return true;
+            }
+        }
+        for store in self.stores.as_slice() {
+            if rt.is_numbered(path, store.as_str()) {
                 return true;
             }
         }

@@ -3,8 +3,8 @@
 ghost use Rattle.std.specs.Prelude.{◌≡◌};
 
 use crate::absent::Absent;
-use crate::answering::{Answering, KeptClip, Message, Note, Posts, SaveOrder};
-use crate::clerk::{FoundClip, attend};
+use crate::answering::{Answering, KeptClip, Message, NotTaken, Note, Posts, SaveOrder};
+use crate::clerk::{FoundClip, attend, one_must_reopen, take_joined};
 use crate::clock::Timeline;
 use crate::feed::Feed;
 use crate::growing::{Growing, Ongoing};
@@ -13,17 +13,16 @@ use crate::jobs::{Job, Jobs, Request};
 use crate::life::Life;
 use crate::replies::{tell_clips, tell_shortfall};
 use crate::save::{NotSaved, Saves, begin_ordered, tell_ended};
-use crate::stored::Stored;
+use crate::stored::{Member, Room, Stored};
 use loop_capture::Tick;
 use loop_desk::Flushed;
 use loop_disk::Disk;
 use loop_pipeline::{Back, Guide, Link, LostFrame, Visits};
-use loop_record::Geometry;
 use loop_station_core::{
     Act, EventEnd, FilmingEvent, Keep, MayRelease, OpenEvent, Run, SaveKey, Tally, event_end,
     may_release, may_release_saved,
 };
-use loop_station_words::{CameraConfig, Lines, micros_of};
+use loop_station_words::{CameraConfig, Lines, micros_of, numbered};
 use loop_store::{Clip, ReadFrame, StoreFault};
 use std::alloc::{AllocError, Global};
 use std::io;
@@ -79,10 +78,10 @@ pub struct CameraState {
     pub(crate) posts: Arc<Posts>,
     /// The saves of all cameras.
     pub(crate) saves: Arc<Saves>,
-    /// The inbox for reads of frames for a save.
-    pub reader: Inbox<u64, Result<ReadFrame, StoreFault>, Absent>,
-    /// What its store held when it was last changed.
-    stored: Stored,
+    /// The inbox for reads of frames for a save: by the number of a store, and that of a frame.
+    pub reader: Inbox<(u32, u64), Result<ReadFrame, StoreFault>, Absent>,
+    /// What its stores held when they were last changed.
+    pub(crate) stored: Stored,
 }
 
 impl CameraState {
@@ -135,21 +134,44 @@ impl CameraState {
         self.stored.newest_block(rt)
     }
 
-    /// How many frames were stored since its store was made, how many blocks may still be locked, and how many keeps of
-    /// its own seconds have room.
-    pub fn stored_room<R: Wait>(&self, rt: &R) -> (u64, u64, u64) {
+    /// What its stores hold now, and how many keeps of its own seconds have room.
+    pub(crate) fn room<R: Wait>(&self, rt: &R) -> Room {
         self.stored
             .room(rt, self.config.seconds.saturating_add(self.config.after))
     }
 
-    /// Clips were locked.
-    pub fn add_clips<R: Wait>(&self, rt: &R, clips: &[Clip]) {
-        self.stored.add(rt, clips);
+    /// The path of its store of a number, or of the one that it has.
+    pub fn path_of(&self, alloc: Global, number: Option<u32>) -> Result<String, AllocError> {
+        let path = self.config.store.as_str();
+        match number {
+            Some(number) => numbered(alloc, path, number.min(999)),
+            None => String::from_str(alloc, path),
+        }
+    }
+
+    /// How many stores it is to have.
+    pub fn stores_wanted<R: Wait>(&self, rt: &R) -> u32 {
+        self.stored.wanted(rt)
+    }
+
+    /// Whether it is to have several.
+    pub fn has_several<R: Wait>(&self, rt: &R) -> bool {
+        self.stored.wanted(rt) > 1
+    }
+
+    /// Clips of the store at a place were locked.
+    pub fn add_clips<R: Wait>(&self, rt: &R, place: usize, clips: &[Clip]) {
+        self.stored.add(rt, place, clips);
     }
 
     /// A clip was released.
     pub fn remove_clip<R: Wait>(&self, rt: &R, id: u32) {
         self.stored.remove(rt, id);
+    }
+
+    /// Whether a save reads the clip of an id.
+    pub(crate) fn is_read<R: Wait>(&self, rt: &R, id: u32) -> bool {
+        self.saves.reads(rt, self.place, id)
     }
 
     /// Whether a clip may be released now: it isn't being saved, and begins with the frame that is given, if one is.
@@ -159,7 +181,7 @@ impl CameraState {
         id: u32,
         first: Option<u64>,
     ) -> Result<(), NotReleased> {
-        let is_read = self.saves.reads(rt, self.place, id);
+        let is_read = self.is_read(rt, id);
         match may_release(is_read, first, self.stored.first_of(rt, id)) {
             MayRelease::Now => Ok(()),
             MayRelease::Saving => Err(NotReleased::Saving),
@@ -174,7 +196,7 @@ impl CameraState {
         saved: SaveKey,
         there: Option<FoundClip>,
     ) -> MayRelease {
-        let is_read = self.saves.reads(rt, self.place, saved.id);
+        let is_read = self.is_read(rt, saved.id);
         let there = match there {
             Some(found) => Some(found.key(self.place)),
             None => None,
@@ -325,8 +347,11 @@ impl CameraState {
             answering,
             place: 0,
         };
-        // Where the store isn't there, the next opening of it finds the file of the clip, and releases it.
-        let _ = self.jobs.add(rt, job);
+        match self.jobs.add(rt, job) {
+            Err(NotTaken::TooMany) => self.desk.put_saved(rt, saved),
+            // Where the store isn't there, the next opening of it finds the file of the clip, and releases it.
+            Ok(()) | Err(NotTaken::Absent(_)) => {}
+        }
         self.threads.wake(rt);
     }
 
@@ -359,9 +384,15 @@ impl CameraState {
         self.posts.notes.put(rt, Note::Open(self.place, open));
     }
 
-    /// The clips with a tag.
-    pub(crate) fn clips_tagged<R: Wait>(&self, rt: &R, alloc: Global, tag: u64) -> Vec<Clip> {
-        self.stored.tagged(rt, alloc, tag)
+    /// The clips with a tag, of the store at a place.
+    pub(crate) fn clips_tagged<R: Wait>(
+        &self,
+        rt: &R,
+        alloc: Global,
+        place: usize,
+        tag: u64,
+    ) -> Vec<Clip> {
+        self.stored.tagged_at(rt, alloc, place, tag)
     }
 
     /// Ends everything that runs for the camera.
@@ -376,10 +407,15 @@ impl CameraState {
         self.threads.wake(rt);
     }
 
+    /// Whether it is filmed now.
+    pub fn is_filmed<R: Wait>(&self, rt: &R) -> bool {
+        matches!(self.jobs.attended(rt), Some(Ok(())))
+    }
+
     /// So much of its store is made, in percent. Returns whether to go on.
     pub fn makes<R: Wait>(&self, rt: &R, percent: u32) -> bool {
         self.life.set_making(rt, Some(percent));
-        !self.is_stopped(rt)
+        !self.is_stopped(rt) && !self.stored.is_closing(rt)
     }
 
     /// Whether it is to end.
@@ -387,15 +423,16 @@ impl CameraState {
         self.life.camera(rt).stopping
     }
 
-    /// Asks for the frame of a number. The answer has to be taken from the reader.
-    pub fn ask_frame<R: Wait>(&self, rt: &R, number: u64) {
-        self.reader.ask(rt, number);
+    /// Asks for the frame of a number of the store of a number. The answer has to be taken from the reader.
+    pub fn ask_frame<R: Wait>(&self, rt: &R, store: u32, number: u64) {
+        self.reader.ask(rt, (store, number));
         self.threads.wake(rt);
     }
 
-    /// Its store is there, and the camera is filmed from now on. Orders are taken.
-    pub fn begin<R: Wait>(&self, rt: &R, geometry: Geometry, next: u64, clips: Vec<Clip>) {
-        self.stored.begin(rt, geometry, next, clips);
+    /// Its first store is there, of so many that there are to be, and the camera is filmed from now on. Orders are
+    /// taken. `opening`: files of others are there.
+    pub(crate) fn begin<R: Wait>(&self, rt: &R, member: Member, wanted: u32, opening: bool) {
+        self.stored.begin(rt, member, wanted, opening);
         self.life.on(rt, FilmingEvent::Begin);
         self.jobs.open(rt);
         self.reader.open(rt);
@@ -528,9 +565,9 @@ impl Guide for CameraState {
         self.give_up(rt);
     }
 
-    fn stored<R: Wait, D: Disk + Drop>(&self, rt: &R, _back: &Back<D, CameraState>, done: Flushed) {
+    fn stored<R: Wait, D: Disk + Drop>(&self, rt: &R, back: &Back<D, CameraState>, done: Flushed) {
         self.life.store_frames(rt, done.stored);
-        self.stored.grow(done.stored);
+        self.stored.grow(rt, back.active(), done.stored);
     }
 
     /// Where each block is locked, the frames wait until the program ends. Where the disk failed, the filming ends, and
@@ -550,11 +587,12 @@ impl Guide for CameraState {
         alloc: Global,
         back: &mut Back<D, CameraState>,
     ) {
+        take_joined(rt, self, back.count());
         if !self.life.camera(rt).over {
             attend(rt, alloc, self, back);
         }
-        // A lock or an unlock may have failed on the disk while no frame waits, so no flush would report it.
-        if back.status().must_reopen {
+        // A lock or an unlock may have failed on a disk while no frame waits, so no flush would report it.
+        if one_must_reopen(back) {
             self.life.on(rt, FilmingEvent::Break);
         }
     }

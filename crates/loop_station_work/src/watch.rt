@@ -65,13 +65,23 @@ fn tell_still<R: Wait + Clock, W: Write + Drop>(
     }
 }
 
-// Ends the filming of a camera whose store's path names another file by now, or none. Where that can't be seen, the
-// store is as it was.
-fn look_for_store<R: Places + Wait>(rt: &R, state: &CameraState) {
-    let Some(place) = state.life.place(rt) else {
-        return;
-    };
-    if let Ok(there) = rt.place_of(state.config.store.as_str()) {
+// Ends the filming of a camera of whose stores one has a path that names another file by now, or none. Where that can't
+// be seen, the store is as it was.
+fn look_for_store<R: AllocGlobal + Places + Wait>(rt: &R, state: &CameraState) {
+    if let Some(place) = state.life.place(rt) {
+        look_at(rt, state, state.config.store.as_str(), place);
+    }
+    for (number, place) in state.stored.files(rt, rt.alloc()) {
+        // Where memory is refused, it is looked at the next time.
+        if let Ok(path) = state.path_of(rt.alloc(), Some(number)) {
+            look_at(rt, state, path.as_str(), place);
+        }
+    }
+}
+
+// The same of one store.
+fn look_at<R: Places + Wait>(rt: &R, state: &CameraState, path: &str, place: (u64, u64)) {
+    if let Ok(there) = rt.place_of(path) {
         if is_moved(place, there) {
             state.move_away(rt);
         }

@@ -1,10 +1,11 @@
 //! Cameras that are filmed, by turns and by threads, into a disk that takes all and into one that fails; what is kept,
 //! read and unlocked meanwhile; and the text of what was filmed.
 
-ghost use Rattle.std.specs.Prelude.{◌≡◌, ⊤};
+ghost use Rattle.std.specs.Prelude.{◌≡◌, ⊤, []};
 ghost use Rattle.loop_desk.specs.declared.hand.Hand.TheVariants.{Empty};
 ghost use Rattle.loop_pipeline.specs.Fronts.{IsOpen};
 ghost use Rattle.loop_plane.specs.Kinds.{heap_plane};
+ghost use Rattle.rtrb.specs.Ring.{received};
 
 use crate::asserts::{holds, same};
 use crate::common::*;
@@ -17,11 +18,11 @@ use loop_pipeline::{
     Visits, end, film_all, film_camera, heap_start, new_queue, start_queue,
 };
 use loop_plane::{FdTable, HeapPlane, PlaneMemory};
-use loop_record::Times;
+use loop_record::{Frame, Times};
 use loop_recorder::FrameInfo;
 use loop_store::{Clip, Store, StoreFault};
 use loop_vb2::Queue;
-use rtrb::RingBuffer;
+use rtrb::{Consumer, RingBuffer};
 use std::alloc::Global;
 use std::process::Abort;
 use std::sync::Wait;
@@ -97,12 +98,14 @@ impl Guide for Guided {
         alloc: Global,
         back: &mut Back<D, Guided>,
     ) {
-        if self.clips.load(Ordering::SeqCst) > 0 || back.status().held < 2 {
+        let place = back.active();
+        if self.clips.load(Ordering::SeqCst) > 0 || back.status(place).held < 2 {
             return;
         }
-        let kept = back.keep(alloc, ALL, 7);
+        let kept = back.keep(alloc, place, ALL, 7);
+        let place = back.active();
         if let Some(clip) = kept.clips.first() {
-            if back.unlock_clip(clip.id).is_ok() {
+            if back.unlock_clip(place, clip.id).is_ok() {
                 self.clips.store(kept.clips.len() as u64, Ordering::SeqCst);
             }
         }
@@ -379,11 +382,11 @@ fn tick<R: Wait + Clock>(rt: &R, front: &mut TestFront, told: &Guided) -> Option
 
 // The outcome of bringing a frame, in a word.
 fn bring(back: &mut TestBack) -> &'static str
-    ensures { back.new ≡ record back.old { desk = back.new.desk } }
+    ensures { back.new ≡ record back.old { desks = back.new.desks } }
 {
-    match back.bring() {
+    match back.bring(false) {
         Brought::Nothing => "nothing",
-        Brought::DeskFull => "desk full",
+        Brought::NoRoom => "no room",
         Brought::Submitted(_number) => "submitted",
         Brought::GivenUp(fault, _frame) => fault.name(),
     }
@@ -408,18 +411,18 @@ fn fill_ring<R: Abort + Wait + Clock>(rt: &R, alloc: Global, front: &mut TestFro
 
 // Two frames fill the desk.
 fn fill_desk(rt: &impl Abort, back: &mut TestBack)
-    ensures { back.new ≡ record back.old { desk = back.new.desk } }
+    ensures { back.new ≡ record back.old { desks = back.new.desks } }
 {
     same!(rt; bring(back), "submitted");
     same!(rt; bring(back), "submitted");
-    same!(rt; bring(back), "desk full");
+    same!(rt; bring(back), "no room");
 }
 
 // No flush was refused, so no frame is given up: the two are stored, and the third comes to the desk.
 fn store_and_bring(rt: &impl Abort, back: &mut TestBack)
-    ensures { back.new ≡ record back.old { desk = back.new.desk } }
+    ensures { back.new ≡ record back.old { desks = back.new.desks } }
 {
-    same!(rt; bring(back), "desk full");
+    same!(rt; bring(back), "no room");
     holds!(rt; back.give_up().is_none());
     match back.flush() {
         Ok(flushed) => same!(rt; flushed.stored, 2),
@@ -451,7 +454,7 @@ fn a_front_and_a_back_work_by_turns(rt: HostRuntime) {
     let told = guide(20, 0);
     let begun = Begun::of(&queue, &device, &to, &told);
     let mut front = Front::new(device, queue, table, to, &told);
-    let mut back = Back::new(desk, from);
+    let mut back = back_before(&rt, alloc, desk, from);
     fill_ring(&rt, alloc, &mut front, &told);
     fill_desk(&rt, &mut back);
     same!(rt; take(alloc, &mut front), "frame");
@@ -467,6 +470,22 @@ fn a_front_and_a_back_work_by_turns(rt: HostRuntime) {
     }
 }
 
+// A back with one desk.
+fn back_before(
+    rt: &impl Abort,
+    alloc: Global,
+    desk: Desk<MemDisk>,
+    from: Consumer<Frame>,
+) -> TestBack
+    requires { received from ≡ [] }
+    ensures { result.from ≡ from }
+{
+    match Back::new(alloc, 1, desk, from) {
+        Ok(back) => back,
+        Err(_) => panic!(rt; "memory for a back"),
+    }
+}
+
 // A back over a store that holds four frames, with times 0, 10, 20 and 30.
 fn back_of_four(rt: &impl Abort, alloc: Global) -> TestBack {
     let disk = MemDisk::new(alloc, SMALL_BYTES).expect(rt, "memory for a disk");
@@ -474,7 +493,7 @@ fn back_of_four(rt: &impl Abort, alloc: Global) -> TestBack {
     let Ok((mut to, from)) = RingBuffer::new(alloc, 4) else {
         panic!(rt; "memory for a ring")
     };
-    let mut back = Back::new(desk, from);
+    let mut back = back_before(rt, alloc, desk, from);
     for number in 0..4u32 {
         let stamp = FrameInfo {
             sequence: number,
@@ -503,7 +522,8 @@ fn keep(
     back: &mut TestBack,
     times: Times,
 ) -> (Option<Clip>, usize) {
-    let kept = back.keep(alloc, times, 7);
+    let place = back.active();
+    let kept = back.keep(alloc, place, times, 7);
     holds!(rt; kept.fault.is_none());
     (kept.clips.first().copied(), kept.clips.len())
 }
@@ -523,14 +543,17 @@ fn a_keep_between_flushes_locks_what_is_held(rt: HostRuntime) {
         panic!(rt; "no clip")
     };
     same!(rt; (clip.from, clip.to, clip.tag, count), (1, 2, 7, 1));
-    match back.outline(alloc) {
+    match back.outline(alloc, back.active()) {
         Ok(outline) => same!(rt; (outline.next, outline.clips.len(), outline.pending), (4, 1, 0)),
         Err(fault) => panic!(rt; "no outline: {fault}"),
     }
-    match back.read_frame(alloc, 3) {
+    let place = back.active();
+    match back.read_frame(alloc, place, 3) {
         Ok(read) => holds!(rt; are_of(&read.bytes, 3, 12)),
         Err(fault) => panic!(rt; "frame 3: {fault}"),
     }
-    holds!(rt; back.unlock_clip(clip.id).is_ok());
-    holds!(rt; back.unlock_clip(clip.id).is_err());
+    let place = back.active();
+    holds!(rt; back.unlock_clip(place, clip.id).is_ok());
+    let place = back.active();
+    holds!(rt; back.unlock_clip(place, clip.id).is_err());
 }

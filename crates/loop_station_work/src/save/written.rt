@@ -11,6 +11,7 @@ use crate::clerk::FoundClip;
 use crate::part::PartFile;
 use crate::places::{PathKind, Places};
 use crate::state::CameraState;
+use crate::stored::store_of;
 use loop_record::Geometry;
 use loop_station_core::bits_of;
 use loop_station_words::print_clip_path;
@@ -205,7 +206,7 @@ fn read_one<R: Wait>(
     save: &Save,
     number: u64,
 ) -> Result<ReadFrame, NotSaved> {
-    state.ask_frame(rt, number);
+    state.ask_frame(rt, store_of(save.found.clip.id), number);
     match state.reader.answer(rt) {
         Some(Ok(Ok(frame))) => {
             if save.found.fits(number, frame.head.timestamp) {

@@ -106,6 +106,7 @@ waited left 3.2 s since 2026-11-22T15:38:00.123Z\n\
 stood still 3.2 s since 2026-11-22T15:38:00.123Z\n\
 disk left syncs in 12 ms\n\
 disk left too slow: syncs in 250 ms, room for 16 frames a second\n\
+not noted left a store.loop.events: a stop or a loss of power would end its events\n\
 no answers a pipe: what is printed doesn't go there\n\
 dropped 12 lines\n\
 times of left go back\n\
@@ -137,6 +138,7 @@ const EVENTS_JSON: &str =
 \"kind\":\"stood_still\",\"micros\":3200000,\"since\":\"2026-11-22T15:38:00.123Z\"}\n\
 \"kind\":\"syncs\",\"camera\":\"left\",\"micros\":12345}\n\
 \"kind\":\"too_slow\",\"camera\":\"left\",\"micros\":250000,\"frames_a_second\":16}\n\
+\"kind\":\"not_noted\",\"camera\":\"left\",\"path\":\"a store.loop.events\"}\n\
 \"kind\":\"no_answers\",\"path\":\"a pipe\"}\n\
 \"kind\":\"dropped_lines\",\"lines\":12}\n\
 \"kind\":\"times_back\",\"camera\":\"left\"}\n\
@@ -280,6 +282,7 @@ fn tells_frames(lines: &mut Lines) -> bool {
         && lines.stood_still(3_200_000, NOVEMBER).is_ok()
         && lines.syncs("left", 12_345).is_ok()
         && lines.too_slow("left", 250_000, 16).is_ok()
+        && lines.not_noted("left", "a store.loop.events").is_ok()
         && lines.no_answers("a pipe").is_ok()
         && lines.dropped_lines(12).is_ok()
         && lines.times_back("left").is_ok()

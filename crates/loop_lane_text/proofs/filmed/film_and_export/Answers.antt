@@ -1,5 +1,6 @@
-use Rattle.std.proofs.Common.{sym, ap, ◌∙◌, subst}
+use Rattle.std.proofs.Common.{refl, sym, ap, ◌∙◌, subst}
 use Rattle.loop_desk.proofs.CallRuns.{store-goes}
+use Rattle.loop_pipeline.specs.Backs.{calls_at}
 use Rattle.loop_pipeline.specs.Cameras.{CameraKeeps, SeenCamera}
 use Rattle.loop_lane_text.proofs.RecordTexts.{exported}
 use Rattle.loop_lane_text.proofs.filmed.film_and_export.Goals as goal
@@ -10,12 +11,13 @@ returns-in-Ok-export g c = λ s stands now.
     let camera = c.args.camera in
     let ended = c.in-Ok.ended in
     let end : SeenCamera g.row.S.Denot g.row.D.Denot g.row.P.Denot =
-    record { device = ended.device; queue = ended.queue; desk = ended.desk } in
+    record { device = ended.device; queue = ended.queue; desk = ended.desk; joined = ended.joined.items } in
     let keeps = subst (λ over. CameraKeeps medium g.S.FrameSource.next_gives g.P.PlaneMemory.plane g.G.Visits.asks
     g.G.Visits.gives_up (g.G.Guide.due c.args.guide.now) (g.G.Guide.ends c.args.guide.now) camera end ended.given_up
     ended.left ended.missed ended.failed over) c.in-Ok.ensures.ended c.in-Ok.ensures.keeps in
-    let kept = keeps.footage s stands now in
-    let went = store-goes medium camera.desk ended.desk keeps.calls keeps.goes in
+    let calls = calls_at 0 keeps.parts in
+    let kept = keeps.footage 0 camera.desk ended.desk refl refl s stands now in
+    let went = store-goes medium camera.desk ended.desk calls (keeps.served 0 camera.desk ended.desk refl refl).goes in
     let honest = went.called.honest.0 now in
     let fine = sym c.status.ensures.must_reopen ∙ c.if-status.false in
     let image = (medium c.into_disk.result).bytes in

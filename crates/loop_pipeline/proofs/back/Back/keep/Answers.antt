@@ -1,18 +1,29 @@
-use Rattle.std.proofs.Common.{ap, subst}
+use Rattle.std.proofs.Common.{subst}
 use Rattle.loop_desk.specs.Keeps.{HaveTime}
-use Rattle.loop_desk.specs.Seen.{SeenDesk}
-use Rattle.loop_pipeline.specs.Backs.{SeenBack}
+use Rattle.loop_pipeline.specs.Backs.{IsAt, SeenBack}
 use Rattle.loop_pipeline.proofs.BackRuns.{visits}
+use Rattle.loop_pipeline.proofs.DeskPlaces.{goes-at, within}
 use Rattle.loop_pipeline.proofs.KeepCalls.{all-asked, none-submitted}
+use Rattle.loop_pipeline.proofs.Places.{read-at}
 use Rattle.loop_pipeline.proofs.back.Back.keep.Goals as goal
 
 pub invariant_of-self : goal.invariant_of-self
 invariant_of-self g c =
     let k = c.keep_time.ensures.goes in
-    visits g.D.Disk.medium g.K.Visits.asks g.K.Visits.gives_up _ _ _ _ _ c.self.inside.from _ _ c.self.invariant k.calls
-    (all-asked g.K.Visits.asks c.requires _ _ _ _ _ k.keeps) (none-submitted _ _ _ _ _ k.keeps) k.goes
+    visits g.D.Disk.medium g.K.Visits.asks g.K.Visits.gives_up _ _ _ _ c.self.inside.from c.self.inside.from _ _ c.self.invariant _ _ _
+    (read-at _ _ _ (within c.self.view_is c.requires.place) c.index_mut.ensures.value) k.calls
+    (all-asked g.K.Visits.asks c.requires.may _ _ _ _ _ k.keeps) (none-submitted _ _ _ _ _ k.keeps) k.goes
+
+pub returns-clause-goes : goal.returns-clause-goes
+returns-clause-goes g c =
+    goes-at _ _ c.args.place _ _ _ c.self.view_is
+    (read-at _ _ _ (within c.self.view_is c.requires.place) c.index_mut.ensures.value) c.keep_time.ensures.goes
 
 pub returns-clause-whole : goal.returns-clause-whole
 returns-clause-whole g c none =
-    subst (λ (d : SeenDesk g.row.D.Denot). HaveTime c.args.times d c.keep_time.result.clips.items)
-    (ap (λ (b : SeenBack g.row.D.Denot g.row.A.Denot). b.desk) c.self.view_is) (c.keep_time.ensures.whole none)
+    subst (λ (b : SeenBack g.row.D.Denot g.row.A.Denot).
+    IsAt c.args.place b (λ desk. HaveTime c.args.times desk c.keep_time.result.clips.items)) c.self.view_is (
+      c.index_mut.result.now,
+      read-at _ _ _ (within c.self.view_is c.requires.place) c.index_mut.ensures.value,
+      c.keep_time.ensures.whole none,
+    )

@@ -3,5 +3,6 @@ use Rattle.loop_pipeline.proofs.back.Back.new.Goals as goal
 
 pub invariant_of-result : goal.invariant_of-result
 invariant_of-result g c =
-    rw (c.of-desk_before.ensures, c.of-from_before.ensures)
-    (begun g.D.Disk.medium g.K.Visits.asks g.K.Visits.gives_up c.args.desk c.args.from c.opens.ensures.tells (λ now. g.met.D.Disk.sound c.args.desk.store.disk now) c.requires)
+    rw (c.push_reserved.ensures.items, c.push_reserved-2.ensures.items, c.in-Ok-Ok.ensures.items, c.in-Ok-Ok.ensures'.items, c.of.ensures, c.of-from_before.ensures)
+    (begun g.D.Disk.medium g.K.Visits.asks g.K.Visits.gives_up c.args.desk c.args.from c.opens.ensures.tells
+    (λ now. g.met.D.Disk.sound c.args.desk.store.disk now) c.requires.ring)

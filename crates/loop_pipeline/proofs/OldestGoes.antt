@@ -1,0 +1,40 @@
+-- What goes is the oldest.
+use Rattle.std.proofs.Common.{◌≡◌, ◌≢◌, ◌==◌, true, false, ◌<◌, ◌≤◌, ◌/◌, ◌⊎◌, inl, inr, is_some, ℕ, Option, Some, None, List, slice_get, refl, sym, ap, ◌∙◌, arith}
+use Rattle.std.proofs.lemmas.Bool.Decides.{eqb_tells}
+use Rattle.std.proofs.Math.Nat.{div-mul-le_self, le-div_iff_mul-le}
+use Rattle.loop_record.specs.Recording.{IsWellFormed, MayGo, Picture, Recording, Ring, block, frame_under, holds, victim}
+use Rattle.loop_record.proofs.Victim.{victim-is, victim-none}
+use Rattle.loop_desk.specs.declared.limits.Space.{Space}
+use Rattle.loop_desk.specs.Space.{IsFirstOf, TellsSpace}
+use Rattle.loop_pipeline.specs.Nexts.{IsEarliest, OldestGoes, TimesRise}
+
+-- the block of a later number is no earlier
+block-le : (ring : Ring) (m n : ℕ) → 1 ≤ ring.slots → m ≤ n → block ring m ≤ block ring n
+block-le ring m n some order = (le-div_iff_mul-le some).1 (omega (arith, order, div-mul-le_self m ring.slots))
+
+-- the first frame of the victim is no later than any of a block that may go
+first-before : (ring : Ring) (keep : ℕ) (r : Recording) (v b m n : ℕ) (p q : Picture) → 1 ≤ ring.slots → IsWellFormed r
+    → victim ring keep r ≡ Some v → MayGo ring keep r b → IsFirstOf ring r v m p → frame_under r.frames n ≡ Some q
+    → block ring n ≡ b → m ≤ n
+first-before ring keep r v b m n p q some w chosen may first held of = go (eqb_tells v b)
+  where
+    go : (((v == b) ≡ true) × (v ≡ b)) ⊎ (((v == b) ≡ false) × (v ≢ b)) → m ≤ n
+    go (inl same) = first.first n (ap (λ (o : Option Picture). is_some o) held) (of ∙ sym same.1)
+    go (inr apart) =
+        let low : v ≤ b = ((victim-is ring keep r v some w).0 chosen).least b may in
+        let never : n < m → ⊥ = λ after.
+        let back : block ring n ≤ block ring m = block-le ring n m some (omega (arith, after)) in
+        omega (arith, back, low, apart.1, first.of, of) in
+        omega (arith, never)
+
+pub oldest-goes : OldestGoes
+oldest-goes spaces place earliest i s there ring keep r some w rise tells b may n q held of = go (victim ring keep r) refl
+  where
+    go : (o : Option ℕ) → victim ring keep r ≡ o → earliest.time ≤ q.timestamp
+    go None none = absurd (victim-none ring keep r some w none b may)
+    go (Some v) chosen =
+        let told = tells.oldest.some v chosen in
+        let late = earliest.least i s told.1.timestamp there told.3 in
+        let order = rise told.0 n told.1 q told.2.held held
+        (first-before ring keep r v b told.0 n told.1 q some w chosen may told.2 held of) in
+        omega (arith, late, order)

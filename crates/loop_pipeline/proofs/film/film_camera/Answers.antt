@@ -1,0 +1,14 @@
+use Rattle.loop_pipeline.proofs.Alone.{filmed-alone, given-alone}
+use Rattle.loop_pipeline.proofs.film.film_camera.Goals as goal
+
+pub returns-clause-keeps : goal.returns-clause-keeps
+returns-clause-keeps g c =
+    filmed-alone g.D.Disk.medium g.S.FrameSource.next_gives g.P.PlaneMemory.plane g.G.Visits.asks g.G.Visits.gives_up
+    (g.G.Guide.due c.args.guide.now) (g.G.Guide.ends c.args.guide.now) _ c.shut-door.ensures c.args.camera c.film_desks.result
+    c.film_desks.ensures.keeps
+
+pub returns-clause-refused : goal.returns-clause-refused
+returns-clause-refused g c =
+    given-alone g.D.Disk.medium g.S.FrameSource.next_gives g.P.PlaneMemory.plane g.G.Visits.asks g.G.Visits.gives_up
+    (g.G.Guide.due c.args.guide.now) (g.G.Guide.ends c.args.guide.now) _ c.shut-door.ensures c.args.camera c.film_desks.result
+    c.film_desks.ensures.refused

@@ -1,0 +1,74 @@
+-- When a back turns to another desk, and when it can turn to none.
+use Rattle.std.specs.Prelude.{◌≡◌, ◌≤◌, ◌-◌, ◌%◌, ℕ, Bool, Option, Some, None, is_none, List, [], All, length, slice_get}
+use Rattle.loop_disk.specs.Medium.{Medium}
+use Rattle.loop_record.specs.Recording.{Recording}
+use Rattle.loop_store.specs.Seen.{StandsFor, ring_in}
+use Rattle.loop_desk.specs.declared.limits.Space.{Space}
+use Rattle.loop_desk.specs.Seen.{SeenDesk}
+use Rattle.loop_desk.specs.Space.{TellsSpace}
+use Rattle.loop_pipeline.specs.declared.next.Search.{Search}
+use Rattle.loop_pipeline.specs.Backs.{IsAt, SeenBack, turned}
+use Rattle.loop_pipeline.specs.Nexts.{IsFull, IsNext, IsSearch}
+
+-- nothing waits at the desk, and its next number begins a block: that takes as many frames as there are slots
+abbrev pub IsBetween : {D : Type 0} → SeenDesk D → Type 0
+IsBetween d =
+    (d.pending ≡ [])
+    × (d.store.geometry.slots - d.store.next % d.store.geometry.slots ≡ d.store.geometry.slots)
+
+-- there are several desks, and the active one is between two blocks
+pub record MayTurn {D A : Type 0} (back : SeenBack D A) : Type 0 where
+  pub several : 2 ≤ length back.desks
+  pub between : IsAt back.active back IsBetween
+
+-- a store tells the room that it has, of the recording that it stands for
+abbrev pub TellsRoom : {D : Type 0} → (D → Medium) → SeenDesk D → Space → Type 0
+TellsRoom medium d s = (r : Recording) → StandsFor medium d.store r → TellsSpace (ring_in d.store) d.store.keep r s
+
+-- the stores at the first places, each its own
+abbrev pub TellFirst : {D : Type 0} → (D → Medium) → List (SeenDesk D) → List Space → Type 0
+TellFirst {D} medium desks spaces =
+    (place : ℕ) (d : SeenDesk D) (s : Space) → slice_get desks place ≡ Some d → slice_get spaces place ≡ Some s
+    → TellsRoom medium d s
+
+-- each store tells it
+pub record TellEach {D : Type 0} (medium : D → Medium) (desks : List (SeenDesk D)) (spaces : List Space) : Type 0 where
+  pub all : length spaces ≡ length desks
+  pub tells : TellFirst medium desks spaces
+
+-- by what each store tells, this desk takes the next block, or none does
+pub record Chooses {D A : Type 0} (medium : D → Medium) (back : SeenBack D A) (next : Option ℕ) : Type 0 where
+  pub spaces : List Space
+  pub tell : TellEach medium back.desks spaces
+  pub is : IsNext back.active spaces next
+
+abbrev pub turned_by : {D A : Type 0} → Option ℕ → SeenBack D A → SeenBack D A
+turned_by None back = back
+turned_by (Some place) back = turned place back
+
+-- the desk that takes the next block becomes the active one; or all is locked, and nothing changes
+pub record Turns {D A : Type 0} (medium : D → Medium) (old new : SeenBack D A) (locked : Bool) : Type 0 where
+  pub next : Option ℕ
+  pub chosen : Chooses medium old next
+  pub turns : new ≡ turned_by next old
+  pub told : locked ≡ is_none next
+
+-- the active desk is between two blocks, and no store has room for a block
+pub record AllLocked {D A : Type 0} (medium : D → Medium) (back : SeenBack D A) : Type 0 where
+  pub may : MayTurn back
+  pub spaces : List Space
+  pub tell : TellEach medium back.desks spaces
+  pub full : All IsFull spaces
+
+-- where the desk is between two blocks, its store has room for a block
+abbrev pub MayBegin : {D : Type 0} → (D → Medium) → SeenDesk D → Type 0
+MayBegin medium d = IsBetween d → (s : Space) × TellsRoom medium d s × (IsFull s → ⊥)
+
+-- ---- of the first places (private contracts alone)
+
+-- what the stores at the first n places have told
+pub record Searches {D A : Type 0} (medium : D → Medium) (back : SeenBack D A) (n : ℕ) (search : Search) : Type 0 where
+  pub spaces : List Space
+  pub count : length spaces ≡ n
+  pub tell : TellFirst medium back.desks spaces
+  pub is : IsSearch back.active spaces search
