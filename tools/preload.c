@@ -5,6 +5,9 @@
  *   LOOP_LOG    a file to which each change of it is appended before it is made, and each sync and
  *               answer once it was made: a byte W, T, S or A, two numbers of 8 bytes (place or
  *               length, and count of bytes), and the bytes of a write or an answer
+ *   LOOP_SET    the path PLACE/NAME.loop of a camera that has several stores: LOOP_LOG has the
+ *               writes and syncs of each PLACE/NAME.NUMBER.loop, with 2^48 times its number
+ *               beside the place; of the modes there is no_sync
  *   LOOP_TEXT   a second file, whatever it is opened as: that of an export or a save, or of a store
  *               that gets its name later. The log has it made (c), its writes (w), lengths (t),
  *               syncs (s), the syncs of its folder (f), and that it is renamed (r). While a save
@@ -158,6 +161,19 @@ static void reached(void) {
         kill(getpid(), SIGKILL);
 }
 
+/* The number of a file of LOOP_SET, or -1. */
+static int64_t set_number(int fd) {
+    const char *set = getenv("LOOP_SET");
+    char link[64], path[4096];
+    if (!set || strlen(set) < 5) return -1;
+    size_t stem = strlen(set) - 5;
+    snprintf(link, sizeof link, "/proc/self/fd/%d", fd);
+    ssize_t length = syscall(SYS_readlink, link, path, sizeof path - 1);
+    if (length != (ssize_t)stem + 9 || strncmp(path, set, stem)) return -1;
+    path[length] = 0;
+    return strcmp(path + stem + 4, ".loop") ? -1 : strtol(path + stem + 1, NULL, 10);
+}
+
 /* Whether this call, a write at a place or a sync (-1), is the one of the clip table that fails. */
 static int clip_fails(int fd, off_t at, size_t count) {
     static long clip_calls = 0, is_open = 0;
@@ -277,6 +293,11 @@ ssize_t pwrite(int fd, const void *bytes, size_t count, off_t at) {
     if (fails() || clip_fails(fd, at, count)) return -1;
     count = shortened(count);
     if (is_watched(fd)) reached();
+    int64_t number = set_number(fd);
+    if (number >= 0) {
+        note('W', at | number << 48, count, bytes);
+        return syscall(SYS_pwrite64, fd, bytes, count, at);
+    }
     if (fd != file_fd) {
         if (is_text(fd)) note('w', at, count, bytes);
         return syscall(SYS_pwrite64, fd, bytes, count, at);
@@ -382,6 +403,12 @@ static int sync_of(int fd, long number) {
         return sync_beside(fd, number, 's', NO_TEXT_SYNC, FAIL_TEXT_SYNC);
     if (is_folder_of(fd, text))
         return sync_beside(fd, number, 'f', NO_FOLDER_SYNC, FAIL_FOLDER_SYNC);
+    int64_t of_set = set_number(fd);
+    if (of_set >= 0) {
+        int answer = mode == NO_SYNC ? 0 : (int)syscall(number, fd);
+        if (answer == 0 && mode != NO_SYNC) note('S', of_set << 48, 0, NULL);
+        return answer;
+    }
     if (fd != file_fd) return syscall(number, fd);
     if (mode == NO_SYNC) return 0;
     if (mode == LATE_SYNC) {

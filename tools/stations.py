@@ -13,7 +13,7 @@ LIBC = ctypes.CDLL(None)
 PARENT_DEATH = 1
 # How the lines begin that tell what happens by itself, and those beside the clips of a keep.
 EVENTS = ("source ", "store ", "given up ", "all locked ", "room again ", "behind ", "caught up ",
-          "no answers ", "dropped ", "waited ", "stood still ", "disk ", "making ",
+          "no answers ", "not noted ", "dropped ", "waited ", "stood still ", "disk ", "making ",
           "nearly all locked ", "waits ", "held ", "gap ", "times of ", "no times of ")
 # The file of a `Told`, and what its configuration says of it.
 ANSWERS = "answers.json"

@@ -1,10 +1,10 @@
 #!/usr/bin/env python3
 """Counts the definitions of specs/ that contracts rest on: of the store's public calls and the
 trait `Disk`, of the calls that write and open, of a desk's calls, of `lane_run`, of a camera's
-`film_camera`, of `film_all`, and of a camera with all calls of the recorder's library. For the
-calls that write, a desk's, `lane_run` and `film_camera` it also counts only those on which it rests
-what a power loss leaves: the clauses in LOSS, and of the records in FIELDS the fields that are
-listed there.
+`film_camera` and `film_desks`, of `film_all`, and of a camera with all calls of the recorder's
+library. For the calls that write, a desk's, `lane_run` and `film_camera` it also counts only those
+on which it rests what a power loss leaves: the clauses in LOSS, and of the records in FIELDS the
+fields that are listed there.
 
 Run it at the top of the repository: `python3 tools/measure/definitions.py`. With names after it
 (`after Goes`) it says which definitions of these names there are, and what each rests on. It is no
@@ -52,6 +52,7 @@ KEEPS = [
 ]
 LANE = {DESK + "lane.rt": ["lane_run"]}
 CAMERA = {PIPELINE + "film.rt": ["film_camera"]}
+DESKS = {PIPELINE + "film.rt": ["film_desks"]}
 CAMERAS = {PIPELINE + "several.rt": ["film_all"]}
 # The library of histories and threads: all its public calls.
 RECORDER = {
@@ -72,6 +73,7 @@ QUESTIONS = {
     "lane_run, what a power loss leaves": (LANE, True),
     "a camera: film_camera": (CAMERA, False),
     "a camera: film_camera, what a power loss leaves": (CAMERA, True),
+    "a camera of several desks: film_desks": (DESKS, False),
     "several cameras: film_all": (CAMERAS, False),
     "a recorder's calls and a camera": (RECORDER | CAMERA, False),
 }
@@ -85,7 +87,7 @@ FIELDS = {
     "DeskGoes": {"store", "pending"},
     "LaneRan": {"calls", "shown", "desk"},
     "LaneKeeps": {"ran", "footage"},
-    "CameraKeeps": {"calls", "goes", "parts", "are", "went", "footage"},
+    "CameraKeeps": {"parts", "served", "footage"},
 }
 BEGIN = re.compile(r"(?:abbrev pub|pub record|pub data|abbrev|record|data|pub(?! mod)) ([^ :({]+)")
 USE = re.compile(r"use Rattle\.(\w+)\.specs\.([\w.]+?)(?:\.\{([^}]*)\}| as (\w+))\s*;?$", re.M)
