@@ -4,6 +4,7 @@ stands on it.
 
     settings    the station's configuration, and the page's own words
     reader      stores as they are now, frame by frame, by the module lapyrei
+    rings       several stores of a camera as one ring
     pictures    frames as JPEG and PNG, stretched for the eye, and their values
     eye         what a camera shows: its newest frame, that of a moment, pictures of both
     push        what an open page is sent, over one answer that doesn't end

@@ -5,10 +5,14 @@ import datetime
 import re
 
 from aiohttp import web
+from lapyrei.files import MOST_STORES
 
 from . import limits
+from .reader import Frame, store_in
 from .words import Unfit
 
+# How a path names a frame: by its number, which its store's stands before where there are several.
+FRAME = r"(?:\d{1,3}\.)?\d{1,19}"
 RANGE = re.compile(r"bytes=(\d{0,19})-(\d{0,19})")
 ISO_TIME = re.compile(r"\d{4}-\d\d-\d\dT\d\d:\d\d:\d\d(\.\d{1,6})?(Z|[+-]\d\d:\d\d)")
 
@@ -20,6 +24,20 @@ def number_in(text: str | None, end: int, what: str) -> int | None:
     if not re.fullmatch(r"[0-9]{1,19}", text) or int(text) >= end:
         raise Unfit(400, f"{what} isn't a number, or too large a one.")
     return int(text)
+
+
+def frame_in(text: str) -> tuple[int, int | None]:
+    """A frame of a request: its number, and its store's where there are several."""
+    store, _, number = text.rpartition(".")
+    found = number_in(number, limits.NUMBERS_END, "number") or 0
+    return found, number_in(store, MOST_STORES, "store") if store else None
+
+
+def headers_of(frame: Frame) -> dict[str, str]:
+    """The headers that say of which frame a picture is."""
+    store = store_in(frame)
+    found = {"X-Frame-Number": str(frame.number), "X-Frame-Time": str(frame.time)}
+    return found if store is None else found | {"X-Frame-Store": str(store)}
 
 
 def moment_in(value: object, what: str) -> int:

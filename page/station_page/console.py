@@ -10,14 +10,15 @@ from aiohttp import web
 
 from . import limits, pictures
 from .advice import advice_for
-from .asked import number_in
+from .asked import FRAME, frame_in, headers_of, number_in
 from .bundle import Bundle, Progress, parts_in
 from .eye import Look
 from .events import events_of
 from .films import FilmFault
 from .orders import NoStation
 from .push import Push, stretch_in, view_of, whole
-from .reader import Reading
+from .reader import Reading, store_in
+from .rings import Ring
 from .words import Unfit
 from .workers import DRAWING
 
@@ -43,7 +44,7 @@ class Console:
     def add_to(self, app: web.Application) -> None:
         """Adds the addresses."""
         get, post, camera = app.router.add_get, app.router.add_post, r"{camera:[A-Za-z0-9_-]{1,32}}"
-        frame = rf"/api/cameras/{camera}/frames/{{number:\d{{1,19}}}}"
+        frame = rf"/api/cameras/{camera}/frames/{{number:{FRAME}}}"
         get("/api/stream", self.stream, allow_head=False)
         post("/api/view", self.view)
         post("/api/step", self.step)
@@ -116,11 +117,13 @@ class Console:
         if not isinstance(names, list) or not set(map(str, names)) <= set(self.push.eyes):
             raise Unfit(404, "There is no camera of that name.")
         known = [
-            found for name in names if (found := self.push.eyes[name].moments()) and found.times
+            found
+            for name in names
+            if (found := self.push.eyes[name].moments()) and found.newest is not None
         ]
         if not known:
             raise Unfit(404, "No frame is stored.")
-        newest = max(moments.times[-1] for moments in known)
+        newest = max(moments.newest for moments in known)
         asked = body.get("moment")
         moment = newest if asked is None else whole(asked, 0, limits.NUMBERS_END, "moment")
         for _ in range(abs(by)):
@@ -137,16 +140,16 @@ class Console:
         await self.laboratory.fresh()
         name = request.match_info["camera"]
         self.laboratory.seen(name)
-        number = number_in(request.match_info["number"], limits.NUMBERS_END, "number") or 0
-        eye = self.push.eyes[name]
-        return eye, await eye.work(eye.head, number)
+        eye, named = self.push.eyes[name], frame_in(request.match_info["number"])
+        return eye, await eye.work(eye.head, *named)
 
     async def value(self, request: web.Request) -> web.Response:
         """The values of a pixel, as they are stored."""
         eye, frame = await self.source(request)
-        source = eye.watched.source
-        if source is None:
+        store = store_in(frame)
+        if eye.watched.source is None:
             raise Unfit(503, "No store is there.")
+        source = eye.source(store)
         geometry, bits = source.geometry, layout.bits_of(frame.flags)
         high, wide = pictures.form_of(geometry, bits).planes[0]
         x = number_in(request.query.get("x", ""), wide, "x") or 0
@@ -156,7 +159,7 @@ class Console:
             """Some bytes of the frame."""
             if frame.number // geometry.slots in source.places:
                 return source.part(frame.number, at, count)
-            return eye.data(frame.number)[0][at : at + count]
+            return eye.data(frame.number, store)[0][at : at + count]
 
         values = await eye.work(pictures.value_at, geometry, part, x, y, bits)
         return web.json_response({"x": x, "y": y, "values": values})
@@ -164,7 +167,7 @@ class Console:
     async def light(self, request: web.Request) -> web.Response:
         """How often each brightness is there in a frame."""
         eye, frame = await self.source(request)
-        data, geometry = await eye.work(eye.data, frame.number)
+        data, geometry = await eye.work(eye.data, frame.number, store_in(frame))
         bits = layout.bits_of(frame.flags)
         return web.json_response(await DRAWING.do(pictures.light, geometry, data, bits))
 
@@ -179,8 +182,8 @@ class Console:
             points = [number_in(it, 65536, "stretch") for it in text.split(",")]
             stretch = stretch_in({"it": points}, {"it"})["it"]
         picture = await eye.picture(frame, Look(width and max(limits.LEAST_WIDTH, width), stretch))
-        headers = {"X-Frame-Number": str(frame.number), "X-Frame-Time": str(frame.time)}
-        return web.Response(body=picture.body, content_type="image/jpeg", headers=headers)
+        body, headers = picture.body, headers_of(frame)
+        return web.Response(body=body, content_type="image/jpeg", headers=headers)
 
     # --------------------------------------------------------------------------------- events
 
@@ -329,14 +332,14 @@ def clip_words(clips: list[tuple[str, int, int]]) -> str:
     )
 
 
-def room_of(reading: Reading) -> dict:
+def room_of(reading: Reading | Ring) -> dict:
     """How much may still be locked: in blocks, of so many frames each, and in clips. With all
-    blocks but one locked, recording stops when the newest block is full."""
-    segments = reading.geometry.segments
-    locked = round(reading.locked() * segments)
+    blocks of a store but one locked, recording into it stops when the newest block is full. Clips
+    are made where frames come now."""
+    rooms = [(part.geometry.segments, part.locked()) for part in reading.each()]
     return {
-        "room_blocks": max(0, segments - 1 - locked),
+        "room_blocks": sum(max(0, it - 1 - round(locked * it)) for it, locked in rooms),
         "slots": reading.geometry.slots,
-        "segments": segments,
-        "clips_left": limits.EVENT_CLIPS_A_STORE - len(reading.clips),
+        "segments": sum(segments for segments, _ in rooms),
+        "clips_left": limits.EVENT_CLIPS_A_STORE - len(reading.active().clips),
     }

@@ -1,7 +1,10 @@
 """Clips as events: one press keeps a time of several cameras, and that is one event. Clips of one
 event have the station's number of it. Of clips with a tag of yours it isn't on the disk: where the
 page didn't hear it, it goes by their times."""
+import collections
+
 from .heard import Heard, Told
+from .reader import store_of
 
 # By how much the ends of clips of one press may differ, in microseconds, beside two periods of the
 # slower camera: the newest frame of one may not have been stored when the press came.
@@ -26,6 +29,7 @@ class Group:
         """Whether no clip of the same camera shares a frame with it: a press keeps each once."""
         return not any(
             it["camera"] == clip["camera"]
+            and store_of(it["id"]) == store_of(clip["id"])
             and it["first"] <= clip["last"]
             and clip["first"] <= it["last"]
             for it in self.clips
@@ -92,7 +96,7 @@ def events_of(clips: list[dict], heard: Heard | None = None) -> list[dict]:
 
 def event_of(group: Group, heard: Heard) -> dict:
     """An event as an object."""
-    ordered = sorted(group.clips, key=lambda it: (it["camera"], it["first"], it["last"]))
+    ordered = in_order(group.clips)
     notes = list(dict.fromkeys(it["note"] for it in ordered if it["note"]))
     told = heard.told(ordered[0]["event"])
     return {
@@ -117,6 +121,19 @@ def event_of(group: Group, heard: Heard) -> dict:
             for it in ordered
         ],
     }
+
+
+def in_order(clips: list[dict]) -> list[dict]:
+    """The clips of each camera as they follow one another: by their numbers, or, of several
+    stores, by their times."""
+    stores = {(it["camera"], store_of(it["id"])) for it in clips}
+    counts = collections.Counter(camera for camera, _ in stores)
+
+    def key(it: dict) -> tuple:
+        """By what a clip is put in its place."""
+        return it["camera"], it["from_us"] * (counts[it["camera"]] > 1), it["first"], it["last"]
+
+    return sorted(clips, key=key)
 
 
 def lacks_of(told: Told) -> list[dict]:

@@ -5,13 +5,13 @@ import asyncio
 import collections
 import contextlib
 import time
-from bisect import bisect_left, bisect_right
 from dataclasses import dataclass
+from typing import Any
 
 import layout
 
 from . import limits, pictures
-from .reader import Gone, OpenStore, Reading
+from .reader import Frame, Gone, Held, Placed, Source, store_in
 from .watched import Watched
 from .words import Unfit
 from .workers import DRAWING, Workers
@@ -21,7 +21,7 @@ from .workers import DRAWING, Workers
 class Picture:
     """A frame as JPEG: which frame, and how it was stretched for the eye."""
 
-    frame: layout.Frame
+    frame: Frame
     body: bytes
     stretch: pictures.Stretch | None
 
@@ -37,51 +37,24 @@ class Look:
 
 
 class Moments:
-    """The frames of a reading by their times. A clock may be set back: then times aren't in the
-    order of numbers."""
+    """The frames of a reading by their times."""
 
-    def __init__(self, reading: Reading) -> None:
-        self.reading = reading
-        self.frames = sorted(reading.frames, key=lambda frame: (frame.time, frame.number))
-        self.times = [frame.time for frame in self.frames]
+    def __init__(self, reading: Held) -> None:
+        self.reading, self.parts = reading, [part.by_time() for part in reading.each()]
+        self.newest = max((part.times[-1] for part in self.parts if part.times), default=None)
         period = 1_000_000 / reading.geometry.rate()
         self.longest = max(3 * period, period + limits.HOLE)
 
-    def at(self, moment: int) -> layout.Frame | None:
+    def at(self, moment: int) -> Frame | None:
         """The frame that was there at a moment; none before the first one, and in a hole."""
-        place = bisect_right(self.times, moment)
-        if not place or moment - self.times[place - 1] > self.longest:
-            return None
-        return self.frames[place - 1]
+        found = [frame for part in self.parts if (frame := part.at(moment))]
+        frame = max(found, key=lambda it: it.time, default=None)
+        return None if frame is None or moment - frame.time > self.longest else frame
 
     def beside(self, moment: int, by: int) -> int | None:
         """The time of the first frame after a moment, or of the last one before it."""
-        if by > 0:
-            place = bisect_right(self.times, moment)
-            return self.times[place] if place < len(self.times) else None
-        place = bisect_left(self.times, moment)
-        return self.times[place - 1] if place else None
-
-
-def newest_in(opened: OpenStore, geometry: layout.Geometry, place: int | None) -> tuple | None:
-    """The newest whole frame of a store and the place of its segment, by the headers alone. It is
-    looked for first in the segment that had it last."""
-    segment = None
-    if place is not None:
-        header = opened.read_at(geometry.segment_at(place), layout.HEADER)
-        segment = layout.Segment(place, header, geometry.slots)
-    if segment is None or not segment.open or not 0 < segment.whole < geometry.slots:
-        heads = layout.read_heads(opened.read_at, geometry)
-        found = [it for it in layout.segments_of(heads, geometry) if it.open and it.whole]
-        segment = max(found, key=lambda it: it.block, default=None)
-    if segment is None:
-        return None
-    slot = segment.whole - 1
-    head = opened.read_at(geometry.slot_at(segment.place, slot), layout.HEAD)
-    frame = layout.Frame(*layout.SLOT_HEAD.unpack(head)[:5])
-    if frame.number != segment.block * geometry.slots + slot:
-        raise layout.Unsteady
-    return frame, segment.place
+        found = [time for it in self.parts if (time := it.beside(moment, by)) is not None]
+        return (min if by > 0 else max)(found, default=None)
 
 
 class Eye:
@@ -92,7 +65,8 @@ class Eye:
         self.reads = Workers(f"eye {watched.camera.name}", 1, limits.EYE_READS)
         self.made: collections.OrderedDict[tuple, Picture] = collections.OrderedDict()
         self.making: dict[tuple, asyncio.Task] = {}
-        self.place: int | None = None
+        # The place of the newest frame, as its source tells it.
+        self.place: Any = None
         self.peeked, self.frame = 0.0, None
         self.known: Moments | None = None
         self.auto: pictures.Stretch | None = None
@@ -111,7 +85,7 @@ class Eye:
             self.known = Moments(reading)
         return self.known
 
-    async def newest(self) -> layout.Frame | None:
+    async def newest(self) -> Frame | None:
         """The newest stored frame. Pages that ask at nearly the same time cost one look."""
         source = self.watched.source
         if source is None:
@@ -119,16 +93,27 @@ class Eye:
         if time.monotonic() - self.peeked < limits.PEEK_SECONDS:
             return self.frame
         self.peeked = time.monotonic()
-        with contextlib.suppress(layout.Unsteady, layout.Refused, OSError, Unfit):
-            found = await self.work(newest_in, source.opened, source.geometry, self.place)
+        with contextlib.suppress(layout.Unsteady, layout.Refused, OSError, Unfit, Gone):
+            found = await self.work(source.newest, self.place)
             self.frame, self.place = found or (None, None)
         return self.frame
 
-    async def picture(self, frame: layout.Frame, look: Look) -> Picture:
-        """A picture of a frame; Gone where it isn't held any more. It is made once."""
-        source = self.watched.source
-        if source is None:
+    def source(self, store: int | None) -> Source:
+        """The frames of a store: the camera's only one, or that of a number. Gone where there is
+        none."""
+        if self.watched.source is None:
             raise Gone("no store is there")
+        return self.watched.source.of(store)
+
+    def place_in(self, store: int | None) -> int | None:
+        """The place of the segment of the newest frame, where it is in this store."""
+        if store is None:
+            return self.place if isinstance(self.place, int) else None
+        return self.place[1] if isinstance(self.place, tuple) and self.place[0] == store else None
+
+    async def picture(self, frame: Frame, look: Look) -> Picture:
+        """A picture of a frame; Gone where it isn't held any more. It is made once."""
+        source = self.source(store_in(frame))
         key = (source.opened.identity, frame.number, frame.time, look)
         if key in self.made:
             self.made.move_to_end(key)
@@ -138,10 +123,10 @@ class Eye:
         # Others may wait for it too.
         return await asyncio.shield(self.making[key])
 
-    async def make(self, key: tuple, frame: layout.Frame, look: Look) -> Picture:
+    async def make(self, key: tuple, frame: Frame, look: Look) -> Picture:
         """Makes a picture, and remembers it among so many bytes of them."""
         try:
-            data, geometry = await self.work(self.data, frame.number)
+            data, geometry = await self.work(self.data, frame.number, store_in(frame))
             picture = self.made[key] = await DRAWING.do(self.draw, geometry, data, frame, look)
             self.bytes += len(picture.body)
             while self.bytes > limits.EYE_BYTES and len(self.made) > 1:
@@ -150,28 +135,25 @@ class Eye:
         finally:
             del self.making[key]
 
-    def head(self, number: int) -> layout.Frame:
+    def head(self, number: int, store: int | None = None) -> Frame:
         """A frame by its number, also one that came after the last look; Gone where it isn't
         held."""
-        source = self.watched.source
-        if source is None:
-            raise Gone("no store is there")
-        geometry, opened = source.geometry, source.opened
-        place = source.places.get(number // geometry.slots, self.place)
+        source = self.source(store)
+        place = source.placed(number, self.place_in(store))
         try:
             if place is None:
                 raise Gone(f"frame {number} isn't held")
-            *_, found = opened.look(geometry, place, number)
+            *_, found = source.opened.look(source.geometry, place, number)
         except (layout.Unsteady, layout.Refused) as fault:
             raise Gone(f"frame {number} can't be read: {fault}") from None
-        return layout.Frame(*layout.SLOT_HEAD.unpack(found)[:5])
+        frame = layout.Frame(*layout.SLOT_HEAD.unpack(found)[:5])
+        return frame if store is None else Placed(*frame, store)
 
-    def data(self, number: int) -> tuple[bytes, layout.Geometry]:
+    def data(self, number: int, store: int | None = None) -> tuple[bytes, layout.Geometry]:
         """The bytes of a frame, also of one that came after the last look, and its store's
         geometry."""
-        source, place = self.watched.source, self.place
-        if source is None:
-            raise Gone("no store is there")
+        source = self.source(store)
+        place = source.placed(number, self.place_in(store))
         if number // source.geometry.slots in source.places or place is None:
             return source.frame(number), source.geometry
         try:
@@ -181,7 +163,7 @@ class Eye:
             raise Gone(f"frame {number} can't be read: {fault}") from None
 
     def draw(
-        self, geometry: layout.Geometry, data: bytes, frame: layout.Frame, look: Look
+        self, geometry: layout.Geometry, data: bytes, frame: Frame, look: Look
     ) -> Picture:
         """Makes a picture."""
         stretch, bits = look.stretch, layout.bits_of(frame.flags)

@@ -99,8 +99,9 @@ class Heard:
     def grown(self, camera: str, clip: Clip) -> int | None:
         """The number of the event whose end lay ahead and whose clip this is, by its first frame: a
         longer one has another id."""
-        for (name, _, first), number in reversed(self.clips.items()):
-            if (name, first) == (camera, clip.first) and self.told(number).until:
+        for (name, id_, first), number in reversed(self.clips.items()):
+            is_one = (name, first) == (camera, clip.first) and clip.is_beside(id_)
+            if is_one and self.told(number).until:
                 return number
         return None
 

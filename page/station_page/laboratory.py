@@ -5,7 +5,7 @@ import contextlib
 import json
 import logging
 import time
-from collections.abc import Iterator
+from collections.abc import Callable, Iterator
 from dataclasses import replace
 
 import layout
@@ -20,7 +20,8 @@ from .kept import Kept, not_kept, told
 from .notes import Notes
 from .noting import Noting
 from .orders import NoStation, Orders
-from .reader import Clip, Gone, Reader, Reading, Source
+from .reader import Clip, Gone, Piece, Reading, Source, store_in, store_of
+from .rings import Ring, Sources, Stores
 from .settings import Settings
 from .watched import Watched, refusal, settle
 from .words import Event, Line, Status, Unfit
@@ -85,7 +86,7 @@ class Laboratory:
         self.settings = settings
         self.cameras = {
             camera.name: Watched(
-                camera, Reader(camera.store, reads_of(camera.name)), looks=looks_of(camera.name)
+                camera, Stores(camera.store, reads_of(camera.name)), looks=looks_of(camera.name)
             )
             for camera in settings.cameras
         }
@@ -180,7 +181,7 @@ class Laboratory:
                 await self.look()
             except (OSError, ValueError) as fault:
                 log.exception("a look failed: %s", fault)
-            is_watched = self.streams or time.monotonic() - self.wanted < 10
+            is_watched = self.streams or time.monotonic() - self.wanted < 10 or self.is_reading()
             self.hurry.clear()
             with contextlib.suppress(asyncio.TimeoutError):
                 await asyncio.wait_for(
@@ -189,6 +190,11 @@ class Laboratory:
             if self.hurry.is_set():
                 # Many events together are one look.
                 await asyncio.sleep(0.05)
+
+    def is_reading(self) -> bool:
+        """Whether some of a camera's several stores aren't read yet."""
+        found = [it.reading.stores for it in self.cameras.values() if it.reading]
+        return any(stores and stores[0] < stores[1] for stores in found)
 
     async def fresh(self) -> None:
         """Sees that what was seen last isn't old: while nobody looks, cameras are looked at
@@ -345,6 +351,7 @@ class Laboratory:
         """Warns where a store that was there isn't any more, or is damaged; or where there is none,
         and nobody says why."""
         name = watched.camera.name
+        self.judge_several(watched)
         if watched.reading:
             watched.was_there = True
             self.set("lost", name, "")
@@ -355,6 +362,18 @@ class Laboratory:
             is_said = self.alerts.stands("absent", "not a store", "missing", camera=name)
             if not is_said and not self.alerts.stands("station", camera=None):
                 self.set("lost", name, f"{name}: {refusal(watched.why)}")
+
+    def judge_several(self, watched: Watched) -> None:
+        """Warns where one of several stores can't be read, and the others go on."""
+        name, reading = watched.camera.name, watched.reading
+        spoilt = reading.faults() if reading else {}
+        if spoilt:
+            path, why = next(iter(spoilt.items()))
+            text = f"{name}: {words.plain(path)} can't be used: {words.plain(why)}."
+            self.set("one absent", name, f"{text} Its other stores go on. Move the file away.")
+        elif watched.is_spoilt:
+            self.over("one absent", name)
+        watched.is_spoilt = bool(spoilt)
 
     # ------------------------------------------------------------------------------- how all stands
 
@@ -426,22 +445,20 @@ class Laboratory:
             "asked_rate": geometry.rate(),
             "rate": reading.rate(),
             "seconds": reading.seconds(),
-            "frames": len(reading.frames),
+            "frames": reading.count(),
             "locked": reading.locked(),
-            "pieces": [
-                [it.first, it.last, it.since, it.until] for it in reading.pieces()[-PIECES:]
-            ],
+            "pieces": [piece_of(it) for it in reading.pieces()[-PIECES:]],
             "removed_next": removed,
             "clips": [
                 [clip.id, clip.first, clip.last, clip.since, clip.until] for clip in reading.clips
             ],
         }
-        if reading.frames:
-            newest, oldest = reading.frames[-1], reading.frames[0]
-            found |= {
-                "newest": [newest.number, newest.time],
-                "oldest": [oldest.number, oldest.time],
-            }
+        if reading.stores:
+            found["stores"] = reading.stores
+        for word, frame in (("newest", reading.newest()), ("oldest", reading.oldest())):
+            if frame:
+                store = store_in(frame)
+                found[word] = [frame.number, frame.time, *([] if store is None else [store])]
         return found
 
     def camera_state(self, watched: Watched) -> tuple[str, str, str, str]:
@@ -455,7 +472,9 @@ class Laboratory:
                 "disk hangs",
             )
         reading, source = watched.reading, self.source_of(watched)
-        if watched.making is not None and self.orders.has_answers:
+        # While others of several stores are made, frames come into one that is there.
+        is_made = reading is not None and reading.stores is not None
+        if watched.making is not None and self.orders.has_answers and not is_made:
             return (
                 "warn",
                 f"Its store is being made: {watched.making} % of it is.",
@@ -495,7 +514,7 @@ class Laboratory:
             )
         if is_silent:
             return self.silent_state(watched, source)
-        if not reading.frames:
+        if not reading.count():
             return "warn", "No frame is stored yet.", "empty", "no frames yet"
         if not watched.has_moved:
             return "warn", "The page waits for a new frame.", "waiting", "waiting"
@@ -524,7 +543,9 @@ class Laboratory:
         shortly = f"no frames for {int(silent)} s" if silent < 600 else "no frames"
         return "bad", f"No new frame for {words.seconds_words(silent)}: {why}.", "silent", shortly
 
-    def recording_state(self, watched: Watched, reading: Reading) -> tuple[str, str, str, str]:
+    def recording_state(
+        self, watched: Watched, reading: Reading | Ring
+    ) -> tuple[str, str, str, str]:
         """A camera of which frames come."""
         behind = watched.status.behind if watched.status else None
         if behind and behind > 1:
@@ -549,7 +570,7 @@ class Laboratory:
             raise Unfit(404, "There is no camera of that name.")
         return self.cameras[name]
 
-    def seen(self, name: object) -> tuple[Watched, Reading, Source]:
+    def seen(self, name: object) -> tuple[Watched, Reading | Ring, Source | Sources]:
         """A camera with what was seen of it; Unfit where there is no store."""
         watched = self.watched(name)
         self.wanted = time.monotonic()
@@ -572,6 +593,7 @@ class Laboratory:
             reading = watched.reading
             for clip in reading.clips if reading else []:
                 own = 0 if is_number(clip.tag) else clip.tag
+                part = reading.part(clip.id)
                 found.append(
                     {
                         "camera": name,
@@ -590,7 +612,7 @@ class Laboratory:
                         "to": words.iso(clip.until),
                         "seconds": (clip.until - clip.since) / 1e6 + 1 / reading.geometry.rate(),
                         "bytes": clip.count() * (reading.geometry.size + 6)
-                        + len(layout.text_front(reading.geometry, reading.bits(clip.first))),
+                        + len(layout.text_front(part.geometry, part.bits(clip.first))),
                         "note": self.notes.of(watched.camera.store, clip),
                         "fetched": self.fetching[name, clip.id] > 0,
                     }
@@ -734,6 +756,7 @@ class Laboratory:
             for it in (reading.clips if reading else [])
             if it.first == first
             and it.last > last
+            and it.is_beside(id_)
             and self.heard.number_of(name, it) == line["event"]
         ]
         return (
@@ -797,19 +820,27 @@ class Laboratory:
         watched, reading, source = self.seen(camera)
         clip = reading.clip(id_)
         if clip is None or (first is not None and clip.first != first):
-            clip = self.longer(watched, first)
+            clip = self.longer(watched, first, lambda it: reading.are_beside(it.id, id_))
         if clip is None:
             raise Unfit(404, "There is no such clip any more.")
-        return watched, reading, source, clip
+        store = store_of(clip.id) if reading.stores else None
+        return watched, reading.part(clip.id), source.of(store), clip
 
-    def longer(self, watched: Watched, first: int | None) -> Clip | None:
+    def longer(
+        self,
+        watched: Watched,
+        first: int | None,
+        is_beside: Callable[[Clip], bool] = lambda clip: True,
+    ) -> Clip | None:
         """What a clip with this first frame has grown to, in an event whose end lay ahead: it has
-        another id by then."""
+        another id by then. `is_beside` says of a clip whether it is in the same store."""
         name = watched.camera.name
         found = [
             clip
             for clip in self.clips_of(name)
-            if clip.first == first and self.heard.told(self.heard.number_of(name, clip)).until
+            if clip.first == first
+            and is_beside(clip)
+            and self.heard.told(self.heard.number_of(name, clip)).until
         ]
         return found[0] if len(found) == 1 else None
 
@@ -890,6 +921,22 @@ class Laboratory:
         await self.films.close()
         self.orders.pipe.close()
         self.orders.reader.close()
+
+
+def piece_of(piece: Piece) -> list[int]:
+    """Frames without a hole, for the page; of several stores with those of its first and its last
+    frame."""
+    found = [piece.first, piece.last, piece.since, piece.until]
+    return found + [it for it in (piece.store, piece.ends) if it is not None]
+
+
+def for_programs(camera: dict) -> None:
+    """Takes what programs don't need from how a camera stands. As long as some of its several
+    stores aren't read yet, nobody is told that these are all its clips."""
+    camera.pop("pieces", None)
+    read, there = camera.get("stores", (0, 0))
+    if read < there:
+        camera.pop("clips", None)
 
 
 def answered(lines: list[Line]) -> set[str | None]:

@@ -28,6 +28,10 @@ EVENTS_HEARD = 4096
 LOOK_SECONDS = 0.5
 IDLE_SECONDS = 5.0
 FRESH_SECONDS = 2.0
+# For how long a look reads stores that weren't read before, of a camera that has several; and how
+# long a file has to be as it is before its time tells that nothing was written since.
+RING_SECONDS = 0.25
+SETTLED_SECONDS = 3
 ASK_SECONDS = 5.0
 IDLE_ASK_SECONDS = 60.0
 # How long a disk may need for a look before nobody waits for it, and for a picture.

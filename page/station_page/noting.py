@@ -94,7 +94,9 @@ class Noting:
         longer = [
             it
             for it in self.laboratory.clips_of(name)
-            if (it.first, it.tag) == (clip.first, clip.tag) and it.last >= clip.last
+            if (it.first, it.tag) == (clip.first, clip.tag)
+            and it.last >= clip.last
+            and it.is_beside(clip.id)
         ]
         same = [it for it in longer if (it.id, it.last) == (clip.id, clip.last)]
         found = same or longer

@@ -19,7 +19,7 @@ from aiohttp import web
 
 from . import limits
 from .eye import Eye, Look, Picture
-from .reader import Gone
+from .reader import Gone, store_in
 from .words import Unfit
 
 LENGTHS = struct.Struct(">II")
@@ -232,13 +232,14 @@ class Stream:
 
 def words_of(picture: Picture) -> dict:
     """What a page is told of a picture."""
-    frame = picture.frame
-    return {
+    frame, store = picture.frame, store_in(picture.frame)
+    found = {
         "number": frame.number,
         "time": frame.time,
         "sequence": frame.sequence,
         "stretch": picture.stretch,
     }
+    return found if store is None else found | {"store": store}
 
 
 def is_open(request: web.Request) -> bool:

@@ -1,10 +1,16 @@
 """Stores as they are now. The layout, how a store that changes meanwhile is read, and how a frame
 is known to be whole are the module lapyrei's; here stands what the page makes of a reading."""
 import asyncio
+import copy
+import operator
 import os
 import threading
-from bisect import bisect_left
+from array import array
+from bisect import bisect_left, bisect_right
+from collections.abc import Sequence
 from dataclasses import dataclass
+from itertools import islice
+from typing import NamedTuple, overload
 
 from lapyrei import layout
 from lapyrei.errors import Gone
@@ -35,31 +41,124 @@ class Clip:
         """How many frames it has."""
         return self.last - self.first + 1
 
+    def is_beside(self, id_: int) -> bool:
+        """Whether the clip of an id is in the same store: then their frames' numbers tell which
+        come first."""
+        return store_of(self.id) == store_of(id_)
+
 
 @dataclass(frozen=True)
 class Piece:
-    """Frames that follow one another without a hole in time, as (number, number, time, time)."""
+    """Frames that follow one another without a hole in time, as (number, number, time, time); of
+    a camera with several stores also which has its first frame, and which its last one."""
 
     first: int
     last: int
     since: int
     until: int
+    store: int | None = None
+    ends: int | None = None
 
 
-class Reading:
-    """A store at a moment."""
+class Placed(NamedTuple):
+    """A frame of a camera with several stores: what its head says, and its store's number."""
 
-    def __init__(self, store: layout.Store) -> None:
-        self.store, self.geometry, self.frames, self.next = (
-            store,
-            store.geometry,
-            store.frames,
-            store.next,
-        )
-        self.clips = [
-            Clip(id_, first, last, tag, store.times[first], store.times[last])
-            for id_, first, last, tag in store.clips
-        ]
+    number: int
+    sequence: int
+    flags: int
+    time: int
+    length: int
+    store: int
+
+
+Frame = layout.Frame | Placed
+
+
+def store_of(id_: int) -> int:
+    """The number of the store of a clip, by the id that the station prints
+    (crates/loop_station_core/src/sets.rt); 0 where its camera has one store."""
+    return id_ // layout.CLIPS
+
+
+def store_in(frame: Frame) -> int | None:
+    """The number of a frame's store; none where its camera has one."""
+    return getattr(frame, "store", None)
+
+
+class Packed(Sequence):
+    """Frames in a tenth of the memory that a list of them takes: a camera may have 256 stores."""
+
+    def __init__(self, frames: Sequence[layout.Frame]) -> None:
+        columns = list(zip(*frames)) or [()] * 5
+        self.columns = [array(kind, column) for kind, column in zip("QIIQI", columns)]
+
+    def __len__(self) -> int:
+        return len(self.columns[0])
+
+    @overload
+    def __getitem__(self, place: int) -> layout.Frame:
+        ...
+
+    @overload
+    def __getitem__(self, place: slice) -> list[layout.Frame]:
+        ...
+
+    def __getitem__(self, place):
+        found = (column[place] for column in self.columns)
+        if isinstance(place, slice):
+            return [layout.Frame(*it) for it in zip(*found)]
+        return layout.Frame(*found)
+
+
+class ByTime:
+    """A store's frames by their times. A clock may be set back: then times aren't in the order of
+    numbers."""
+
+    def __init__(self, reading: "Reading") -> None:
+        self.reading, frames = reading, reading.frames
+        packed = isinstance(frames, Packed)
+        times = frames.columns[3] if packed else array("Q", [frame.time for frame in frames])
+        self.places: list[int] | None = None
+        if not all(map(operator.le, times, islice(times, 1, None))):
+            self.places = sorted(range(len(times)), key=lambda it: (times[it], frames[it].number))
+            times = array("Q", [times[it] for it in self.places])
+        self.times = times
+
+    def frame(self, place: int) -> Frame:
+        """The frame of a place in this order."""
+        return self.reading.told(self.reading.frames[self.places[place] if self.places else place])
+
+    def at(self, moment: int) -> Frame | None:
+        """The last frame that isn't after a moment."""
+        place = bisect_right(self.times, moment)
+        return self.frame(place - 1) if place else None
+
+    def beside(self, moment: int, by: int) -> int | None:
+        """The time of the first frame after a moment, or of the last one before it."""
+        if by > 0:
+            place = bisect_right(self.times, moment)
+            return self.times[place] if place < len(self.times) else None
+        place = bisect_left(self.times, moment)
+        return self.times[place - 1] if place else None
+
+
+class Held:
+    """What a store holds at a moment, or several that are one ring (`rings.Ring`)."""
+
+    geometry: layout.Geometry
+    clips: list[Clip]
+
+    def each(self) -> list["Reading"]:
+        """Its stores."""
+        raise NotImplementedError
+
+    def newest_frames(self, count: int) -> list[layout.Frame]:
+        """So many frames, the newest."""
+        raise NotImplementedError
+
+    def pieces(self) -> list[Piece]:
+        """The held frames, divided where a number or time is missing."""
+        raise NotImplementedError
 
     def clip(self, id_: int) -> Clip | None:
         """The clip of an id."""
@@ -69,6 +168,117 @@ class Reading:
         """The clip of an id that has these frames: ids are used again."""
         found = self.clip(id_)
         return found if found and (found.first, found.last) == (first, last) else None
+
+    def rate(self) -> float | None:
+        """Frames a second, by the newest ones."""
+        newest = self.newest_frames(RATE_FRAMES)
+        took = newest[-1].time - newest[0].time if len(newest) > 1 else 0
+        return (len(newest) - 1) * 1_000_000 / took if took > 0 else None
+
+    def seconds(self) -> float:
+        """How long the ring holds now: the time of all pieces together."""
+        period = 1 / self.geometry.rate()
+        return sum((piece.until - piece.since) / 1_000_000 + period for piece in self.pieces())
+
+    def count(self) -> int:
+        """How many frames it holds."""
+        return sum(len(part.frames) for part in self.each())
+
+    def newest(self) -> Frame | None:
+        """The newest frame."""
+        found = [part.told(part.frames[-1]) for part in self.each() if part.frames]
+        return max(found, key=lambda frame: frame.time, default=None)
+
+    def oldest(self) -> Frame | None:
+        """The oldest frame."""
+        found = [part.told(part.frames[0]) for part in self.each() if part.frames]
+        return min(found, key=lambda frame: frame.time, default=None)
+
+    def at(self, moment: int) -> Frame | None:
+        """The frame that was the newest at a time, or the oldest one where none was there yet."""
+        found = [it for part in self.each() if (it := part.by_time().at(moment))]
+        return max(found, key=lambda frame: frame.time) if found else self.oldest()
+
+
+class Reading(Held):
+    """A store at a moment."""
+
+    # How many stores of its camera are read, and how many are there: of several alone.
+    stores: tuple[int, int] | None = None
+
+    def __init__(self, store: layout.Store, among: int | None = None) -> None:
+        """`among` is its number where its camera has several."""
+        self.store, self.geometry, self.frames, self.next = (
+            store,
+            store.geometry,
+            store.frames,
+            store.next,
+        )
+        self.among, base = among, layout.CLIPS * (among or 0)
+        self.clips = [
+            Clip(base + id_, first, last, tag, store.times[first], store.times[last])
+            for id_, first, last, tag in store.clips
+        ]
+        self.ordered: ByTime | None = None
+
+    def each(self) -> list["Reading"]:
+        """Its stores."""
+        return [self]
+
+    def faults(self) -> dict[str, str]:
+        """Which of several stores can't be used, by path, and why."""
+        return {}
+
+    def active(self) -> "Reading":
+        """The store with the newest frame."""
+        return self
+
+    def part(self, id_: int) -> "Reading":
+        """The store of the clip of an id."""
+        return self
+
+    def are_beside(self, one: int, other: int) -> bool:
+        """Whether the clips of two ids are in one store."""
+        return True
+
+    def told(self, frame: layout.Frame) -> Frame:
+        """A frame, with its store where there are several."""
+        return frame if self.among is None else Placed(*frame, self.among)
+
+    def by_time(self) -> ByTime:
+        """Its frames by their times."""
+        if self.ordered is None:
+            self.ordered = ByTime(self)
+        return self.ordered
+
+    def time_of(self, number: int) -> int:
+        """The time of a frame that is held."""
+        if not isinstance(self.frames, Packed):
+            return self.store.times[number]
+        numbers, _, _, times, _ = self.frames.columns
+        return times[bisect_left(numbers, number)]
+
+    def packed(self) -> "Reading":
+        """The same in less memory."""
+        if isinstance(self.frames, Packed):
+            return self
+        self.pieces()
+        found = copy.copy(self)
+        found.frames, found.store, found.ordered = Packed(self.frames), copy.copy(self.store), None
+        found.store.frames, found.store.times = [], {}
+        return found
+
+    def newest(self) -> Frame | None:
+        """The newest frame: that of the last number."""
+        return self.told(self.frames[-1]) if self.frames else None
+
+    def oldest(self) -> Frame | None:
+        """The oldest frame."""
+        return self.told(self.frames[0]) if self.frames else None
+
+    def newest_frames(self, count: int) -> list[layout.Frame]:
+        """So many frames, the newest."""
+        return self.frames[-count:]
 
     def is_all_locked(self) -> bool:
         """Whether no block is left into which further frames could come."""
@@ -80,17 +290,6 @@ class Reading:
         """The bits of the samples of a frame that is held, or of the newest one."""
         frame = self.near(number, 0) if number is not None else self.frames and self.frames[-1]
         return layout.bits_of(frame.flags) if frame else 8
-
-    def rate(self) -> float | None:
-        """Frames a second, by the newest ones."""
-        newest = self.frames[-RATE_FRAMES:]
-        took = newest[-1].time - newest[0].time if len(newest) > 1 else 0
-        return (len(newest) - 1) * 1_000_000 / took if took > 0 else None
-
-    def seconds(self) -> float:
-        """How long the ring holds now: the time of all pieces together."""
-        period = 1 / self.geometry.rate()
-        return sum((piece.until - piece.since) / 1_000_000 + period for piece in self.pieces())
 
     def locked(self) -> float:
         """Which part of the room is locked, from 0 to 1."""
@@ -131,27 +330,20 @@ class Reading:
                 frames[end - 1].number,
                 frames[start].time,
                 frames[end - 1].time,
+                self.among,
+                self.among,
             )
             for start, end in spans
             if start < end
         ]
 
-    def at(self, moment: int) -> layout.Frame | None:
-        """The frame that was the newest at a time, or the oldest one where none was there yet."""
-        before = [frame for frame in self.frames if frame.time <= moment]
-        return (
-            max(before, key=lambda frame: (frame.time, frame.number))
-            if before
-            else (self.frames[0] if self.frames else None)
-        )
-
-    def near(self, number: int, by: int) -> layout.Frame | None:
+    def near(self, number: int, by: int, store: int | None = None) -> Frame | None:
         """The held frame that is so many held frames after a number, or the last one on that
-        side."""
-        if not self.frames:
+        side; none of a store that its camera hasn't."""
+        if not self.frames or store != self.among:
             return None
         place = bisect_left(self.frames, number, key=lambda frame: frame.number)
-        return self.frames[min(max(place + by, 0), len(self.frames) - 1)]
+        return self.told(self.frames[min(max(place + by, 0), len(self.frames) - 1)])
 
     def frames_of(self, clip: Clip) -> list:
         """The frames of a clip."""
@@ -165,6 +357,23 @@ class Source:
     def __init__(self, opened: OpenStore, reading: Reading, reads: Workers | None = None) -> None:
         self.opened, self.geometry, self.reads = opened, reading.geometry, reads
         self.places = {segment.block: segment.place for segment in reading.store.with_frames()}
+
+    def of(self, store: int | None) -> "Source":
+        """The frames of the store of a number, of several; of this one for none."""
+        if store is not None:
+            raise Gone(f"store {store} isn't there")
+        return self
+
+    def newest(self, place: object) -> tuple[Frame, int] | None:
+        """The newest frame of the file, and the place of its segment, where it is looked for
+        first; else a place is one of several stores, which were there before."""
+        known = place if isinstance(place, int) else None
+        return newest_in(self.opened, self.geometry, known)
+
+    def placed(self, number: int, place: int | None) -> int | None:
+        """The place of the segment of a frame, also of one that came after the reading: then that
+        of the newest frame."""
+        return self.places.get(number // self.geometry.slots, place)
 
     def part(self, number: int, at: int, count: int) -> bytes:
         """A part of the bytes of a frame; Gone where it isn't held any more."""
@@ -187,13 +396,37 @@ class Source:
         return await self.reads.do(work, *words, seconds=seconds)
 
 
+def newest_in(opened: OpenStore, geometry: layout.Geometry, place: int | None) -> tuple | None:
+    """The newest whole frame of a store and the place of its segment, by the headers alone. It is
+    looked for first in the segment that had it last."""
+    segment = None
+    if place is not None:
+        header = opened.read_at(geometry.segment_at(place), layout.HEADER)
+        segment = layout.Segment(place, header, geometry.slots)
+    if segment is None or not segment.open or not 0 < segment.whole < geometry.slots:
+        heads = layout.read_heads(opened.read_at, geometry)
+        found = [it for it in layout.segments_of(heads, geometry) if it.open and it.whole]
+        segment = max(found, key=lambda it: it.block, default=None)
+    if segment is None:
+        return None
+    slot = segment.whole - 1
+    head = opened.read_at(geometry.slot_at(segment.place, slot), layout.HEAD)
+    frame = layout.Frame(*layout.SLOT_HEAD.unpack(head)[:5])
+    if frame.number != segment.block * geometry.slots + slot:
+        raise layout.Unsteady
+    return frame, segment.place
+
+
 class Reader:
     """A store in the file of a path, read again and again. Readings are made one at a time, from
     any thread."""
 
-    def __init__(self, path: str, reads: Workers | None = None) -> None:
-        """`reads` are the threads in which its frames are read."""
-        self.path, self.lock, self.reads = path, threading.Lock(), reads
+    def __init__(
+        self, path: str, reads: Workers | None = None, among: int | None = None
+    ) -> None:
+        """`reads` are the threads in which its frames are read, and `among` its number where its
+        camera has several stores."""
+        self.path, self.lock, self.reads, self.among = path, threading.Lock(), reads, among
         self.opened: OpenStore | None = None
         self.known = Known()
 
@@ -221,5 +454,5 @@ class Reader:
         """A reading of one moment."""
         opened = self.opened
         assert opened is not None
-        reading = Reading(read_steadily(opened, self.known))
+        reading = Reading(read_steadily(opened, self.known), self.among)
         return reading, Source(opened, reading, self.reads)

@@ -15,16 +15,16 @@ import layout
 from aiohttp import HttpVersion11, http_exceptions, web, web_urldispatcher
 
 from . import limits, metrics, pictures, words
-from .asked import moment_in, number_in, problem, range_of
+from .asked import FRAME, frame_in, headers_of, moment_in, number_in, problem, range_of
 from .console import Console
 from .films import FilmFault, Text, csv_of, zip_stream
 from .guard import COOKIE, HEADERS, OPEN, Connection, Gate, bearer_of, session_word
 from .journal import Expected, PlainFormatter
-from .laboratory import Laboratory
+from .laboratory import Laboratory, for_programs
 from .notes import NotesFault
 from .orders import NoStation
 from .push import whole
-from .reader import Gone
+from .reader import Gone, store_in
 from .settings import BadSettings, Settings, read_settings
 from .stations import Stations
 from .words import Unfit
@@ -131,8 +131,8 @@ class Page:
         get("/api/journal", self.journal)
         get(f"/api/cameras/{camera}/newest.jpg", self.newest)
         get(f"/api/cameras/{camera}/frame", self.frame)
-        get(rf"/api/cameras/{camera}/frames/{{number:\d{{1,19}}}}.jpg", self.frame_picture)
-        get(rf"/api/clips/{camera}/{{id:\d{{1,2}}}}.{{kind:mp4|y4m|zip|csv|jpg}}", self.fetch)
+        get(rf"/api/cameras/{camera}/frames/{{number:{FRAME}}}.jpg", self.frame_picture)
+        get(rf"/api/clips/{camera}/{{id:\d{{1,5}}}}.{{kind:mp4|y4m|zip|csv|jpg}}", self.fetch)
         post("/api/keep", self.keep)
         post("/api/release", self.release)
         post("/api/note", self.note)
@@ -364,7 +364,7 @@ class Page:
         await self.laboratory.fresh()
         standing = self.laboratory.standing()
         for camera in standing["cameras"]:
-            camera.pop("pieces", None)
+            for_programs(camera)
         return web.json_response(standing)
 
     async def clips(self, request: web.Request) -> web.Response:
@@ -384,29 +384,29 @@ class Page:
         cost one picture."""
         await self.laboratory.fresh()
         watched, reading, source = self.laboratory.seen(request.match_info["camera"])
-        if not reading.frames:
+        if not reading.count():
             raise Unfit(503, "No frame is stored yet.")
-        wished = number_in(request.query.get("number"), limits.NUMBERS_END, "number")
-        frame = reading.near(wished, 0) if wished is not None else reading.frames[-1]
+        wished, frame = request.query.get("number"), reading.newest()
+        if wished is not None:
+            number, store = frame_in(wished)
+            frame = reading.near(number, 0, store)
+        if frame is None:
+            raise Unfit(404, "That frame isn't held any more.")
         return await self.picture(source, frame, limits.TILE_WIDTH)
 
     async def picture(self, source, frame, width: int | None) -> web.Response:
         """A frame, as JPEG, with its number and time."""
-        body = await self.pictures.jpeg(source, frame, width)
-        return web.Response(
-            body=body,
-            content_type="image/jpeg",
-            headers={"X-Frame-Number": str(frame.number), "X-Frame-Time": str(frame.time)},
-        )
+        body = await self.pictures.jpeg(source.of(store_in(frame)), frame, width)
+        return web.Response(body=body, content_type="image/jpeg", headers=headers_of(frame))
 
     async def frame(self, request: web.Request) -> web.Response:
         """Which frame was there at a time, or comes so many after another."""
         await self.laboratory.fresh()
         _, reading, _ = self.laboratory.seen(request.match_info["camera"])
         query = request.query
-        number, moment = (
-            number_in(query.get(word), limits.NUMBERS_END, word) for word in ("number", "time")
-        )
+        number, moment = query.get("number"), query.get("time")
+        moment = number_in(moment, limits.NUMBERS_END, "time")
+        named = frame_in(number) if number is not None else (0, None)
         if not re.fullmatch(r"-?[0-9]{1,6}", query.get("by", "0")) or (number is None) == (
             moment is None
         ):
@@ -414,18 +414,20 @@ class Page:
         found = (
             reading.at(moment)
             if moment is not None
-            else reading.near(number or 0, int(query.get("by", "0")))
+            else reading.near(named[0], int(query.get("by", "0")), named[1])
         )
         if found is None:
             raise Unfit(404, "No frame is stored.")
-        return web.json_response({"number": found.number, "time": found.time})
+        store = store_in(found)
+        more = {} if store is None else {"store": store}
+        return web.json_response({"number": found.number, "time": found.time} | more)
 
     async def frame_picture(self, request: web.Request) -> web.Response:
         """A frame by its number, in its full size."""
         await self.laboratory.fresh()
         _, reading, source = self.laboratory.seen(request.match_info["camera"])
-        number = number_in(request.match_info["number"], limits.NUMBERS_END, "number")
-        frame = reading.near(number or 0, 0)
+        number, store = frame_in(request.match_info["number"])
+        frame = reading.near(number, 0, store)
         if frame is None or frame.number != number:
             raise Unfit(404, "That frame isn't held any more.")
         return await self.picture(source, frame, None)

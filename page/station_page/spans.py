@@ -5,6 +5,7 @@ from collections.abc import Iterable
 
 from . import words
 from .reader import Clip, Reading
+from .rings import Ring
 
 # Times are named up to so many holes.
 HOLES_NAMED = 3
@@ -26,19 +27,20 @@ def times_of(gaps: list[tuple[int, int]]) -> str:
     return ", ".join(named) + (f", and {more} more times" if more else "")
 
 
-def pieces_of(reading: Reading, clips: Iterable[Clip]) -> list[tuple[int, int]]:
+def pieces_of(reading: Reading | Ring, clips: Iterable[Clip]) -> list[tuple[int, int]]:
     """The times from which to which a clip's frames follow one another, in microseconds since
     1970."""
     found = []
     for clip in clips:
-        for piece in reading.pieces():
+        part = reading.part(clip.id)
+        for piece in part.pieces():
             first, last = max(piece.first, clip.first), min(piece.last, clip.last)
             if first <= last:
-                found.append((reading.store.times[first], reading.store.times[last]))
+                found.append((part.time_of(first), part.time_of(last)))
     return sorted(found)
 
 
-def lack(reading: Reading, clips: list[Clip], since: int, until: int) -> str:
+def lack(reading: Reading | Ring, clips: list[Clip], since: int, until: int) -> str:
     """What is missing of a time from `since` to `until`, in a sentence; nothing where all is
     there."""
     period = round(1_000_000 / reading.geometry.rate())
@@ -63,9 +65,9 @@ def lack(reading: Reading, clips: list[Clip], since: int, until: int) -> str:
     )
 
 
-def before(reading: Reading, first: int, since: int) -> str:
+def before(reading: Reading | Ring, first: int, since: int) -> str:
     """Why the beginning is missing: the ring doesn't reach back so far, or no frames came then."""
-    oldest = reading.frames[0].time
+    oldest = reading.oldest().time
     if first > oldest and since >= oldest:
         return f"no frames came until {words.clock(first)}"
     return f"the ring held nothing from before {words.clock(first)}"

@@ -18,6 +18,7 @@ from .bundle import PARTS, Progress, entry, parts_in, stamp
 from .console import EVENTS, VIEW
 from .events import events_of
 from .films import Gathered
+from .laboratory import for_programs
 from .orders import NoStation
 from .others import Other
 from .push import Stream, message, view_of, whole
@@ -48,6 +49,7 @@ TOLD = (
     "ETag",
     "Retry-After",
     "X-Frame-Number",
+    "X-Frame-Store",
     "X-Frame-Time",
 )
 NAME = "[A-Za-z0-9_-]{1,32}"
@@ -161,8 +163,8 @@ class Stations:
         get("/api/event.zip", self.zip, allow_head=False)
         # A browser writes the mark as %3A.
         camera = rf"{{camera:{NAME}(?:{MARK}|%3A){NAME}}}"
-        frames = r"newest\.jpg|frame|frames/\d{1,19}(?:\.jpg|/value|/light|/picture)"
-        kinds = r"\d{1,2}\.(?:mp4|y4m|zip|csv|jpg)"
+        frames = r"newest\.jpg|frame|frames/(?:\d{1,3}\.)?\d{1,19}(?:\.jpg|/value|/light|/picture)"
+        kinds = r"\d{1,5}\.(?:mp4|y4m|zip|csv|jpg)"
         for method in ("GET", "HEAD"):
             add(method, f"/api/{{kind:cameras}}/{camera}/{{rest:{frames}}}", self.file)
             add(method, f"/api/{{kind:clips}}/{camera}/{{rest:{kinds}}}", self.file)
@@ -240,7 +242,7 @@ class Stations:
         await self.laboratory.fresh()
         found = state_of(self.laboratory.standing(), self.others)
         for camera in found["cameras"]:
-            camera.pop("pieces", None)
+            for_programs(camera)
         return web.json_response(found)
 
     async def clips(self, request: web.Request) -> web.Response:

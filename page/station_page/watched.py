@@ -6,7 +6,8 @@ from dataclasses import dataclass, field
 import layout
 
 from . import limits
-from .reader import Reader, Reading, Source
+from .reader import Reading, Source
+from .rings import Ring, Sources, Stores
 from .settings import Camera
 from .words import Status
 from .workers import Workers, looks_of
@@ -23,11 +24,13 @@ class Watched:
     """A camera, and what was seen of it last."""
 
     camera: Camera
-    reader: Reader
-    reading: Reading | None = None
-    source: Source | None = None
+    reader: Stores
+    reading: Reading | Ring | None = None
+    source: Source | Sources | None = None
     why: str = ""
     was_there: bool = False
+    # Whether one of its several stores couldn't be used when it was looked at last.
+    is_spoilt: bool = False
     status: Status | None = None
     # Why the station has no store of it, in the station's word; and how much of a store is made, in
     # percent.
@@ -81,14 +84,15 @@ class Watched:
         return self.newest[1] + int((time.monotonic() - self.changed) * 1e6)
 
     def look(self) -> None:
-        """Reads the store."""
+        """Reads its stores."""
         begun = time.monotonic()
         try:
             reading, source = self.reader.read()
         except (layout.Refused, OSError) as fault:
             self.reading, self.source, self.why, self.looked = None, None, str(fault), begun
             return
-        newest = (reading.frames[-1].number, reading.frames[-1].time) if reading.frames else None
+        frame = reading.newest()
+        newest = (frame.number, frame.time) if frame else None
         if newest != self.newest:
             self.has_moved = self.has_moved or not self.is_first
             self.newest, self.changed = newest, begun

@@ -33,8 +33,9 @@ MEMBERS = {
         "no_camera": "camera",
         "absent": "camera why",
         "store_absent": "camera why",
+        "one_absent": "camera path why",
         # What else stands in a list, the page reads in the store.
-        "camera": "camera #next",
+        "camera": "camera ?#store #next",
         "status": "camera #stored #given_up #waiting #behind_micros #room ?#keeps #faults source ?#gaps",
         "bad_order": "line",
         "help": "order",
@@ -63,6 +64,7 @@ MEMBERS = {
         "not_a_store": "camera path",
         "given_up": "camera #frames @since",
         "behind": "camera #micros",
+        "not_noted": "camera path",
         "no_answers": "path",
         "dropped_lines": "#lines",
     }.items()
@@ -93,6 +95,8 @@ WHY = {
     "Denied": "the station may not write there. Give its user the right",
     "Busy": "another program has the store open. End it",
     "Opening": "it is being opened. Wait a moment",
+    "OtherGeometry": "it is for other frames than the camera's newest store. Move it away, and a "
+        "store is made",
     "Moved": "another file has its path by now, or none. A store is made there",
     "Unfinished": "a store that wasn't finished is in the way. Move STORE.new away, and a store "
         "is made",
@@ -291,11 +295,22 @@ EVENTS = {
     ),
     "store_open": ("open", False, "{camera}: its store is open."),
     "store_absent": ("absent", True, "{camera} isn't recorded: {why}."),
+    "one_absent": (
+        "one absent",
+        True,
+        "{camera}: {path} can't be used: {why}. Its other stores go on.",
+    ),
     "not_a_store": (
         "not a store",
         True,
         "{camera}: {path} isn't a store, so nothing is recorded. Move it away, and a store is "
         "made.",
+    ),
+    "not_noted": (
+        "not noted",
+        True,
+        "{camera}: {path} can't be written, so a stop or a loss of power would end the keeps whose "
+        "end lies ahead. Make room on that disk.",
     ),
     "given_up": (
         "given up",

@@ -15,8 +15,9 @@ import pytest
 from conftest import LIMIT, until
 from PIL import Image
 from station_page import limits, pictures
-from station_page.eye import Eye, Look, Moments, newest_in
+from station_page.eye import Eye, Look, Moments
 from station_page.push import LEVELS, Pace, Stream, View, view_of
+from station_page.reader import Reading, newest_in
 from station_page.words import Unfit
 
 
@@ -305,10 +306,10 @@ def test_frames_are_found_by_their_times_also_where_the_clock_was_set_back():
         layout.Frame(number, number, 0, moment, 1)
         for number, moment in enumerate([100, 200, 300, 150, 250])
     ]
-    reading = types.SimpleNamespace(
-        frames=frames, geometry=layout.geometry_of(1, 1, b"GREY", 25, 1, 2, 2)
+    store = types.SimpleNamespace(
+        frames=frames, geometry=layout.geometry_of(1, 1, b"GREY", 25, 1, 2, 2), next=5, clips=[]
     )
-    moments = Moments(reading)
+    moments = Moments(Reading(store))
     assert [moments.at(it) and moments.at(it).number for it in (99, 100, 160, 250, 299, 300)] == [
         None,
         0,
@@ -357,12 +358,13 @@ def test_a_camera_whose_disk_hangs_stops_the_pictures_of_no_other_one(monkeypatc
 def test_pages_that_look_at_the_same_time_cost_one_picture():
     made = []
     watched = types.SimpleNamespace(camera=types.SimpleNamespace(name="left"), reading=None)
-    watched.source = types.SimpleNamespace(opened=types.SimpleNamespace(identity=1))
+    source = types.SimpleNamespace(opened=types.SimpleNamespace(identity=1))
+    watched.source = types.SimpleNamespace(of=lambda store: source)
     frame = layout.Frame(5, 5, 0, 50, 1)
 
     async def look():
         eye = Eye(watched)
-        eye.data = lambda number: (made.append(number), None)
+        eye.data = lambda number, store: (made.append(number), None)
         eye.draw = lambda geometry, data, frame, look: types.SimpleNamespace(
             body=b"x" * 1000, frame=frame, stretch=None
         )

@@ -6,7 +6,7 @@
 Each is a copy of page/ with one change of one place. The tests that need no page run over it first,
 and then those that it names. It prints a line for each body, and ends with 1 where one survives that
 isn't among those that README.md names. They are of the code that reads the station's lines, of
-events by number, of notes and of keeps."""
+events by number, of notes, of keeps and of several stores."""
 import os
 import shutil
 import subprocess
@@ -19,9 +19,11 @@ TOP = TESTS.parent.parent
 # The tests without a page that ought to find what is wrong in a file.
 UNITS = {
     "notes": ["notes", "limits"],
-    "heard": ["notes", "events", "right"],
+    "heard": ["notes", "events", "right", "rings"],
     "kept": ["notes", "keep", "right"],
-    "events": ["events"],
+    "events": ["events", "rings"],
+    "reader": ["rings", "push"],
+    "rings": ["rings"],
     "words": ["words", "events"],
     "laboratory": ["notes", "right"],
     "noting": ["notes", "right"],
@@ -29,7 +31,7 @@ UNITS = {
     "orders": ["notes", "alerts"],
 }
 # What starts a page, or more.
-FIXTURES = {"make", "shared", "kept", "closed", "absent", "page"}
+FIXTURES = {"make", "shared", "kept", "closed", "absent", "page", "lab"}
 
 # A body: its name, its file, what is changed to what, and the tests beside those without a page.
 GROWS, NOTED = "grows_and_keeps or has_grown", "note"
@@ -89,6 +91,25 @@ BODIES = [
     ("a_note_is_not_carried_to_the_end", "noting", "if not is_open and (name, number) in self.grown:", "if not is_open:", GROWS),
     ("any_clip_of_a_first_frame_is_the_longer_one", "laboratory", "return found[0] if len(found) == 1 else None", "return found[0] if found else None", GROWS),
     ("a_longer_clip_is_released_by_its_old_id", "laboratory", 'f"release {camera} {clip.id} {clip.first}"', 'f"release {camera} {id_} {clip.first}"', GROWS),
+    ("clips_of_all_stores_have_one_id", "reader", "layout.CLIPS * (among or 0)", "0", ""),
+    ("frames_of_all_stores_have_one_name", "reader", "return frame if self.among is None else", "return frame if True else", ""),
+    ("frames_go_by_numbers_alone", "reader", "self.places[place] if self.places else place", "place", ""),
+    ("a_longer_clip_is_in_any_store", "heard", " and clip.is_beside(id_)", "", ""),
+    ("the_same_numbers_in_two_stores_are_the_same_frames", "events", '            and store_of(it["id"]) == store_of(clip["id"])\n', "", ""),
+    ("clips_of_several_stores_go_by_their_numbers", "events", 'it["from_us"] * (counts[it["camera"]] > 1)', "0", ""),
+    ("the_oldest_store_has_the_newest_frame", "rings", "return max(parts.values(), key", "return min(parts.values(), key", ""),
+    ("a_block_goes_while_a_segment_is_free", "rings", "        if any(self.is_free(part) for part in self.each()):\n            return None\n", "", ""),
+    ("the_first_stores_block_goes", "rings", "until = min(found)", "until = found[0]", ""),
+    ("a_hole_parts_nothing", "rings", "run.since - found[-1].until > longest", "False", ""),
+    ("other_frames_are_in_the_ring", "rings", "if part.geometry[:5] != active.geometry[:5]:", "if False:", ""),
+    ("a_file_is_settled_at_once", "rings", "is_old and self.reading is not None", "True", ""),
+    ("any_file_at_the_path_is_read", "rings", "if found.identity != self.identity:", "if False:", ""),
+    ("all_files_stay_open", "rings", "            self.reader.opened, self.reader.known = None, Known()\n", "", ""),
+    ("the_oldest_file_is_read_first", "rings", "-(stamps[it.number]", "(stamps[it.number]", ""),
+    ("a_turn_is_seen_by_the_next_look_alone", "rings", "likely = [active.among, ring.next_store()]", "likely = [active.among]", ""),
+    ("steps_stay_in_a_store", "rings", "        wanted = self.before(found.time)", "        return part.near(number, by, store)\n        wanted = self.before(found.time)", ""),
+    ("a_store_that_is_away_stays", "rings", "            found = dict(numbered_of(self.path))\n", "            found = {n: it.path for n, it in self.members.items()} | dict(numbered_of(self.path))\n", ""),
+    ("nothing_is_recorded_while_another_store_is_made", "laboratory", " and not is_made", "", "records_while_others"),
     ("one_line_that_is_none_is_warned_of_for_ever", "orders", "        self.unread = 0\n        self.take(line)", "        self.take(line)", "unknown_lines or cannot_be_read"),
     ("others_answers_are_events", "orders", "        if line.label is None:\n", "        if line.label not in self.waiting:\n", "many_keeps or grows_and"),
     ("an_order_waits_for_a_station_that_has_ended", "orders", "                self.give_up()\n", "                pass\n", "ends_before"),

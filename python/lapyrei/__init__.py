@@ -68,7 +68,8 @@ if TYPE_CHECKING:
     from collections.abc import Sequence
 
     from .exports import Options, export
-    from .store import Clip, Event, Frames, Part, Path, Picture, Planes, Store
+    from .files import Path
+    from .store import Clip, Event, Frames, Part, Picture, Planes, Store
     from .writing import Writable, create
 
 __version__ = "0.1.0"

@@ -21,8 +21,9 @@ from numpy.typing import NDArray
 
 from . import __version__, films, layout, times
 from .errors import ExportFault, MissingPackage
+from .files import camera_of
 from .place import place_for
-from .store import Clip, Event, Frames, Planes, Store, camera_of
+from .store import Clip, Event, Frames, Planes, Store
 
 Array = NDArray[Any]
 Done = Callable[[int], None]

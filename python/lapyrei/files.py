@@ -7,16 +7,22 @@ look. A read has an answer instead: fewer bytes. It costs one copy, which the sy
 cache straight to the array that the caller gets."""
 from __future__ import annotations
 
+import contextlib
 import os
+import re
 import stat
 import time
 from collections.abc import Callable, Sequence
-from typing import Any, TypeVar
+from typing import Any, TypeVar, Union
 
 from . import layout
-from .errors import CannotOpen, Gone, Unsettled
+from .errors import CannotOpen, Gone, Unlike, Unsettled
 
 T = TypeVar("T")
+Path = Union[str, "os.PathLike[str]"]
+# One of several stores of a camera: left.000.loop. There are at most so many.
+NUMBERED = re.compile(r"(.*)\.[0-9]{3}", re.DOTALL)
+MOST_STORES = 256
 
 
 class StoreFile:
@@ -176,3 +182,48 @@ def read_steadily(opened: StoreFile, known: Known) -> layout.Store:
         except layout.Unsteady:
             time.sleep(0.002)
     raise Unsettled
+
+
+def camera_of(path: str) -> str:
+    """The name of the camera of a file."""
+    stem = os.path.basename(path).removesuffix(".loop")
+    numbered = NUMBERED.fullmatch(stem)
+    return numbered[1] if numbered else stem
+
+
+def numbered_of(path: str) -> list[tuple[int, str]]:
+    """The files of a camera that has several stores, by the path that its configuration names, each
+    with its number: of `left.loop` they are `left.000.loop` and those that follow, and of `left`
+    `left.000`. None where a file has that path itself: then it is the camera's only store."""
+    if os.path.lexists(path):
+        return []
+    folder, name = os.path.split(path)
+    stem, ending = name.removesuffix(".loop"), ".loop" * name.endswith(".loop")
+    wanted = re.compile(re.escape(stem) + r"\.([0-9]{3})" + re.escape(ending))
+    names: list[str] = []
+    with contextlib.suppress(OSError):
+        names = sorted(os.listdir(folder or "."))
+    found = [(int(it[1]), os.path.join(folder, it[0])) for it in map(wanted.fullmatch, names) if it]
+    return [it for it in found if it[0] < MOST_STORES]
+
+
+def files_of(where: Path | Sequence[Path]) -> list[str]:
+    """The files of a path: itself; all stores of a folder; or, of `left.loop` where that isn't
+    there, `left.000.loop` and those that follow, and so `left.000` of `left`. Those of several
+    paths, one after the other."""
+    if not isinstance(where, (str, os.PathLike)):
+        found = [path for it in where for path in files_of(it)]
+        if not found:
+            raise CannotOpen("no store is named")
+        return found
+    path = os.fspath(where)
+    if os.path.isdir(path):
+        names = sorted(it for it in os.listdir(path) if it.endswith(".loop"))
+        found = [os.path.join(path, it) for it in names]
+        cameras = sorted({camera_of(it) for it in found})
+        if not found:
+            raise CannotOpen("the folder has no store (*.loop)", path)
+        if len(cameras) > 1:
+            raise Unlike(f"the folder has stores of several cameras: {', '.join(cameras)}", path)
+        return found
+    return [it for _, it in numbered_of(path)] or [path]

@@ -6,7 +6,6 @@ import contextlib
 import datetime
 import operator
 import os
-import re
 from collections.abc import Iterator, Sequence
 from fractions import Fraction
 from typing import Any, NamedTuple, Union, overload
@@ -17,7 +16,6 @@ from numpy.typing import NDArray
 from . import colour, events, layout, times
 from .errors import (
     BadTime,
-    CannotOpen,
     Changed,
     Gone,
     MixedDepths,
@@ -26,11 +24,10 @@ from .errors import (
     UnknownDepth,
     Unlike,
 )
-from .files import Known, StoreFile, read_steadily
+from .files import Known, Path, StoreFile, camera_of, files_of, read_steadily
 
 Array = NDArray[Any]
 Time = Union[int, np.integer, str, datetime.datetime, np.datetime64]
-Path = Union[str, "os.PathLike[str]"]
 
 # What a frame's head says: its number, the camera's own count, V4L2's flags, the time in
 # microseconds, and its bytes.
@@ -44,8 +41,6 @@ HEADS = np.dtype(
     ]
 )
 LARGEST = np.iinfo(np.int64).max
-# One of several stores of a camera: left.000.loop.
-NUMBERED = re.compile(r"(.*)\.\d{3}$")
 
 
 class Planes(NamedTuple):
@@ -584,13 +579,6 @@ class Store(Frames):
         self.close()
 
 
-def camera_of(path: str) -> str:
-    """The name of the camera of a file."""
-    stem = os.path.basename(path).removesuffix(".loop")
-    numbered = NUMBERED.match(stem)
-    return numbered[1] if numbered else stem
-
-
 def check_alike(one: Part, other: Part) -> None:
     """Refuses files whose frames aren't alike."""
     texts = [
@@ -599,30 +587,3 @@ def check_alike(one: Part, other: Part) -> None:
     ]
     if texts[0] != texts[1]:
         raise Unlike(f"has frames of {texts[1]}, and {one.path} of {texts[0]}", other.path)
-
-
-def files_of(where: Path | Sequence[Path]) -> list[str]:
-    """The files of a path: itself; all stores of a folder; or, of `left.loop` where that isn't
-    there, `left.000.loop` and those that follow. Those of several paths, one after the other."""
-    if not isinstance(where, (str, os.PathLike)):
-        found = [path for it in where for path in files_of(it)]
-        if not found:
-            raise CannotOpen("no store is named")
-        return found
-    path = os.fspath(where)
-    if os.path.isdir(path):
-        names = sorted(it for it in os.listdir(path) if it.endswith(".loop"))
-        found = [os.path.join(path, it) for it in names]
-        cameras = sorted({camera_of(it) for it in found})
-        if not found:
-            raise CannotOpen("the folder has no store (*.loop)", path)
-        if len(cameras) > 1:
-            raise Unlike(f"the folder has stores of several cameras: {', '.join(cameras)}", path)
-        return found
-    if not os.path.lexists(path) and path.endswith(".loop"):
-        folder, stem = os.path.split(path.removesuffix(".loop"))
-        wanted = re.compile(re.escape(stem) + r"\.\d{3}\.loop")
-        with contextlib.suppress(OSError):
-            names = sorted(it for it in os.listdir(folder or ".") if wanted.fullmatch(it))
-            return [os.path.join(folder, it) for it in names] or [path]
-    return [path]

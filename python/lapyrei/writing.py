@@ -33,17 +33,16 @@ from .errors import (
     UnknownDepth,
     WrongSize,
 )
+from .files import Path, files_of
 from .store import (
     Array,
     Clip,
     Form,
     Frames,
-    Path,
     Picture,
     Planes,
     Store,
     Time,
-    files_of,
     form_of,
 )
 

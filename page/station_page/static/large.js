@@ -163,7 +163,7 @@ export class Large {
     this.place();
     if (this.isAsking) return;
     this.isAsking = true;
-    const { x, y } = this.point, { camera, number } = this.head;
+    const { x, y } = this.point, { camera } = this.head, number = nameOf(this.head);
     try {
       const found = await ask(`/api/cameras/${encodeURIComponent(camera)}/frames/${number}/value?x=${x}&y=${y}`);
       if (this.point && camera === this.name) {
@@ -196,7 +196,7 @@ export class Large {
     const now = performance.now();
     if (now - this.lit < LIGHT_EVERY || !this.head) return;
     this.lit = now;
-    const { camera, number } = this.head;
+    const { camera } = this.head, number = nameOf(this.head);
     const found = await ask(`/api/cameras/${encodeURIComponent(camera)}/frames/${number}/light`).catch(() => null);
     if (!found || camera !== this.name) return;
     this.light = found;
@@ -266,12 +266,15 @@ export class Large {
   }
 }
 
+/** A frame's name within its camera: its number, and before it its store's where there are several. */
+const nameOf = ({ store, number }) => (store === undefined ? number : `${store}.${number}`);
+
 /** The gaps of a camera's held frames. */
 function gapWords(camera) {
   const pieces = camera.pieces || [], holes = [];
   for (let place = 1; place < pieces.length; place++) {
-    const [, last, , until] = pieces[place - 1], [first, , since] = pieces[place];
-    if (first === last + 1) holes.push([until, since]);
+    const [, last, , until, , store] = pieces[place - 1], [first, , since, , other] = pieces[place];
+    if (first === last + 1 && store === other) holes.push([until, since]);
   }
   if (!holes.length) return "none";
   const [from, to] = holes.at(-1);

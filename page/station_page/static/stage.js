@@ -97,13 +97,15 @@ class Tile {
     pen.fillStyle = "#26333f";
     pen.fillRect(0, 0, width, height);
     if (!camera.oldest || !camera.frames) return;
-    const first = camera.oldest[0], wide = Math.max(1, camera.newest[0] - first);
+    // Of several stores times are in order, and numbers aren't.
+    const by = camera.stores ? 1 : 0;
+    const first = camera.oldest[by], wide = Math.max(1, camera.newest[by] - first);
     const fill = (from, to, style) => {
       pen.fillStyle = style;
       pen.fillRect((from - first) / wide * width, 0, Math.max(2, (to - from) / wide * width), height);
     };
-    for (const [from, to] of camera.pieces) fill(from, to, "#4da3ff");
-    for (const [, from, to] of camera.clips) fill(from, to, "#b48cff");
+    for (const piece of camera.pieces) fill(piece[2 * by], piece[2 * by + 1], "#4da3ff");
+    for (const clip of camera.clips) fill(clip[2 * by + 1], clip[2 * by + 2], "#b48cff");
   }
 }
 

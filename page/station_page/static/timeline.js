@@ -350,7 +350,8 @@ export class Timeline {
 /** The time of the block that is overwritten next. */
 export function nextOf(camera) {
   if (!camera.removed_next) return null;
-  const [first, last] = camera.removed_next;
+  const [first, last, store, from, to] = camera.removed_next;
+  if (store !== undefined) return [from, to];
   const piece = camera.pieces.find((it) => it[0] <= last && it[1] >= first);
   if (!piece) return null;
   const [begin, end, since, until] = piece;
