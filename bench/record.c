@@ -9,7 +9,10 @@
 #include "store.h"
 #include <pthread.h>
 
-enum { PLACES = 64, GROUP = 8 };
+#ifndef MOST
+#define MOST 8
+#endif
+enum { PLACES = 64, GROUP = MOST };
 
 /* The frames that wait, the first one's place, how many wait, and whether none comes any more. */
 static struct {
