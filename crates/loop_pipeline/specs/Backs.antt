@@ -143,7 +143,8 @@ pub record SeenBack (D A : Type 0) : Type 0 where
   pub active : ℕ
 
 -- the desk at a place goes on so, and all else stays
-pub record GoesAt {D A : Type 0} (place : ℕ) (old new : SeenBack D A) (P : SeenDesk D → SeenDesk D → Type 0) : Type 0 where
+pub record GoesAt {D A : Type 0} (place : ℕ) (old new : SeenBack D A) (P : SeenDesk D → SeenDesk D → Type 0)
+    : Type 0 where
   pub before : SeenDesk D
   pub after : SeenDesk D
   pub at : slice_get old.desks place ≡ Some before
@@ -173,7 +174,8 @@ turned place back = record back { active = place }
 abbrev pub joined : {D A : Type 0} → SeenDesk D → SeenBack D A → SeenBack D A
 joined desk back = record back { began = back.began ++ desk ∷ []; desks = back.desks ++ desk ∷ [] }
 
--- Some desks joined; none where the door is shut. Those that were there may have gone on, and another one may be active.
+-- Some desks joined; none where the door is shut. Those that were there may have gone on, and another one may be
+-- active.
 pub record Joins {D A : Type 0} (shut : Type 0) (old new : SeenBack D A) : Type 0 where
   pub others : List (SeenDesk D)
   pub none : shut → others ≡ []

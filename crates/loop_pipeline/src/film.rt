@@ -564,8 +564,8 @@ pub enum Unfilmed<S: FrameSource + Drop, D: Disk + Drop, P: PlaneMemory> {
 }
 
 /// Films a camera until its guide or its source ends it and nothing is left to flush. The front runs in a new thread of
-/// this scope, the back in the caller's thread. Desks that are put at the door meanwhile join the camera's own, which has
-/// 256 at most. The link may serve no other camera meanwhile.
+/// this scope, the back in the caller's thread. Desks that are put at the door meanwhile join the camera's own, which
+/// has 256 at most. The link may serve no other camera meanwhile.
 pub fn film_desks<
     's,
     E,

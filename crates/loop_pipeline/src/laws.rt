@@ -12,9 +12,9 @@ use loop_capture::FrameSource;
 use loop_disk::Disk;
 use loop_plane::PlaneMemory;
 
-/// The calls by which each of a camera's desks has gone on are a legal history of it, without pixels: each answer is the
-/// one of the plain recorder at its point, the desk stands for the state after them, and calls of its disk have failed
-/// just as the answers say.
+/// The calls by which each of a camera's desks has gone on are a legal history of it, without pixels: each answer is
+/// the one of the plain recorder at its point, the desk stands for the state after them, and calls of its disk have
+/// failed just as the answers say.
 pub fn a_camera_is_legal<S: FrameSource + Drop, D: Disk + Drop, P: PlaneMemory, G: Guide>(
     before: &Camera<S, D, P>,
     after: &Camera<S, D, P>,
@@ -41,8 +41,8 @@ pub fn one_desk_has_all<S: FrameSource + Drop, D: Disk + Drop, P: PlaneMemory, G
         → OneDeskKeeps D.medium G.asks G.gives_up before.now.desk after.now kept.came left }
 {}
 
-/// Of all stores of a camera, no held frame of a block that may go is older than the first frame of the block that goes,
-/// if in each store the times rise with the numbers.
+/// Of all stores of a camera, no held frame of a block that may go is older than the first frame of the block that
+/// goes, if in each store the times rise with the numbers.
 pub fn the_oldest_goes()
     ensures { OldestGoes }
 {}

@@ -2,15 +2,8 @@
 
 ghost use Rattle.std.specs.Prelude.{◌≡◌, ◌≤◌};
 
-use crate::absent::Absent;
-use crate::answering::Message;
-use crate::clerk::FoundClip;
-use crate::feed::FeedSource;
 use crate::notes::read_events;
 use crate::opening::{OpenStore, Opened, member_of, open_first, open_others};
-use crate::outlet::Outlet;
-use crate::places::Places;
-use crate::state::CameraState;
 use loop_capture::Device;
 use loop_desk::{Desk, DeskLimits};
 use loop_file::FileDisk;
@@ -19,7 +12,9 @@ use loop_pipeline::{
 };
 use loop_plane::HeapPlane;
 use loop_record::Geometry;
+use loop_station_camera::CameraState;
 use loop_station_core::{Act, FilmingEvent, Keep, OpenEvent, bits_of, is_saved_at_start};
+use loop_station_parts::{Absent, FeedSource, FoundClip, Message, Outlet, Places};
 use loop_station_words::{RingSize, size_of};
 use loop_store::{Clip, Store, StoreFault};
 use std::alloc::{AllocGlobal, Global};
@@ -97,9 +92,8 @@ fn rest<R: Wait + Clock>(rt: &R, state: &CameraState, why: Absent) {
     state.leave(rt, why);
     match state.life.on(rt, FilmingEvent::Leave) {
         Act::MakeAnew => {
-            // A store is made anew for the frames that come, once that is told.
-            state.life.lose_store(rt);
-            state.desk.begin_anew(rt);
+            // A store is made anew, once that is told.
+            state.begin_anew(rt);
             thread::sleep(rt, Duration::from_millis(MOVED_AGAIN));
         }
         Act::OpenAgain => thread::sleep(rt, Duration::from_millis(OPEN_AGAIN)),
@@ -169,14 +163,8 @@ fn film_into<R: AllocGlobal + Places + Threads + Wait + Clock + Sync, W: Write +
         there,
         wanted,
     } = opened;
-    let (geometry, next) = (store.geometry(), store.next());
-    let newest = store.read_head(next.saturating_sub(1)).ok();
-    let bits = newest.map(|head| bits_of(head.flags));
-    if !state.life.set_store(rt, geometry, bits) {
-        // They came before the store was there, and no store takes them.
-        state.feed.clear(rt);
-        state.lose_rest(rt);
-    }
+    let geometry = store.geometry();
+    take_store(rt, state, &mut store);
     let member = match member_of(rt, state, number, &store) {
         Ok(member) => member,
         Err(why) => return why,
@@ -193,8 +181,6 @@ fn film_into<R: AllocGlobal + Places + Threads + Wait + Clock + Sync, W: Write +
         return Absent::NoBuffers;
     };
     state.begin(rt, member, wanted, there.len() > 1);
-    // Events that went on while the stores were opened again have clips here.
-    state.desk.adopt(rt, 0, state);
     go_on_with(rt, state, events.as_slice());
     let before = state.tally(rt).lost();
     let rest = Unopened {
@@ -209,6 +195,16 @@ fn film_into<R: AllocGlobal + Places + Threads + Wait + Clock + Sync, W: Write +
     count_lost(rt, state, before, &filmed);
     state.lose_rest(rt);
     why_ended(rt, state, filmed)
+}
+
+// A camera has its store. Frames that came before it was there and that it doesn't take are lost.
+fn take_store<R: Wait>(rt: &R, state: &CameraState, store: &mut Store<FileDisk>) {
+    let newest = store.read_head(store.next().saturating_sub(1)).ok();
+    let bits = newest.map(|head| bits_of(head.flags));
+    if !state.life.set_store(rt, store.geometry(), bits) {
+        state.feed.clear(rt);
+        state.lose_rest(rt);
+    }
 }
 
 // What the thread that opens the other stores begins with.
@@ -260,7 +256,7 @@ pub(crate) fn tell_clips<R: AllocGlobal + Wait>(
 fn go_on_with<R: AllocGlobal + Wait + Clock>(rt: &R, state: &CameraState, events: &[OpenEvent]) {
     let alloc = rt.alloc();
     for event in events {
-        if state.desk.has_event(rt, event.event) {
+        if state.has_event(rt, event.event) {
             continue;
         }
         let mut lines = state.lines(alloc);

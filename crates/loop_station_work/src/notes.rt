@@ -1,13 +1,13 @@
 //! The files of open events. While an event's end lies ahead, STORE.events beside the camera's store has a line for it,
-//! `EVENT SINCE UNTIL TAG`, so that the next start goes on with it after a stop or a loss of power. A file that can't be
-//! written is told once, and tried again each second: stores have their room, but a disk may have none for this file.
+//! `EVENT SINCE UNTIL TAG`, so that the next start goes on with it after a stop or a loss of power. A file that can't
+//! be written is told once, and tried again each second: stores have their room, but a disk may have none for this
+//! file.
 
-use crate::answering::Note;
 use crate::orders::Station;
-use crate::places::Places;
 use loop_script::number::number;
 use loop_script::print_parts;
 use loop_station_core::OpenEvent;
+use loop_station_parts::{Note, Places};
 use std::alloc::{AllocGlobal, Global};
 use std::io::Write;
 use std::sync::Wait;
@@ -71,7 +71,8 @@ fn try_again<R: AllocGlobal + Places + Wait, W: Write + Drop>(
     write_or_keep(rt, station, unwritten, camera, events, true);
 }
 
-// Writes the file of a camera's events. Where that fails, they are kept for the next try, and it is told, unless it was.
+// Writes the file of a camera's events. Where that fails, they are kept for the next try, and it is told, unless it
+// was.
 fn write_or_keep<R: AllocGlobal + Places + Wait, W: Write + Drop>(
     rt: &R,
     station: &Station<W>,

@@ -1,16 +1,12 @@
 //! Orders: they are read line by line, and handed to the cameras that they mean. The thread that reads them waits for
 //! no camera, no disk and no reader: what a line says of time is said of the moment at which it was read.
 
-use crate::answering::{Answering, Message, NotTaken, Posts};
-use crate::clock::Timeline;
-use crate::jobs::{AskedKeep, Job, Request};
-use crate::outlet::Outlet;
-use crate::places::Places;
-use crate::replies::tell_status;
-use crate::save::Saves;
-use crate::state::CameraState;
 use loop_script::{MAX_LINE, next_line};
+use loop_station_camera::{CameraState, Saves, tell_status};
 use loop_station_core::{KeepPeriod, Numbers, asked_time, is_too_far, tag_of};
+use loop_station_parts::{
+    Answering, AskedKeep, Job, Message, NotTaken, Outlet, Places, Posts, Request, Timeline,
+};
 use loop_station_words::{Lines, Name, Order, label_of, read_order};
 use std::alloc::{AllocError, AllocGlobal, Global};
 use std::io::{BufRead, Write};

@@ -1,9 +1,9 @@
 //! The printer's thread: it prints the answers to orders and what is told without one, each order's lines together, and
 //! begins the saves. So a keep's `kept` comes before the `saved` of its clips. It asks no disk.
 
-use crate::answering::{Answering, KeptClip, Message};
 use crate::orders::Station;
-use crate::save::{NotSaved, automatic, begin, tell_ended};
+use loop_station_camera::{automatic, begin, tell_ended};
+use loop_station_parts::{Answering, KeptClip, Message, NotSaved};
 use std::alloc::AllocGlobal;
 use std::io::Write;
 use std::sync::Wait;

@@ -1,22 +1,19 @@
 //! The program: threads for each camera, and orders meanwhile.
 
-use crate::answering::{Message, Note, Posts};
-use crate::clock::Timeline;
 use crate::events::LastReported;
 use crate::filming::run_camera;
 use crate::notes::run_notes;
 use crate::opening::has_stores;
 use crate::orders::{Station, status, take_orders};
-use crate::outlet::{Outlet, run_outlet};
-use crate::places::{PathKind, Places};
 use crate::printer::{run_printer, stop_saves};
-use crate::save::{MOST_SAVES, Saves, begin, run_saves};
 use crate::source::{known_frames, run_source};
-use crate::state::CameraState;
-use crate::tap::{Tap, run_tap};
 use crate::watch::run_watch;
 use loop_script::MAX_LINE;
+use loop_station_camera::{CameraState, MOST_SAVES, Saves, begin, run_saves};
 use loop_station_core::Numbers;
+use loop_station_parts::{
+    Message, Note, Outlet, PathKind, Places, Posts, Tap, Timeline, run_outlet, run_tap,
+};
 use loop_station_words::{AnswersForm, CameraConfig, Config, Lines, NoRing, Source, asked_set};
 use std::alloc::{AllocError, AllocGlobal, Global};
 use std::io::{BufReader, Read, Write};
@@ -457,8 +454,8 @@ fn start_cameras<
     handles.push(handle).is_ok()
 }
 
-// Tells events of the cameras, wakes the threads that an open event or a release waits for, tries saves again, and shows
-// the status of each camera every second where someone watches, until the program ends.
+// Tells events of the cameras, wakes the threads that an open event or a release waits for, tries saves again, and
+// shows the status of each camera every second where someone watches, until the program ends.
 fn watch<R: AllocGlobal + Wait + Clock, W: Write + Drop>(
     rt: &R,
     station: &Station<W>,
@@ -497,9 +494,7 @@ fn look<R: AllocGlobal + Wait + Clock, W: Write + Drop>(
 ) {
     let mut place = 0usize;
     for state in station.cameras.as_slice() {
-        if state.desk.has_more(rt) {
-            state.threads.wake(rt);
-        }
+        state.wake_to_go_on(rt);
         if let Some(reported) = reported.get_mut(place) {
             let mut lines = station.lines();
             // Where memory for the lines is refused, they aren't printed.

@@ -8,16 +8,12 @@
 
 ghost use Rattle.std.specs.Prelude.{◌≡◌, IfSome, length};
 
-use crate::feed::Said;
-use crate::input::{Input, find_header};
-use crate::outlet::Outlet;
-use crate::places::{PathKind, Places};
-use crate::state::CameraState;
-use crate::times::{said_of, tell_other};
 use loop_capture::{FrameSource, Pattern};
 use loop_desk::frame_memory;
 use loop_record::Geometry;
+use loop_station_camera::{CameraState, said_of, tell_other};
 use loop_station_core::{Act, SourceEvent};
+use loop_station_parts::{Input, Outlet, PathKind, Places, Said, find_header};
 use loop_station_words::{RingSize, Source, frames_before, size_of};
 use loop_y4m::{FrameLine, GeometryFault, Y4mFault, Y4mReader};
 use std::alloc::AllocGlobal;

@@ -2,9 +2,9 @@
 //! second whether each store is still where it belongs.
 
 use crate::orders::Station;
-use crate::places::Places;
-use crate::state::CameraState;
+use loop_station_camera::CameraState;
 use loop_station_core::{is_moved, stood_still};
+use loop_station_parts::Places;
 use std::alloc::AllocGlobal;
 use std::io::Write;
 use std::sync::Wait;

@@ -1,0 +1,172 @@
+-- Several desks whose frames of a time are locked, and one more.
+use Rattle.std.proofs.Common.{◌≡◌, ◌≢◌, ◌<◌, ◌≤◌, ◌⊎◌, inl, inr, ℕ, ◌+◌, Bool, true, false, if◌then◌else◌, List, [], ◌∷◌, ◌++◌, All, length, map, slice_get, slice_set, Option, None, Some, refl, sym, ap, ◌∙◌, subst, arith}
+use Rattle.std.specs.List.{flat_map}
+use Rattle.std.proofs.lemmas.Grind.{flat_map-append}
+use Rattle.std.proofs.lemmas.List.{append-nil, length-append, length-set}
+use Rattle.std.proofs.lemmas.List.Elements.{All-append, All-cons, All-nil}
+use Rattle.loop_clips.specs.declared.clip.Clip.{Clip}
+use Rattle.loop_disk.specs.Medium.{Medium}
+use Rattle.loop_record.specs.declared.times.Times.{Times}
+use Rattle.loop_store.specs.declared.fault.StoreFault.{StoreFault}
+use Rattle.loop_store.specs.declared.fault.StoreFault.TheVariants.{NoMemory}
+use Rattle.loop_desk.specs.declared.keep.Kept.{Kept}
+use Rattle.loop_desk.specs.Keeps.{KeepsTime}
+use Rattle.loop_desk.specs.Seen.{SeenDesk}
+use Rattle.loop_pipeline.specs.Backs.{GoesAt, SeenBack}
+use Rattle.loop_pipeline.proofs.DeskPlaces.{there-now}
+use Rattle.loop_pipeline.proofs.Places.{get-joined, get-set-other, some-same}
+use Rattle.loop_station_camera.specs.Keeping.{PlaceKept, StoresAll, StoresAndKeepsEach, TakesKept, clips_of, fault_of, first_fault, known, or_fault}
+
+-- the first desks, so many, are done
+pub record KeepsFirst {D A : Type 0} (medium : D → Medium) (times : Times) (tag : ℕ) (count : ℕ) (between new : SeenBack D A)
+    (kept : Kept A) : Type 0 where
+  pub parts : List (PlaceKept A)
+  pub all : length parts ≡ count
+  pub keeps : (place : ℕ) (d e : SeenDesk D) (part : PlaceKept A) → slice_get between.desks place ≡ Some d
+      → slice_get new.desks place ≡ Some e → slice_get parts place ≡ Some part → KeepsTime medium times tag d e part.kept
+  pub rest : (place : ℕ) (d : SeenDesk D) → count ≤ place → slice_get new.desks place ≡ Some d
+      → slice_get between.desks place ≡ Some d
+  pub numbers : All (λ part. part.number < 256) parts
+  pub clips : kept.clips.items ≡ flat_map clips_of parts
+  pub fault : kept.fault ≡ first_fault (map fault_of parts)
+  pub none : kept.clips.items ≡ [] → All (λ part. part.named ≡ true) parts
+  pub still : length new.desks ≡ length between.desks
+  pub same : new ≡ record between { desks = new.desks }
+
+-- ---- lists
+
+all-more : {X : Type 0} (P : X → Type 0) (xs : List X) (x : X) → All P xs → P x → All P (xs ++ x ∷ [])
+all-more P xs x all is = All-append P xs (x ∷ []) all (All-cons P x [] is (All-nil P))
+
+flat-more : {X Y : Type 0} (f : X → List Y) (xs : List X) (x : X) → flat_map f (xs ++ x ∷ []) ≡ flat_map f xs ++ f x
+flat-more f xs x = flat_map-append f xs (x ∷ []) ∙ ap (λ l. flat_map f xs ++ l) (append-nil (f x))
+
+nothing-there : {X : Type 0} (i : ℕ) (x : X) → slice_get [] i ≡ Some x → ⊥
+nothing-there i x e = cc
+
+or-none : (fault : Option StoreFault) → or_fault fault None ≡ fault
+or-none None = refl
+or-none (Some fault) = refl
+
+or-or : (a b c : Option StoreFault) → or_fault (or_fault a b) c ≡ or_fault a (or_fault b c)
+or-or None b c = refl
+or-or (Some a) b c = refl
+
+first-more : {X : Type 0} (f : X → Option StoreFault) (xs : List X) (x : X)
+    → first_fault (map f (xs ++ x ∷ [])) ≡ or_fault (first_fault (map f xs)) (f x)
+first-more f [] x = or-none (f x)
+first-more f (y ∷ ys) x =
+    ap (λ r. or_fault (f y) r) (first-more f ys x) ∙ sym (or-or (f y) (first_fault (map f ys)) (f x))
+
+nil-first : {X : Type 0} (xs ys : List X) → xs ++ ys ≡ [] → xs ≡ []
+nil-first [] ys e = refl
+nil-first (x ∷ xs) ys e = absurd (cc)
+
+-- ---- one desk's clips, after those of others
+
+pub takes : {A : Type 0} (kept old new : Kept A) (number : ℕ) (named : Bool) (told : List Clip) → number < 256
+    → told ≡ map (known number) kept.clips.items → (named ≡ true → new.clips.items ≡ old.clips.items ++ told)
+    → (named ≡ false → (new.clips.items ≡ old.clips.items) × (old.clips.items ≢ []))
+    → new.fault ≡ or_fault old.fault (if named then kept.fault else Some NoMemory) → TakesKept kept old new
+takes kept old new number true told inside is done refused why = record {
+  part = record { kept = kept; number = number; named = true };
+  of = refl;
+  number = inside;
+  clips = done refl ∙ ap (λ l. old.clips.items ++ l) is;
+  fault = why;
+  first = λ empty. refl;
+}
+takes kept old new number false told inside is done refused why = record {
+  part = record { kept = kept; number = number; named = false };
+  of = refl;
+  number = inside;
+  clips = (refused refl).0 ∙ sym (append-nil old.clips.items);
+  fault = why;
+  first = λ empty. absurd ((refused refl).1 empty);
+}
+
+-- ---- desks
+
+module _ {D A : Type 0} (medium : D → Medium) (times : Times) (tag : ℕ) where
+  -- none is done yet
+  pub none-kept : (back : SeenBack D A) (kept : Kept A) → kept.clips.items ≡ [] → kept.fault ≡ None
+      → KeepsFirst medium times tag 0 back back kept
+  none-kept back kept empty faultless = record {
+    parts = [];
+    all = refl;
+    keeps = λ place d e part was is there. absurd (nothing-there place part there);
+    rest = λ place d later is. is;
+    numbers = All-nil (λ part. part.number < 256);
+    clips = empty;
+    fault = faultless;
+    none = λ e. All-nil (λ part. part.named ≡ true);
+    still = refl;
+    same = refl;
+  }
+
+  module _ (count : ℕ) (between mid new : SeenBack D A) (kept here next : Kept A)
+      (so : KeepsFirst medium times tag count between mid kept)
+      (goes : GoesAt count mid new (λ d e. KeepsTime medium times tag d e here)) (takes : TakesKept here kept next) where
+    desks : new.desks ≡ slice_set mid.desks count goes.after
+    desks = ap (λ (b : SeenBack D A). b.desks) goes.same
+
+    -- at another place nothing changed
+    other : (place : ℕ) (e : SeenDesk D) → place ≢ count → slice_get new.desks place ≡ Some e → slice_get mid.desks place ≡ Some e
+    other place e apart is =
+        get-set-other mid.desks count place goes.after e apart (subst (λ l. slice_get l place ≡ Some e) desks is)
+
+    keeps-more : (place : ℕ) (d e : SeenDesk D) (part : PlaceKept A) → slice_get between.desks place ≡ Some d
+        → slice_get new.desks place ≡ Some e
+        → ((place < length so.parts) × (slice_get so.parts place ≡ Some part)) ⊎ ((place ≡ length so.parts) × (part ≡ takes.part))
+        → KeepsTime medium times tag d e part.kept
+    keeps-more place d e part was is (inl before) =
+        let apart : place ≢ count = omega (arith, before.0, so.all) in
+        so.keeps place d e part was (other place e apart is) before.1
+    keeps-more place d e part was is (inr last) =
+        let at : place ≡ count = last.0 ∙ so.all in
+        let before : goes.before ≡ d =
+        some-same goes.before d
+        (sym (so.rest count goes.before (omega arith) goes.at) ∙ subst (λ n. slice_get between.desks n ≡ Some d) at was) in
+        let after : goes.after ≡ e =
+        some-same goes.after e (sym (there-now mid new count _ goes) ∙ subst (λ n. slice_get new.desks n ≡ Some e) at is) in
+        subst (λ k. KeepsTime medium times tag d e k) (sym takes.of ∙ sym (ap (λ (p : PlaceKept A). p.kept) last.1))
+        (subst (λ f. KeepsTime medium times tag d f here) after
+        (subst (λ f. KeepsTime medium times tag f goes.after here) before goes.goes))
+
+    -- and one desk more
+    pub one-kept : KeepsFirst medium times tag (count + 1) between new next
+    one-kept = record {
+      parts = so.parts ++ takes.part ∷ [];
+      all = omega (arith, length-append so.parts (takes.part ∷ []), so.all);
+      keeps = λ place d e part was is there.
+          keeps-more place d e part was is (get-joined so.parts takes.part part place there);
+      rest = λ place d later is.
+          so.rest place d (omega (arith, later)) (let apart : place ≢ count = omega (arith, later) in other place d apart is);
+      numbers = all-more (λ part. part.number < 256) so.parts takes.part so.numbers takes.number;
+      clips = takes.clips ∙ (ap (λ l. l ++ clips_of takes.part) so.clips ∙ sym (flat-more clips_of so.parts takes.part));
+      fault = takes.fault ∙ (ap (λ f. or_fault f (fault_of takes.part)) so.fault ∙ sym (first-more fault_of so.parts takes.part));
+      none = λ empty.
+          let nothing : kept.clips.items ≡ [] = nil-first kept.clips.items (clips_of takes.part) (sym takes.clips ∙ empty) in
+          all-more (λ part. part.named ≡ true) so.parts takes.part (so.none nothing) (takes.first nothing);
+      still = ap length desks ∙ (length-set mid.desks count goes.after ∙ so.still);
+      same = goes.same ∙ (ap (λ (b : SeenBack D A). record b { desks = slice_set mid.desks count goes.after }) so.same
+          ∙ ap (λ (l : List (SeenDesk D)). record between { desks = l }) (sym desks));
+    }
+
+  -- all are done, after the active desk stored what waited
+  pub each-kept : (old between new : SeenBack D A) (kept : Kept A) (refused : Option StoreFault) (count : ℕ)
+      → GoesAt old.active old between (λ d e. StoresAll medium d e refused) → count ≡ length between.desks
+      → KeepsFirst medium times tag count between new kept → StoresAndKeepsEach medium times tag old new kept refused
+  each-kept old between new kept refused count stores all so = record {
+    between = between;
+    stores = stores;
+    parts = so.parts;
+    all = so.all ∙ all;
+    keeps = so.keeps;
+    numbers = so.numbers;
+    clips = so.clips;
+    fault = so.fault;
+    none = so.none;
+    still = so.still;
+    same = so.same;
+  }

@@ -1,0 +1,4 @@
+pub mod SaveFrames
+pub mod FlushRuns
+pub mod KeepRuns
+pub mod Served

@@ -1,0 +1,297 @@
+//! Events whose end lies ahead: what is there is locked at once, and the rest as it comes.
+
+use crate::clerk::Waiting;
+use crate::state::CameraState;
+use circular_buffer::HeapCircularBuffer;
+use loop_desk::Kept;
+use loop_station_core::{ClipSpan, Keep, SaveKey, is_covered};
+use loop_station_parts::store_of;
+use loop_store::{Clip, StoreFault};
+use std::alloc::{AllocError, Global};
+use std::sync::{Mutex, Wait};
+
+/// How many events of a camera may be open at once.
+pub(crate) const MOST_OPEN: usize = 16;
+
+/// An event of which a part is locked, of one camera.
+#[derive(Drop)]
+pub(crate) struct Growing {
+    pub keep: Keep,
+    // What is locked of it.
+    clips: Vec<Clip>,
+    // Clips that a longer one covers: they are released one after the other.
+    covered: Vec<u32>,
+    // Why not all that is there could be locked.
+    fault: Option<StoreFault>,
+    // Its end is over, and locked.
+    is_done: bool,
+    // The numbers of the stores in which all that they held of it was locked, each with its next number then.
+    settled: Vec<(u32, u64)>,
+}
+
+impl Growing {
+    /// An event of which these clips are locked.
+    pub fn new(alloc: Global, keep: Keep, clips: Vec<Clip>) -> Growing {
+        Growing {
+            keep,
+            clips,
+            covered: Vec::new(alloc),
+            fault: None,
+            is_done: false,
+            settled: Vec::new(alloc),
+        }
+    }
+
+    /// Its camera's store was moved away, with all that is locked of it, and another one is made.
+    fn begin_anew(&mut self) {
+        self.keep = self.keep.anew();
+        self.clips.clear();
+        self.covered.clear();
+        self.settled.clear();
+    }
+
+    /// Whether all that the store of a number holds of it is locked, where its next number is this one.
+    pub fn is_settled(&self, store: u32, next: u64) -> bool {
+        self.settled
+            .iter()
+            .any(|known| known.0 == store && known.1 == next)
+    }
+
+    /// All that the store of a number holds of it is locked, up to this next number.
+    pub fn settle(&mut self, store: u32, next: u64) {
+        self.unsettle(store);
+        // Where memory is refused, it is locked once more.
+        let _again = self.settled.push((store, next));
+    }
+
+    /// What the store of a number holds of it may be locked no more.
+    pub fn unsettle(&mut self, store: u32) {
+        if let Some(at) = self.settled.iter().position(|known| known.0 == store) {
+            self.settled.remove(at);
+        }
+    }
+
+    /// Whether a longer clip of it covers one that isn't released yet.
+    pub fn has_covered(&self) -> bool {
+        !self.covered.is_empty()
+    }
+
+    /// A clip of it that a longer one covers, and that isn't released yet.
+    pub fn next_covered(&mut self) -> Option<u32> {
+        self.covered.pop()
+    }
+
+    /// Whether it is locked to its end.
+    pub fn is_done(&self) -> bool {
+        self.is_done
+    }
+
+    /// Why not all that is there could be locked.
+    pub fn fault(&self) -> Option<StoreFault> {
+        self.fault
+    }
+
+    /// These clips of it are in a store that was opened. Those that it knows already stay as they are: a clip that is
+    /// released twice may be another one by then.
+    pub fn adopt(&mut self, clips: &[Clip]) {
+        for clip in clips {
+            if !self.knows(clip.id) {
+                // Where memory is refused, the clip stays locked, and isn't named at the end.
+                let _unnamed = self.clips.push(*clip);
+            }
+        }
+    }
+
+    // Whether the clip of an id is one of it, or is to be released.
+    fn knows(&self, id: u32) -> bool {
+        self.clips.iter().any(|clip| clip.id == id) || self.covered.iter().any(|known| *known == id)
+    }
+
+    /// What is locked of it.
+    pub fn clips(&self) -> &[Clip] {
+        self.clips.as_slice()
+    }
+
+    /// Further clips of it were locked, or refused. Clips of before that lie within one of these are to be released.
+    pub fn lengthen(
+        &mut self,
+        alloc: Global,
+        kept: Kept,
+        refused: Option<StoreFault>,
+        is_whole: bool,
+    ) {
+        let Kept { clips, fault } = kept;
+        let before = std::mem::replace(&mut self.clips, clips);
+        let mut others = Vec::new(alloc);
+        for clip in before {
+            if is_covered_by(&clip, self.clips.as_slice()) {
+                // Where memory is refused, the clip stays locked.
+                let _stays = self.covered.push(clip.id);
+            } else {
+                // Where memory is refused, the clip stays locked, and isn't named at the end.
+                let _unnamed = others.push(clip);
+            }
+        }
+        // As above.
+        let _unnamed = self.clips.extend_from_slice(&others);
+        self.fault = match fault {
+            Some(fault) => Some(fault),
+            None => refused,
+        };
+        self.is_done = is_whole;
+    }
+}
+
+// Whether a clip lies within one of others of its store.
+fn is_covered_by(clip: &Clip, others: &[Clip]) -> bool {
+    let span = span_of(clip);
+    others.iter().any(|other| store_of(other.id) == store_of(clip.id)
+        && is_covered(&span, &[span_of(other)]))
+}
+
+// Takes the first of some clips, if there is one.
+fn take_first(saved: &mut Vec<SaveKey>) -> Option<SaveKey> {
+    if saved.is_empty() {
+        return None;
+    }
+    Some(saved.remove(0))
+}
+
+// The numbers of a clip.
+fn span_of(clip: &Clip) -> ClipSpan {
+    ClipSpan {
+        from: clip.from,
+        to: clip.to,
+    }
+}
+
+#[derive(Drop)]
+struct Inner {
+    waiting: Option<Waiting>,
+    growing: HeapCircularBuffer<Growing>,
+    // Clips that are saved and are to be released, which had to wait.
+    saved: Vec<SaveKey>,
+}
+
+/// What the thread of a camera's desk goes on with from one visit to the next.
+#[derive(Drop)]
+pub(crate) struct Ongoing {
+    inner: Mutex<Inner>,
+}
+
+impl Ongoing {
+    /// Nothing to go on with.
+    pub fn new(alloc: Global) -> Result<Ongoing, AllocError> {
+        Ok(Ongoing {
+            inner: Mutex::new(Inner {
+                waiting: None,
+                growing: HeapCircularBuffer::with_capacity(alloc, MOST_OPEN)?,
+                saved: Vec::new(alloc),
+            }),
+        })
+    }
+
+    /// The keep that waits, if one does.
+    pub fn take_waiting<R: Wait>(&self, rt: &R) -> Option<Waiting> {
+        self.inner.lock(rt).waiting.take()
+    }
+
+    /// A keep waits.
+    pub fn put_waiting<R: Wait>(&self, rt: &R, waiting: Waiting) {
+        self.inner.lock(rt).waiting = Some(waiting);
+    }
+
+    /// Whether a keep waits.
+    pub fn has_waiting<R: Wait>(&self, rt: &R) -> bool {
+        self.inner.lock(rt).waiting.is_some()
+    }
+
+    /// The event that is next to go on with. It has to be put back, unless it is over.
+    pub fn next_growing<R: Wait>(&self, rt: &R) -> Option<Growing> {
+        self.inner.lock(rt).growing.pop_front()
+    }
+
+    /// An event goes on. Returns it where too many do.
+    pub fn put_growing<R: Wait>(&self, rt: &R, growing: Growing) -> Option<Growing> {
+        match self.inner.lock(rt).growing.try_push_back(growing) {
+            Ok(()) => None,
+            Err(growing) => Some(growing),
+        }
+    }
+
+    /// The camera's store was moved away, and another one is made: events go on there with nothing locked.
+    pub fn begin_anew<R: Wait>(&self, rt: &R) {
+        let mut inner = self.inner.lock(rt);
+        for _ in 0..inner.growing.len() {
+            let Some(mut growing) = inner.growing.pop_front() else {
+                break;
+            };
+            growing.begin_anew();
+            // It has the room that it had before.
+            let _kept = inner.growing.try_push_back(growing);
+        }
+    }
+
+    /// A clip of the store of a number was released, which may be one of an event that goes on.
+    pub fn unsettle<R: Wait>(&self, rt: &R, store: u32) {
+        let mut inner = self.inner.lock(rt);
+        for _ in 0..inner.growing.len() {
+            let Some(mut growing) = inner.growing.pop_front() else {
+                break;
+            };
+            growing.unsettle(store);
+            inner.growing.push_back(growing);
+        }
+    }
+
+    /// Whether an event goes on, or a clip that is saved has to be released.
+    pub fn has_more<R: Wait>(&self, rt: &R) -> bool {
+        let inner = self.inner.lock(rt);
+        !inner.growing.is_empty() || !inner.saved.is_empty()
+    }
+
+    /// A clip that is saved is to be released later: a save reads it by now, or too many orders wait.
+    pub fn put_saved<R: Wait>(&self, rt: &R, saved: SaveKey) {
+        // Where memory is refused, the next start releases it.
+        let _later = self.inner.lock(rt).saved.push(saved);
+    }
+
+    /// The clip that is next to be released, since it is saved. It has to be put back where it waits on.
+    pub fn next_saved<R: Wait>(&self, rt: &R) -> Option<SaveKey> {
+        take_first(&mut self.inner.lock(rt).saved)
+    }
+
+    /// Whether the event of a number goes on.
+    pub fn has_event<R: Wait>(&self, rt: &R, event: u64) -> bool {
+        self.inner
+            .lock(rt)
+            .growing
+            .iter()
+            .any(|growing| growing.keep.event == event)
+    }
+
+    /// Takes the clips of a store that was opened into the events that they belong to.
+    pub fn adopt<R: Wait>(&self, rt: &R, place: usize, state: &CameraState) {
+        let mut inner = self.inner.lock(rt);
+        for _ in 0..inner.growing.len() {
+            let Some(mut growing) = inner.growing.pop_front() else {
+                break;
+            };
+            let clips = state.clips_tagged(rt, state.alloc, place, growing.keep.event);
+            growing.adopt(&clips);
+            inner.growing.push_back(growing);
+        }
+    }
+
+    /// The keeps of the events that go on. None where memory is refused.
+    pub fn keeps<R: Wait>(&self, rt: &R, alloc: Global) -> Option<Vec<Keep>> {
+        let inner = self.inner.lock(rt);
+        let mut keeps = Vec::new(alloc);
+        for growing in inner.growing.iter() {
+            if keeps.push(growing.keep).is_err() {
+                return None;
+            }
+        }
+        Some(keeps)
+    }
+}

@@ -1,0 +1,193 @@
+//! How a keep locks in each of a camera's stores.
+
+ghost use Rattle.std.specs.Prelude.{◌≡◌, ◌≢◌, ◌<◌, ◌++◌, None, [], false, length, map, true};
+ghost use Rattle.loop_pipeline.specs.Backs.{GoesAt};
+ghost use Rattle.loop_station_camera.specs.Keeping.{StoresAll, StoresAndKeepsEach, TakesKept, known, or_fault};
+
+use crate::clerk::head_at;
+use crate::growing::Growing;
+use crate::state::CameraState;
+use loop_desk::Kept;
+use loop_disk::Disk;
+use loop_pipeline::{Back, Guide};
+use loop_record::Times;
+use loop_station_core::clip_id;
+use loop_store::{Clip, StoreFault};
+use std::alloc::Global;
+use std::sync::Wait;
+
+/// Stores what waits at the active desk, and locks the held frames of a time in each store. Returns what was locked, by
+/// the ids that users know, and why not all that waited could be stored before that, if so.
+pub(crate) fn store_and_keep<R: Wait, D: Disk + Drop>(
+    rt: &R,
+    alloc: Global,
+    state: &CameraState,
+    back: &mut Back<D, CameraState>,
+    times: Times,
+    tag: u64,
+) -> (Kept, Option<StoreFault>)
+    ensures keeps { StoresAndKeepsEach D.medium times tag back.old back.new result.0 result.1 }
+    ensures same { back.new ≡ record back.old { desks = back.new.desks } }
+{
+    let refused = store_all(rt, state, back);
+    let mut all = nothing_kept(alloc);
+    let count = back.count();
+    'places: for place in 0..count {
+        let kept = back.keep(alloc, place, times, tag);
+        take_kept(rt, state, place, kept, &mut all);
+    }
+    (all, refused)
+}
+
+// Takes what was locked in the store at a place: its clips get the ids by which users know them. Where memory for them
+// is refused, they are locked and aren't named; that can't be of the first.
+fn take_kept<R: Wait>(rt: &R, state: &CameraState, place: usize, kept: Kept, all: &mut Kept)
+    ensures { TakesKept kept all.old all.new }
+{
+    let Kept { mut clips, fault } = kept;
+    let number = state.stored.number_at(rt, place);
+    name_clips(number, clips.as_mut_slice());
+    state.add_clips(rt, place, &clips);
+    let fault = if put_after(clips, &mut all.clips) {
+        fault
+    } else {
+        Some(StoreFault::NoMemory)
+    };
+    all.fault = or_fault(all.fault, fault);
+}
+
+// The first of two faults, if there is one.
+fn or_fault(fault: Option<StoreFault>, other: Option<StoreFault>) -> Option<StoreFault>
+    ensures { result ≡ or_fault fault other }
+{
+    match fault {
+        Some(fault) => Some(fault),
+        None => other,
+    }
+}
+
+// No clip yet.
+fn nothing_kept(alloc: Global) -> Kept
+    ensures clips { result.clips.items ≡ [] }
+    ensures fault { result.fault ≡ None }
+{
+    Kept {
+        clips: Vec::new(alloc),
+        fault: None,
+    }
+}
+
+// Gives clips of the store of a number the ids by which users know them.
+fn name_clips(number: u32, clips: &mut [Clip])
+    ensures { clips.new ≡ map (known number) clips.old }
+{
+    for clip in clips.iter_mut() {
+        clip.id = clip_id(number, clip.id);
+    }
+}
+
+// Puts clips after others, and returns whether memory for that was there: none is asked for where there are no others.
+fn put_after(clips: Vec<Clip>, all: &mut Vec<Clip>) -> bool
+    ensures done { result ≡ true → all.new.items ≡ all.old.items ++ clips.items }
+    ensures refused { result ≡ false → (all.new.items ≡ all.old.items) × (all.old.items ≢ []) }
+{
+    if all.is_empty() {
+        *all = clips;
+        return true;
+    }
+    match all.extend_from_slice(&clips) {
+        Ok(()) => true,
+        Err(_) => false,
+    }
+}
+
+// Flushes until nothing waits. Returns the fault if it ended before that.
+fn store_all<R: Wait, D: Disk + Drop>(
+    rt: &R,
+    state: &CameraState,
+    back: &mut Back<D, CameraState>,
+) -> Option<StoreFault>
+    ensures goes { GoesAt back.old.active back.old back.new (λ d e. StoresAll D.medium d e result) }
+    ensures same { back.new ≡ record back.old { desks = back.new.desks } }
+    ensures still { length back.new.desks ≡ length back.old.desks }
+{
+    let place = back.active();
+    'flushes: for _ in rt.forever() {
+        if back.status(place).pending == 0 {
+            return None;
+        }
+        match back.flush() {
+            Ok(flushed) => state.stored(rt, back, flushed),
+            Err(fault) => return Some(fault),
+        }
+    }
+    unreachable!()
+}
+
+/// Stores what waits at the active desk, and locks the held frames of a time of an event in each store in which they
+/// aren't locked already: an event over many stores costs no more with each block than one over few. Returns what
+/// `store_and_keep` does.
+pub(crate) fn store_and_keep_more<R: Wait, D: Disk + Drop>(
+    rt: &R,
+    alloc: Global,
+    state: &CameraState,
+    back: &mut Back<D, CameraState>,
+    times: Times,
+    growing: &mut Growing,
+) -> (Kept, Option<StoreFault>)
+    ensures { back.new ≡ record back.old { desks = back.new.desks } }
+{
+    let unstored = store_all(rt, state, back);
+    let mut all = nothing_kept(alloc);
+    let count = back.count();
+    'places: for place in 0..count {
+        let (number, next) = (state.stored.number_at(rt, place), back.status(place).next);
+        if growing.is_settled(number, next) {
+            continue;
+        }
+        let kept = keep_at(alloc, back, place, times, growing.keep.tag);
+        let is_past = is_before(back, place, next, times.until);
+        if kept.fault.is_none() && is_past {
+            growing.settle(number, next);
+        } else {
+            growing.unsettle(number);
+        }
+        take_kept(rt, state, place, kept, &mut all);
+    }
+    (all, unstored)
+}
+
+// Locks the held frames of a time in the store at a place.
+fn keep_at<D: Disk + Drop>(
+    alloc: Global,
+    back: &mut Back<D, CameraState>,
+    place: usize,
+    times: Times,
+    tag: u64,
+) -> Kept
+    requires { place < length back.old.desks }
+    ensures same { back.new ≡ record back.old { desks = back.new.desks } }
+    ensures still { length back.new.desks ≡ length back.old.desks }
+{
+    back.keep(alloc, place, times, tag)
+}
+
+// Whether the newest frame of the store at a place, whose next number is this one, came no later than a time.
+fn is_before<D: Disk + Drop>(
+    back: &mut Back<D, CameraState>,
+    place: usize,
+    next: u64,
+    until: u64,
+) -> bool
+    requires { place < length back.old.desks }
+    ensures same { back.new ≡ record back.old { desks = back.new.desks } }
+    ensures still { length back.new.desks ≡ length back.old.desks }
+{
+    let Some(newest) = next.checked_sub(1) else {
+        return true;
+    };
+    match head_at(back, place, newest) {
+        Ok(head) => head.timestamp <= until,
+        Err(_) => false,
+    }
+}

@@ -1,0 +1,173 @@
+//! The answers of cameras, as lines.
+
+use crate::clerk::LEAST_GAP;
+use crate::state::CameraState;
+use crate::times::gaps_of;
+use loop_desk::{Kept, Outline};
+use loop_script::Listing;
+use loop_station_core::{Keep, Run, clip_id, kept_answer, shortfall_of};
+use loop_station_parts::{Absent, FoundClip, source_name};
+use loop_station_words::{CameraStatus, Lines, StoresStatus};
+use loop_store::StoreFault;
+use std::io;
+use std::sync::Wait;
+
+/// Tells what a keep has locked up to a time, a line for each clip, and why not everything was locked. Where nothing
+/// of its time lies ahead, it also tells how much of it is held, and where frames are missing.
+pub(crate) fn tell_kept(
+    state: &CameraState,
+    keep: &Keep,
+    until: u64,
+    is_whole: bool,
+    kept: &Kept,
+    found: &[FoundClip],
+    runs: &[Run],
+    refused: Option<StoreFault>,
+    lines: &mut Lines,
+) -> io::Result<()> {
+    let name = state.config.name.as_str();
+    let answer = kept_answer(kept.clips.len(), kept.fault.is_some(), is_whole);
+    if answer.none {
+        lines.kept_none(name, keep.event)?;
+    }
+    tell_clips(state, keep, found, lines)?;
+    if let Some(fault) = refused {
+        lines.refused(name, fault)?;
+    }
+    if let Some(fault) = kept.fault {
+        lines.refused(name, fault)?;
+    }
+    if answer.held {
+        tell_shortfall(state, keep, until, runs, lines)?;
+    }
+    if answer.begun {
+        lines.event_begun(keep.event, keep.since, keep.until)?;
+    }
+    Ok(())
+}
+
+/// Tells which clips a keep has.
+pub(crate) fn tell_clips(
+    state: &CameraState,
+    keep: &Keep,
+    found: &[FoundClip],
+    lines: &mut Lines,
+) -> io::Result<()> {
+    for clip in found {
+        lines.kept(
+            state.config.name.as_str(),
+            &clip.clip,
+            clip.first,
+            clip.last,
+            keep.event,
+        )?;
+    }
+    Ok(())
+}
+
+/// Tells how much of a keep's time is held, and where frames are missing, if some are. Returns whether all of it is
+/// held.
+pub(crate) fn tell_shortfall(
+    state: &CameraState,
+    keep: &Keep,
+    until: u64,
+    runs: &[Run],
+    lines: &mut Lines,
+) -> io::Result<bool> {
+    let name = state.config.name.as_str();
+    let Ok(missing) = shortfall_of(state.alloc, runs, keep.since, until, least_gap(state)) else {
+        return Ok(false);
+    };
+    if missing.gaps.is_empty() {
+        return Ok(true);
+    }
+    lines.held(name, missing.held, missing.asked, keep.event)?;
+    for gap in missing.gaps.as_slice() {
+        lines.gap(name, gap.micros, gap.at, keep.event)?;
+    }
+    Ok(false)
+}
+
+// The distance of frames of which a gap has more than one and a half.
+fn least_gap(state: &CameraState) -> u64 {
+    state.period().max(LEAST_GAP / 3 * 2)
+}
+
+/// Tells the result of a release.
+pub(crate) fn tell_released(
+    state: &CameraState,
+    id: u32,
+    released: Result<(), StoreFault>,
+    lines: &mut Lines,
+) -> io::Result<()> {
+    let name = state.config.name.as_str();
+    match released {
+        Ok(()) => lines.released(name, id),
+        Err(fault) => lines.refused(name, fault),
+    }
+}
+
+/// Tells what a store of a camera holds: the one of a number, where it has several.
+pub(crate) fn tell_listed(
+    state: &CameraState,
+    number: Option<u32>,
+    outline: Result<Outline, StoreFault>,
+    lines: &mut Lines,
+) -> io::Result<()> {
+    let name = state.config.name.as_str();
+    match (outline, number) {
+        (Ok(outline), None) => lines.camera(name, &Listing::of_outline(outline)),
+        (Ok(outline), Some(number)) => {
+            let mut listing = Listing::of_outline(outline);
+            for clip in listing.clips.as_mut_slice() {
+                clip.id = clip_id(number, clip.id);
+            }
+            lines.camera_store(name, number, &listing)
+        }
+        (Err(fault), _) => lines.refused(name, fault),
+    }
+}
+
+/// Tells the status of a camera, from what is counted of it: its disk isn't asked.
+pub fn tell_status<R: Wait>(rt: &R, state: &CameraState, lines: &mut Lines) -> io::Result<()> {
+    let name = state.config.name.as_str();
+    match state.jobs.attended(rt) {
+        Some(Ok(())) => {}
+        Some(Err(why)) => {
+            return match state.life.making(rt) {
+                Some(percent) => match state.path_of(state.alloc, state.life.made_number(rt)) {
+                    Ok(path) => lines.status_making(name, path.as_str(), u64::from(percent)),
+                    Err(_) => Ok(()),
+                },
+                None => lines.absent(name, &why),
+            };
+        }
+        None => return lines.absent(name, &Absent::Opening),
+    }
+    let (tally, camera) = (state.tally(rt), state.life.camera(rt));
+    let source = source_name(camera.source_seen());
+    let room = state.room(rt);
+    let status = CameraStatus {
+        stored: room.stored,
+        given_up: tally.lost(),
+        waiting: tally.submitted.saturating_sub(tally.left),
+        behind: state.behind_micros(rt),
+        room: room.free,
+        keeps: Some(room.keeps),
+        faults: camera.faults,
+        source,
+        gaps: gaps_of(rt, state),
+    };
+    match room.extent {
+        None => lines.status(name, &status),
+        Some(extent) => lines.status_of_set(
+            name,
+            &status,
+            &StoresStatus {
+                open: u64::from(extent.open),
+                wanted: u64::from(extent.wanted),
+                held: extent.held,
+            },
+        ),
+    }
+}

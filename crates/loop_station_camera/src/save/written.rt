@@ -1,0 +1,239 @@
+//! The file of a clip that is saved: its path, and its text, by the proved writer of loop_y4m.
+
+ghost use Rattle.std.specs.Prelude.{IfOk, List, OnOk, ℕ};
+ghost use Rattle.std.specs.Io.KnownBytes.{Appends};
+ghost use Rattle.loop_y4m.specs.Text.{frame};
+ghost use Rattle.loop_station_camera.specs.Saves.{WroteClip};
+
+use super::{Save, SaveTarget, Saves};
+use crate::state::CameraState;
+use loop_record::Geometry;
+use loop_station_core::bits_of;
+use loop_station_parts::{Absent, FoundClip, NotSaved, PartFile, PathKind, Places, store_of};
+use loop_station_words::print_clip_path;
+use loop_store::{Clip, ReadFrame};
+use loop_y4m::{Depth, may_have, write_deep_header, write_frame};
+use std::alloc::{AllocGlobal, Global};
+use std::io::{BufWriter, Write};
+use std::sync::Wait;
+use std::sync::atomic::Ordering;
+
+// How many bytes of a text are gathered before they are written.
+const AT_ONCE: usize = 262_144;
+
+// How many clips that are saved by themselves may have names that differ only in the number at the end.
+const MOST_NAMES: u32 = 100;
+
+// The path of a clip's file in a folder: by its camera, the time of its first frame, and its id. Where a file has that
+// name, a number is added.
+fn path_in<R: AllocGlobal + Places>(
+    rt: &R,
+    folder: &str,
+    camera: &str,
+    found: &FoundClip,
+) -> Result<String, NotSaved> {
+    for place in 1..MOST_NAMES {
+        let path = path_of(rt.alloc(), folder, camera, found, place)?;
+        if rt.path_kind(path.as_str()) == PathKind::Nothing {
+            return Ok(path);
+        }
+    }
+    path_of(rt.alloc(), folder, camera, found, MOST_NAMES)
+}
+
+// That path, for the clip with this number among those with one name, from 1.
+fn path_of(
+    alloc: Global,
+    folder: &str,
+    camera: &str,
+    found: &FoundClip,
+    place: u32,
+) -> Result<String, NotSaved> {
+    let mut path = Vec::new(alloc);
+    let (began, id) = (found.first, found.clip.id);
+    if print_clip_path(&mut path, folder, camera, began, id, place).is_err() {
+        return Err(NotSaved::NoMemory);
+    }
+    match String::from_utf8(path) {
+        Ok(path) => Ok(path),
+        Err(_) => Err(NotSaved::CannotOpen),
+    }
+}
+
+/// Where the clip of a save is written to, and whether it was saved already.
+pub(super) fn path_for<R: AllocGlobal + Places>(
+    rt: &R,
+    state: &CameraState,
+    save: &Save,
+) -> Result<(String, bool), NotSaved> {
+    let may_be_saved = match &save.target {
+        SaveTarget::Path(path, _) => {
+            return match String::from_str(rt.alloc(), path.as_str()) {
+                Ok(path) => Ok((path, false)),
+                Err(_) => Err(NotSaved::NoMemory),
+            };
+        }
+        SaveTarget::Folder(may_be_saved) => *may_be_saved,
+    };
+    let Some(folder) = &state.config.save_to else {
+        return Err(NotSaved::CannotOpen);
+    };
+    let (folder, name) = (folder.as_str(), state.config.name.as_str());
+    let first = path_of(rt.alloc(), folder, name, &save.found, 1)?;
+    if may_be_saved && rt.path_kind(first.as_str()) == PathKind::File {
+        return Ok((first, true));
+    }
+    Ok((path_in(rt, folder, name, &save.found)?, false))
+}
+
+/// Writes a clip. Returns how many frames it has, once the file would survive a loss of power.
+pub(super) fn write<R: AllocGlobal + Places + Wait>(
+    rt: &R,
+    saves: &Saves,
+    state: &CameraState,
+    save: &Save,
+    path: &str,
+) -> Result<u64, NotSaved> {
+    if save.ended.load(Ordering::SeqCst) {
+        return Err(NotSaved::Cancelled);
+    }
+    if saves.is_taken(rt, path) {
+        return Err(NotSaved::InUse);
+    }
+    let replace = match &save.target {
+        SaveTarget::Path(_, replace) => {
+            if let Some(folder) = &saves.folder {
+                if !rt.lies_in(path, folder.as_str()) {
+                    return Err(NotSaved::OtherFolder);
+                }
+            }
+            *replace
+        }
+        SaveTarget::Folder(_) => false,
+    };
+    let Some(geometry) = state.life.store(rt) else {
+        return Err(NotSaved::Absent(Absent::NoStore));
+    };
+    let mut file = rt.open_text(path, replace)?;
+    let came = write_clip(rt, saves, state, save, &geometry, &mut file);
+    match came {
+        Ok(count) => match rt.finish_text(&file) {
+            Ok(()) => Ok(count),
+            Err(why) => {
+                rt.give_up_text(&file);
+                Err(why)
+            }
+        },
+        Err(why) => {
+            rt.give_up_text(&file);
+            Err(why)
+        }
+    }
+}
+
+// Writes the text of a clip into a file.
+fn write_clip<R: AllocGlobal + Wait>(
+    rt: &R,
+    saves: &Saves,
+    state: &CameraState,
+    save: &Save,
+    geometry: &Geometry,
+    file: &mut PartFile,
+) -> Result<u64, NotSaved> {
+    let Ok(mut out) = BufWriter::with_capacity(rt.alloc(), AT_ONCE, file) else {
+        return Err(NotSaved::NoMemory);
+    };
+    let count = write_text(rt, saves, state, save, geometry, &mut out)?;
+    match out.flush() {
+        Ok(()) => Ok(count),
+        Err(_) => Err(NotSaved::CannotWrite),
+    }
+}
+
+// Writes the text of a clip: a header for the geometry of its store and the bits of its samples, and its frames.
+// Returns how many frames there are.
+fn write_text<R: Wait, W: Write>(
+    rt: &R,
+    saves: &Saves,
+    state: &CameraState,
+    save: &Save,
+    geometry: &Geometry,
+    out: &mut W,
+) -> Result<u64, NotSaved>
+    ensures { IfOk result
+        (WroteClip (W.contents out.old) (W.contents out.new) geometry.now
+        save.now.found.clip.from save.now.found.clip.to) }
+{
+    let Clip { from, to, .. } = save.found.clip;
+    if from > to || to - from == u64::MAX {
+        return Err(NotSaved::NoSuchClip);
+    }
+    let count = to - from + 1;
+    let first = read_one(rt, state, save, from)?;
+    let depth = depth_of(&first)?;
+    if !may_have(geometry, depth) {
+        return Err(NotSaved::MixedBits);
+    }
+    match write_deep_header(geometry, depth, out) {
+        Ok(()) => {}
+        Err(_) => return Err(NotSaved::CannotWrite),
+    }
+    'frames: for at in 0..count {
+        if saves.stopped.load(Ordering::SeqCst) {
+            return Err(NotSaved::Stopped);
+        }
+        if save.ended.load(Ordering::SeqCst) {
+            return Err(NotSaved::Cancelled);
+        }
+        write_one(rt, state, save, from + at, depth, out)?;
+    }
+    Ok(count)
+}
+
+// How many bits the samples of a frame have, by its flags.
+fn depth_of(frame: &ReadFrame) -> Result<Depth, NotSaved> {
+    Depth::of_bits(bits_of(frame.head.flags)).ok_or(NotSaved::MixedBits)
+}
+
+// Reads a frame of the clip of a save.
+fn read_one<R: Wait>(
+    rt: &R,
+    state: &CameraState,
+    save: &Save,
+    number: u64,
+) -> Result<ReadFrame, NotSaved> {
+    state.ask_frame(rt, store_of(save.found.clip.id), number);
+    match state.reader.answer(rt) {
+        Some(Ok(Ok(frame))) => {
+            if save.found.fits(number, frame.head.timestamp) {
+                Ok(frame)
+            } else {
+                Err(NotSaved::NoSuchClip)
+            }
+        }
+        Some(Ok(Err(fault))) => Err(NotSaved::Refused(fault)),
+        Some(Err(why)) => Err(NotSaved::Absent(why)),
+        None => Err(NotSaved::NoMemory),
+    }
+}
+
+// Reads a frame, whose samples have to have so many bits, and writes it.
+fn write_one<R: Wait, W: Write>(
+    rt: &R,
+    state: &CameraState,
+    save: &Save,
+    number: u64,
+    depth: Depth,
+    out: &mut W,
+) -> Result<(), NotSaved>
+    ensures { OnOk result ((bytes : List ℕ) × Appends (W.contents out.old) (W.contents out.new) (frame bytes)) }
+{
+    let frame = read_one(rt, state, save, number)?;
+    if depth_of(&frame)? != depth {
+        return Err(NotSaved::MixedBits);
+    }
+    match write_frame(&frame.bytes, out) {
+        Ok(()) => Ok(()),
+        Err(_) => Err(NotSaved::CannotWrite),
+    }
+}

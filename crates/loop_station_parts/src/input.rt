@@ -1,0 +1,219 @@
+//! What a source's file or pipe brings, of which bytes can be given back, and how the next header in it is found.
+//!
+//! Writers of a pipe may follow each other without an end in between: one ends amid a frame, and the next one's header
+//! stands where the rest of that frame was to come. So a header is looked for in each frame.
+
+use std::alloc::Global;
+use std::io;
+use std::io::{BufRead, BufReader, Read};
+
+// How many bytes of a source are read at once: as many as a pipe holds.
+const AT_ONCE: usize = 65_536;
+
+// How a header begins, and how many bytes that are.
+const MAGIC: [u8; LENGTH] = *b"YUV4MPEG2 ";
+
+const LENGTH: usize = 10;
+
+// Reads of at most so many bytes are of lines, and others of frames.
+const OF_LINES: usize = 16;
+
+// How far a header may lie ahead, at least, where the last byte of a window isn't its last one: as far as the last such
+// byte of its beginning is from that beginning's end.
+fn skip_of(last: u8) -> usize {
+    match last {
+        b'2' => 1,
+        b'G' => 2,
+        b'E' => 3,
+        b'P' => 4,
+        b'M' => 5,
+        b'4' => 6,
+        b'V' => 7,
+        b'U' => 8,
+        b'Y' => 9,
+        _ => LENGTH,
+    }
+}
+
+/// Where a header begins among bytes, or where their end has at least so many bytes of its beginning.
+pub fn find_header(bytes: &[u8], least: usize) -> Option<usize> {
+    // The last byte of the window that is looked at: in most, nine bytes of ten aren't read.
+    let mut at = LENGTH - 1;
+    for _ in 0..bytes.len() {
+        let Some(last) = bytes.get(at) else {
+            break;
+        };
+        if *last == b' ' {
+            let start = at.saturating_sub(LENGTH - 1);
+            if bytes
+                .get(start..)
+                .unwrap_or(&[])
+                .starts_with(MAGIC.as_slice())
+            {
+                return Some(start);
+            }
+        }
+        at = at.saturating_add(skip_of(*last));
+    }
+    find_beginning(bytes, at.saturating_sub(LENGTH - 1), least)
+}
+
+// Where the end of bytes, from a place on, has at least so many bytes of a header's beginning.
+fn find_beginning(bytes: &[u8], from: usize, least: usize) -> Option<usize> {
+    let mut at = from.max(bytes.len().saturating_sub(LENGTH.saturating_sub(1)));
+    for _ in 0..LENGTH {
+        let end = bytes.get(at..).unwrap_or(&[]);
+        if end.len() < least.max(1) {
+            return None;
+        }
+        if MAGIC.as_slice().starts_with(end) {
+            return Some(at);
+        }
+        at = at.saturating_add(1);
+    }
+    None
+}
+
+/// A source's file or pipe.
+#[derive(Drop)]
+pub struct Input<I: Read + Drop> {
+    alloc: Global,
+    inner: BufReader<I>,
+    // Bytes that were given back, of which so many were read again.
+    back: Vec<u8>,
+    at: usize,
+    // The line that was read last.
+    line: Vec<u8>,
+}
+
+impl<I: Read + Drop> Input<I> {
+    /// What a file or pipe brings; None where memory is refused.
+    pub fn new(alloc: Global, inner: I) -> Option<Self> {
+        Some(Input {
+            alloc,
+            inner: BufReader::with_capacity(alloc, AT_ONCE, inner).ok()?,
+            back: Vec::new(alloc),
+            at: 0,
+            line: Vec::new(alloc),
+        })
+    }
+
+    // The bytes that were given back and aren't read again yet.
+    fn rest(&self) -> &[u8] {
+        self.back.get(self.at..).unwrap_or(&[])
+    }
+
+    /// Gives bytes back, to be read before all that follows. Returns whether there was memory for that.
+    pub fn give_back(&mut self, bytes: &[u8]) -> bool {
+        let mut back = Vec::new(self.alloc);
+        let kept = back.extend_from_slice(bytes).is_ok()
+            && back.extend_from_slice(self.rest()).is_ok();
+        if kept {
+            self.back = back;
+            self.at = 0;
+        }
+        kept
+    }
+
+    /// A line begins.
+    pub fn begin_line(&mut self) {
+        self.line.clear();
+    }
+
+    /// Drops the first byte of the line that was read last, and gives back the rest.
+    pub fn return_rest_of_line(&mut self) {
+        self.return_line();
+        self.drop_bytes(1);
+    }
+
+    /// Gives back the line that was read last.
+    pub fn return_line(&mut self) {
+        let line = std::mem::replace(&mut self.line, Vec::new(self.alloc));
+        // Where memory is refused, the line is lost, and a header in it with it.
+        let _kept = self.give_back(&line);
+    }
+
+    /// Whether more is there. It waits until more comes, or until no writer is left.
+    pub fn has_more(&mut self) -> io::Result<bool> {
+        if !self.rest().is_empty() {
+            return Ok(true);
+        }
+        Ok(!self.inner.fill_buf()?.is_empty())
+    }
+
+    /// Drops all that comes before the next header. Returns whether there is one before the end.
+    pub fn seek_header(&mut self) -> io::Result<bool> {
+        for _ in 0..u64::MAX {
+            let (found, length) = if self.rest().is_empty() {
+                let bytes = self.inner.fill_buf()?;
+                (find_header(bytes, 1), bytes.len())
+            } else {
+                (find_header(self.rest(), 1), self.rest().len())
+            };
+            if length == 0 {
+                return Ok(false);
+            }
+            self.drop_bytes(found.unwrap_or(length));
+            if found.is_some() {
+                match self.begins_here()? {
+                    Some(begins) => return Ok(begins),
+                    None => self.drop_bytes(1),
+                }
+            }
+        }
+        Ok(false)
+    }
+
+    // Drops so many of the bytes that are there.
+    fn drop_bytes(&mut self, count: usize) {
+        if self.rest().is_empty() {
+            self.inner.consume(count);
+        } else {
+            self.at = self.at.saturating_add(count).min(self.back.len());
+        }
+    }
+
+    // Whether a header begins with the next byte: Some(false) where the end comes before that is known, None where
+    // another byte comes.
+    fn begins_here(&mut self) -> io::Result<Option<bool>> {
+        let mut first = [0u8; LENGTH];
+        let mut count = 0usize;
+        for _ in 0..LENGTH {
+            let Some(place) = first.get_mut(count..count.saturating_add(1)) else {
+                break;
+            };
+            if self.read(place)? == 0 {
+                return Ok(Some(false));
+            }
+            count = count.saturating_add(1);
+        }
+        if !self.give_back(&first) {
+            return Ok(Some(false));
+        }
+        Ok(if first == MAGIC { Some(true) } else { None })
+    }
+}
+
+impl<I: Read + Drop> Read for Input<I> {
+    fn read(&mut self, buf: &mut [u8]) -> io::Result<usize> {
+        let rest = self.back.get(self.at..).unwrap_or(&[]);
+        let count = rest.len().min(buf.len());
+        let count = if count > 0 {
+            for (to, from) in buf.iter_mut().zip(rest) {
+                *to = *from;
+            }
+            self.at = self.at.saturating_add(count).min(self.back.len());
+            count
+        } else {
+            self.inner.read(buf)?
+        };
+        if buf.len() > OF_LINES || self.line.ends_with(b"\n") {
+            self.line.clear();
+        }
+        if buf.len() <= OF_LINES {
+            // Where memory is refused, less of the line can be given back.
+            let _kept = self.line.extend_from_slice(buf.get(..count).unwrap_or(&[]));
+        }
+        Ok(count)
+    }
+}

@@ -1,5 +1,0 @@
-pub mod SaveFrames
-pub mod FlushRuns
-pub mod KeepRuns
-pub mod Served
-pub mod Sweeps

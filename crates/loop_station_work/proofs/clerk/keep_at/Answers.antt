@@ -1,9 +1,0 @@
-use Rattle.loop_pipeline.proofs.DeskPlaces.{but-desks}
-use Rattle.loop_station_work.proofs.Served.{as-many}
-use Rattle.loop_station_work.proofs.clerk.keep_at.Goals as goal
-
-pub returns : goal.returns
-returns g c = record {
-  same = but-desks c.args.back.now c.keep.new.self c.args.place _ c.keep.ensures.goes;
-  still = as-many c.args.back.now c.keep.new.self c.args.place _ c.keep.ensures.goes;
-}

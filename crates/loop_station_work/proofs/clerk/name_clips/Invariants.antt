@@ -1,7 +1,0 @@
-use Rattle.std.proofs.Common.{◌≡◌}
-use Rattle.loop_station_work.specs.Clerk.{known}
-use Rattle.loop_station_work.proofs.Sweeps.{swept}
-use Rattle.loop_station_work.proofs.clerk.name_clips.Given as goal
-
-abbrev pub invariant-loop-clip : goal.invariant-loop-clip
-invariant-loop-clip l = l.clips ≡ swept (known l.number) l.clip-index l.initial.clips

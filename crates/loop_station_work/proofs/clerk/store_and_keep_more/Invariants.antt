@@ -1,8 +1,0 @@
-use Rattle.std.proofs.Common.{◌≡◌, length}
-use Rattle.loop_station_work.proofs.clerk.store_and_keep_more.Given as goal
-
-abbrev pub invariant-places : goal.invariant-places
-invariant-places g l = record {
-  same : l.back ≡ record l.fn.back { desks = l.back.desks };
-  still : length l.back.desks ≡ length l.initial.back.desks;
-}

@@ -1,2 +1,0 @@
-pub mod Clerk
-pub mod Saves
