@@ -70,7 +70,7 @@ _lapyrei_export() {
     case $word in
         -*) mapfile -t COMPREPLY < <(compgen -W "--output --from --to --last --clip --events --rgb --luma --matrix --full-range \
             --lossless --compress --force --quiet --help --version" -- "$word") ;;
-        *) mapfile -t COMPREPLY < <(compgen -W "h5 zarr tiff mkv mp4 png npy csv" -- "$word"; compgen -f -- "$word") ;;
+        *) mapfile -t COMPREPLY < <(compgen -W "h5 zarr tiff mkv mp4 png npy y4m csv" -- "$word"; compgen -f -- "$word") ;;
     esac
 }
 

@@ -30,6 +30,7 @@ formats:
   mp4   H.264, for the eye, at the frames' times  (ffmpeg)
   png   a folder of pictures                      (python3-png)
   npy   a folder of arrays for numpy.load
+  y4m   YUV4MPEG2, as a save writes it: one text of all parts of an event
   csv   numbers and times alone"""
 SIGNALS = (signal.SIGINT, signal.SIGTERM, signal.SIGHUP)
 

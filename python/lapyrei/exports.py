@@ -1,4 +1,4 @@
-"""Frames as files of science: HDF5, Zarr, TIFF for ImageJ, films, PNG, NPY and CSV.
+"""Frames as files of science: HDF5, Zarr, TIFF for ImageJ, films, PNG, NPY, YUV4MPEG2 and CSV.
 
     lapyrei.export(store.events[-1], "h5", "event.h5")
 
@@ -153,7 +153,7 @@ def export(
 ) -> int:
     """Writes frames into the file or folder `out`, which must not be there, and answers how many.
 
-    `kind` is a name of `KINDS`: h5, zarr, tiff, mkv, mp4, png, npy or csv. `done` is called with
+    `kind` is a name of `KINDS`: h5, zarr, tiff, mkv, mp4, png, npy, y4m or csv. `done` is called with
     the number of frames that are written so far. Raises MissingPackage, Gone where the ring removes
     a frame meanwhile (lock it first), MixedDepths, and ExportFault for the rest; then nothing is
     left at `out` or beside it."""
@@ -337,6 +337,17 @@ def write_csv(job: Job, path: str) -> None:
     job.done(len(job.frames))
 
 
+def write_y4m(job: Job, path: str) -> None:
+    """YUV4MPEG2, byte for byte as `loop_cli export` and a save of the station write it: one text of
+    all frames, also of an event whose clips lie in several stores."""
+    with open(path, "wb") as file:
+        file.write(layout.text_front(job.geometry, job.form.bits))
+        for picture in job.pictures():
+            file.write(b"FRAME\n")
+            for plane in picture.values():
+                file.write(plane.tobytes())
+
+
 # ----------------------------------------------------------------------------------- films
 
 
@@ -386,5 +397,6 @@ KINDS: dict[str, Kind] = {
     "mp4": Kind("mp4", None, None, PLANES, write_mp4),
     "png": Kind("png", "png", "python3-png", FLAT, write_png),
     "npy": Kind("npy", None, None, ALL, write_npy),
+    "y4m": Kind("y4m", None, None, ("planes",), write_y4m),
     "csv": Kind("csv", None, None, ALL, write_csv),
 }

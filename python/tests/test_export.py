@@ -328,6 +328,30 @@ def test_csv_has_a_line_a_frame(tmp_path):
     assert list(csv.DictReader(open(tmp_path / "b.csv", newline="")))[1]["time"] == ""
 
 
+@pytest.mark.parametrize("bits", [8, 12])
+@pytest.mark.parametrize("form", FORMATS)
+def test_y4m_is_the_text_of_a_save(tmp_path, form, bits):
+    store, out = store_of(tmp_path, form, bits), tmp_path / "a.y4m"
+    assert lapyrei.export(store, "y4m", str(out)) == 7
+    frames = [b"".join(it.tobytes() for it in planes_of(store, n).values()) for n in range(7)]
+    assert {len(it) for it in frames} == {store.parts[0].geometry.size}
+    front = layout.text_front(store.parts[0].geometry, bits)
+    assert b"W16 H8 F25:1" in front
+    assert out.read_bytes() == front + b"".join(b"FRAME\n" + it for it in frames)
+    with pytest.raises(lapyrei.ExportFault, match="y4m takes planes"):
+        lapyrei.export(store, "y4m", str(tmp_path / "b"), exports.Options(colour="rgb"))
+
+
+def test_y4m_of_an_event_over_two_stores_is_one_text(tmp_path):
+    first, second = ring(7), ring(7, start=DAY + 7 * 40000)
+    first.lock(4, 6, 2), second.lock(0, 3, 2)
+    put(tmp_path / "a.000.loop", first), put(tmp_path / "a.001.loop", second)
+    event, out = lapyrei.open(tmp_path).event("0.0"), tmp_path / "a.y4m"
+    assert lapyrei.export(event, "y4m", str(out)) == 7
+    front, *frames = out.read_bytes().split(b"FRAME\n")
+    assert front.count(b"YUV4MPEG2") == 1 and [it[0] for it in frames] == [4, 5, 6, 0, 1, 2, 3]
+
+
 # ------------------------------------------------------------------------------- films
 
 
