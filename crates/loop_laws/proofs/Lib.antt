@@ -1,0 +1,7 @@
+mod Chunks
+mod OneStore
+mod Queues
+mod Sets
+mod Rule
+mod Turns
+mod Runs

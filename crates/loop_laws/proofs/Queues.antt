@@ -1,0 +1,272 @@
+-- The blocks of all stores in the order in which they came, and those of one place among them.
+use Rattle.std.proofs.Common.{◌≡◌, ◌⊎◌, inl, inr, ℕ, zero, suc, ◌+◌, ◌*◌, ◌<◌, ◌≤◌, Bool, true, false, cond, eqb, Some, List, [], ◌∷◌, ◌++◌, length, map, refl, sym, ap, ◌∙◌, arith, append_assoc}
+use Rattle.std.proofs.lemmas.Bool.{cases_eq}
+use Rattle.std.proofs.lemmas.List.{append-nil, length-append, length-map, map-append}
+use Rattle.std.proofs.lemmas.List.Elements.{filter-append}
+use Rattle.std.proofs.lemmas.Grind.{flat_map-append}
+use Rattle.std.proofs.Math.Nat.{add-mul}
+use Rattle.std.specs.Prelude.{slice_get}
+use Rattle.std.specs.List.{filter, flat_map}
+use Rattle.loop_record.specs.Recording.{Picture}
+use Rattle.loop_record.proofs.TestFacts.{differ_test, equal_test}
+use Rattle.loop_laws.specs.Laws.{taken_by}
+use Rattle.loop_laws.proofs.Chunks.{Chunk, Full, grown, pictures}
+
+-- ---- the blocks of one place
+
+abbrev pub at : ℕ → List Chunk → List Chunk
+at place q = filter (λ c. eqb c.place place) q
+
+pub at-here : (place : ℕ) (c : Chunk) (q : List Chunk) → c.place ≡ place → at place (c ∷ q) ≡ c ∷ at place q
+at-here place c q is = ap (λ (t : Bool). cond t (c ∷ at place q) (at place q)) (equal_test c.place place is)
+
+pub at-apart : (place : ℕ) (c : Chunk) (q : List Chunk) → (c.place ≡ place → ⊥) → at place (c ∷ q) ≡ at place q
+at-apart place c q apart =
+    ap (λ (t : Bool). cond t (c ∷ at place q) (at place q)) (differ_test c.place place apart)
+
+pub push-here : (place : ℕ) (q : List Chunk) (c : Chunk) → c.place ≡ place
+    → at place (q ++ c ∷ []) ≡ at place q ++ c ∷ []
+push-here place q c is =
+    filter-append (λ (d : Chunk). eqb d.place place) q (c ∷ []) ∙ ap (λ x. at place q ++ x) (at-here place c [] is)
+
+pub push-apart : (place : ℕ) (q : List Chunk) (c : Chunk) → (c.place ≡ place → ⊥)
+    → at place (q ++ c ∷ []) ≡ at place q
+push-apart place q c apart =
+    filter-append (λ (d : Chunk). eqb d.place place) q (c ∷ [])
+    ∙ ap (λ x. at place q ++ x) (at-apart place c [] apart) ∙ append-nil (at place q)
+
+-- how many they are depends on the places alone
+pub count-push : (place : ℕ) (q : List Chunk) (c d : Chunk) → c.place ≡ d.place
+    → length (at place (q ++ c ∷ [])) ≡ length (at place (q ++ d ∷ []))
+count-push place q c d same = go (cases_eq c.place place)
+  where
+    go : (c.place ≡ place) ⊎ (c.place ≡ place → ⊥)
+        → length (at place (q ++ c ∷ [])) ≡ length (at place (q ++ d ∷ []))
+    go (inl is) =
+        let one = ap (λ (x : List Chunk). length x) (push-here place q c is) ∙ length-append (at place q) (c ∷ []) in
+        let other = ap (λ (x : List Chunk). length x) (push-here place q d (sym same ∙ is))
+        ∙ length-append (at place q) (d ∷ []) in
+        one ∙ sym other
+    go (inr apart) =
+        ap (λ (x : List Chunk). length x)
+        (push-apart place q c apart ∙ sym (push-apart place q d (λ e. apart (same ∙ e))))
+
+pub full-at : (slots place : ℕ) (q : List Chunk) → Full slots q → Full slots (at place q)
+full-at slots place [] h = tt
+full-at slots place (c ∷ q) h = go (eqb c.place place) (full-at slots place q h.1)
+  where
+    go : (t : Bool) → Full slots (at place q) → Full slots (cond t (c ∷ at place q) (at place q))
+    go true rest = (h.0, rest)
+    go false rest = rest
+
+-- ---- places
+
+-- each place is below n
+abbrev pub Placed : ℕ → List Chunk → Type 0
+Placed n [] = Unit {0}
+Placed n (c ∷ q) = (c.place < n) × Placed n q
+
+pub placed-push : (n : ℕ) (q : List Chunk) (c : Chunk) → Placed n q → c.place < n → Placed n (q ++ c ∷ [])
+placed-push n [] c h is = (is, tt)
+placed-push n (d ∷ q) c h is = (h.0, placed-push n q c h.1 is)
+
+pub placed-front : (n : ℕ) (q : List Chunk) (c : Chunk) → Placed n (q ++ c ∷ []) → Placed n q × (c.place < n)
+placed-front n [] c h = (tt, h.0)
+placed-front n (d ∷ q) c h = let k = placed-front n q c h.1 in ((h.0, k.0), k.1)
+
+-- how many blocks the first n places have
+abbrev total : ℕ → List Chunk → ℕ
+total zero q = 0
+total (suc n) q = total n q + length (at n q)
+
+total-none : (n : ℕ) → total n [] ≡ 0
+total-none zero = refl
+total-none (suc n) = let rest = total-none n in omega (arith, rest)
+
+total-past : (n : ℕ) (c : Chunk) (q : List Chunk) → n ≤ c.place → total n (c ∷ q) ≡ total n q
+total-past zero c q past = refl
+total-past (suc n) c q past =
+    let rest = total-past n c q (omega (arith, past)) in
+    let here = ap (λ (x : List Chunk). length x) (at-apart n c q (λ e. absurd (omega (arith, past, e)))) in
+    omega (arith, rest, here)
+
+total-one : (n : ℕ) (c : Chunk) (q : List Chunk) → c.place < n → total n (c ∷ q) ≡ total n q + 1
+total-one zero c q below = absurd (omega (arith, below))
+total-one (suc n) c q below = go (λ l. total-one n c q l) (cases_eq c.place n)
+  where
+    go : (c.place < n → total n (c ∷ q) ≡ total n q + 1) → (c.place ≡ n) ⊎ (c.place ≡ n → ⊥)
+        → total (suc n) (c ∷ q) ≡ total (suc n) q + 1
+    go before (inl is) =
+        let rest = total-past n c q (omega (arith, is)) in
+        let here = ap (λ (x : List Chunk). length x) (at-here n c q is) in
+        omega (arith, rest, here)
+    go before (inr apart) =
+        let rest = before (omega (arith, below, apart)) in
+        let here = ap (λ (x : List Chunk). length x) (at-apart n c q apart) in
+        omega (arith, rest, here)
+
+total-all : (n : ℕ) (q : List Chunk) → Placed n q → total n q ≡ length q
+total-all n [] h = total-none n
+total-all n (c ∷ q) h =
+    let rest = total-all n q h.1 in
+    let one = total-one n c q h.0 in
+    omega (arith, rest, one)
+
+total-each : (n each : ℕ) (q : List Chunk) → ((place : ℕ) → place < n → length (at place q) ≡ each)
+    → total n q ≡ n * each
+total-each zero each q h = omega arith
+total-each (suc n) each q h =
+    let rest = total-each n each q (λ place l. h place (omega (arith, l))) in
+    let here = h n (omega arith) in
+    omega (arith, rest, here, add-mul n 1 each)
+
+-- where each place has as many, all are that many times as many
+pub count-all : (n each : ℕ) (q : List Chunk) → Placed n q
+    → ((place : ℕ) → place < n → length (at place q) ≡ each) → length q ≡ n * each
+count-all n each q placed h = sym (total-all n q placed) ∙ total-each n each q h
+
+-- ---- as they came
+
+-- the frames of a block, as they came
+abbrev pub came_of : Chunk → List (ℕ × Picture)
+came_of c = map (λ p. (c.place, p)) (pictures c)
+
+abbrev pub spread : List Chunk → List (ℕ × Picture)
+spread q = flat_map came_of q
+
+pub spread-push : (q : List Chunk) (c : Chunk) → spread (q ++ c ∷ []) ≡ spread q ++ came_of c
+spread-push q c = flat_map-append came_of q (c ∷ []) ∙ ap (λ x. spread q ++ x) (append-nil (came_of c))
+
+-- the frames of a group, as they came
+abbrev pub group_at : ℕ → List Picture → List (ℕ × Picture)
+group_at place ps = map (λ p. (place, p)) ps
+
+pub spread-grown : (q : List Chunk) (c : Chunk) (ps : List Picture)
+    → spread (q ++ grown c ps ∷ []) ≡ spread (q ++ c ∷ []) ++ group_at c.place ps
+spread-grown q c ps =
+    spread-push q (grown c ps)
+    ∙ ap (λ x. spread q ++ x) (map-append (λ (r : Picture). (c.place, r)) (pictures c) ps)
+    ∙ sym (append_assoc (spread q) (came_of c) (group_at c.place ps))
+    ∙ ap (λ x. x ++ group_at c.place ps) (sym (spread-push q c))
+
+pub spread-count : (slots : ℕ) (q : List Chunk) → Full slots q → length (spread q) ≡ length q * slots
+spread-count slots [] h = omega arith
+spread-count slots (c ∷ q) h =
+    let rest = spread-count slots q h.1 in
+    let here = length-map {B = ℕ × Picture} (pictures c) (λ (p : Picture). (c.place, p)) in
+    let is = h.0 in
+    omega (arith, rest, here, is, length-append (came_of c) (spread q), add-mul (length q) 1 slots)
+
+-- ---- what one place took
+
+taken-append : (place : ℕ) (xs ys : List (ℕ × Picture))
+    → taken_by place (xs ++ ys) ≡ taken_by place xs ++ taken_by place ys
+taken-append place xs ys =
+    ap (map (λ t. t.1)) (filter-append (λ (t : ℕ × Picture). eqb t.0 place) xs ys)
+    ∙ map-append (λ (t : ℕ × Picture). t.1) (filter (λ t. eqb t.0 place) xs) (filter (λ t. eqb t.0 place) ys)
+
+taken-here : (place k : ℕ) (ps : List Picture) → eqb k place ≡ true → taken_by place (map (λ p. (k, p)) ps) ≡ ps
+taken-here place k [] e = refl
+taken-here place k (p ∷ ps) e =
+    let rest = filter (λ (t : ℕ × Picture). eqb t.0 place) (map (λ q. (k, q)) ps) in
+    ap (λ (t : Bool). map (λ (u : ℕ × Picture). u.1) (cond t ((k, p) ∷ rest) rest)) e
+    ∙ ap (λ x. p ∷ x) (taken-here place k ps e)
+
+taken-apart : (place k : ℕ) (ps : List Picture) → eqb k place ≡ false → taken_by place (map (λ p. (k, p)) ps) ≡ []
+taken-apart place k [] e = refl
+taken-apart place k (p ∷ ps) e =
+    let rest = filter (λ (t : ℕ × Picture). eqb t.0 place) (map (λ q. (k, q)) ps) in
+    ap (λ (t : Bool). map (λ (u : ℕ × Picture). u.1) (cond t ((k, p) ∷ rest) rest)) e ∙ taken-apart place k ps e
+
+pub taken-spread : (place : ℕ) (q : List Chunk) → taken_by place (spread q) ≡ flat_map pictures (at place q)
+taken-spread place [] = refl
+taken-spread place (c ∷ q) =
+    taken-append place (came_of c) (spread q) ∙ go (eqb c.place place) refl (taken-spread place q)
+  where
+    go : (t : Bool) → eqb c.place place ≡ t → taken_by place (spread q) ≡ flat_map pictures (at place q)
+        → taken_by place (came_of c) ++ taken_by place (spread q)
+        ≡ flat_map pictures (cond t (c ∷ at place q) (at place q))
+    go true e rest = let here = taken-here place c.place (pictures c) e in λ i. here i ++ rest i
+    go false e rest = let here = taken-apart place c.place (pictures c) e in λ i. here i ++ rest i
+
+-- ---- times
+
+-- the first frame of each block is later than this
+abbrev pub Later : ℕ → List Chunk → Type 0
+Later time [] = Unit {0}
+Later time (c ∷ q) = (time < c.first.timestamp) × Later time q
+
+-- the first frame of each block is earlier than this
+abbrev pub Earlier : List Chunk → ℕ → Type 0
+Earlier [] time = Unit {0}
+Earlier (c ∷ q) time = (c.first.timestamp < time) × Earlier q time
+
+-- the first frame of each block is later than those of the blocks before it
+abbrev pub Rising : List Chunk → Type 0
+Rising [] = Unit {0}
+Rising (c ∷ q) = Later c.first.timestamp q × Rising q
+
+later-push : (time : ℕ) (q : List Chunk) (c : Chunk) → Later time q → time < c.first.timestamp
+    → Later time (q ++ c ∷ [])
+later-push time [] c h l = (l, tt)
+later-push time (d ∷ q) c h l = (h.0, later-push time q c h.1 l)
+
+pub rising-push : (q : List Chunk) (c : Chunk) → Rising q → Earlier q c.first.timestamp → Rising (q ++ c ∷ [])
+rising-push [] c h l = (tt, tt)
+rising-push (d ∷ q) c h l = (later-push d.first.timestamp q c h.0 l.0, rising-push q c h.1 l.1)
+
+-- only the first frame of the last block matters
+later-last : (time : ℕ) (q : List Chunk) (c d : Chunk) → c.first ≡ d.first → Later time (q ++ c ∷ [])
+    → Later time (q ++ d ∷ [])
+later-last time [] c d same h = let e = ap (λ (p : Picture). p.timestamp) same in (omega (arith, h.0, e), tt)
+later-last time (b ∷ q) c d same h = (h.0, later-last time q c d same h.1)
+
+pub rising-last : (q : List Chunk) (c d : Chunk) → c.first ≡ d.first → Rising (q ++ c ∷ []) → Rising (q ++ d ∷ [])
+rising-last [] c d same h = (tt, tt)
+rising-last (b ∷ q) c d same h = (later-last b.first.timestamp q c d same h.0, rising-last q c d same h.1)
+
+-- so the first block of a place is later, too
+pub later-at : (time place : ℕ) (q : List Chunk) (d : Chunk) (ds : List Chunk) → Later time q → at place q ≡ d ∷ ds
+    → time < d.first.timestamp
+later-at time place [] d ds h e = absurd cc
+later-at time place (c ∷ q) d ds h e = go (eqb c.place place) (λ is. later-at time place q d ds h.1 is) e
+  where
+    go : (t : Bool) → (at place q ≡ d ∷ ds → time < d.first.timestamp)
+        → cond t (c ∷ at place q) (at place q) ≡ d ∷ ds → time < d.first.timestamp
+    go true rest is =
+        let same : c ≡ d = cc in
+        let e = ap (λ (b : Chunk). b.first.timestamp) same in
+        omega (arith, h.0, e)
+    go false rest is = rest is
+
+-- ---- elements by their places
+
+pub get-left : {X : Type 0} (xs ys : List X) (i : ℕ) (x : X) → slice_get xs i ≡ Some x → slice_get (xs ++ ys) i ≡ Some x
+get-left [] ys i x e = absurd cc
+get-left (y ∷ xs) ys zero x e = e
+get-left (y ∷ xs) ys (suc i) x e = get-left xs ys i x e
+
+pub get-seam : {X : Type 0} (xs : List X) (y : X) (ys : List X) → slice_get (xs ++ y ∷ ys) (length xs) ≡ Some y
+get-seam [] y ys = refl
+get-seam (x ∷ xs) y ys = get-seam xs y ys
+
+-- a frame that is later than each that came at least a block's frames before it is later than the first of each full
+-- block
+pub earlier-all : (slots time : ℕ) (came lost : List (ℕ × Picture)) (q : List Chunk) → Full slots q
+    → came ≡ lost ++ spread q
+    → ((i : ℕ) (u : ℕ × Picture) → slice_get came i ≡ Some u → i + slots ≤ length came → u.1.timestamp < time)
+    → Earlier q time
+earlier-all slots time came lost [] full is h = tt
+earlier-all slots time came lost (c ∷ q) full is h = (
+  h (length lost) (c.place, c.first)
+      (ap (λ xs. slice_get xs (length lost)) is
+      ∙ get-seam lost (c.place, c.first) (map (λ p. (c.place, p)) c.rest ++ spread q))
+      (within (full.0)),
+  earlier-all slots time came (lost ++ came_of c) q full.1 (is ∙ sym (append_assoc lost (came_of c) (spread q))) h,
+)
+  where
+    within : length c.rest + 1 ≡ slots → length lost + slots ≤ length came
+    within full =
+        let all = ap (λ (xs : List (ℕ × Picture)). length xs) is in
+        let here = length-map {B = ℕ × Picture} (pictures c) (λ (p : Picture). (c.place, p)) in
+        omega (arith, full, all, here, length-append lost (came_of c ++ spread q), length-append (came_of c) (spread q))

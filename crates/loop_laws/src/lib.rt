@@ -1,0 +1,26 @@
+//! What holds of several stores that are used as one long ring, as those of a camera are.
+//!
+//! `specs/Stores` says how frames come to them: what each store tells of the room that it has (`TellsSpace` of
+//! `loop_desk`), the rule by which one of them takes the next block (`IsNext` of `loop_pipeline`), and the steps of an
+//! append (`loop_record`). `specs/Laws` says how much they hold then. The functions do nothing: their contracts are the
+//! laws.
+//!
+//! The laws are of plain recordings. That a camera's stores stand for such ones, and that a back turns by this rule, is
+//! said by the contracts of `loop_store`, `loop_desk` and `loop_pipeline`.
+#![tactic(auto)]
+
+ghost use Rattle.loop_laws.specs.Laws.{StoresGoOn, StoresHoldNewest};
+
+/// Stores in which nothing was recorded at first and nothing is locked hold the newest of all frames that came, each
+/// store those that it took: all, or at least as many as fill all segments of all stores but one, and one more. Of two
+/// frames that came at least a block apart the later one must have the later time.
+pub fn stores_hold_the_newest()
+    ensures { StoresHoldNewest }
+{}
+
+/// And they go on, where fewer blocks are kept than a store has segments: whatever they tell, one of them takes the
+/// next block; and each group is taken that the active store's block has room for, as long as no store's numbers are
+/// spent.
+pub fn stores_go_on()
+    ensures { StoresGoOn }
+{}
