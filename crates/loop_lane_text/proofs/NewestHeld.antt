@@ -328,5 +328,5 @@ ring-holds size keep count groups is few most frames l =
 pub rings-hold : RingsHold
 rings-hold = record {
   each = λ size keep groups is few frames l. ring-holds size keep (held size) groups is few (omega arith) frames l;
-  chosen = λ frames size keep groups is few some l. ring-holds size keep frames groups is.preferred.allowed few is.enough some l;
+  chosen = λ usual frames size keep groups is few some l. ring-holds size keep frames groups is.preferred.allowed few is.enough some l;
 }

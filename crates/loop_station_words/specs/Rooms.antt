@@ -19,13 +19,17 @@ use Rattle.loop_station_words.specs.declared.sets.SetSize.{SetSize}
 abbrev pub frames_of : Geometry → ℕ → ℕ
 frames_of g seconds = min (divided_up (seconds * g.rate_num) (max g.rate_den 1)) (2 ^ 64 - 1)
 
+-- how many bytes each of them has; 0 where no store may have them
+abbrev pub size_in : Geometry → ℕ
+size_in g = if is_good g then frame_bytes g else 0
+
 -- how many tenths of a minute of them the most stores hold
 abbrev pub most_tenths : Geometry → ℕ
 most_tenths g = 4194049 * g.rate_den / (6 * max g.rate_num 1)
 
 -- the stores that the configuration asks for, or why there are none
 abbrev pub IsAsked : Geometry → StoreSize → Result SetSize NoRing → Type 0
-IsAsked g (Seconds s) (Ok set) = IsLeastSetFor (frames_of g s) set
+IsAsked g (Seconds s) (Ok set) = IsLeastSetFor (size_in g) (frames_of g s) set
 IsAsked g (Seconds s) (Err why) = (why ≡ TooManyFrames (most_tenths g)) × (4194049 < frames_of g s)
 IsAsked g (Bytes b) (Ok set) = IsTrue (is_good g) × IsSetWithin (frame_bytes g) b set
 IsAsked g (Bytes b) (Err why) = (why ≡ (if is_good g then TooFewBytes else BadFrames))

@@ -4,8 +4,8 @@
 //!   `laws` has lines and their meanings, as rows of a table;
 //! - `time` reads a date and time of day, and `calendar` gives those of a time in microseconds since 1970;
 //! - `ring` chooses how many segments and slots a store has, for so many frames or within so many bytes, and `sets`
-//!   how many stores a camera has where one isn't enough; `room` for what the configuration asks, how much of a store is
-//!   free, and how many frames may wait before it;
+//!   how many stores a camera has where one isn't enough; `room` for what the configuration asks, how much of a store
+//!   is free, and how many frames may wait before it;
 //! - `config` reads the configuration file, which says which cameras there are. `fields` reads the value at a key
 //!   there, `shape` reads what the pattern's frames look like, and `fault` says what is wrong with that file;
 //! - `lines` has the lines of the program's output, as text and as JSON, each of parts (`part`); `answers` has the

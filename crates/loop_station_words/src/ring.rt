@@ -1,10 +1,7 @@
 // How the segments and slots of a store are chosen.
 ghost use Rattle.std.specs.Prelude.{◌≡◌, ◌≤◌, ◌<◌, ◌↔◌, ◌+◌, ◌*◌, ◌-◌, ◌^◌, ℕ, IfSome, IsNone, min};
 ghost use Rattle.loop_record.specs.Geometry.{divided_up};
-ghost use Rattle.loop_station_words.specs.Rings.{IsLargestWithin, IsLeastFor, file_size};
-
-// The usual slots of a segment. Fewer cost more syncs; from 64 on this hardly counts.
-const SLOTS: u64 = 64;
+ghost use Rattle.loop_station_words.specs.Rings.{IsLargestWithin, IsLeastFor, file_size, usual_for, usual_slots, usual_within};
 
 // The most segments of a store.
 const MAX_SEGMENTS: u64 = 64;
@@ -31,16 +28,50 @@ pub struct RingSize {
 }
 
 /// The least ring that holds so many of the newest frames after each answered append while nothing is locked; a stop
-/// within an append may leave one less. It has 64 slots a segment while 64 segments are enough, and otherwise 64
-/// segments. `None` where no ring holds so many: more than 16,129.
-pub fn ring_for(frames: u64) -> Option<RingSize>
-    ensures least { IfSome result (IsLeastFor frames) }
+/// within an append may leave one less. It has the usual slots a segment while 64 segments of these are enough, and
+/// otherwise 64 segments. `None` where no ring holds so many: more than 16,129.
+///
+/// The usual slots are 64; 128 for frames of at most 65,536 bytes, and 256 for those of at most 16,384, where the ring
+/// then has 16 segments or more.
+pub fn ring_for(frames: u64, frame_bytes: u32) -> Option<RingSize>
+    ensures least { IfSome result (IsLeastFor (usual_for frame_bytes frames) frames) }
+    ensures none { IsNone result ↔ (16129 < frames) }
+{
+    least_ring(usual_for(frame_bytes, frames), frames)
+}
+
+// The usual slots where so many frames are to be held: those of which 15 segments don't hold them.
+fn usual_for(frame_bytes: u32, frames: u64) -> u64
+    ensures same { result ≡ usual_for frame_bytes frames }
+    ensures some { (64 ≤ result) × (result ≤ 256) }
+{
+    usual_slots(frame_bytes, 14 * 256 + 1 < frames, 14 * 128 + 1 < frames)
+}
+
+// The usual slots, if a ring of 256 slots a segment has 16 segments or not, and one of 128.
+fn usual_slots(frame_bytes: u32, with_256: bool, with_128: bool) -> u64
+    ensures same { result ≡ usual_slots frame_bytes with_256 with_128 }
+    ensures some { (64 ≤ result) × (result ≤ 256) }
+{
+    if frame_bytes <= 16384 && with_256 {
+        256
+    } else if frame_bytes <= 65536 && with_128 {
+        128
+    } else {
+        64
+    }
+}
+
+// The least ring that holds so many frames, with these usual slots.
+fn least_ring(usual: u64, frames: u64) -> Option<RingSize>
+    requires { (1 ≤ usual) × (usual ≤ 256) }
+    ensures least { IfSome result (IsLeastFor usual frames) }
     ensures none { IsNone result ↔ (16129 < frames) }
 {
     let before = frames.saturating_sub(1);
-    let segments = before.div_ceil(SLOTS) + 1;
+    let segments = before.div_ceil(usual) + 1;
     if segments <= MAX_SEGMENTS {
-        return Some(ring(segments.max(2), SLOTS));
+        return Some(ring(segments.max(2), usual));
     }
     let slots = before.div_ceil(MAX_SEGMENTS - 1);
     if slots > MAX_SLOTS {
@@ -62,20 +93,42 @@ fn ring(segments: u64, slots: u64) -> RingSize
 }
 
 /// The largest ring whose store has at most so many bytes, for frames of `frame_bytes`. It has two segments while fewer
-/// than 64 slots fit into each, then 64 slots a segment, and more slots only with 64 segments. `None` where not even
-/// two segments of one slot fit.
+/// than the usual slots fit into each, then the usual slots a segment, and more slots only with 64 segments. The usual
+/// slots are those of `ring_for`. `None` where not even two segments of one slot fit.
 pub fn ring_within(frame_bytes: u32, bytes: u64) -> Option<RingSize>
-    ensures largest { IfSome result (IsLargestWithin frame_bytes bytes) }
+    ensures largest { IfSome result (IsLargestWithin (usual_within frame_bytes bytes) frame_bytes bytes) }
+    ensures none { IsNone result ↔ (bytes < file_size frame_bytes (record { segments = 2; slots = 1 })) }
+{
+    largest_ring(usual_within(frame_bytes, bytes), frame_bytes, bytes)
+}
+
+// The usual slots within so many bytes: those of which 16 segments fit.
+fn usual_within(frame_bytes: u32, bytes: u64) -> u64
+    ensures same { result ≡ usual_within frame_bytes bytes }
+    ensures some { (64 ≤ result) × (result ≤ 256) }
+{
+    let slot = SLOT_HEAD + u64::from(frame_bytes);
+    usual_slots(
+        frame_bytes,
+        HEAD + 16 * (SEGMENT_HEAD + 256 * slot) <= bytes,
+        HEAD + 16 * (SEGMENT_HEAD + 128 * slot) <= bytes,
+    )
+}
+
+// The largest ring within so many bytes, with these usual slots.
+fn largest_ring(usual: u64, frame_bytes: u32, bytes: u64) -> Option<RingSize>
+    requires { (1 ≤ usual) × (usual ≤ 256) }
+    ensures largest { IfSome result (IsLargestWithin usual frame_bytes bytes) }
     ensures none { IsNone result ↔ (bytes < file_size frame_bytes (record { segments = 2; slots = 1 })) }
 {
     let slot = SLOT_HEAD + u64::from(frame_bytes);
     let room = bytes.saturating_sub(HEAD);
-    let segments = fitting(room, SEGMENT_HEAD + SLOTS * slot, MAX_SEGMENTS);
+    let segments = fitting(room, SEGMENT_HEAD + usual * slot, MAX_SEGMENTS);
     if segments == MAX_SEGMENTS {
         return Some(ring(segments, slots_within(room, segments, slot)));
     }
     if segments >= 2 {
-        return Some(ring(segments, SLOTS));
+        return Some(ring(segments, usual));
     }
     let slots = slots_within(room, 2, slot);
     if slots == 0 {

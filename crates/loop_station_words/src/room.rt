@@ -1,8 +1,8 @@
-// How many and how large a camera's stores have to be by what the configuration says of it, how much of a store is free,
-// and how many frames may wait before it.
+// How many and how large a camera's stores have to be by what the configuration says of it, how much of a store is
+// free, and how many frames may wait before it.
 ghost use Rattle.std.specs.Prelude.{◌≡◌, ◌≤◌, ◌<◌, ◌+◌, ◌*◌, IsTrue, Some, None, if◌then◌else◌};
 ghost use Rattle.loop_record.specs.Geometry.{frame_bytes, is_good};
-ghost use Rattle.loop_station_words.specs.Rooms.{AreAsked, HoldsLess, IsAsked, IsAskedCount, frames_before, frames_of, free_blocks, held_frames, locked_below, lowest_in, lowest_met, micros_of, most_tenths, newest_block, nearer, ring_of};
+ghost use Rattle.loop_station_words.specs.Rooms.{AreAsked, HoldsLess, IsAsked, IsAskedCount, frames_before, frames_of, free_blocks, held_frames, locked_below, lowest_in, lowest_met, micros_of, most_tenths, newest_block, nearer, ring_of, size_in};
 
 use crate::config::{MemoryLimit, StoreSize};
 use crate::ring::{RingSize, frames_in};
@@ -49,7 +49,7 @@ pub fn asked_set(frames: &Geometry, room: StoreSize) -> Result<SetSize, NoRing>
     ensures { IsAsked frames.now room result }
 {
     match room {
-        StoreSize::Seconds(seconds) => match set_for(frames_of(frames, seconds)) {
+        StoreSize::Seconds(seconds) => match set_for(frames_of(frames, seconds), size_in(frames)) {
             Some(set) => Ok(set),
             None => Err(NoRing::TooManyFrames(most_tenths(frames))),
         },
@@ -79,6 +79,13 @@ pub fn asked_stores(store: &Geometry, room: StoreSize) -> u32
         }
         StoreSize::Bytes(bytes) => stores_within(size, bytes, ring),
     }
+}
+
+// The bytes of a frame; 0 where no store may have that geometry.
+fn size_in(frames: &Geometry) -> u32
+    ensures { result ≡ size_in frames.now }
+{
+    size_of(frames).unwrap_or(0)
 }
 
 // The ring of a store.

@@ -47,14 +47,14 @@ pub fn stores_for(frames: u64, ring: RingSize) -> Option<u32>
     Some(stores as u32)
 }
 
-/// The stores that hold so many frames, as `stores_for` has it. One store has the ring of `ring_for`; of more there are
-/// as few as can be, of 64 segments and as few slots as can be. `None` where 256 stores don't hold so many: more than
-/// 4,194,049.
-pub fn set_for(frames: u64) -> Option<SetSize>
-    ensures least { IfSome result (IsLeastSetFor frames) }
+/// The stores that hold so many frames of `frame_bytes`, as `stores_for` has it. One store has the ring of `ring_for`;
+/// of more there are as few as can be, of 64 segments and as few slots as can be. `None` where 256 stores don't hold so
+/// many: more than 4,194,049.
+pub fn set_for(frames: u64, frame_bytes: u32) -> Option<SetSize>
+    ensures least { IfSome result (IsLeastSetFor frame_bytes frames) }
     ensures none { IsNone result ↔ (4194049 < frames) }
 {
-    if let Some(ring) = ring_for(frames) {
+    if let Some(ring) = ring_for(frames, frame_bytes) {
         return Some(SetSize { stores: 1, ring });
     }
     let stores = stores_for(frames, LARGEST)?;
