@@ -14,8 +14,10 @@ from .text import Form
 # What is written for the measurement, and for how long at most.
 PIECE, MOST, SECONDS = 4 << 20, 256 << 20, 3.0
 SYNCS = 20
-# The station's rule for a store: its segments and slots, and the bytes that aren't pixels.
+# The station's rule for a store: its segments and slots, the slots where frames have at most so many
+# bytes and the store has 16 segments, and the bytes that aren't pixels.
 SLOTS, SEGMENTS_MOST, SLOTS_MOST = 64, 64, 256
+SMALL, SEGMENTS_LEAST = ((256, 16384), (128, 65536)), 16
 HEADER, SEGMENT_HEAD, SLOT_HEAD = 2560, 512, 32
 # So much of the room that is free isn't taken.
 SPARE = 0.1
@@ -53,12 +55,21 @@ def measured(folder: Path) -> Disk:
 def store_bytes(form: Form, minutes: float) -> int | None:
     """The bytes of the store that the station makes for so many minutes, or None where none holds
     so many frames."""
-    frames = -(-Fraction(minutes) * 60 * form.rate // 1)
-    slots = max(SLOTS, -(-int(frames) // (SEGMENTS_MOST - 1)))
+    before = max(int(-(-Fraction(minutes) * 60 * form.rate // 1)) - 1, 0)
+    size = form.bytes_of_frame()
+    usual = next(
+        (
+            slots
+            for slots, largest in SMALL
+            if size <= largest and -(-before // slots) + 1 >= SEGMENTS_LEAST
+        ),
+        SLOTS,
+    )
+    slots = max(usual, -(-before // (SEGMENTS_MOST - 1)))
     if slots > SLOTS_MOST:
         return None
-    segments = max(2, -(-int(frames) // slots) + 1)
-    return HEADER + segments * (SEGMENT_HEAD + slots * (SLOT_HEAD + form.bytes_of_frame()))
+    segments = max(2, -(-before // slots) + 1)
+    return HEADER + segments * (SEGMENT_HEAD + slots * (SLOT_HEAD + size))
 
 
 def proposals(form: Form, disk: Disk) -> list[tuple[int, int]]:

@@ -343,11 +343,22 @@ def test_other_words_are_status_2(laboratory, capsys):
 
 
 @pytest.mark.parametrize(
-    "minutes,rate,segments,slots", [(1, 25, 25, 64), (5, 30, 64, 143), (10, 25, 64, 239)]
+    "wide,high,minutes,rate,segments,slots",
+    [
+        (640, 480, 1, 25, 25, 64),
+        (640, 480, 5, 30, 64, 143),
+        (640, 480, 10, 25, 64, 239),
+        # Small frames: 13,824 and 57,600 bytes.
+        (128, 72, 2, 25, 25, 128),
+        (128, 72, 3, 25, 19, 256),
+        (240, 160, 3, 25, 37, 128),
+        (240, 160, 1, 25, 25, 64),
+    ],
 )
-def test_a_store_takes_what_the_stations_rule_says(minutes, rate, segments, slots):
-    form = Form(640, 480, "yuv420p", Fraction(rate))
-    assert disk.store_bytes(form, minutes) == 2560 + segments * (512 + slots * (32 + 460800))
+def test_a_store_takes_what_the_stations_rule_says(wide, high, minutes, rate, segments, slots):
+    form = Form(wide, high, "yuv420p", Fraction(rate))
+    size = wide * high * 3 // 2
+    assert disk.store_bytes(form, minutes) == 2560 + segments * (512 + slots * (32 + size))
     assert disk.store_bytes(form, 12) is None or rate < 25
 
 

@@ -57,8 +57,11 @@ HEADS = np.dtype(
     [("number", "=u8"), ("timestamp", "=u8"), ("sequence", "=u4"), ("flags", "=u4")], align=True
 )
 U32, U64 = 2**32 - 1, 2**64 - 1
-# The slots of a segment, where `minutes` says how long a store is, and the most segments and slots.
-SLOTS, MOST_SEGMENTS, MOST_SLOTS = 64, 64, 256
+# Where `minutes` says how long a store is: the usual slots of a segment, and those where frames have
+# at most so many bytes and the ring then has at least so many segments.
+SLOTS, SMALL, LEAST_SEGMENTS = 64, ((256, 16384), (128, 65536)), 16
+# The most segments and slots.
+MOST_SEGMENTS, MOST_SLOTS = 64, 256
 
 
 # ------------------------------------------------------------------------------- making
@@ -164,22 +167,34 @@ def ring_of(
     if not 0 < minutes < math.inf:
         raise BadGeometry(f"{minutes!r} is no time in minutes")
     seconds = math.ceil(Fraction(minutes) * 60)
-    return ring_for(-(-seconds * made.rate_num // made.rate_den))
+    form = library.FORMATS[made.format].encode()
+    size = layout.frame_bytes(made.width, made.height, form) or 0
+    return ring_for(-(-seconds * made.rate_num // made.rate_den), size)
 
 
-def ring_for(frames: int) -> tuple[int, int]:
-    """The segments and slots of the least ring that always holds so many of the newest frames while
-    nothing is locked, as the station chooses them: 64 slots a segment, and more with 64 segments
-    alone."""
+def ring_for(frames: int, size: int) -> tuple[int, int]:
+    """The segments and slots of the least ring that always holds so many of the newest frames, of
+    `size` bytes, while nothing is locked, as the station chooses them: the usual slots a segment,
+    and more with 64 segments alone."""
     before = max(frames - 1, 0)
-    segments = -(-before // SLOTS) + 1
+    usual = usual_slots(before, size)
+    segments = -(-before // usual) + 1
     if segments <= MOST_SEGMENTS:
-        return max(segments, 2), SLOTS
+        return max(segments, 2), usual
     slots = -(-before // (MOST_SEGMENTS - 1))
     if slots > MOST_SLOTS:
         most = (MOST_SEGMENTS - 1) * MOST_SLOTS + 1
         raise BadGeometry(f"a store always holds {most} frames at most, and not {frames}")
     return MOST_SEGMENTS, slots
+
+
+def usual_slots(before: int, size: int) -> int:
+    """The usual slots of a segment, for so many frames and one more: small frames have more, where
+    their ring then has 16 segments."""
+    for slots, largest in SMALL:
+        if size <= largest and -(-before // slots) + 1 >= LEAST_SEGMENTS:
+            return slots
+    return SLOTS
 
 
 def whole(value: Any, what: str, most: int) -> int:

@@ -3,7 +3,6 @@ of it. LAPYREI names the library; without it all of these are left out, and said
 import datetime
 import errno
 import fcntl
-import itertools
 import os
 import random
 import resource
@@ -937,17 +936,39 @@ def test_random_calls_are_those_of_a_plain_recorder(tmp_path, seed):
 # ------------------------------------------------------------------------------- making
 
 
-def test_minutes_say_the_least_ring_that_always_holds_them():
+@pytest.mark.parametrize(
+    "size, slots", [(1, (256, 128)), (16384, (256, 128)), (16385, (128,)), (65536, (128,)), (65537, ())]
+)
+def test_minutes_say_the_least_ring_that_always_holds_them(size, slots):
     def held(ring):
         return (ring[0] - 1) * ring[1] + 1
 
-    usual = [(segments, 64) for segments in range(2, 65)]
-    more = [(64, slots) for slots in range(65, 257)]
-    for frames in [*range(0, 4200, 7), *range(4030, 4040), 9999, 16128, 16129]:
-        wanted = next(it for it in itertools.chain(usual, more) if held(it) >= frames)
-        assert writing.ring_for(frames) == wanted
+    edges = [held((15, it)) + more for it in (128, 256) for more in (0, 1)]
+    for frames in [*range(0, 4200, 7), *range(4030, 4040), 9999, 16128, 16129, *edges]:
+        # Small frames have more slots where 15 segments of these aren't enough.
+        usual = next((it for it in slots if held((15, it)) < frames), 64)
+        rings = [(segments, usual) for segments in range(2, 65)]
+        rings += [(64, more) for more in range(usual + 1, 257)]
+        assert writing.ring_for(frames, size) == next(it for it in rings if held(it) >= frames)
     with pytest.raises(lapyrei.BadGeometry):
-        writing.ring_for(16130)
+        writing.ring_for(16130, size)
+
+
+@pytest.mark.parametrize(
+    "shape, form, bits, wanted",
+    [
+        ((1, 4), "GREY", 8, (16, 256)),
+        ((4, 4096), "GREY", 8, (16, 256)),
+        ((5, 3277), "GREY", 8, (30, 128)),
+        ((1, 8193), "GREY", 12, (30, 128)),
+        ((2, 5460), "YM12", 8, (16, 256)),
+        ((2, 5462), "YM12", 8, (30, 128)),
+    ],
+)
+def test_minutes_of_small_frames_have_more_slots(shape, form, bits, wanted):
+    # A second: one frame more than 15 segments of 256 slots hold.
+    made = writing.shape_of(shape, Fraction(3586), form, bits, 2)
+    assert writing.ring_of(made, None, None, 0.016) == wanted
 
 
 def test_a_store_of_minutes_always_holds_them(tmp_path):

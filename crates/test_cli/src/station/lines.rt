@@ -397,25 +397,45 @@ fn frames_are_compared_whatever_their_rings(rt: HostRuntime) {
     same!(rt; compare_frames(&OTHER, &TALL), Likeness::OtherGeometry);
 }
 
-// How many frames a store is to hold, and the segments and slots for them; zeros where there is no such store.
-const RINGS: [(u64, u32, u32); 8] = [
-    (0, 2, 64),
-    (65, 2, 64),
-    (66, 3, 64),
-    (1500, 25, 64),
-    (4033, 64, 64),
-    (4034, 64, 65),
-    (16_129, 64, 256),
-    (16_130, 0, 0),
+// How many frames of how many bytes a store is to hold, and the segments and slots for them; zeros where there is no such
+// store. Small frames have more slots, as long as there are 16 segments.
+const RINGS: [(u64, u32, u32, u32); 19] = [
+    (0, 1, 2, 64),
+    (65, 1, 2, 64),
+    (66, 1, 3, 64),
+    (1500, 1, 25, 64),
+    (1793, 1, 29, 64),
+    (1794, 1, 16, 128),
+    (3585, 16_384, 29, 128),
+    (3586, 16_384, 16, 256),
+    (4034, 16_384, 17, 256),
+    (3586, 16_385, 30, 128),
+    (1793, 65_536, 29, 64),
+    (1794, 65_536, 16, 128),
+    (8065, 65_536, 64, 128),
+    (8066, 65_536, 64, 129),
+    (1794, 65_537, 30, 64),
+    (4033, 65_537, 64, 64),
+    (4034, 65_537, 64, 65),
+    (16_129, 65_537, 64, 256),
+    (16_130, 1, 0, 0),
 ];
 
-// The largest ring of frames of 12 bytes within this many bytes.
-const WITHIN: [(u64, u32, u32); 5] = [
-    (3_671, 0, 0),
-    (3_672, 2, 1),
-    (9_216, 2, 64),
-    (12_544, 3, 64),
-    (u64::MAX, 64, 256),
+// The largest ring of frames of so many bytes within so many bytes.
+const WITHIN: [(u32, u64, u32, u32); 13] = [
+    (12, 3_671, 0, 0),
+    (12, 3_672, 2, 1),
+    (12, 9_216, 2, 64),
+    (12, 12_544, 3, 64),
+    (12, 100_863, 29, 64),
+    (12, 100_864, 16, 128),
+    (12, 190_975, 30, 128),
+    (12, 190_976, 16, 256),
+    (16_384, 67_250_688, 16, 256),
+    (16_385, 67_254_784, 31, 128),
+    (65_536, 134_294_016, 16, 128),
+    (65_537, 134_296_064, 31, 64),
+    (12, u64::MAX, 64, 256),
 ];
 
 // The segments and slots of a ring; zeros where there is no ring.
@@ -428,10 +448,10 @@ fn sizes(ring: Option<RingSize>) -> (u32, u32) {
 
 #[test]
 fn stores_are_as_large_as_they_have_to_be(rt: HostRuntime) {
-    for (frames, segments, slots) in &RINGS {
-        same!(rt; sizes(ring_for(*frames)), (*segments, *slots), *frames);
+    for (frames, size, segments, slots) in &RINGS {
+        same!(rt; sizes(ring_for(*frames, *size)), (*segments, *slots), (*frames, *size));
     }
-    for (bytes, segments, slots) in &WITHIN {
-        same!(rt; sizes(ring_within(12, *bytes)), (*segments, *slots), *bytes);
+    for (size, bytes, segments, slots) in &WITHIN {
+        same!(rt; sizes(ring_within(*size, *bytes)), (*segments, *slots), (*bytes, *size));
     }
 }
