@@ -14,8 +14,8 @@ from .text import Form
 # What is written for the measurement, and for how long at most.
 PIECE, MOST, SECONDS = 4 << 20, 256 << 20, 3.0
 SYNCS = 20
-# The station's rule for a store: its segments and slots, the slots where frames have at most so many
-# bytes and the store has 16 segments, and the bytes that aren't pixels.
+# The station's rule for a store: its segments and slots, the slots where frames have at most so
+# many bytes and the store has 16 segments, and the bytes that aren't pixels.
 SLOTS, SEGMENTS_MOST, SLOTS_MOST = 64, 64, 256
 SMALL, SEGMENTS_LEAST = ((256, 16384), (128, 65536)), 16
 HEADER, SEGMENT_HEAD, SLOT_HEAD = 2560, 512, 32

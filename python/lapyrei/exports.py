@@ -153,10 +153,10 @@ def export(
 ) -> int:
     """Writes frames into the file or folder `out`, which must not be there, and answers how many.
 
-    `kind` is a name of `KINDS`: h5, zarr, tiff, mkv, mp4, png, npy, y4m or csv. `done` is called with
-    the number of frames that are written so far. Raises MissingPackage, Gone where the ring removes
-    a frame meanwhile (lock it first), MixedDepths, and ExportFault for the rest; then nothing is
-    left at `out` or beside it."""
+    `kind` is a name of `KINDS`: h5, zarr, tiff, mkv, mp4, png, npy, y4m or csv. `done` is called
+    with the number of frames that are written so far. Raises MissingPackage, Gone where the ring
+    removes a frame meanwhile (lock it first), MixedDepths, and ExportFault for the rest; then
+    nothing is left at `out` or beside it."""
     if kind not in KINDS:
         raise ExportFault(f"no format {kind}: there are {', '.join(KINDS)}")
     it, chosen = KINDS[kind], options or Options()

@@ -57,8 +57,8 @@ HEADS = np.dtype(
     [("number", "=u8"), ("timestamp", "=u8"), ("sequence", "=u4"), ("flags", "=u4")], align=True
 )
 U32, U64 = 2**32 - 1, 2**64 - 1
-# Where `minutes` says how long a store is: the usual slots of a segment, and those where frames have
-# at most so many bytes and the ring then has at least so many segments.
+# Where `minutes` says how long a store is: the usual slots of a segment, and those where frames
+# have at most so many bytes and the ring then has at least so many segments.
 SLOTS, SMALL, LEAST_SEGMENTS = 64, ((256, 16384), (128, 65536)), 16
 # The most segments and slots.
 MOST_SEGMENTS, MOST_SLOTS = 64, 256

@@ -937,7 +937,8 @@ def test_random_calls_are_those_of_a_plain_recorder(tmp_path, seed):
 
 
 @pytest.mark.parametrize(
-    "size, slots", [(1, (256, 128)), (16384, (256, 128)), (16385, (128,)), (65536, (128,)), (65537, ())]
+    "size, slots",
+    [(1, (256, 128)), (16384, (256, 128)), (16385, (128,)), (65536, (128,)), (65537, ())],
 )
 def test_minutes_say_the_least_ring_that_always_holds_them(size, slots):
     def held(ring):
