@@ -10,6 +10,7 @@ import contextlib
 import datetime
 import fcntl
 import hashlib
+import heapq
 import json
 import os
 import queue
@@ -36,6 +37,8 @@ LOOK_SECONDS = 2.0
 BEAT_SECONDS = 10.0
 # The pause after a fault, at first and at most: it doubles each time.
 PAUSE_SECONDS, MOST_PAUSE_SECONDS = 2.0, 300.0
+# After so long nothing arrives any more of a copy that was killed.
+ARRIVE_SECONDS = 60.0
 # So many clips that were archived stay in the file of the state, the newest ones, beside those that
 # are still held.
 REMEMBERED = 500
@@ -706,17 +709,28 @@ class Archive:
             raise
 
     def clean(self) -> None:
-        """Removes what was left below `.incoming`, each until that succeeds, without end."""
+        """Removes what was left below `.incoming`, each place until that succeeds, without end. What
+        a killed copy had under way may come after that, so each is removed once more a while later.
+        One that can't be removed yet keeps no other waiting."""
+        # When each is due, how often it couldn't be removed, whether it was gone before.
+        due: list[tuple[float, int, bool, str]] = []
         with contextlib.suppress(Stopped):
             while True:
-                place, faults = self.left.get(), 0
-                while not self.is_gone(place):
-                    # One that can't be removed yet keeps the others waiting.
-                    self.pause(min(PAUSE_SECONDS * 2**faults, MOST_PAUSE_SECONDS))
-                    faults = min(faults + 1, 8)
-                with self.state.lock:
-                    self.state.begun = [it for it in self.state.begun if it != place]
-                    self.state.write()
+                wait = max(due[0][0] - time.monotonic(), 0) if due else None
+                with contextlib.suppress(queue.Empty):
+                    heapq.heappush(due, (0.0, 0, False, self.left.get(timeout=wait)))
+                    continue
+                _, faults, was_gone, place = heapq.heappop(due)
+                if not self.is_gone(place):
+                    pause = min(PAUSE_SECONDS * 2**faults, MOST_PAUSE_SECONDS)
+                    again = (time.monotonic() + pause, min(faults + 1, 8), False, place)
+                    heapq.heappush(due, again)
+                elif not was_gone:
+                    heapq.heappush(due, (time.monotonic() + ARRIVE_SECONDS, 0, True, place))
+                else:
+                    with self.state.lock:
+                        self.state.begun = [it for it in self.state.begun if it != place]
+                        self.state.write()
 
     def is_gone(self, place: str) -> bool:
         """Removes a place; answers whether it is gone."""
