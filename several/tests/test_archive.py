@@ -4,6 +4,7 @@ import http.client
 import http.server
 import json
 import os
+import queue
 import re
 import shutil
 import signal
@@ -510,3 +511,33 @@ def test_two_programs_do_not_share_a_state(station, dav, make, begin):
     until(lambda: archive.state.exists(), "state")
     second = begin(SEVERAL / "loop_archive", archive.path, folder=station.folder)
     assert second.ended() == 1 and "another loop_archive has it" in second.printed()
+
+
+def test_each_place_is_removed_twice_and_none_keeps_another_waiting(monkeypatch):
+    """What a killed copy had under way may come after its place was removed."""
+    asked, stuck = [], []
+
+    class State:
+        lock, begun = threading.RLock(), ["left", "stuck"]
+
+        def write(self):
+            written.append(list(self.begun))
+
+    def is_gone(place):
+        if place == "stuck":
+            stuck.append(place)
+            if written or len(stuck) > 100:
+                raise program.Stopped
+            return False
+        asked.append(place)
+        return True
+
+    written = []
+    monkeypatch.setattr(program, "PAUSE_SECONDS", 0.01)
+    monkeypatch.setattr(program, "ARRIVE_SECONDS", 0.05)
+    cleaner = program.Archive.__new__(program.Archive)
+    cleaner.left, cleaner.state, cleaner.is_gone = queue.SimpleQueue(), State(), is_gone
+    cleaner.left.put("stuck")
+    cleaner.left.put("left")
+    cleaner.clean()
+    assert asked == ["left", "left"] and written == [["stuck"]] and len(stuck) > 1
