@@ -5,8 +5,9 @@
  *                once and without a pipe's copies: then DRY_FRAMES frames of DRY_SIZE bytes, each
  *                with its time DRY_FROM + NUMBER * DRY_STEP in its line, and its number in its
  *                first and in its last 8 bytes. After these it is the pipe that is read
- *   DRY_WRITES   of each write of more than 4 KiB only the first and the last 64 bytes are made, so
- *                that a store has the heads of its frames, their ends, and holes between them
+ *   DRY_WRITES   of each write of more than 4 KiB only the pieces of 4 KiB are made that have another
+ *                byte than 0, so that a store has the heads of its frames, their ends, and holes
+ *                between them, in whichever pieces it is written
  *   DRY_PIECES   a file that gets a line for each write and sync of a file NAME.loop: its place
  *                and length, or `sync`
  */
@@ -20,7 +21,9 @@
 #include <sys/syscall.h>
 #include <unistd.h>
 
-enum { LINE = 26, END = 64, WHOLE = 4096 };
+enum { LINE = 26, WHOLE = 4096 };
+
+static const char zeros[WHOLE];
 
 static uint64_t number_of(const char *name) {
     const char *text = getenv(name);
@@ -92,9 +95,13 @@ ssize_t pwrite(int fd, const void *bytes, size_t count, off_t at) {
     note(fd, at, count);
     if (!getenv("DRY_WRITES") || count <= WHOLE)
         return syscall(SYS_pwrite64, fd, bytes, count, at);
-    const char *last = (const char *)bytes + count - END;
-    if (syscall(SYS_pwrite64, fd, bytes, END, at) < 0) return -1;
-    return syscall(SYS_pwrite64, fd, last, END, at + count - END) < 0 ? -1 : (ssize_t)count;
+    for (size_t done = 0; done < count; done += WHOLE) {
+        const char *piece = (const char *)bytes + done;
+        size_t length = count - done < WHOLE ? count - done : WHOLE;
+        if (memcmp(piece, zeros, length) == 0) continue;
+        if (syscall(SYS_pwrite64, fd, piece, length, at + done) < 0) return -1;
+    }
+    return (ssize_t)count;
 }
 
 ssize_t pwrite64(int fd, const void *bytes, size_t count, off_t at) {
