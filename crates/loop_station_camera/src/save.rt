@@ -172,9 +172,9 @@ impl Saves {
         false
     }
 
-    /// Whether a save that runs or waits reads the clip of an id of a camera.
-    pub fn reads<R: Wait>(&self, rt: &R, camera: usize, id: u32) -> bool {
-        self.inside.lock(rt).decided.is_read(camera, id)
+    /// Whether a save that runs or waits reads the clip of an id of a camera, which has this tag, where that is known.
+    pub fn reads<R: Wait>(&self, rt: &R, camera: usize, id: u32, tag: Option<u64>) -> bool {
+        self.inside.lock(rt).decided.is_read(camera, id, tag)
     }
 
     // Begins a save, or lets it wait.

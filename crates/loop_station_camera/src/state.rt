@@ -165,9 +165,9 @@ impl CameraState {
         self.stored.remove(rt, id);
     }
 
-    /// Whether a save reads the clip of an id.
-    pub(crate) fn is_read<R: Wait>(&self, rt: &R, id: u32) -> bool {
-        self.saves.reads(rt, self.place, id)
+    /// Whether a save reads the clip of an id and with a tag, where that is known: by itself, or as one of an event.
+    pub(crate) fn is_read<R: Wait>(&self, rt: &R, id: u32, tag: Option<u64>) -> bool {
+        self.saves.reads(rt, self.place, id, tag)
     }
 
     /// Whether a clip may be released now: it isn't being saved, and begins with the frame that is given, if one is.
@@ -177,8 +177,9 @@ impl CameraState {
         id: u32,
         first: Option<u64>,
     ) -> Result<(), NotReleased> {
-        let is_read = self.is_read(rt, id);
-        match may_release(is_read, first, self.stored.first_of(rt, id)) {
+        let clip = self.stored.clip_of(rt, id);
+        let is_read = self.is_read(rt, id, clip.map(|clip| clip.tag));
+        match may_release(is_read, first, clip.map(|clip| clip.from)) {
             MayRelease::Now => Ok(()),
             MayRelease::Saving => Err(NotReleased::Saving),
             MayRelease::Other(first) => Err(NotReleased::Other(first)),
@@ -192,7 +193,7 @@ impl CameraState {
         saved: SaveKey,
         there: Option<FoundClip>,
     ) -> MayRelease {
-        let is_read = self.is_read(rt, saved.id);
+        let is_read = self.is_read(rt, saved.id, Some(saved.tag));
         let there = match there {
             Some(found) => Some(found.key(self.place)),
             None => None,

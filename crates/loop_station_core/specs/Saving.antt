@@ -1,6 +1,6 @@
 -- Which saves run, which wait, and what follows from what happens to them.
 use Rattle.std.specs.Prelude.{ℕ, ◌-◌, ◌==◌, ◌&&◌, ◌||◌, ◌++◌, Bool, true, false, not, List, [], ◌∷◌, Option, Some, None, is_some, length, remove, slice_get, slice_set, take, if◌then◌else◌}
-use Rattle.std.specs.List.{position}
+use Rattle.std.specs.List.{list_any, position}
 use Rattle.loop_station_core.specs.SaveEnds.{is_saved}
 use Rattle.loop_station_core.specs.declared.save_end.SaveEnd.{SaveEnd}
 use Rattle.loop_station_core.specs.declared.saves.SaveKey.{SaveKey}
@@ -27,7 +27,7 @@ shown s = record { running = s.running.items; waiting = s.waiting.items; stopped
 abbrev pub new_save : SaveKey → Bool → Save
 new_save key automatic = record { key = key; automatic = automatic; release = false; cancelled = false }
 
--- two saves are of one clip
+-- two saves are of one clip, whatever else they read
 abbrev pub is_same : SaveKey → SaveKey → Bool
 is_same a b = (a.camera == b.camera) && ((a.id == b.id) && ((a.first == b.first)
     && ((a.last == b.last) && ((a.tag == b.tag) && (a.time == b.time)))))
@@ -40,13 +40,22 @@ saves_itself key s = s.automatic && (not s.cancelled && is_same key s.key)
 abbrev pub is_of : SaveKey → Save → Bool
 is_of key s = is_same key s.key
 
--- it reads the clip of an id
+-- it is of the clip of an id
 abbrev pub reads : ℕ → ℕ → Save → Bool
 reads camera id s = (s.key.camera == camera) && (s.key.id == id)
 
--- it does, and counts: it isn't to end already, or that doesn't matter
-abbrev pub picks : ℕ → ℕ → Bool → Save → Bool
-picks camera id any s = reads camera id s && (any || not s.cancelled)
+-- it is, and isn't to end already
+abbrev pub picks : ℕ → ℕ → Save → Bool
+picks camera id s = reads camera id s && not s.cancelled
+
+-- a clip is known, and has this tag
+abbrev pub is_tag : ℕ → Option ℕ → Bool
+is_tag t None = false
+is_tag t (Some tag) = t == tag
+
+-- a save reads the clip of an id and a tag: it is of that clip, or reads each clip with the tag of its own
+abbrev pub covers : ℕ → ℕ → Option ℕ → Save → Bool
+covers camera id tag s = (s.key.camera == camera) && ((s.key.id == id) || (s.key.whole && is_tag s.key.tag tag))
 
 -- such a save runs in a place
 abbrev pub holds : (Save → Bool) → Option Save → Bool
@@ -62,16 +71,16 @@ abbrev pub in_place : (Save → Save) → Option Save → Option Save
 in_place f None = None
 in_place f (Some s) = Some (f s)
 
--- the place in which a save that reads the clip of an id runs, and where one waits
-abbrev pub place_of : Places → ℕ → ℕ → Bool → Option ℕ
-place_of p camera id any = position (holds (picks camera id any)) p.running
+-- the place in which a save of the clip of an id runs that isn't to end already, and where one waits
+abbrev pub place_of : Places → ℕ → ℕ → Option ℕ
+place_of p camera id = position (holds (picks camera id)) p.running
 
 abbrev pub turn_of : Places → ℕ → ℕ → Option ℕ
 turn_of p camera id = position (reads camera id) p.waiting
 
 -- a save that runs or waits reads a clip
-abbrev pub is_read : Places → ℕ → ℕ → Bool
-is_read p camera id = is_some (place_of p camera id true) || is_some (turn_of p camera id)
+abbrev pub is_read : Places → ℕ → ℕ → Option ℕ → Bool
+is_read p camera id tag = list_any (holds (covers camera id tag)) p.running || list_any (covers camera id tag) p.waiting
 
 -- a clip is being saved by itself, or waits for that
 abbrev pub has_automatic : Places → SaveKey → Bool
@@ -177,7 +186,7 @@ cancelled_at p at = elim (slice_get p.waiting at) [
 
 -- a save of a clip is to end: one that runs, or else one that waits
 abbrev pub cancelled : Places → ℕ → ℕ → Places × Cancelled
-cancelled p camera id = elim (place_of p camera id false) [
+cancelled p camera id = elim (place_of p camera id) [
   | Some place ↦ (record p { running = update (in_place with_cancel) place p.running }, Running place)
   | None ↦ elim (turn_of p camera id) [
     | Some at ↦ cancelled_at p at

@@ -1,8 +1,8 @@
 //! Places of saves: which save runs, which waits, and which clips are read meanwhile.
 
 ghost use Rattle.std.specs.Prelude.{◌≡◌, ◌≢◌, ◌++◌, ◌∷◌, if◌then◌else◌, ◌<◌, ◌==◌, IfOk, IfSome, Some, None, is_some, not, length, replicate, [], true, false};
-ghost use Rattle.std.specs.List.{position};
-ghost use Rattle.loop_station_core.specs.Saving.{asked, begun, cancelled, cancelled_at, ended, finished, has_automatic, held_at, holds, is_of, is_read, is_same, left_by, picks, reads, saves_itself, shown, stopped, wanted, with_wish, withdrawn};
+ghost use Rattle.std.specs.List.{list_any, position};
+ghost use Rattle.loop_station_core.specs.Saving.{asked, begun, cancelled, cancelled_at, covers, ended, finished, has_automatic, held_at, holds, is_of, is_read, is_same, left_by, picks, reads, saves_itself, shown, stopped, wanted, with_wish, withdrawn};
 ghost use Rattle.loop_station_core.specs.declared.saves.Asked.TheVariants.{NoMemory, Waits};
 
 use crate::save_end::{SaveEnd, is_saved};
@@ -18,10 +18,12 @@ pub struct SaveKey {
     pub last: u64,
     pub tag: u64,
     pub time: u64,
+    /// The save reads each clip of its camera that has the clip's tag, the first of which this is.
+    pub whole: bool,
 }
 
 impl SaveKey {
-    /// Whether two saves are of one clip.
+    /// Whether two saves are of one clip. One of them may read others too (`whole`): that isn't compared.
     pub fn is_same(&self, other: &SaveKey) -> bool
         ensures { result ≡ is_same self.now other.now }
     {
@@ -100,11 +102,22 @@ pub struct Saves {
     stopped: bool,
 }
 
-// Whether a save reads the clip of an id.
+// Whether a save is of the clip of an id.
 fn is_reader(save: &Save, camera: usize, id: u32) -> bool
     ensures { result ≡ reads camera id save.now }
 {
     save.key.camera == camera && save.key.id == id
+}
+
+// Whether a save reads the clip of an id with this tag: it is of that clip, or reads each clip with the tag of its own.
+fn is_covering(save: &Save, camera: usize, id: u32, tag: Option<u64>) -> bool
+    ensures { result ≡ covers camera id tag save.now }
+{
+    let is_tagged = match tag {
+        Some(tag) => save.key.tag == tag,
+        None => false,
+    };
+    save.key.camera == camera && (save.key.id == id || save.key.whole && is_tagged)
 }
 
 // Whether a save of a clip began by itself, and isn't to end before its text is whole.
@@ -131,13 +144,13 @@ fn waiting_itself(waiting: &[Save], key: SaveKey) -> Option<usize>
     waiting.iter().position(|save| saves_itself(save, key))
 }
 
-// The first place whose save reads the clip of an id; `any`: also one that is to end already.
-fn running_at(running: &[Option<Save>], camera: usize, id: u32, any: bool) -> Option<usize>
-    ensures place { result ≡ position (holds (picks camera id any)) running.now }
+// The first place whose save is of the clip of an id, and isn't to end already.
+fn running_at(running: &[Option<Save>], camera: usize, id: u32) -> Option<usize>
+    ensures place { result ≡ position (holds (picks camera id)) running.now }
     ensures bound { IfSome result (λ i. i < length running.now) }
 {
     running.iter().position(|place| match place {
-        Some(save) => is_reader(save, camera, id) && (any || !save.cancelled),
+        Some(save) => is_reader(save, camera, id) && !save.cancelled,
         None => false,
     })
 }
@@ -161,12 +174,31 @@ fn waiting_of(waiting: &[Save], key: SaveKey) -> Option<usize>
     waiting.iter().position(|save| key.is_same(&save.key))
 }
 
-// The first save that waits and reads the clip of an id.
+// The first save that waits and is of the clip of an id.
 fn waiting_at(waiting: &[Save], camera: usize, id: u32) -> Option<usize>
     ensures place { result ≡ position (reads camera id) waiting.now }
     ensures bound { IfSome result (λ i. i < length waiting.now) }
 {
     waiting.iter().position(|save| is_reader(save, camera, id))
+}
+
+// Whether a save that runs reads the clip of an id with this tag.
+fn is_read_running(running: &[Option<Save>], camera: usize, id: u32, tag: Option<u64>) -> bool
+    ensures { result ≡ list_any (holds (covers camera id tag)) running.now }
+{
+    running.iter().any(|place| match place {
+        Some(save) => is_covering(save, camera, id, tag),
+        None => false,
+    })
+}
+
+// Whether a save that waits does.
+fn is_read_waiting(waiting: &[Save], camera: usize, id: u32, tag: Option<u64>) -> bool
+    ensures { result ≡ list_any (covers camera id tag) waiting.now }
+{
+    waiting
+        .iter()
+        .any(|save| is_covering(save, camera, id, tag))
 }
 
 // The first place that is taken.
@@ -333,12 +365,13 @@ impl Saves {
         running_itself(&self.running, key).is_some() || waiting_itself(&self.waiting, key).is_some()
     }
 
-    /// Whether a save that runs or waits reads the clip of an id, so that it may not be released.
-    pub fn is_read(&self, camera: usize, id: u32) -> bool
-        ensures { result ≡ is_read (shown self.now) camera id }
+    /// Whether a save that runs or waits reads the clip of an id with this tag, so that it may not be released. No tag:
+    /// the clip isn't known.
+    pub fn is_read(&self, camera: usize, id: u32, tag: Option<u64>) -> bool
+        ensures { result ≡ is_read (shown self.now) camera id tag }
     {
-        running_at(&self.running, camera, id, true).is_some()
-            || waiting_at(&self.waiting, camera, id).is_some()
+        is_read_running(&self.running, camera, id, tag)
+            || is_read_waiting(&self.waiting, camera, id, tag)
     }
 
     // A clip is to be released. Returns whether that waits for the saves of it: then the end of the last one says so
@@ -363,7 +396,7 @@ impl Saves {
     pub fn cancel(&mut self, camera: usize, id: u32) -> Cancelled
         ensures { (shown self.new, result) ≡ cancelled (shown self.old) camera id }
     {
-        if let Some(place) = running_at(&self.running, camera, id, false) {
+        if let Some(place) = running_at(&self.running, camera, id) {
             if let Some(save) = &mut self.running[place] {
                 save.cancelled = true;
             }

@@ -24,6 +24,7 @@ impl FoundClip {
             last: self.clip.to,
             tag: self.clip.tag,
             time: self.first,
+            whole: false,
         }
     }
 

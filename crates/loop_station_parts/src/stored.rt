@@ -235,13 +235,13 @@ impl Stored {
         }
     }
 
-    /// The number of the frame with which the clip of an id begins.
-    pub fn first_of<R: Wait>(&self, rt: &R, id: u32) -> Option<u64> {
+    /// The clip of an id.
+    pub fn clip_of<R: Wait>(&self, rt: &R, id: u32) -> Option<Clip> {
         let inside = self.inside.lock(rt);
         for member in inside.members.as_slice() {
             for clip in member.clips.as_slice() {
                 if clip.id == id {
-                    return Some(clip.from);
+                    return Some(*clip);
                 }
             }
         }

@@ -2,7 +2,7 @@
 
 use crate::camera::Camera;
 use crate::judge::Judge;
-use crate::saving::Saving;
+use crate::saving::{Saving, tag_in};
 use crate::store::{Clip, MOST_CLIPS, Pieces};
 use loop_station_core::{
     ClipSpan, EventEnd, GrowthTurn, Keep, KeepTurn, Run, event_end, is_covered, kept_answer,
@@ -122,7 +122,8 @@ impl Waiting {
     /// A clip that a longer one covers is released, unless a save reads it.
     pub fn release_covered(&mut self, judge: &mut Judge, camera: &mut Camera, saving: &Saving) {
         if let Some(id) = self.covered.pop() {
-            if !saving.is_read(judge, self.camera, id) {
+            let tag = tag_in(camera, id);
+            if !saving.is_read(judge, self.camera, id, tag) {
                 camera.store.unlock(id);
             }
         }

@@ -11,7 +11,8 @@ pub enum Wish {
     Release(u32, Option<u64>),
     /// It is released, since it is saved; this is the file of its store. Nobody waits for that.
     ReleaseSaved(SaveKey, u64),
-    Save(u32),
+    /// It is saved; `true`: with all others of its tag.
+    Save(u32, bool),
     Cancel(u32),
 }
 

@@ -1,5 +1,6 @@
 //! The saves, beside a plain list of them that judges each answer.
 
+use crate::camera::Camera;
 use crate::judge::Judge;
 use crate::store::Clip;
 use loop_station_core::{
@@ -35,9 +36,14 @@ pub struct Saving {
     places: usize,
 }
 
-// Whether a save reads the clip of an id, of whatever store.
-fn reads(asking: &Asking, camera: usize, id: u32) -> bool {
+// Whether a save is of the clip of an id, of whatever store.
+fn is_of_id(asking: &Asking, camera: usize, id: u32) -> bool {
     asking.key.camera == camera && asking.key.id == id
+}
+
+// Whether a save reads each clip of a tag, of whatever store.
+fn is_of_tag(asking: &Asking, camera: usize, tag: Option<u64>) -> bool {
+    asking.key.whole && asking.key.camera == camera && tag == Some(asking.key.tag)
 }
 
 // Whether a save is of a clip of a store.
@@ -87,10 +93,10 @@ impl Saving {
         self.list.iter().position(|asking| asking.place.is_none())
     }
 
-    // Whether a save reads a clip, as the list has it.
-    fn has_reader(&self, camera: usize, id: u32) -> bool {
+    // Whether a save reads a clip, alone or with the others of its tag, as the list has it.
+    fn has_reader(&self, camera: usize, id: u32, tag: Option<u64>) -> bool {
         for asking in self.list.as_slice() {
-            if reads(asking, camera, id) {
+            if is_of_id(asking, camera, id) || is_of_tag(asking, camera, tag) {
                 return true;
             }
         }
@@ -139,11 +145,11 @@ impl Saving {
         None
     }
 
-    /// Whether a save reads a clip.
-    pub fn is_read(&self, judge: &mut Judge, camera: usize, id: u32) -> bool {
-        let is_read = self.core.is_read(camera, id);
+    /// Whether a save reads the clip of an id with this tag, if there is one.
+    pub fn is_read(&self, judge: &mut Judge, camera: usize, id: u32, tag: Option<u64>) -> bool {
+        let is_read = self.core.is_read(camera, id, tag);
         judge.holds(
-            is_read == self.has_reader(camera, id),
+            is_read == self.has_reader(camera, id, tag),
             "is_read is as the list says",
         );
         is_read
@@ -276,12 +282,12 @@ impl Saving {
     fn to_cancel(&self, camera: usize, id: u32) -> Option<usize> {
         for place in 0..self.places {
             if let Some(asking) = self.running(place) {
-                if reads(&asking, camera, id) && !asking.cancelled {
+                if is_of_id(&asking, camera, id) && !asking.cancelled {
                     return self.at(place);
                 }
             }
         }
-        self.list.iter().position(|asking| asking.place.is_none() && reads(asking, camera, id))
+        self.list.iter().position(|asking| asking.place.is_none() && is_of_id(asking, camera, id))
     }
 
     /// A save of a clip is to end. The one that waited and has ended by that, and whether its clip is to be released.
@@ -397,14 +403,25 @@ fn is_right(answer: Asked, free: Option<usize>, automatic: bool) -> bool {
     }
 }
 
-/// The save of a clip. All clips of the first camera have one tag, and those of the others that of their event.
+// The tag of a clip. All clips of the first camera have one tag, and those of the others that of their event.
+fn tag_of(camera: usize, clip: &Clip) -> u64 {
+    if camera == 0 { OWN_TAG } else { clip.event }
+}
+
+/// The tag of the clip of an id, if there is one.
+pub fn tag_in(camera: &Camera, id: u32) -> Option<u64> {
+    Some(tag_of(camera.place, &camera.store.clip(id)?))
+}
+
+/// The save of a clip.
 pub fn key_of(camera: usize, clip: &Clip) -> SaveKey {
     SaveKey {
         camera,
         id: clip.id,
         first: clip.from,
         last: clip.to,
-        tag: if camera == 0 { OWN_TAG } else { clip.event },
+        tag: tag_of(camera, clip),
         time: clip.time,
+        whole: false,
     }
 }

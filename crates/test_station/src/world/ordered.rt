@@ -4,7 +4,7 @@ use super::Station;
 use crate::camera::Camera;
 use crate::keeping::Waiting;
 use crate::ordering::Wish;
-use crate::saving::key_of;
+use crate::saving::{key_of, tag_in};
 use crate::store::MOST_CLIPS;
 use loop_station_core::{MayRelease, SaveKey, may_release, may_release_saved};
 
@@ -23,7 +23,7 @@ impl Station {
         match camera.orders.take(&mut self.judge) {
             Some(Wish::Release(id, asked)) => self.release_ordered(camera, id, asked),
             Some(Wish::ReleaseSaved(saved, file)) => self.release_saved(camera, saved, file),
-            Some(Wish::Save(id)) => self.save_ordered(camera, id),
+            Some(Wish::Save(id, whole)) => self.save_ordered(camera, id, whole),
             Some(Wish::Cancel(id)) => self.cancel_ordered(camera, id),
             None => {}
         }
@@ -37,7 +37,8 @@ impl Station {
         };
         let wish = match self.random.below(8) {
             0..=3 => Wish::Release(clip.id, self.said_first(clip.from)),
-            4..=6 => Wish::Save(clip.id),
+            4 | 5 => Wish::Save(clip.id, false),
+            6 => Wish::Save(clip.id, true),
             _ => Wish::Cancel(clip.id),
         };
         self.order(camera, wish);
@@ -59,10 +60,13 @@ impl Station {
         }
     }
 
-    // A save of the clip of an id is ordered, if there is one.
-    fn save_ordered(&mut self, camera: &Camera, id: u32) {
+    // A save of the clip of an id is ordered, if there is one; `whole`: with all others of its tag.
+    fn save_ordered(&mut self, camera: &Camera, id: u32, whole: bool) {
         if let Some(clip) = camera.store.clip(id) {
-            let key = key_of(camera.place, &clip);
+            let key = SaveKey {
+                whole,
+                ..key_of(camera.place, &clip)
+            };
             let is_taken = self
                 .saving
                 .ask(&mut self.judge, key, false, camera.file, false);
@@ -72,7 +76,8 @@ impl Station {
 
     // The release of a clip is ordered by its id, and maybe by the frame with which it has to begin.
     fn release_ordered(&mut self, camera: &mut Camera, id: u32, asked: Option<u64>) {
-        let is_read = self.saving.is_read(&mut self.judge, camera.place, id);
+        let tag = tag_in(camera, id);
+        let is_read = self.saving.is_read(&mut self.judge, camera.place, id, tag);
         let is_meant = match asked {
             Some(asked) => camera.store.begins_with(id, asked),
             None => true,
@@ -114,7 +119,10 @@ impl Station {
 
     // A clip that was saved is released, if it is still there.
     fn release_saved(&mut self, camera: &mut Camera, saved: SaveKey, file: u64) {
-        let is_read = self.saving.is_read(&mut self.judge, camera.place, saved.id);
+        let tag = Some(saved.tag);
+        let is_read = self
+            .saving
+            .is_read(&mut self.judge, camera.place, saved.id, tag);
         let there = match camera.store.clip(saved.id) {
             Some(clip) => Some(key_of(camera.place, &clip)),
             None => None,
