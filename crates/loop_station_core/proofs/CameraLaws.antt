@@ -1,5 +1,5 @@
 -- What holds of a camera whatever happens.
-use Rattle.std.proofs.Common.{◌≡◌, Bool, true, false, List, [], ◌∷◌, Some, None, is_some, arith, refl}
+use Rattle.std.proofs.Common.{◌≡◌, true, false, List, [], ◌∷◌, is_some, arith, refl}
 use Rattle.std.proofs.lemmas.Grind.{common_steps}
 use Rattle.loop_station_core.specs.Cameras.{lived, step}
 use Rattle.loop_station_core.specs.Laws.{NoneBegins, NothingBreaks}

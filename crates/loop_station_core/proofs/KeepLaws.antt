@@ -1,5 +1,5 @@
 -- What a keep does is right by its line.
-use Rattle.std.proofs.Common.{◌≡◌, ℕ, ◌≤◌, ◌-◌, ◌⊎◌, ◌||◌, ◌&&◌, ◌==◌, Bool, true, false, not, List, [], ◌∷◌, Option, Some, None, arith, refl, inl, inr, is_some, unwrap_or, max, nat_le, if◌then◌else◌}
+use Rattle.std.proofs.Common.{◌≡◌, ℕ, ◌≤◌, ◌⊎◌, ◌||◌, ◌&&◌, ◌==◌, Bool, true, false, not, List, [], ◌∷◌, Option, Some, None, arith, refl, inl, inr, is_some, unwrap_or, max, nat_le, if◌then◌else◌}
 use Rattle.std.proofs.lemmas.Grind.{common_steps}
 use Rattle.loop_station_core.specs.Keeps.{AreInOrder, EachTurn, HasTimesOf, IsClear, IsRight, IsTimely, acts, ended, is_done, is_due, is_free, looked, moved, part_locked, step, steps_of}
 use Rattle.loop_station_core.specs.declared.keep.Keep.{Keep}

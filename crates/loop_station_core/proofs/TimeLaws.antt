@@ -1,8 +1,8 @@
 -- What holds of a source's times, whatever it says.
-use Rattle.std.proofs.Common.{◌≡◌, ℕ, ◌+◌, ◌-◌, ◌^◌, ◌<◌, ◌≤◌, Bool, true, false, List, [], ◌∷◌, Option, Some, None, is_some, min, arith, refl, ap, sym}
+use Rattle.std.proofs.Common.{◌≡◌, ℕ, ◌+◌, ◌-◌, ◌^◌, ◌<◌, ◌≤◌, Bool, true, false, List, [], ◌∷◌, Option, Some, None, is_some, min, arith, refl}
 use Rattle.std.specs.Prelude.{IfSome, if◌then◌else◌, nat_le}
 use Rattle.std.proofs.lemmas.Bool.{leb-false, leb-true}
-use Rattle.loop_station_core.specs.Timing.{EachLater, is_told, later, said_or_now, step, tells}
+use Rattle.loop_station_core.specs.Timing.{EachLater, later, said_or_now, step, tells}
 use Rattle.loop_station_core.specs.declared.timing.Arrival.{Arrival}
 use Rattle.loop_station_core.specs.declared.timing.Timing.{Timing}
 
