@@ -3,7 +3,7 @@ use Rattle.std.proofs.Common.{◌≡◌, ℕ, ◌&&◌, Bool, true, false, not, 
 use Rattle.std.specs.List.{list_any, position, position_or_len}
 use Rattle.std.proofs.lemmas.Grind.{common_steps}
 use Rattle.loop_station_core.specs.Releases.{SaveStep, asks, ends, cancels, stops, frees, frees_in, lets, lets_in, next_reader, no_saves, says_release, stepped}
-use Rattle.loop_station_core.specs.Saving.{Places, after_end, asked, begun, cancelled, cancelled_at, earns, ended, freed, held_at, holds, in_place, is_of, is_same, left_by, new_save, picks, place_of, place_with, reads, stopped, turn_of, turn_with, update, wanted, with_cancel, with_release, with_wish}
+use Rattle.loop_station_core.specs.Saving.{Places, after_end, asked, begun, cancelled, cancelled_at, earns, ended, freed, held_at, holds, in_place, is_of, is_same, left_by, new_save, picks, place_of, place_with, stopped, turn_of, turn_with, update, wanted, with_cancel, with_release, with_wish}
 use Rattle.loop_station_core.specs.declared.save_end.SaveEnd.{SaveEnd}
 use Rattle.loop_station_core.specs.declared.saves.SaveKey.{SaveKey}
 use Rattle.loop_station_core.specs.declared.saves.Save.{Save}
@@ -167,7 +167,7 @@ wish-free key p place end releases h n = at (held_at p place) refl where
   at (Some s) e = by-earning s (earns s end releases) e refl
 
 -- a cancel changes nothing of what is released
-cancel-in : (key : SaveKey) (c i : ℕ) (o : Option Save) → holds (picks c i false) o ≡ true
+cancel-in : (key : SaveKey) (c i : ℕ) (o : Option Save) → holds (picks c i) o ≡ true
     → holds (bears key) o ≡ false → holds (bears key) (in_place with_cancel o) ≡ false
 cancel-in key c i None r h = grind (arith, common_steps)
 cancel-in key c i (Some s) r h = grind (arith, common_steps)
@@ -186,11 +186,11 @@ turned-free key p c i t e h = at (slice_get p.waiting t) refl where
 
 cancelled-free : (key : SaveKey) (p : Places) (c i : ℕ) → Free key p
     → Free key (cancelled p c i).0 × ((holds (is_of key) (next_reader p c i) && says_release (cancelled p c i).1) ≡ false)
-cancelled-free key p c i h = at (place_of p c i false) (turn_of p c i) refl refl where
-  at : (a b : Option ℕ) → place_of p c i false ≡ a → turn_of p c i ≡ b → Free key (cancelled p c i).0
+cancelled-free key p c i h = at (place_of p c i) (turn_of p c i) refl refl where
+  at : (a b : Option ℕ) → place_of p c i ≡ a → turn_of p c i ≡ b → Free key (cancelled p c i).0
       × ((holds (is_of key) (next_reader p c i) && says_release (cancelled p c i).1) ≡ false)
   at (Some place) b e n =
-      let u = any-update (holds (bears key)) (holds (picks c i false)) (in_place with_cancel) p.running place e
+      let u = any-update (holds (bears key)) (holds (picks c i)) (in_place with_cancel) p.running place e
       (cancel-in key c i) h.0 in
       grind (arith, common_steps)
   at None (Some t) e n =

@@ -13,7 +13,7 @@ use Rattle.loop_station_core.specs.Releases.{SaveStep, after_all as all_happened
 use Rattle.loop_station_core.specs.SaveEnds.{waits_in}
 use Rattle.loop_station_core.specs.Search.{has_gap, mark_at, most, told, turn}
 use Rattle.loop_station_core.specs.Texts.{AllThreeCame, FirstCame, after_steps}
-use Rattle.loop_station_core.specs.Saving.{Places, asked, is_read, is_saving, left_by, withdrawn}
+use Rattle.loop_station_core.specs.Saving.{Places, asked, covers, is_read, is_saving, left_by, withdrawn}
 use Rattle.loop_station_core.specs.declared.clips.MayRelease.TheVariants.{Now}
 use Rattle.loop_station_core.specs.declared.saves.Asked.TheVariants.{Waits}
 use Rattle.loop_station_core.specs.declared.saves.SaveKey.{SaveKey}
@@ -55,13 +55,14 @@ GapsAddUp = (period since until : ℕ) (runs : List Run) → AreWithin since run
 abbrev pub ReleasesAreFree : Type 0
 ReleasesAreFree = (p : Places) (s : Save) → (left_by p s).1 ≡ true → is_saving p s.key ≡ false
 
--- An order releases a clip only where each save of it that was taken in has ended, and only the clip that it means. So
--- it is after each list of what happens to saves.
+-- An order releases the clip of an id and a tag only where each save that was taken in and reads it, as its clip or as
+-- one of an event, has ended, and only the clip that it means. So it is after each list of what happens to saves.
 abbrev pub OrdersSpareReadClips : Type 0
-OrdersSpareReadClips = (places camera id : ℕ) (steps : List SaveStep) (said first : Option ℕ)
+OrdersSpareReadClips = (places camera id : ℕ) (tag : Option ℕ) (steps : List SaveStep) (said first : Option ℕ)
     → let p = no_saves places in
-    may_release (is_read (all_happened p steps) camera id) said first ≡ Now
-    → (saves_taken_in camera id p steps ≡ ended_in camera id p steps) × ((said ≡ None) ⊎ (said ≡ first))
+    may_release (is_read (all_happened p steps) camera id tag) said first ≡ Now
+    → (saves_taken_in (covers camera id tag) p steps ≡ ended_in (covers camera id tag) p steps)
+    × ((said ≡ None) ⊎ (said ≡ first))
 
 -- Saves release a clip only where a save of it that began by itself has come to an end with its text whole, or saved
 -- already, and clips of its camera are released then. So it is of each list of what happens to saves.
@@ -69,14 +70,17 @@ abbrev pub ReleasesAreEarned : Type 0
 ReleasesAreEarned = (places : ℕ) (key : SaveKey) (steps : List SaveStep)
     → lets_in key (no_saves places) steps ≡ false → frees_in key (no_saves places) steps ≡ false
 
--- What is released since it is saved is the very clip that was saved, and only once each save of its id that was taken
--- in has ended. So a save of a store that was moved away releases no clip of the new one.
+-- the clip of a save, whatever else the save reads
+abbrev pub clip_of : SaveKey → SaveKey
+clip_of key = record key { whole = false }
+
+-- What is released since it is saved is the very clip that was saved, and only once each save that was taken in and
+-- reads its id or its tag has ended. So a save of a store that was moved away releases no clip of the new one.
 abbrev pub SavedClipsAreReleased : Type 0
 SavedClipsAreReleased = (places : ℕ) (saved : SaveKey) (steps : List SaveStep) (there : Option SaveKey)
-    → let p = no_saves places in
-    may_release_saved (is_read (all_happened p steps) saved.camera saved.id) saved there ≡ Now
-    → (there ≡ Some saved)
-    × (saves_taken_in saved.camera saved.id p steps ≡ ended_in saved.camera saved.id p steps)
+    → let p = no_saves places in let reads = covers saved.camera saved.id (Some saved.tag) in
+    may_release_saved (is_read (all_happened p steps) saved.camera saved.id (Some saved.tag)) saved there ≡ Now
+    → (option_map clip_of there ≡ Some (clip_of saved)) × (saves_taken_in reads p steps ≡ ended_in reads p steps)
 
 -- A save that is withdrawn once it was told to wait leaves all as if it hadn't been asked for.
 abbrev pub WithdrawnSavesLeaveNothing : Type 0

@@ -1,6 +1,6 @@
 -- Which clips are released, by what happens to saves one after the other.
-use Rattle.std.specs.Prelude.{ℕ, ◌+◌, ◌==◌, ◌&&◌, ◌||◌, Bool, true, false, List, [], ◌∷◌, Option, Some, None, replicate, slice_get}
-use Rattle.loop_station_core.specs.Saving.{Places, asked, cancelled, earns, finished, held_at, holds, is_of, reads, stopped, turn_of, with_wish, withdrawn}
+use Rattle.std.specs.Prelude.{ℕ, ◌+◌, ◌&&◌, ◌||◌, Bool, true, false, List, [], ◌∷◌, Option, Some, None, replicate, slice_get}
+use Rattle.loop_station_core.specs.Saving.{Places, asked, cancelled, earns, finished, has_key, held_at, holds, is_of, stopped, turn_of, with_wish}
 use Rattle.loop_station_core.specs.declared.save_end.SaveEnd.{SaveEnd}
 use Rattle.loop_station_core.specs.declared.saves.Save.{Save}
 use Rattle.loop_station_core.specs.declared.saves.SaveKey.{SaveKey}
@@ -34,11 +34,7 @@ abbrev pub says_release : Cancelled → Bool
 says_release (Waiting release) = release
 says_release _ = false
 
--- one clip is another's
-abbrev pub is_clip : ℕ → ℕ → ℕ → ℕ → Bool
-is_clip camera id c i = (c == camera) && (i == id)
-
--- the save that waits and reads the clip of an id first
+-- the first save that waits and is of the clip of an id
 abbrev pub next_reader : Places → ℕ → ℕ → Option Save
 next_reader p camera id = elim (turn_of p camera id) [ None ↦ None | Some at ↦ slice_get p.waiting at ]
 
@@ -75,36 +71,35 @@ is_taken (Begins place) = true
 is_taken Waits = true
 is_taken _ = false
 
--- how many saves of a clip are taken in by what happens
-abbrev pub taken_by : ℕ → ℕ → Places → SaveStep → ℕ
-taken_by camera id p (asks key automatic) =
-    one_if (is_taken (asked p key automatic).1 && is_clip camera id key.camera key.id)
-taken_by camera id p _ = 0
+-- how many saves whose keys pass are taken in by what happens
+abbrev pub taken_by : (SaveKey → Bool) → Places → SaveStep → ℕ
+taken_by f p (asks key automatic) = one_if (is_taken (asked p key automatic).1 && f key)
+taken_by f p _ = 0
 
--- a save that waited has ended by a cancel, and a save of a clip by a stop
+-- a save that waited has ended by a cancel, and one whose key passes by a stop
 abbrev pub is_gone : Cancelled → Bool
 is_gone (Waiting release) = true
 is_gone _ = false
 
-abbrev pub stops_clip : ℕ → ℕ → Option StoppedSave → Bool
-stops_clip camera id None = false
-stops_clip camera id (Some s) = is_clip camera id s.key.camera s.key.id
+abbrev pub stops_one : (SaveKey → Bool) → Option StoppedSave → Bool
+stops_one f None = false
+stops_one f (Some s) = f s.key
 
--- how many saves of it have ended by what happens
-abbrev pub ended_by : ℕ → ℕ → Places → SaveStep → ℕ
-ended_by camera id p (asks key automatic) = 0
-ended_by camera id p (ends place end releases) = one_if (holds (reads camera id) (held_at p place))
-ended_by camera id p (cancels c i) = one_if (is_clip camera id c i && is_gone (cancelled p c i).1)
-ended_by camera id p stops = one_if (stops_clip camera id (stopped p).1)
+-- how many of them have ended by what happens
+abbrev pub ended_by : (SaveKey → Bool) → Places → SaveStep → ℕ
+ended_by f p (asks key automatic) = 0
+ended_by f p (ends place end releases) = one_if (holds (has_key f) (held_at p place))
+ended_by f p (cancels c i) = one_if (is_gone (cancelled p c i).1 && holds (has_key f) (next_reader p c i))
+ended_by f p stops = one_if (stops_one f (stopped p).1)
 
 -- how many by all of a list
-abbrev pub taken_in : ℕ → ℕ → Places → List SaveStep → ℕ
-taken_in camera id p [] = 0
-taken_in camera id p (s ∷ ss) = taken_by camera id p s + taken_in camera id (stepped p s) ss
+abbrev pub taken_in : (SaveKey → Bool) → Places → List SaveStep → ℕ
+taken_in f p [] = 0
+taken_in f p (s ∷ ss) = taken_by f p s + taken_in f (stepped p s) ss
 
-abbrev pub ended_in : ℕ → ℕ → Places → List SaveStep → ℕ
-ended_in camera id p [] = 0
-ended_in camera id p (s ∷ ss) = ended_by camera id p s + ended_in camera id (stepped p s) ss
+abbrev pub ended_in : (SaveKey → Bool) → Places → List SaveStep → ℕ
+ended_in f p [] = 0
+ended_in f p (s ∷ ss) = ended_by f p s + ended_in f (stepped p s) ss
 
 -- no save, and so many places
 abbrev pub no_saves : ℕ → Places

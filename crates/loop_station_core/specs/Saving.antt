@@ -53,9 +53,13 @@ abbrev pub is_tag : ℕ → Option ℕ → Bool
 is_tag t None = false
 is_tag t (Some tag) = t == tag
 
--- a save reads the clip of an id and a tag: it is of that clip, or reads each clip with the tag of its own
-abbrev pub covers : ℕ → ℕ → Option ℕ → Save → Bool
-covers camera id tag s = (s.key.camera == camera) && ((s.key.id == id) || (s.key.whole && is_tag s.key.tag tag))
+-- a save of a key reads the clip of an id and a tag: it is of that clip, or reads each one with its own tag
+abbrev pub covers : ℕ → ℕ → Option ℕ → SaveKey → Bool
+covers camera id tag key = (key.camera == camera) && ((key.id == id) || (key.whole && is_tag key.tag tag))
+
+-- the key of a save passes
+abbrev pub has_key : (SaveKey → Bool) → Save → Bool
+has_key f s = f s.key
 
 -- such a save runs in a place
 abbrev pub holds : (Save → Bool) → Option Save → Bool
@@ -80,7 +84,8 @@ turn_of p camera id = position (reads camera id) p.waiting
 
 -- a save that runs or waits reads a clip
 abbrev pub is_read : Places → ℕ → ℕ → Option ℕ → Bool
-is_read p camera id tag = list_any (holds (covers camera id tag)) p.running || list_any (covers camera id tag) p.waiting
+is_read p camera id tag = list_any (holds (has_key (covers camera id tag))) p.running
+    || list_any (has_key (covers camera id tag)) p.waiting
 
 -- a clip is being saved by itself, or waits for that
 abbrev pub has_automatic : Places → SaveKey → Bool

@@ -57,7 +57,8 @@ pub fn releases_are_free()
     ensures { ReleasesAreFree }
 {}
 
-/// An order releases a clip only once each save of it that was taken in has ended, and only the clip that it means.
+/// An order releases a clip only once each save that was taken in and reads it, as its clip or as one of an event, has
+/// ended, and only the clip that it means.
 pub fn orders_spare_read_clips()
     ensures { OrdersSpareReadClips }
 {}
@@ -69,7 +70,7 @@ pub fn releases_are_earned()
 {}
 
 /// What is released since it is saved is the very clip that was saved, and not one of another store, with the same id
-/// and the same number. Each save of its id has ended then.
+/// and the same number. Each save that reads its id or its tag has ended then.
 pub fn saved_clips_are_released()
     ensures { SavedClipsAreReleased }
 {}

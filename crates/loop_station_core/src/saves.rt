@@ -2,7 +2,7 @@
 
 ghost use Rattle.std.specs.Prelude.{◌≡◌, ◌≢◌, ◌++◌, ◌∷◌, if◌then◌else◌, ◌<◌, ◌==◌, IfOk, IfSome, Some, None, is_some, not, length, replicate, [], true, false};
 ghost use Rattle.std.specs.List.{list_any, position};
-ghost use Rattle.loop_station_core.specs.Saving.{asked, begun, cancelled, cancelled_at, covers, ended, finished, has_automatic, held_at, holds, is_of, is_read, is_same, left_by, picks, reads, saves_itself, shown, stopped, wanted, with_wish, withdrawn};
+ghost use Rattle.loop_station_core.specs.Saving.{asked, begun, cancelled, cancelled_at, covers, ended, finished, has_automatic, has_key, held_at, holds, is_of, is_read, is_same, left_by, picks, reads, saves_itself, shown, stopped, wanted, with_wish, withdrawn};
 ghost use Rattle.loop_station_core.specs.declared.saves.Asked.TheVariants.{NoMemory, Waits};
 
 use crate::save_end::{SaveEnd, is_saved};
@@ -33,6 +33,17 @@ impl SaveKey {
             && self.last == other.last
             && self.tag == other.tag
             && self.time == other.time
+    }
+
+    // Whether a save reads the clip of an id with this tag: it is of that clip, or reads each one with its own tag.
+    fn covers(&self, camera: usize, id: u32, tag: Option<u64>) -> bool
+        ensures { result ≡ covers camera id tag self.now }
+    {
+        let is_tagged = match tag {
+            Some(tag) => self.tag == tag,
+            None => false,
+        };
+        self.camera == camera && (self.id == id || self.whole && is_tagged)
     }
 }
 
@@ -109,17 +120,6 @@ fn is_reader(save: &Save, camera: usize, id: u32) -> bool
     save.key.camera == camera && save.key.id == id
 }
 
-// Whether a save reads the clip of an id with this tag: it is of that clip, or reads each clip with the tag of its own.
-fn is_covering(save: &Save, camera: usize, id: u32, tag: Option<u64>) -> bool
-    ensures { result ≡ covers camera id tag save.now }
-{
-    let is_tagged = match tag {
-        Some(tag) => save.key.tag == tag,
-        None => false,
-    };
-    save.key.camera == camera && (save.key.id == id || save.key.whole && is_tagged)
-}
-
 // Whether a save of a clip began by itself, and isn't to end before its text is whole.
 fn saves_itself(save: &Save, key: SaveKey) -> bool
     ensures { result ≡ saves_itself key save.now }
@@ -184,21 +184,19 @@ fn waiting_at(waiting: &[Save], camera: usize, id: u32) -> Option<usize>
 
 // Whether a save that runs reads the clip of an id with this tag.
 fn is_read_running(running: &[Option<Save>], camera: usize, id: u32, tag: Option<u64>) -> bool
-    ensures { result ≡ list_any (holds (covers camera id tag)) running.now }
+    ensures { result ≡ list_any (holds (has_key (covers camera id tag))) running.now }
 {
     running.iter().any(|place| match place {
-        Some(save) => is_covering(save, camera, id, tag),
+        Some(save) => save.key.covers(camera, id, tag),
         None => false,
     })
 }
 
 // Whether a save that waits does.
 fn is_read_waiting(waiting: &[Save], camera: usize, id: u32, tag: Option<u64>) -> bool
-    ensures { result ≡ list_any (covers camera id tag) waiting.now }
+    ensures { result ≡ list_any (has_key (covers camera id tag)) waiting.now }
 {
-    waiting
-        .iter()
-        .any(|save| is_covering(save, camera, id, tag))
+    waiting.iter().any(|save| save.key.covers(camera, id, tag))
 }
 
 // The first place that is taken.
