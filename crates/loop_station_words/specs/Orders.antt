@@ -4,7 +4,7 @@ use Rattle.std.specs.Str.{bytes_eq}
 use Rattle.loop_script.specs.Script.{number, small_number}
 use Rattle.loop_station_words.specs.declared.order.KeepTimes.{KeepTimes}
 use Rattle.loop_station_words.specs.declared.order.Order.{Order}
-use Rattle.loop_station_words.specs.declared.order.Order.TheVariants.{Cancel, Help, Keep, KeepBetween, Release, List as ListAll, Save, Status, Stop}
+use Rattle.loop_station_words.specs.declared.order.Order.TheVariants.{Cancel, Help, Keep, KeepBetween, Release, List as ListAll, Save, SaveEvent, Status, Stop}
 use Rattle.loop_station_words.specs.Cuts.{cut}
 use Rattle.loop_station_words.specs.Names.{is_label, named}
 use Rattle.loop_station_words.specs.Times.{time_said}
@@ -101,16 +101,34 @@ abbrev pub save_of : Bool → Option (List ℕ) → Option ℕ → List ℕ → 
 save_of replace (Some camera) (Some id) (b ∷ out) = Some (Save camera id (b ∷ out) replace)
 save_of _ _ _ _ = None
 
--- the id of a clip, and a path
+-- the tag of an event's clips, which a word such as `#7` says
+abbrev pub event_cut : Option (List ℕ × List ℕ) → Option ℕ
+event_cut None = None
+event_cut (Some hash) = if length hash.0 == 0 then number hash.1 else None
+
+unfoldable pub event_said : List ℕ → Option ℕ
+event_said word = event_cut (cut 35 word)
+
+-- the save of all clips of a camera that have a tag, where there is a camera, and a path that isn't empty
+abbrev pub save_event_of : Bool → Option (List ℕ) → ℕ → List ℕ → Option Order
+save_event_of replace (Some camera) tag (b ∷ out) = Some (SaveEvent camera tag (b ∷ out) replace)
+save_event_of _ _ _ _ = None
+
+-- the clips of a tag, or else the clip of an id
+abbrev pub clips_in : Bool → Option (List ℕ) → List ℕ → List ℕ → Option ℕ → Option Order
+clips_in replace camera word out (Some tag) = save_event_of replace camera tag out
+clips_in replace camera word out None = save_of replace camera (small_number word) out
+
+-- an event or the id of a clip, and a path
 abbrev pub out_cut : Bool → Option (List ℕ) → Option (List ℕ × List ℕ) → Option Order
 out_cut replace camera None = None
-out_cut replace camera (Some both) = save_of replace camera (small_number both.0) both.1
+out_cut replace camera (Some both) = clips_in replace camera both.0 both.1 (event_said both.0)
 
 abbrev pub save_cut : Bool → Option (List ℕ × List ℕ) → Option Order
 save_cut replace None = None
 save_cut replace (Some more) = out_cut replace (named more.0) (cut 32 more.1)
 
--- what follows `save `, or `save! ` which replaces a file: a camera, the id of a clip, and the rest of the line
+-- what follows `save `, or `save! ` which replaces a file: a camera, an event or a clip's id, and the rest of the line
 unfoldable pub save_said : Bool → List ℕ → Option Order
 save_said replace text = save_cut replace (cut 32 text)
 

@@ -1,7 +1,7 @@
 // Orders: the lines that ask for something. docs/station.md says why it is so.
 ghost use Rattle.std.specs.Prelude.{◌≡◌, option_map};
 ghost use Rattle.loop_station_words.specs.Cuts.{cut};
-ghost use Rattle.loop_station_words.specs.Orders.{after_said, after_seconds, alone_said, between_of, cancel_of, cancel_said, first_word, from_said, keep_of, keep_said, label_said, order_said, plain_said, release_of, release_said, save_of, save_said, tag_of, tagged, timed_said, times_in, times_kept, times_said, to_cut};
+ghost use Rattle.loop_station_words.specs.Orders.{after_said, after_seconds, alone_said, between_of, cancel_of, cancel_said, event_said, first_word, from_said, keep_of, keep_said, label_said, order_said, plain_said, release_of, release_said, save_event_of, save_of, save_said, tag_of, tagged, timed_said, times_in, times_kept, times_said, to_cut};
 
 use crate::cut::cut;
 use crate::name::{Name, is_label, named};
@@ -43,6 +43,15 @@ pub enum Order<'a> {
     Save {
         camera: Name<'a>,
         id: u32,
+        out: Name<'a>,
+        replace: bool,
+    },
+    /// `save CAMERA #TAG OUT`: the frames of all clips of the camera that have the tag, in whichever of its stores they
+    /// lie, are written to a file as one text, in the order of their times. An event's number is the tag of its clips,
+    /// unless they were given another. `save! CAMERA #TAG OUT` replaces a file that exists.
+    SaveEvent {
+        camera: Name<'a>,
+        tag: u64,
         out: Name<'a>,
         replace: bool,
     },
@@ -350,9 +359,43 @@ fn read_save<'a>(text: &'a str, replace: bool) -> Option<Order<'a>>
         None => None,
         Some((camera, rest)) => match cut(rest, ' ') {
             None => None,
-            Some((id, out)) => save_of(replace, named(camera), small_number(id), out),
+            Some((clips, out)) => match read_event(clips) {
+                Some(tag) => save_event_of(replace, named(camera), tag, out),
+                None => save_of(replace, named(camera), small_number(clips), out),
+            },
         },
     }
+}
+
+// The tag of an event's clips, which a word such as `#7` says.
+#[tactic(auto, unfolding(crate::specs::Orders::event_said))]
+fn read_event(word: &str) -> Option<u64>
+    ensures { result ≡ event_said word.now }
+{
+    match cut(word, '#') {
+        Some((before, digits)) if before.is_empty() => number(digits),
+        _ => None,
+    }
+}
+
+// The save of all clips of a camera that have a tag, where there is a camera, and a path that isn't empty.
+fn save_event_of<'a>(
+    replace: bool,
+    camera: Option<Name<'a>>,
+    tag: u64,
+    out: &'a str,
+) -> Option<Order<'a>>
+    ensures { result ≡ save_event_of replace camera.entry tag out.now }
+{
+    if out.is_empty() {
+        return None;
+    }
+    Some(Order::SaveEvent {
+        camera: camera?,
+        tag,
+        out: Name::of(out),
+        replace,
+    })
 }
 
 // The save of a camera's clip, where there are both, and a path that isn't empty.
