@@ -29,6 +29,10 @@ pub fn each_order_has_a_line()
     ensures save { order_said (codes "save left 3 my clip.y4m")
         ≡ Some (Order.Save (codes "left") 3 (codes "my clip.y4m") false) }
     ensures replace { order_said (codes "save! left 3 a") ≡ Some (Order.Save (codes "left") 3 (codes "a") true) }
+    ensures event { order_said (codes "save left #7 my clip.y4m")
+        ≡ Some (Order.SaveEvent (codes "left") 7 (codes "my clip.y4m") false) }
+    ensures replace_event { order_said (codes "save! left #7 a")
+        ≡ Some (Order.SaveEvent (codes "left") 7 (codes "a") true) }
     ensures help { order_said (codes "help") ≡ Some Order.Help }
     ensures status { order_said (codes "status") ≡ Some Order.Status }
     ensures stop { order_said (codes "stop") ≡ Some Order.Stop }
@@ -49,6 +53,10 @@ pub fn other_lines_have_no_order()
     ensures no_clip { order_said (codes "release left 3 90 7") ≡ None }
     ensures no_save { order_said (codes "cancel left") ≡ None }
     ensures out { order_said (codes "save left 3 ") ≡ None }
+    ensures no_tag { order_said (codes "save left # a") ≡ None }
+    ensures no_digits { order_said (codes "save left #x a") ≡ None }
+    ensures large_tag { order_said (codes "save left #18446744073709551616 a") ≡ None }
+    ensures event_out { order_said (codes "save left #7 ") ≡ None }
     ensures space { order_said (codes "list ") ≡ None }
 {}
 

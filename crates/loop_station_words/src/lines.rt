@@ -20,13 +20,15 @@ use std::io::Write;
 const MOST_OF_LINE: usize = 200;
 
 // The orders, as `help` lists them.
-const ORDERS: [&str; 11] = [
+const ORDERS: [&str; 13] = [
     "keep [CAMERA] [SECONDS] [+AFTER] [TAG]",
     "keep [CAMERA] from T to T [TAG]",
     "release CAMERA ID [FIRST]",
     "list",
     "save CAMERA ID OUT",
     "save! CAMERA ID OUT",
+    "save CAMERA #TAG OUT",
+    "save! CAMERA #TAG OUT",
     "cancel CAMERA ID",
     "status",
     "help",
