@@ -6,7 +6,7 @@ use std::alloc::{AllocError, Global};
 use std::process::Abort;
 
 // A line, and the order that it is, written out. Lines that can't be read stand in rows/BadOrder.rows.
-const ROWS: [(&str, &str); 36] = [
+const ROWS: [(&str, &str); 39] = [
     ("keep", "keep all - - -"),
     ("keep 60", "keep all 60 - -"),
     ("keep 60 7", "keep all 60 - 7"),
@@ -43,6 +43,12 @@ const ROWS: [(&str, &str); 36] = [
     ("save left 3 a clip.y4m", "save left 3 a clip.y4m"),
     ("help", "help"),
     ("save! left 3 a clip.y4m", "save! left 3 a clip.y4m"),
+    ("save left #7 a clip.y4m", "save left event 7 a clip.y4m"),
+    ("save! left #007 #7", "save! left event 7 #7"),
+    (
+        "save left #18446744073709551615 a",
+        "save left event 18446744073709551615 a",
+    ),
     (
         "keep from 1970-01-01T00:00:00Z to 1970-01-01T00:00:01Z",
         "between all 0 1000000 -",
@@ -103,13 +109,29 @@ fn written(alloc: Global, line: &str) -> Result<String, AllocError> {
                 replace,
             },
         ) => {
-            let word = if replace { "save!" } else { "save" };
+            let word = save_word(replace);
             format!(in alloc; "{word} {} {id} {}", camera.text(), out.text())
+        }
+        Some(
+            Order::SaveEvent {
+                camera,
+                tag,
+                out,
+                replace,
+            },
+        ) => {
+            let word = save_word(replace);
+            format!(in alloc; "{word} {} event {tag} {}", camera.text(), out.text())
         }
         Some(Order::Help) => String::from_str(alloc, "help"),
         Some(Order::Status) => String::from_str(alloc, "status"),
         Some(Order::Stop) => String::from_str(alloc, "stop"),
     }
+}
+
+// The word of a save, which replaces a file or doesn't.
+fn save_word(replace: bool) -> &'static str {
+    if replace { "save!" } else { "save" }
 }
 
 // Writes a keep out.
