@@ -2,13 +2,14 @@
 //!
 //! `state` is what the threads of a camera share, and guides them. `clerk` does a camera's orders, one after the other,
 //! between the flushes, and `keeping` locks in each of its stores; `growing` has the events whose end lies ahead, and
-//! what else waits at the desk. `save` writes clips meanwhile. `replies` prints answers as lines, and `times` tells
-//! what a source says of its frames.
+//! what else waits at the desk. `save` writes clips meanwhile, and `event` finds those of an event. `replies` prints
+//! answers as lines, and `times` tells what a source says of its frames.
 //!
 //! A keep locks exactly the held frames of its time, as `Back::keep` of loop_pipeline ensures.
 #![tactic(auto)]
 
 mod clerk;
+mod event;
 mod growing;
 mod keeping;
 mod replies;

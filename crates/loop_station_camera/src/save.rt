@@ -1,13 +1,16 @@
-//! Saves: clips are written as YUV4MPEG2 while their cameras record. `written` has the files.
+//! Saves: clips are written as YUV4MPEG2 while their cameras record. `written` has the files, and `pieces` the order
+//! in which the frames of several clips are written.
 //!
 //! There are places for so many saves at once, each with a thread of its own. Which save begins when, and which clip
 //! may be released meanwhile, is decided by loop_station_core. A save that an order asks for is refused where each
 //! place is taken; one that begins by itself waits. Whoever ends a save first tells its result: its own thread, or a
 //! stop of the program or a `cancel` where that thread waits for a pipe that nobody reads.
 
-ghost use Rattle.std.specs.Prelude.{◌≡◌, IfErr};
+ghost use Rattle.std.specs.Prelude.{◌≡◌, IfErr, IfOk};
+ghost use Rattle.loop_station_camera.specs.Saves.{clips_of};
 ghost use Rattle.loop_station_core.specs.Saving.{shown, withdrawn};
 
+mod pieces;
 mod written;
 
 use crate::state::CameraState;
@@ -37,11 +40,14 @@ pub enum SaveTarget {
     Folder(bool),
 }
 
-/// A clip that is saved: what it was when it was found, and where it is written to.
+/// What is saved: a clip, or the clips of an event, as they were when they were found; and where it is written to.
 #[derive(Drop)]
 pub struct Save {
     camera: usize,
+    // The clip, or the first one.
     found: FoundClip,
+    // The clips of an event, by rising times.
+    event: Option<Vec<FoundClip>>,
     target: SaveTarget,
     // The order that asked for it, and the camera's place among those that it means.
     order: Option<Arc<Answering>>,
@@ -57,9 +63,24 @@ impl Save {
         self.camera
     }
 
-    /// The clip that it reads, as loop_station_core names it.
+    /// The clip that it reads, or the first one, as loop_station_core names it.
     pub fn key(&self) -> SaveKey {
-        self.found.key(self.camera)
+        SaveKey {
+            whole: self.event.is_some(),
+            ..self.found.key(self.camera)
+        }
+    }
+
+    // The clips that it reads.
+    fn clips(&self, alloc: Global) -> Result<Vec<FoundClip>, AllocError>
+        ensures { IfOk result (λ clips. clips.items ≡ clips_of self.now) }
+    {
+        let mut clips = Vec::new(alloc);
+        match &self.event {
+            Some(event) => clips.extend_from_slice(event)?,
+            None => clips.push(self.found)?,
+        }
+        Ok(clips)
     }
 
     // Whether it begins by itself.
@@ -377,13 +398,15 @@ impl Inside {
     }
 }
 
-/// Begins the save that an order asks for. Where memory is refused, the order isn't answered.
+/// Begins the save that an order asks for: of a clip, or of the clips of an event, of which this is the first. Where
+/// memory is refused, the order isn't answered.
 pub fn begin_ordered<R: Wait>(
     rt: &R,
     alloc: Global,
     state: &CameraState,
     order: SaveOrder,
     found: FoundClip,
+    event: Option<Vec<FoundClip>>,
 ) {
     let SaveOrder {
         answering,
@@ -392,7 +415,7 @@ pub fn begin_ordered<R: Wait>(
         replace,
     } = order;
     let target = SaveTarget::Path(path, replace);
-    if let Ok(save) = save_of(alloc, state.place, found, target, Some(answering)) {
+    if let Ok(save) = save_of(alloc, state.place, found, event, target, Some(answering)) {
         begin(rt, state, save);
     }
 }
@@ -426,6 +449,7 @@ pub fn automatic(
         alloc,
         kept.camera,
         kept.found,
+        None,
         SaveTarget::Folder(may_be_saved),
         None,
     )
@@ -436,12 +460,14 @@ fn save_of(
     alloc: Global,
     camera: usize,
     found: FoundClip,
+    event: Option<Vec<FoundClip>>,
     target: SaveTarget,
     order: Option<Arc<Answering>>,
 ) -> Result<Arc<Save>, AllocError> {
     let save = Save {
         camera,
         found,
+        event,
         target,
         order,
         is_told: AtomicBool::new(false),

@@ -235,7 +235,7 @@ impl CameraState {
         let (place, path) = (order.place, order.path.as_str());
         let told = match found {
             Ok(Some(found)) => {
-                begin_ordered(rt, alloc, self, order, found);
+                begin_ordered(rt, alloc, self, order, found, None);
                 return;
             }
             Ok(None) => lines.not_saved(name, id, path, &"NoSuchClip"),
@@ -244,6 +244,33 @@ impl CameraState {
         // Where memory for the line is refused, it isn't printed.
         let _ = told;
         self.posts.answer(rt, order.answering, place, lines, None);
+    }
+
+    /// The clips of the event that an order saves were looked for: the save begins, and they are read from now on.
+    /// Otherwise the order is answered.
+    pub(crate) fn begin_event<R: Wait>(
+        &self,
+        rt: &R,
+        alloc: Global,
+        order: SaveOrder,
+        found: Result<Vec<FoundClip>, StoreFault>,
+    ) {
+        let fault = match found {
+            Ok(found) => match found.first() {
+                Some(first) => {
+                    let first = *first;
+                    begin_ordered(rt, alloc, self, order, first, Some(found));
+                    return;
+                }
+                None => StoreFault::NoSuchClip,
+            },
+            Err(fault) => fault,
+        };
+        let mut lines = self.lines(alloc);
+        // Where memory for the line is refused, it isn't printed.
+        let _ = lines.refused(self.config.name.as_str(), fault);
+        self.posts
+            .answer(rt, order.answering, order.place, lines, None);
     }
 
     /// Ends a save of the clip of an id, and tells that of the save. Returns whether there was one.

@@ -19,6 +19,8 @@ pub enum Request {
     ReleaseSaved(SaveKey),
     /// Find the clip of an id, which is to be written to a path; a file that exists is replaced, or isn't.
     Save(u32, String, bool),
+    /// Find the clips with a tag, which are to be written to a path as one text, in the same way.
+    SaveEvent(u64, String, bool),
     /// End a save of the clip of an id.
     Cancel(u32),
     /// Say what the desk holds.

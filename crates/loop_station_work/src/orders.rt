@@ -245,6 +245,16 @@ fn perform_on_clip<R: Wait, W: Write + Drop>(
             let request = Request::Save(id, out, replace);
             ask_one(rt, station, label, camera.text(), request)
         }
+        Order::SaveEvent {
+            camera,
+            tag,
+            out,
+            replace,
+        } => {
+            let out = String::from_str(station.alloc, out.text())?;
+            let request = Request::SaveEvent(tag, out, replace);
+            ask_one(rt, station, label, camera.text(), request)
+        }
         Order::Cancel { camera, id } => cancel(rt, station, label, camera.text(), id),
         _ => Ok(()),
     }

@@ -1,17 +1,18 @@
-//! The file of a clip that is saved: its path, and its text, by the proved writer of loop_y4m.
+//! The file of a save: its path, and its text, by the proved writer of loop_y4m.
 
-ghost use Rattle.std.specs.Prelude.{IfOk, List, OnOk, ℕ};
+ghost use Rattle.std.specs.Prelude.{◌≡◌, ◌≤◌, All, IfOk, List, OnOk, true, ℕ};
 ghost use Rattle.std.specs.Io.KnownBytes.{Appends};
 ghost use Rattle.loop_y4m.specs.Text.{frame};
-ghost use Rattle.loop_station_camera.specs.Saves.{WroteClip};
+ghost use Rattle.loop_station_camera.specs.Saves.{WroteClips, WrotePiece, clips_of};
 
+use super::pieces::{Piece, next_piece};
 use super::{Save, SaveTarget, Saves};
 use crate::state::CameraState;
 use loop_record::Geometry;
 use loop_station_core::bits_of;
 use loop_station_parts::{Absent, FoundClip, NotSaved, PartFile, PathKind, Places, store_of};
 use loop_station_words::print_clip_path;
-use loop_store::{Clip, ReadFrame};
+use loop_store::ReadFrame;
 use loop_y4m::{Depth, may_have, write_deep_header, write_frame};
 use std::alloc::{AllocGlobal, Global};
 use std::io::{BufWriter, Write};
@@ -115,7 +116,7 @@ pub(super) fn write<R: AllocGlobal + Places + Wait>(
         return Err(NotSaved::Absent(Absent::NoStore));
     };
     let mut file = rt.open_text(path, replace)?;
-    let came = write_clip(rt, saves, state, save, &geometry, &mut file);
+    let came = write_clips(rt, saves, state, save, &geometry, &mut file);
     match came {
         Ok(count) => match rt.finish_text(&file) {
             Ok(()) => Ok(count),
@@ -131,8 +132,8 @@ pub(super) fn write<R: AllocGlobal + Places + Wait>(
     }
 }
 
-// Writes the text of a clip into a file.
-fn write_clip<R: AllocGlobal + Wait>(
+// Writes the text of a save into a file.
+fn write_clips<R: AllocGlobal + Wait>(
     rt: &R,
     saves: &Saves,
     state: &CameraState,
@@ -150,9 +151,9 @@ fn write_clip<R: AllocGlobal + Wait>(
     }
 }
 
-// Writes the text of a clip: a header for the geometry of its store and the bits of its samples, and its frames.
-// Returns how many frames there are.
-fn write_text<R: Wait, W: Write>(
+// Writes the text of the clips that a save reads: a header for the geometry of their stores and the bits of their
+// samples, and their frames, in the order of their times. Returns how many frames there are.
+fn write_text<R: AllocGlobal + Wait, W: Write>(
     rt: &R,
     saves: &Saves,
     state: &CameraState,
@@ -161,15 +162,13 @@ fn write_text<R: Wait, W: Write>(
     out: &mut W,
 ) -> Result<u64, NotSaved>
     ensures { IfOk result
-        (WroteClip (W.contents out.old) (W.contents out.new) geometry.now
-        save.now.found.clip.from save.now.found.clip.to) }
+        (WroteClips (W.contents out.old) (W.contents out.new) geometry.now (clips_of save.now)) }
 {
-    let Clip { from, to, .. } = save.found.clip;
-    if from > to || to - from == u64::MAX {
+    let mut left = save.clips(rt.alloc())?;
+    if !have_frames(&left) {
         return Err(NotSaved::NoSuchClip);
     }
-    let count = to - from + 1;
-    let first = read_one(rt, state, save, from)?;
+    let first = read_one(rt, state, &save.found, save.found.clip.from)?;
     let depth = depth_of(&first)?;
     if !may_have(geometry, depth) {
         return Err(NotSaved::MixedBits);
@@ -178,6 +177,44 @@ fn write_text<R: Wait, W: Write>(
         Ok(()) => {}
         Err(_) => return Err(NotSaved::CannotWrite),
     }
+    let mut count = 0u64;
+    'pieces: for _ in rt.forever() {
+        let Some(piece) = next_piece(rt, state, u64::from(geometry.slots), &mut left)? else {
+            return Ok(count);
+        };
+        let written = write_piece(rt, saves, state, save, &piece, depth, out)?;
+        let Some(more) = count.checked_add(written) else {
+            return Err(NotSaved::NoSuchClip);
+        };
+        count = more;
+    }
+    unreachable!()
+}
+
+// Whether each clip has a frame.
+fn have_frames(clips: &[FoundClip]) -> bool
+    ensures { result ≡ true → All (λ f. f.clip.from ≤ f.clip.to) clips.now }
+{
+    clips.iter().all(|found| found.clip.from <= found.clip.to)
+}
+
+// Writes the frames of a piece, unless the save is to end before. Returns how many there are.
+fn write_piece<R: Wait, W: Write>(
+    rt: &R,
+    saves: &Saves,
+    state: &CameraState,
+    save: &Save,
+    piece: &Piece,
+    depth: Depth,
+    out: &mut W,
+) -> Result<u64, NotSaved>
+    ensures { IfOk result (WrotePiece (W.contents out.old) (W.contents out.new) piece.now) }
+{
+    let (from, to) = (piece.clip.clip.from, piece.end);
+    if from > to || to - from == u64::MAX {
+        return Err(NotSaved::NoSuchClip);
+    }
+    let count = to - from + 1;
     'frames: for at in 0..count {
         if saves.stopped.load(Ordering::SeqCst) {
             return Err(NotSaved::Stopped);
@@ -185,7 +222,7 @@ fn write_text<R: Wait, W: Write>(
         if save.ended.load(Ordering::SeqCst) {
             return Err(NotSaved::Cancelled);
         }
-        write_one(rt, state, save, from + at, depth, out)?;
+        write_one(rt, state, &piece.clip, from + at, depth, out)?;
     }
     Ok(count)
 }
@@ -195,40 +232,59 @@ fn depth_of(frame: &ReadFrame) -> Result<Depth, NotSaved> {
     Depth::of_bits(bits_of(frame.head.flags)).ok_or(NotSaved::MixedBits)
 }
 
-// Reads a frame of the clip of a save.
+// Reads a frame of a clip.
 fn read_one<R: Wait>(
     rt: &R,
     state: &CameraState,
-    save: &Save,
+    found: &FoundClip,
     number: u64,
 ) -> Result<ReadFrame, NotSaved> {
-    state.ask_frame(rt, store_of(save.found.clip.id), number);
+    let frame = read_at(rt, state, found.clip.id, number)?;
+    if found.fits(number, frame.head.timestamp) {
+        Ok(frame)
+    } else {
+        Err(NotSaved::NoSuchClip)
+    }
+}
+
+// Reads a frame of the store that has the clip of an id.
+fn read_at<R: Wait>(
+    rt: &R,
+    state: &CameraState,
+    id: u32,
+    number: u64,
+) -> Result<ReadFrame, NotSaved> {
+    state.ask_frame(rt, store_of(id), number);
     match state.reader.answer(rt) {
-        Some(Ok(Ok(frame))) => {
-            if save.found.fits(number, frame.head.timestamp) {
-                Ok(frame)
-            } else {
-                Err(NotSaved::NoSuchClip)
-            }
-        }
+        Some(Ok(Ok(frame))) => Ok(frame),
         Some(Ok(Err(fault))) => Err(NotSaved::Refused(fault)),
         Some(Err(why)) => Err(NotSaved::Absent(why)),
         None => Err(NotSaved::NoMemory),
     }
 }
 
+/// When a frame came of the store that has the clip of an id.
+pub(super) fn time_at<R: Wait>(
+    rt: &R,
+    state: &CameraState,
+    id: u32,
+    number: u64,
+) -> Result<u64, NotSaved> {
+    Ok(read_at(rt, state, id, number)?.head.timestamp)
+}
+
 // Reads a frame, whose samples have to have so many bits, and writes it.
 fn write_one<R: Wait, W: Write>(
     rt: &R,
     state: &CameraState,
-    save: &Save,
+    found: &FoundClip,
     number: u64,
     depth: Depth,
     out: &mut W,
 ) -> Result<(), NotSaved>
     ensures { OnOk result ((bytes : List ℕ) × Appends (W.contents out.old) (W.contents out.new) (frame bytes)) }
 {
-    let frame = read_one(rt, state, save, number)?;
+    let frame = read_one(rt, state, found, number)?;
     if depth_of(&frame)? != depth {
         return Err(NotSaved::MixedBits);
     }

@@ -1,26 +1,32 @@
-use Rattle.std.proofs.Common.{◌++◌, [], ◌∷◌, refl, rules}
-use Rattle.loop_station_camera.proofs.SaveFrames.{begun, counted, more}
+use Rattle.std.proofs.Common.{◌≡◌, ◌++◌, ◌+◌, ◌-◌, [], arith, refl, rules}
+use Rattle.loop_station_camera.proofs.SaveFrames.{begun, counted-more, some-more}
+use Rattle.loop_station_camera.specs.Saves.{frames_in}
 use Rattle.loop_station_camera.proofs.save.written.write_text.Goals as goal
 
-pub frames-init : goal.frames-init
-frames-init g c = record {
-  depth = c.in_ok-depth.depth;
-  fits = search rules;
+pub pieces-init : goal.pieces-init
+pieces-init g c = record {
   frames = [];
   written =
       begun c.args.geometry.now c.in_ok-depth.depth (g.W.Write.contents c.args.out.now) (g.W.Write.contents c.write_deep_header.new.out)
       c.in-Ok.ensures;
   counted = refl;
+  left = search rules;
 }
 
-pub frames-preserved : goal.frames-preserved
-frames-preserved g c =
-    let one = c.in_ok-write_one.ensures in record {
-      depth = c.frames.invariant.depth;
-      fits = c.frames.invariant.fits;
-      frames = c.frames.invariant.frames ++ one.0 ∷ [];
+pub pieces-preserved : goal.pieces-preserved
+pieces-preserved g c =
+    let taken : frames_in c.pieces.left.items
+    ≡ (c.in-Some-2.piece.end + 1 - c.in-Some-2.piece.clip.clip.from) + frames_in c.next_piece.new.left.items =
+    search rules in
+    let wrote = c.in_ok-written.ensures in
+    let more : c.in-Some-checked_add.more ≡ c.pieces.count + c.in_ok-written.written = search rules in
+    record {
+      frames = c.pieces.invariant.frames ++ wrote.frames;
       written =
-          more c.args.geometry.now c.frames.invariant.depth (g.W.Write.contents c.args.out.now) (g.W.Write.contents c.frames.out)
-          (g.W.Write.contents c.write_one.new.out) c.frames.invariant.frames one.0 c.frames.invariant.written one.1;
-      counted = counted c.frames.invariant.frames one.0 c.frames.at c.frames.invariant.counted;
+          some-more c.args.geometry.now c.in_ok-depth.depth (g.W.Write.contents c.args.out.now) (g.W.Write.contents c.pieces.out)
+          (g.W.Write.contents c.write_piece.new.out) c.pieces.invariant.frames wrote.frames c.pieces.invariant.written wrote.written;
+      counted =
+          counted-more c.pieces.invariant.frames wrote.frames c.pieces.count c.in_ok-written.written
+          c.in-Some-checked_add.more c.pieces.invariant.counted wrote.counted more;
+      left = omega (arith, taken, more, wrote.all, c.pieces.invariant.left);
     }
