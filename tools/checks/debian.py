@@ -16,18 +16,21 @@ LINKS = ("python3-paho-mqtt", "python3-serial", "python3-libgpiod", "openssl", "
 
 
 def install(packages):
-    """Installs packages that are missing, as root. Ends with 75 where they can't be."""
+    """Installs packages that are missing, as root. Where that fails, it asks for the lists of
+    packages, which a new machine doesn't have, and tries once more. Ends with 75 where they can't
+    be installed."""
     lacks = [
         it for it in packages if subprocess.run(["dpkg", "-s", it], capture_output=True).returncode
     ]
     if not lacks:
         return
     print(f"installing {' '.join(lacks)}", flush=True)
-    words = ["apt-get", "-o", "DPkg::Lock::Timeout=600", "install", "-y"]
-    done = subprocess.run(
-        [*words, "--no-install-recommends", *lacks], stdout=subprocess.DEVNULL,
-        stdin=subprocess.DEVNULL,
-    )
-    if done.returncode:
+    command = ["apt-get", "-o", "DPkg::Lock::Timeout=600"]
+    given = {"stdout": subprocess.DEVNULL, "stdin": subprocess.DEVNULL}
+    words = [*command, "install", "-y", "--no-install-recommends", *lacks]
+    if not subprocess.run(words, stderr=subprocess.DEVNULL, **given).returncode:
+        return
+    subprocess.run([*command, "update"], **given)
+    if subprocess.run(words, **given).returncode:
         print(f"apt-get can't install {' '.join(lacks)}")
         sys.exit(75)
