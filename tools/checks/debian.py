@@ -26,11 +26,11 @@ def install(packages):
         return
     print(f"installing {' '.join(lacks)}", flush=True)
     command = ["apt-get", "-o", "DPkg::Lock::Timeout=600"]
-    given = {"stdout": subprocess.DEVNULL, "stdin": subprocess.DEVNULL}
     words = [*command, "install", "-y", "--no-install-recommends", *lacks]
-    if not subprocess.run(words, stderr=subprocess.DEVNULL, **given).returncode:
+    quiet = subprocess.DEVNULL
+    if not subprocess.run(words, stdin=quiet, stdout=quiet, stderr=quiet).returncode:
         return
-    subprocess.run([*command, "update"], **given)
-    if subprocess.run(words, **given).returncode:
+    subprocess.run([*command, "update"], stdin=quiet, stdout=quiet)
+    if subprocess.run(words, stdin=quiet, stdout=quiet).returncode:
         print(f"apt-get can't install {' '.join(lacks)}")
         sys.exit(75)
