@@ -8,7 +8,7 @@ ghost use Rattle.loop_disk.specs.History.{medium_of};
 ghost use Rattle.loop_disk.specs.Behind.{moment_now};
 ghost use Rattle.loop_disk.specs.Sound.{sound_of};
 
-use crate::past::{Event, Past};
+use crate::past::{DiskEvent, Past};
 use crate::rows::{length_of, put_rows};
 use crate::{Disk, DiskFault};
 use std::alloc::{AllocError, Allocator, Global};
@@ -39,7 +39,7 @@ impl<A: Allocator> MemDisk<A> {
         ensures honest { (⟦<MemDisk<A> as Disk>⟧.medium result).honest }
         ensures counted { (⟦<MemDisk<A> as Disk>⟧.medium result).failures ≡ no_failures }
     {
-        let past = Past::none().after(&Event::Began(&bytes));
+        let past = Past::none().after(&DiskEvent::Began(&bytes));
         MemDisk { bytes, past }
     }
 
@@ -101,7 +101,7 @@ impl<A: Allocator> Disk for MemDisk<A> {
         ensures called { Called (⟦<MemDisk<A> as Disk>⟧.medium self.old) (⟦<MemDisk<A> as Disk>⟧.medium self.new)
             (failed_call result) }
     {
-        let event = Event::Wrote(&self.bytes, at, length_of(rows));
+        let event = DiskEvent::Wrote(&self.bytes, at, length_of(rows));
         self.past = self.past.after(&event);
         put_rows(&mut self.bytes, at, rows);
         Ok(())
@@ -119,7 +119,7 @@ impl<A: Allocator> Disk for MemDisk<A> {
         ensures called { Called (⟦<MemDisk<A> as Disk>⟧.medium self.old) (⟦<MemDisk<A> as Disk>⟧.medium self.new)
             (failed_call result) }
     {
-        self.past = self.past.after(&Event::Synced(&self.bytes));
+        self.past = self.past.after(&DiskEvent::Synced(&self.bytes));
         Ok(())
     }
 }

@@ -12,7 +12,7 @@ use crate::fresh::make_fresh;
 use crate::opened::open_file;
 use crate::place::{FilePlace, take};
 use crate::rows::write_rows;
-use loop_disk::{Disk, DiskFault, Failures, Gave, Given};
+use loop_disk::{Disk, DiskEvent, DiskFault, Failures, Past};
 use std::alloc::AllocGlobal;
 use std::fs::{File, OpenFile, OpenOptions};
 use std::io;
@@ -31,7 +31,7 @@ pub struct FileDisk<F = File> {
     size: u64,
     failures: Failures,
     /// What its reads gave since its last write. It takes no memory: only proofs read it.
-    given: Given,
+    past: Past,
 }
 
 impl FileDisk {
@@ -91,7 +91,7 @@ impl<F: OpenFile + FileExt + Drop> FileDisk<F> {
             file,
             size,
             failures: Failures::none(),
-            given: Given::none(),
+            past: Past::none(),
         }
     }
 
@@ -99,7 +99,7 @@ impl<F: OpenFile + FileExt + Drop> FileDisk<F> {
     fn answer(&mut self, outcome: io::Result<()>, fault: DiskFault) -> Result<(), DiskFault>
         ensures answer { result ≡ failing_as fault outcome }
         ensures counted { self.new.failures ≡ with_failed (failed_call result) self.old.failures }
-        ensures same { (self.new.size ≡ self.old.size) × (self.new.given ≡ self.old.given) }
+        ensures same { (self.new.size ≡ self.old.size) × (self.new.past ≡ self.old.past) }
     {
         match outcome {
             Ok(()) => Ok(()),
@@ -109,7 +109,7 @@ impl<F: OpenFile + FileExt + Drop> FileDisk<F> {
 }
 
 impl<F: OpenFile + FileExt + Drop> Disk for FileDisk<F> {
-    ghost medium = { λ disk. unknown disk.size disk.failures disk.given.reads };
+    ghost medium = { λ disk. unknown disk.size disk.failures disk.past.behind.reads };
 
     ghost harsh = { λ disk. ⊥ };
 
@@ -135,7 +135,7 @@ impl<F: OpenFile + FileExt + Drop> Disk for FileDisk<F> {
     {
         match self.file.read_exact_at(buf, at) {
             Ok(()) => {
-                self.given = self.given.after(&Gave { at, bytes: buf });
+                self.past = self.past.after(&DiskEvent::Gave(at, buf));
                 Ok(())
             }
             Err(_) => self.failures.note(Err(DiskFault::Read)),
@@ -145,7 +145,7 @@ impl<F: OpenFile + FileExt + Drop> Disk for FileDisk<F> {
     fn write_rows(&mut self, at: u64, rows: &[&[u8]]) -> Result<(), DiskFault> {
         // The rows end on the disk, so their places are u64s, as its size is.
         let _size = self.size;
-        self.given = Given::none();
+        self.past = Past::none();
         let outcome = write_rows(&self.file, at, rows);
         self.answer(outcome, DiskFault::Write)
     }

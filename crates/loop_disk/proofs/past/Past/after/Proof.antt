@@ -15,7 +15,7 @@ use denote.Triple.Entry.{alive}
 use denote.Triple.Walked.{says, Stays, stay_dropped, walk_of, ends_at, Goes-dropped}
 use Rattle.std.proofs.raw_atomic.Walks.{proved}
 use Rattle.loop_disk.specs.Behind.{behind_after}
-use Rattle.loop_disk.specs.contracts.past.Event as Event
+use Rattle.loop_disk.specs.contracts.past.DiskEvent as Event
 use Rattle.loop_disk.specs.contracts.past.Past as Past
 use Rattle.loop_disk.specs.contracts.past.Past.after as f
 use Rattle.loop_disk.proofs.GhostData.{no_bytes, makes_nothing}

@@ -1,4 +1,5 @@
 use Rattle.std.proofs.Common.{◌≡◌, ◌↔◌, ℕ, List, ◌∷◌, length, sym, ◌∙◌, ap, subst}
+use Rattle.loop_disk.specs.Behind.{Behind}
 use Rattle.loop_disk.specs.declared.fault.Failures.{Failures}
 use Rattle.loop_disk.specs.History.{unknown}
 use Rattle.loop_disk.specs.Medium.{MayBe, piece}
@@ -19,6 +20,6 @@ returns-in-Ok-clause-gives g c =
     let bytes = c.read_exact_at.new.buf in
     let n = length c.args.buf.now in λ image.
     subst (λ (reads : List (ℕ × List ℕ)). MayBe (unknown disk.size disk.failures reads) image
-    ↔ (MayBe (unknown disk.size disk.failures disk.given.reads) image × (bytes ≡ piece c.args.at n image)))
-    (sym c.after-self.ensures)
-    (one-more disk.size disk.failures disk.given.reads c.args.at n bytes image c.read_exact_at.auto.buf)
+    ↔ (MayBe (unknown disk.size disk.failures disk.past.behind.reads) image × (bytes ≡ piece c.args.at n image)))
+    (ap (λ (behind : Behind). behind.reads) (sym c.after-self.ensures))
+    (one-more disk.size disk.failures disk.past.behind.reads c.args.at n bytes image c.read_exact_at.auto.buf)
