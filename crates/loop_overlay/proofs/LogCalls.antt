@@ -1,5 +1,5 @@
 -- What the calls of a log's disk do to it, and to a disk on which they are made.
-use Rattle.std.proofs.Common.{◌≡◌, ◌⊎◌, inl, inr, ⊎_elim, ℕ, ◌+◌, ◌<◌, ◌≤◌, List, [], ◌∷◌, ◌++◌, length, map, take, get_or, Result, Ok, Err, None, refl, sym, ◌∙◌, ap, subst, arith}
+use Rattle.std.proofs.Common.{◌≡◌, ◌⊎◌, inl, inr, ⊎_elim, ℕ, ◌+◌, ◌<◌, ◌≤◌, List, [], ◌∷◌, ◌++◌, length, map, take, get_or, Result, Ok, Err, refl, sym, ◌∙◌, ap, subst, arith}
 use Rattle.std.specs.Prelude.{OnOk, fold}
 use Rattle.std.specs.Result.{IsErr}
 use Rattle.std.specs.List.{All}
@@ -11,15 +11,15 @@ use Rattle.loop_disk.specs.declared.fault.Failures.{Failures}
 use Rattle.loop_disk.specs.declared.crash.DeviceCall.{DeviceCall}
 use Rattle.loop_disk.specs.declared.crash.DeviceCall.TheVariants as call
 use Rattle.loop_disk.specs.Medium.{IsFresh, IsSound, LeavesOnly, Medium, TornAt, with_bytes_at}
-use Rattle.loop_disk.specs.Calls.{Stays, Syncs, Writes, no_failures}
-use Rattle.loop_disk.specs.History.{IsLeft, IsLeftSince, Moment, after_sync, after_write, at_rest, medium_of}
+use Rattle.loop_disk.specs.Calls.{Writes, no_failures}
+use Rattle.loop_disk.specs.History.{IsLeft, IsLeftSince, Moment, after_write, at_rest}
 use Rattle.loop_disk.specs.Crashing.{IsWithin, Tape, after_call, call_of, medium_after, moment_after, moments_from}
 use Rattle.loop_disk.specs.Replay.{IsRecorded}
 use Rattle.loop_disk.proofs.Images.{length-written, untouched}
 use Rattle.loop_disk.proofs.Calls.{leaves_torn}
 use Rattle.loop_disk.proofs.Moments.{goes_on, started}
 use Rattle.loop_disk.proofs.CrashCalls.{left-after, recorded-more, take-within, turned}
-use Rattle.loop_overlay.specs.Layers.{LaidWrite, laid_on}
+use Rattle.loop_overlay.specs.Layers.{laid_on}
 use Rattle.loop_overlay.specs.Log.{Carries, CarriesOut, StandsAt}
 use Rattle.loop_overlay.specs.Parts.{IsBufferOf}
 
@@ -155,25 +155,6 @@ carried_written f m it at w v old new r is same stands within wrote =
     subst (λ (c : DeviceCall _). Carries m (call_of f c) old new r) (sym is)
     (subst (λ (l : List ℕ). Carries m (call.Write at l) old new r) same
     (carried_write m at v old new r (subst (λ (l : List ℕ). at + length l ≤ length m.bytes) (sym same) fits) stands wrote))
-
-pub carried_sync : (m : Moment) (old new : Medium) (r : Result (Unit {0}) DiskFault) → StandsAt m old → Syncs old new r
-    → Carries m call.Sync old new r
-carried_sync m old new r stands synced = record {
-  time = record {
-    later = synced.stays.time.later;
-    nothing_else = λ s c le left. ⊎_elim inl (λ (l : old.may_leave c). inr (inl (stands.images c l)))
-        (synced.stays.time.nothing_else s c le left);
-  };
-  done = by_result r synced;
-}
-  where
-    by_result : (r : Result (Unit {0}) DiskFault) → Syncs old new r → OnOk r (StandsAt (after_sync m) new)
-    by_result (Ok x) synced = record {
-      bytes = synced.stays.bytes ∙ stands.bytes;
-      images = λ c left. subst (λ (l : List ℕ). IsLeft (at_rest m.bytes) l) (sym (synced.settled c left ∙ stands.bytes))
-          (record { size = refl; kept = λ i fixed. refl });
-    }
-    by_result (Err x) synced = tt
 
 -- before the first call
 pub carried_none : {V : Type 0} (f : V → List ℕ) (start : List ℕ) (calls : List (DeviceCall V)) (old : Medium)

@@ -1,6 +1,5 @@
 -- What a front leaves, over a source and planes that may, may go to another thread; so may a camera with its guide, and
--- what filming it answers. The link of two threads may be shared by both, a door at which desks wait and the barrier by
--- all.
+-- what filming it answers. The link of two threads may be shared by both, the barrier by all.
 use denote.RattleType.{RattleType}
 use denote.Param.Send.{IsSend, IsSync, sendable}
 use Rattle.std.proofs.Crossing.{crosses}
@@ -17,7 +16,6 @@ use Rattle.loop_plane.specs.declared.memory.PlaneMemory as plane
 use Rattle.loop_desk.proofs.Crossing.{desk_send}
 use Rattle.loop_desk.specs.contracts.hand.Hand as Hand
 use Rattle.loop_pipeline.specs.contracts.camera.Camera as Camera
-use Rattle.loop_pipeline.specs.contracts.door.Door as Door
 use Rattle.loop_pipeline.specs.contracts.ending.Ended as Ended
 use Rattle.loop_pipeline.specs.contracts.film.Unfilmed as Unfilmed
 use Rattle.loop_pipeline.specs.contracts.start_barrier.StartBarrier as StartBarrier
@@ -42,12 +40,6 @@ module _ (S P W : RattleType) where
       let c = table_send P sp in
       let d = hand_in_send P sp in
       search (sendable, crosses) depth 30
-
--- ---- desks that join
-
-module _ (D : RattleType) (d : disk.Ghosts D.Denot) where
-  pub door_sync : IsSend D → IsSync (Door.the_row D d)
-  door_sync sd = let e = desk_send D d sd in search (sendable, crosses) depth 30
 
 -- ---- several cameras
 

@@ -2,7 +2,7 @@
 use Rattle.std.proofs.Common.{◌≡◌, ◌==◌, ◌++◌, ◌<◌, ◌≤◌, ◌⊎◌, ◌↔◌, inl, inr, IfSome, ℕ, ◌+◌, Bool, true, false, cond, zero, suc, Option, Some, None, List, [], ◌∷◌, All, length, slice_get, slice_index_or, refl, sym, ap, ◌∙◌, subst, arith}
 use Rattle.std.specs.List.{position, position_or_len}
 use Rattle.std.proofs.Math.Dec.{ltb}
-use Rattle.std.proofs.lemmas.Bool.{eqb-true, eqb-false, eq-eqb, lt-ltb, le-ltb, ltb-false, ltb-true}
+use Rattle.std.proofs.lemmas.Bool.{eqb-true, eqb-false, eq-eqb, lt-ltb, le-ltb, ltb-false}
 use Rattle.std.proofs.lemmas.List.Folds.{position_or_len_push}
 use Rattle.std.proofs.lemmas.List.Sums.{fails_before_first, prefix_len-le-length}
 use Rattle.std.proofs.lemmas.List.{length-append}
@@ -11,7 +11,7 @@ use Rattle.loop_desk.specs.declared.limits.Space.{Space}
 use Rattle.loop_pipeline.specs.Nexts.{IsBest, IsElsewhere, IsFreeAt, IsFull, IsNext, IsSearch, is_free, with_last}
 use Rattle.loop_pipeline.specs.declared.next.Search.{Search}
 use Rattle.loop_pipeline.proofs.Earliest.{best-of-all, none-of-all}
-use Rattle.loop_pipeline.proofs.Places.{get-joined, some-same}
+use Rattle.loop_pipeline.proofs.Places.{get-joined}
 
 -- ---- one more at the end of a list
 
@@ -88,19 +88,6 @@ none-passes {X} p xs i x none at = go (ltb first (length xs)) refl
         let less : i < length xs = slice_get_within xs i x at in
         let most : length xs ≤ first = ltb-false first (length xs) is in
         ap p (sym (get_or_from_slice_get xs i x x at)) ∙ fails_before_first p xs i x (omega (arith, less, most))
-
--- what is found is within
-pub position-within : {X : Type 0} (p : X → Bool) (xs : List X) (i : ℕ) → position p xs ≡ Some i → i < length xs
-position-within {X} p xs i is = go (ltb first (length xs)) refl
-  where
-    first : ℕ
-    first = position_or_len p xs
-
-    go : (t : Bool) → ltb first (length xs) ≡ t → i < length xs
-    go true less =
-        let e : Some first ≡ Some i = ap (λ t. cond t (Some first) None) (sym less) ∙ is in
-        subst (λ n. n < length xs) (some-same first i e) (ltb-true first (length xs) less)
-    go false less = absurd (let e : None ≡ Some i = ap (λ t. cond t (Some first) None) (sym less) ∙ is in cc)
 
 -- ---- the free segment of the active desk
 
@@ -186,12 +173,7 @@ search-more active place spaces space search here free oldest count is at first 
 -- ---- what follows for the next block
 
 module _ (active : ℕ) (spaces : List Space) where
-  -- the first that is free
-  pub elsewhere-free : (place : ℕ) → position is_free spaces ≡ Some place → (IsFreeAt spaces active → ⊥)
-      → IsNext active spaces (Some place)
-  elsewhere-free place is none = inr (none, subst (λ o. IsElsewhere spaces o (Some place)) (sym is) refl)
-
-  -- else the earliest, or none
+  -- the earliest that begins, or none, where no store has a free segment
   pub elsewhere-best : (best : Option (ℕ × ℕ)) (next : Option ℕ) → IfSome best (λ b. next ≡ Some b.0)
       → (best ≡ None → next ≡ None) → position is_free spaces ≡ None → IsBest spaces (length spaces) best
       → (IsFreeAt spaces active → ⊥) → IsNext active spaces next
@@ -207,17 +189,6 @@ module _ (active : ℕ) (spaces : List Space) where
         subst (λ o. IsElsewhere spaces o next) (sym is) (subst (λ n. IsElsewhere spaces None n) (sym (none refl))
             (none-of-all spaces (length spaces) None refl refl said)),
       )
-
-  -- the desk that takes the next block is one of them
-  pub next-inside : (place : ℕ) → IsNext active spaces (Some place) → place < length spaces
-  next-inside place (inl here) =
-      subst (λ n. n < length spaces) (some-same active place (sym here.1)) (slice_get_within spaces active here.0.0 here.0.1)
-  next-inside place (inr rest) = go (position is_free spaces) refl rest.1
-    where
-      go : (o : Option ℕ) → position is_free spaces ≡ o → IsElsewhere spaces o (Some place) → place < length spaces
-      go (Some free) is e =
-          position-within is_free spaces place (is ∙ ap (λ n. Some n) (some-same free place (sym e)))
-      go None is earliest = slice_get_within spaces place earliest.space earliest.at
 
   -- where no desk takes the next block, no store has room for one
   pub all-full : IsNext active spaces None → All IsFull spaces

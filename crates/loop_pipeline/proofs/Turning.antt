@@ -8,10 +8,10 @@ use Rattle.loop_desk.specs.Seen.{SeenDesk}
 use Rattle.loop_pipeline.specs.declared.next.Search.{Search}
 use Rattle.loop_pipeline.specs.Backs.{IsAt, SeenBack, turned}
 use Rattle.loop_pipeline.specs.Nexts.{IsFull, IsNext, IsSearch}
-use Rattle.loop_pipeline.specs.Turns.{AllLocked, Chooses, IsBetween, MayBegin, MayTurn, Searches, TellsRoom, Turns}
+use Rattle.loop_pipeline.specs.Turns.{AllLocked, Chooses, IsBetween, MayBegin, MayTurn, Searches, TellsRoom}
 use Rattle.loop_pipeline.proofs.DeskPlaces.{same-desk}
 use Rattle.loop_pipeline.proofs.Places.{get-joined, some-same}
-use Rattle.loop_pipeline.proofs.Searching.{all-full, next-inside}
+use Rattle.loop_pipeline.proofs.Searching.{all-full}
 
 module _ {D A : Type 0} (medium : D → Medium) where
   -- no store has told anything
@@ -58,33 +58,6 @@ module _ {D A : Type 0} (medium : D → Medium) where
         tell = record { all = t.count ∙ all; tells = t.tell };
         is = then t.spaces t.is;
       }
-
-  -- the desk that takes the next block is one of them
-  pub chosen-inside : (back : SeenBack D A) (next : Option ℕ) (place : ℕ) → next ≡ Some place → Chooses medium back next
-      → place < length back.desks
-  chosen-inside back next place is chosen =
-      subst (λ n. place < n) chosen.tell.all
-      (next-inside back.active chosen.spaces place (subst (IsNext back.active chosen.spaces) is chosen.is))
-
-  -- it becomes the active one
-  pub turns-some : (old new : SeenBack D A) (next : Option ℕ) (place : ℕ) → next ≡ Some place → Chooses medium old next
-      → new ≡ turned place old → Turns medium old new false
-  turns-some old new next place is chosen turns = record {
-    next = Some place;
-    chosen = subst (Chooses medium old) is chosen;
-    turns = turns;
-    told = refl;
-  }
-
-  -- or none does
-  pub turns-none : (old new : SeenBack D A) (next : Option ℕ) → next ≡ None → Chooses medium old next → new ≡ old
-      → Turns medium old new true
-  turns-none old new next is chosen same = record {
-    next = None;
-    chosen = subst (Chooses medium old) is chosen;
-    turns = same;
-    told = refl;
-  }
 
   -- nothing but the place of the active desk changes
   pub turned-same : (old new : SeenBack D A) (place : ℕ) → new ≡ turned place old → new ≡ record old { active = new.active }
@@ -136,9 +109,3 @@ module _ {D A : Type 0} (back : SeenBack D A) (b : Bool) (said : IsAt back.activ
   may-turn several is =
       let both = same-desk (λ d. (b ≡ true) ↔ IsBetween d) back.desks back.active said.0 said.1 said in
       record { several = several; between = (said.0, said.1, both.0 is) }
-
-  pub may-not : b ≡ false → MayTurn back → ⊥
-  may-not is may =
-      let both = same-desk (λ d. (b ≡ true) ↔ IsBetween d) back.desks back.active said.0 said.1 said in
-      let between = same-desk IsBetween back.desks back.active said.0 said.1 may.between in
-      absurd (let e : true ≡ false = sym (both.1 between) ∙ is in cc)

@@ -39,15 +39,7 @@ least-blocks frames slots segments blocks stores other up fits some one held =
 
 -- ---- bytes
 
--- stores of the bytes that each has fit
-pub each-fits : (stores each bytes slots slot : ℕ) → each * stores ≤ bytes → 64 * (512 + slots * slot) ≤ each - 2560
-    → stores * (2560 + 64 * (512 + slots * slot)) ≤ bytes
-each-fits stores each bytes slots slot all fits =
-    let le : 2560 + 64 * (512 + slots * slot) ≤ each = omega (arith, fits) in
-    let whole : (2560 + 64 * (512 + slots * slot)) * stores ≤ each * stores = mul-le-mul_right stores le in
-    omega (arith, whole, all)
-
--- and what fits is no more than each has
+-- what fits is no more than each has
 pub each-most : (stores each bytes slots slot most : ℕ) → 1 ≤ stores → bytes ≤ most
     → stores * (2560 + 64 * (512 + slots * slot)) ≤ bytes
     → ((n : ℕ) → n ≤ most → n * stores ≤ bytes → n ≤ each) → 64 * (512 + slots * slot) ≤ each - 2560
