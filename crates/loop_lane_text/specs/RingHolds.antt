@@ -39,8 +39,8 @@ pub record HoldsAfter (ring : Ring) (keep count : ℕ) (groups : List (List Pict
       → HoldsNewest (count - 1) (plain ring after (take n list))
 
 -- A ring holds as many of the newest frames as `held` says, and so at least as many as it was chosen for, whatever the
--- usual slots were and whatever groups were appended, until the numbers are spent. Where all segments are kept, none may
--- be recycled.
+-- usual slots were and whatever groups were appended, until the numbers are spent. Where all segments are kept, none
+-- may be recycled.
 pub record RingsHold : Type 0 where
   pub each : (size : RingSize) (keep : ℕ) (groups : List (List Picture)) → IsRing size → keep < size.segments
       → HaveFrames groups → total groups ≤ last_number (ring_with size)

@@ -22,7 +22,7 @@ pub record StandsAt (m : Moment) (disk : Medium) : Type 0 where
   pub images : (c : List ℕ) → disk.may_leave c → IsLeft m c
 
 -- one call was made on a disk that stood at a moment
-pub record Carries {T : Type 0} (m : Moment) (call : DeviceCall (List ℕ)) (old new : Medium) (result : Result T DiskFault)
-    : Type 0 where
+pub record Carries {T : Type 0} (m : Moment) (call : DeviceCall (List ℕ)) (old new : Medium)
+    (result : Result T DiskFault) : Type 0 where
   pub time : Meanwhile old new (λ c. IsLeft m c ⊎ IsLeft (after_call m call) c)
   pub done : OnOk result (StandsAt (after_call m call) new)

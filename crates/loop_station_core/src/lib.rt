@@ -24,11 +24,11 @@
 //!
 //! Each call is a step of the model in `specs`: `Frames` for tallies, `Cameras`, `Keeps`, `Growth`, `Gaps` for runs,
 //! `Search`, `Saving`, `SaveEnds`, `Retries`, `Clips`, `Texts`, `Orders`, `Answers` for replies, `Telling` for lines,
-//! `Spools`, `Stores`, `Still`, `Sets`. `Laws` says what follows of it: frames add up; a keep locks only the times of its line,
-//! and only once each frame that had come before that line is at the desk or lost, or every block is locked, or no
-//! frame has made progress for a minute; what is held of a time and its gaps are all of it; a clip that a save reads
-//! isn't released, and one that a save releases has a whole text; a text is told as saved once it is on the disk; an
-//! order that is taken in waits or is handed out; a line says what was so, and each lost frame is told once.
+//! `Spools`, `Stores`, `Still`, `Sets`. `Laws` says what follows of it: frames add up; a keep locks only the times of
+//! its line, and only once each frame that had come before that line is at the desk or lost, or every block is locked,
+//! or no frame has made progress for a minute; what is held of a time and its gaps are all of it; a clip that a save
+//! reads isn't released, and one that a save releases has a whole text; a text is told as saved once it is on the disk;
+//! an order that is taken in waits or is handed out; a line says what was so, and each lost frame is told once.
 #![tactic(auto)]
 
 mod camera;

@@ -17,7 +17,8 @@ ending path = if ends_in (codes ".loop") path then codes ".loop" else []
 
 -- a point and three digits
 abbrev pub is_number : List ℕ → Bool
-is_number bytes = bytes_eq (take 1 bytes) (codes ".") && length (drop 1 bytes) == 3 && list_all is_ascii_digit (drop 1 bytes)
+is_number bytes =
+    bytes_eq (take 1 bytes) (codes ".") && length (drop 1 bytes) == 3 && list_all is_ascii_digit (drop 1 bytes)
 
 -- a point and the three digits of a number below 1000
 abbrev pub number_text : ℕ → List ℕ

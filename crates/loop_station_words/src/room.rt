@@ -109,7 +109,8 @@ fn frames_of(frames: &Geometry, seconds: u64) -> u64
 fn most_tenths(frames: &Geometry) -> u64
     ensures value { result ≡ most_tenths frames.now }
     ensures fits { 1 ≤ frames.now.rate_den → frames_of frames.now (6 * result) ≤ 4194049 }
-    ensures most { 1 ≤ frames.now.rate_num → 1 ≤ frames.now.rate_den → 4194049 < frames_of frames.now (6 * (result + 1)) }
+    ensures most { 1 ≤ frames.now.rate_num → 1 ≤ frames.now.rate_den
+        → 4194049 < frames_of frames.now (6 * (result + 1)) }
 {
     MOST_FRAMES * u64::from(frames.rate_den) / (6 * u64::from(frames.rate_num.max(1)))
 }

@@ -37,7 +37,8 @@ is_frame_line text = bytes_eq (take 5 text) (codes "FRAME") && (length text == 5
 
 -- the microseconds that a word `Xt=MICROSECONDS` says, below 2^64
 abbrev pub word_time : List ℕ → Option ℕ
-word_time word = if bytes_eq (take 3 word) (codes "Xt=") then number_at_most 18446744073709551615 (drop 3 word) else None
+word_time word =
+    if bytes_eq (take 3 word) (codes "Xt=") then number_at_most 18446744073709551615 (drop 3 word) else None
 
 -- the first of these, or else the other
 abbrev pub or_else : Option ℕ → Option ℕ → Option ℕ
