@@ -89,6 +89,23 @@ pub struct SaveOrder {
     pub replace: bool,
 }
 
+impl SaveOrder {
+    /// A save at a path, which the camera at this place answers.
+    pub fn new(
+        answering: Arc<Answering>,
+        place: usize,
+        path: String,
+        replace: bool,
+    ) -> SaveOrder {
+        SaveOrder {
+            answering,
+            place,
+            path,
+            replace,
+        }
+    }
+}
+
 /// What the printer's thread is told.
 #[derive(Drop)]
 pub enum Message {

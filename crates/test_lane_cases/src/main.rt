@@ -7,8 +7,8 @@
 //! - `plane` has memory of each kind, `event` the events that calls make of a lane or a queue, `told` replies as text;
 //! - `camera` is a case's device; `case` is a lane, a desk or a queue under way; `desk` makes the calls of a desk,
 //!   `queue` those of a queue;
-//! - `script` does a list of events, as `tools/checks/queue_model.py` writes them: a line `list ..`, or each line of the
-//!   input where the program's word is `lists`;
+//! - `script` does a list of events, as `tools/checks/queue_model.py` writes them: a line `list ..`, or each line of
+//!   the input where the program's word is `lists`;
 //! - `session` keeps the list of a case. `lists` repeats it as one list, `stops` over a disk that is stopped at each
 //!   moment, `failing` over one that fails each call; `shown` prints what a disk holds.
 #![tactic(auto)]

@@ -330,8 +330,8 @@ impl Camera {
         self.moves = self.moves.saturating_add(1);
     }
 
-    // The first frame at the desk is stored. Whether it is: there may be none, or each block may be locked, and then this
-    // has to follow.
+    // The first frame at the desk is stored. Whether it is: there may be none, or each block may be locked, and then
+    // this has to follow.
     fn store_next(&mut self, judge: &mut Judge, wanted: Act) -> bool {
         if !self.open || self.desk.is_empty() {
             return false;

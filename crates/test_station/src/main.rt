@@ -63,7 +63,8 @@ fn print_line<W: Write>(
     let (kills, lines) = (counts.kills, counts.lines);
     writeln!(
         out,
-        "seed {seed} step {step}: keeps {keeps}, saves {saves}, saved {saved}, orders {orders}, moves {moves}, kills {kills}, lines {lines}, {what}"
+        "seed {seed} step {step}: keeps {keeps}, saves {saves}, saved {saved}, orders {orders}, \
+         moves {moves}, kills {kills}, lines {lines}, {what}"
     )?;
     Ok(out.flush()?)
 }

@@ -397,8 +397,8 @@ fn frames_are_compared_whatever_their_rings(rt: HostRuntime) {
     same!(rt; compare_frames(&OTHER, &TALL), Likeness::OtherGeometry);
 }
 
-// How many frames of how many bytes a store is to hold, and the segments and slots for them; zeros where there is no such
-// store. Small frames have more slots, as long as there are 16 segments.
+// How many frames of how many bytes a store is to hold, and the segments and slots for them; zeros where there is no
+// such store. Small frames have more slots, as long as there are 16 segments.
 const RINGS: [(u64, u32, u32, u32); 19] = [
     (0, 1, 2, 64),
     (65, 1, 2, 64),
