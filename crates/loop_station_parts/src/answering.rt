@@ -91,12 +91,7 @@ pub struct SaveOrder {
 
 impl SaveOrder {
     /// A save at a path, which the camera at this place answers.
-    pub fn new(
-        answering: Arc<Answering>,
-        place: usize,
-        path: String,
-        replace: bool,
-    ) -> SaveOrder {
+    pub fn new(answering: Arc<Answering>, place: usize, path: String, replace: bool) -> SaveOrder {
         SaveOrder {
             answering,
             place,
