@@ -8,7 +8,7 @@ use loop_desk::Desk;
 use loop_file::FileDisk;
 use loop_pages::PageFault;
 use loop_pipeline::{
-    Camera, Ended, Guide, Shot, Visits, film_all, mapped_start, new_queue, start_queue,
+    Camera, CameraEnd, Guide, Shot, Visits, film_all, mapped_start, new_queue, start_queue,
 };
 use loop_plane::MmapPlane;
 use loop_record::Geometry;
@@ -79,7 +79,7 @@ impl Take {
 type RecordCamera = Camera<RecordSource, FileDisk, MmapPlane>;
 
 // What is left of it.
-type RecordEnded = Ended<RecordSource, FileDisk, MmapPlane>;
+type RecordEnded = CameraEnd<RecordSource, FileDisk, MmapPlane>;
 
 // What guides a camera: so many ticks at the rate of its store, and no flush after one that was refused.
 #[derive(Drop)]

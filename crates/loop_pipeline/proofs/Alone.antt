@@ -7,7 +7,7 @@ use Rattle.loop_plane.specs.Plane.{Plane}
 use Rattle.loop_capture.specs.declared.source.Next.{Next}
 use Rattle.loop_store.specs.declared.fault.StoreFault.{StoreFault}
 use Rattle.loop_desk.specs.Desk.{DeskCall}
-use Rattle.loop_pipeline.specs.declared.ending.Ended.{Ended}
+use Rattle.loop_pipeline.specs.declared.ending.CameraEnd.{CameraEnd}
 use Rattle.loop_pipeline.specs.declared.film.Unfilmed.{Unfilmed}
 use Rattle.loop_pipeline.specs.declared.film.Unfilmed.TheVariants.{NoMemory, NoThread}
 use Rattle.loop_pipeline.specs.Cameras.{CameraKeeps, KeepsJoined, SeenCamera}
@@ -23,7 +23,7 @@ module _ {S D P : Type 0} (medium : D → Medium) (gives : S → Next → List �
       subst (λ l. CameraKeeps medium gives meaning asks gives_up due ends (record camera { joined = l }) new given_up left missed
       failed over) (ap (λ l. camera.joined ++ l) (kept.none is) ∙ append-nil camera.joined) kept.keeps
 
-  pub filmed-alone : (filmed : Result (Ended S D P Global) (Unfilmed S D P))
+  pub filmed-alone : (filmed : Result (CameraEnd S D P Global) (Unfilmed S D P))
       → IfOk filmed (λ e. KeepsJoined medium gives meaning asks gives_up due ends shut camera
       (record { device = e.device; queue = e.queue; desk = e.desk; joined = e.joined.items }) e.given_up e.left e.missed
       e.failed e.over)
@@ -33,7 +33,7 @@ module _ {S D P : Type 0} (medium : D → Medium) (gives : S → Next → List �
   filmed-alone (Ok e) kept = alone _ e.given_up e.left e.missed e.failed e.over kept
   filmed-alone (Err u) kept = kept
 
-  pub given-alone : (filmed : Result (Ended S D P Global) (Unfilmed S D P))
+  pub given-alone : (filmed : Result (CameraEnd S D P Global) (Unfilmed S D P))
       → IfErr filmed (GivesJoined medium gives meaning asks gives_up due ends shut camera)
       → IfErr filmed (GivesBack medium gives meaning asks gives_up due ends camera)
   given-alone (Ok e) kept = kept

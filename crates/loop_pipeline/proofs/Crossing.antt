@@ -16,7 +16,7 @@ use Rattle.loop_plane.specs.declared.memory.PlaneMemory as plane
 use Rattle.loop_desk.proofs.Crossing.{desk_send}
 use Rattle.loop_desk.specs.contracts.hand.Hand as Hand
 use Rattle.loop_pipeline.specs.contracts.camera.Camera as Camera
-use Rattle.loop_pipeline.specs.contracts.ending.Ended as Ended
+use Rattle.loop_pipeline.specs.contracts.ending.CameraEnd as CameraEnd
 use Rattle.loop_pipeline.specs.contracts.film.Unfilmed as Unfilmed
 use Rattle.loop_pipeline.specs.contracts.start_barrier.StartBarrier as StartBarrier
 use Rattle.loop_pipeline.specs.contracts.film.Left as Left
@@ -50,7 +50,7 @@ pub barrier_send : IsSend StartBarrier.the_row
 barrier_send = search (sendable, crosses) depth 30
 
 module _ (S D P : RattleType) (d : disk.Ghosts D.Denot) where
-  pub ended_in_send : IsSend S → IsSend D → IsSend P → IsSend (Ended.the_field S D P heap.the_row d ghosts).row
+  pub ended_in_send : IsSend S → IsSend D → IsSend P → IsSend (CameraEnd.the_field S D P heap.the_row d ghosts).row
   ended_in_send s sd sp =
       let a = device_send S s in
       let b = queue_send P sp in
@@ -59,7 +59,7 @@ module _ (S D P : RattleType) (d : disk.Ghosts D.Denot) where
       let f = hand_in_send P sp in
       search (sendable, crosses) depth 30
 
-  pub ended_send : IsSend S → IsSend D → IsSend P → IsSend (Ended.the_row S D P heap.the_row d ghosts)
+  pub ended_send : IsSend S → IsSend D → IsSend P → IsSend (CameraEnd.the_row S D P heap.the_row d ghosts)
   ended_send s sd sp = let a = ended_in_send s sd sp in search (sendable, crosses) depth 30
 
 module _ (S D P : RattleType) (f : source.Ghosts S.Denot) (d : disk.Ghosts D.Denot) (p : plane.Ghosts P.Denot) where

@@ -7,7 +7,7 @@ use Rattle.loop_store.specs.declared.fault.StoreFault.{StoreFault}
 use Rattle.loop_capture.specs.declared.source.Next.{Next}
 use Rattle.loop_desk.specs.declared.hand.Hand.TheVariants.{Empty}
 use Rattle.loop_desk.specs.Desk.{DeskCall}
-use Rattle.loop_pipeline.specs.declared.ending.Ended.{Ended}
+use Rattle.loop_pipeline.specs.declared.ending.CameraEnd.{CameraEnd}
 use Rattle.loop_pipeline.specs.declared.film.Unfilmed.{Unfilmed}
 use Rattle.loop_pipeline.specs.declared.several.Outcome.{Outcome}
 use Rattle.loop_pipeline.specs.declared.several.Running.{Running}
@@ -20,7 +20,7 @@ use Rattle.loop_pipeline.specs.Returns.{GivesBack}
 -- or it comes back, or what is left of it, which kept the same.
 pub record IsFilmed {S D P : Type 0} (medium : D → Medium) (gives : S → Next → List ℕ → S → Type 0)
     (meaning : P → Plane) (asks : DeskCall → Type 0) (gives_up : StoreFault → Type 0) (due : ℕ → ℕ → Type 0)
-    (ends : ℕ → Type 0) (camera : SeenCamera S D P) (filmed : Result (Ended S D P Global) (Unfilmed S D P))
+    (ends : ℕ → Type 0) (camera : SeenCamera S D P) (filmed : Result (CameraEnd S D P Global) (Unfilmed S D P))
     : Type 0 where
   pub keeps : IfOk filmed (λ e. CameraKeeps medium gives meaning asks gives_up due ends camera
       (record { device = e.device; queue = e.queue; desk = e.desk; joined = e.joined.items })

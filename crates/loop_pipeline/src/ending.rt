@@ -17,7 +17,7 @@ use std::alloc::{Allocator, Global};
 
 /// What is left of a camera.
 #[derive(Drop)]
-pub struct Ended<
+pub struct CameraEnd<
     S: FrameSource + Drop,
     D: Disk + Drop,
     P: PlaneMemory,
@@ -53,7 +53,7 @@ pub fn end<S: FrameSource + Drop, D: Disk + Drop, P: PlaneMemory, G: Guide, A: A
     begun: Begun<S, P, G, A>,
     front: FrontParts<S, P, A>,
     back: Back<D, G, A>,
-) -> Ended<S, D, P, A>
+) -> CameraEnd<S, D, P, A>
     requires front { Leaves S.next_gives P.plane (G.due begun.guide.value) (G.ends begun.guide.value)
         (made_of begun) front }
     requires pair { IsPair begun.to.value back.from }
@@ -92,7 +92,7 @@ pub fn end<S: FrameSource + Drop, D: Disk + Drop, P: PlaneMemory, G: Guide, A: A
         refused: _,
     } = back.into_parts();
     let left = from.slots_beside(&mut to) as u64;
-    Ended {
+    CameraEnd {
         device,
         queue,
         table,

@@ -12,7 +12,8 @@ ghost use Rattle.loop_pipeline.specs.Fronts.{IsHeld, IsOpen, Leaves, LeavesCarri
 use crate::bell::Bell;
 use crate::start_barrier::StartBarrier;
 use crate::{
-    Back, Begun, Brought, Camera, Door, Ended, Front, FrontParts, Guide, TakeOutcome, Visits, end,
+    Back, Begun, Brought, Camera, CameraEnd, Door, Front, FrontParts, Guide, TakeOutcome, Visits,
+    end,
 };
 use loop_capture::{Device, FrameSource};
 use loop_desk::{Desk, Hand};
@@ -517,7 +518,7 @@ fn end_both<S: FrameSource + Drop, D: Disk + Drop, P: PlaneMemory, G: Guide, W: 
     begun: Begun<S, P, G>,
     front: Left<S, P, W>,
     back: Back<D, G>,
-) -> Ended<S, D, P>
+) -> CameraEnd<S, D, P>
     requires front { LeavesCarried W.inside S.next_gives P.plane
         (G.due begun.guide.value) (G.ends begun.guide.value) (made_of begun) front }
     requires pair { IsPair begun.to.value back.from }
@@ -560,7 +561,7 @@ pub enum Unfilmed<S: FrameSource + Drop, D: Disk + Drop, P: PlaneMemory> {
     NoMemory(Camera<S, D, P>),
     /// A thread couldn't be started, or a camera beside it can't be filmed: what is left of the camera. No frame was
     /// filmed.
-    NoThread(Ended<S, D, P>),
+    NoThread(CameraEnd<S, D, P>),
 }
 
 /// Films a camera until its guide or its source ends it and nothing is left to flush. The front runs in a new thread of
@@ -582,7 +583,7 @@ pub fn film_desks<
     guide: &'s G,
     door: &Door<D>,
     camera: Camera<S, D, P>,
-) -> Result<Ended<S, D, P>, Unfilmed<S, D, P>>
+) -> Result<CameraEnd<S, D, P>, Unfilmed<S, D, P>>
     ensures keeps { IfOk result (λ e. KeepsJoined D.medium S.next_gives P.plane G.asks G.gives_up
         (G.due guide.now) (G.ends guide.now) (door.now ≡ false) camera
         (record { device = e.device; queue = e.queue; desk = e.desk; joined = e.joined.items })
@@ -649,7 +650,7 @@ pub fn film_camera<
     link: &'s Link,
     guide: &'s G,
     camera: Camera<S, D, P>,
-) -> Result<Ended<S, D, P>, Unfilmed<S, D, P>>
+) -> Result<CameraEnd<S, D, P>, Unfilmed<S, D, P>>
     ensures keeps { IfOk result (λ e. CameraKeeps D.medium S.next_gives P.plane G.asks G.gives_up
         (G.due guide.now) (G.ends guide.now) camera
         (record { device = e.device; queue = e.queue; desk = e.desk; joined = e.joined.items })

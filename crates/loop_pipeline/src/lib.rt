@@ -40,7 +40,7 @@ pub use back::{Back, BackParts, Brought, LostFrame};
 pub use buffers::{Start, heap_start, mapped_start};
 pub use camera::Camera;
 pub use door::Door;
-pub use ending::{Ended, end};
+pub use ending::{CameraEnd, end};
 pub use film::{Link, Unfilmed, film_back, film_camera, film_desks, film_front};
 pub use front::{Begun, Front, FrontParts, TakeOutcome};
 pub use guide::Guide;

@@ -6,7 +6,7 @@ ghost use Rattle.std.specs.Vec.{vec_capacity};
 ghost use Rattle.loop_pipeline.specs.Several.{IsFilmed, IsOutcome, IsRunning, shot_in, shot_of};
 
 use crate::start_barrier::StartBarrier;
-use crate::{Camera, Ended, Guide, Link, Unfilmed, film_camera};
+use crate::{Camera, CameraEnd, Guide, Link, Unfilmed, film_camera};
 use loop_capture::FrameSource;
 use loop_disk::Disk;
 use loop_plane::PlaneMemory;
@@ -18,7 +18,7 @@ use std::thread::{Promise, PromisedHandle, Scope, Threads};
 use std::time::Clock;
 
 /// What filming a camera answers, as `film_camera`.
-pub type Filmed<S, D, P> = Result<Ended<S, D, P>, Unfilmed<S, D, P>>;
+pub type Filmed<S, D, P> = Result<CameraEnd<S, D, P>, Unfilmed<S, D, P>>;
 
 /// A camera and its guide.
 #[derive(Drop)]

@@ -8,7 +8,7 @@ use loop_capture::Device;
 use loop_desk::{Desk, DeskLimits};
 use loop_file::FileDisk;
 use loop_pipeline::{
-    Camera, Door, Ended, Unfilmed, film_desks, heap_start, new_queue, start_queue,
+    Camera, CameraEnd, Door, Unfilmed, film_desks, heap_start, new_queue, start_queue,
 };
 use loop_plane::HeapPlane;
 use loop_record::Geometry;
@@ -49,7 +49,7 @@ type FileCamera = Camera<FeedSource, FileDisk, HeapPlane>;
 
 // The result of filming it.
 type Filmed = Result<
-    Ended<FeedSource, FileDisk, HeapPlane>,
+    CameraEnd<FeedSource, FileDisk, HeapPlane>,
     Unfilmed<FeedSource, FileDisk, HeapPlane>,
 >;
 

@@ -5,7 +5,8 @@ use loop_capture::{Device, Pattern};
 use loop_desk::Desk;
 use loop_disk::MemDisk;
 use loop_pipeline::{
-    Camera, Ended, Guide, Link, Unfilmed, Visits, film_camera, heap_start, new_queue, start_queue,
+    Camera, CameraEnd, Guide, Link, Unfilmed, Visits, film_camera, heap_start, new_queue,
+    start_queue,
 };
 use loop_plane::HeapPlane;
 use loop_record::{Geometry, PixelFormat};
@@ -26,7 +27,7 @@ const ROWS: [(PixelFormat, u32, u32, u32, u64); 2] = [
 
 type HeapCamera = Camera<Pattern, MemDisk, HeapPlane>;
 
-type HeapEnded = Ended<Pattern, MemDisk, HeapPlane>;
+type HeapEnded = CameraEnd<Pattern, MemDisk, HeapPlane>;
 
 type Filmed = Result<HeapEnded, Unfilmed<Pattern, MemDisk, HeapPlane>>;
 

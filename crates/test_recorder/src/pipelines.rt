@@ -14,8 +14,8 @@ use loop_desk::{Desk, Flushed, Hand, LaneFault};
 use loop_disk::{Disk, FuseDisk, MemDisk};
 use loop_lane_text::{LostFrames, film_and_export};
 use loop_pipeline::{
-    Back, Begun, Brought, Camera, Ended, Front, Guide, Link, LostFrame, Outcome, Shot, TakeOutcome,
-    Visits, end, film_all, film_camera, heap_start, new_queue, start_queue,
+    Back, Begun, Brought, Camera, CameraEnd, Front, Guide, Link, LostFrame, Outcome, Shot,
+    TakeOutcome, Visits, end, film_all, film_camera, heap_start, new_queue, start_queue,
 };
 use loop_plane::{FdTable, HeapPlane, PlaneMemory};
 use loop_record::{Frame, Times};
@@ -122,7 +122,7 @@ type Fused = FuseDisk<MemDisk>;
 
 type TestCamera = Camera<Pattern, Fused, HeapPlane>;
 
-type TestEnded = Ended<Pattern, Fused, HeapPlane>;
+type TestEnded = CameraEnd<Pattern, Fused, HeapPlane>;
 
 // A queue that streams, with four buffers in the application's memory.
 fn streaming(rt: &impl Abort, alloc: Global) -> (Queue<HeapPlane>, FdTable<HeapPlane>)
@@ -193,7 +193,7 @@ fn has_frame(rt: &impl Abort, alloc: Global, desk: &mut Desk<Fused>, number: u32
 fn again(rt: &impl Abort, ended: TestEnded) -> TestCamera
     requires { ended.hand ≡ Empty → IsOpen ⟦<HeapPlane as PlaneMemory>⟧.plane ended.queue ended.table }
 {
-    let Ended {
+    let CameraEnd {
         device,
         queue,
         table,
