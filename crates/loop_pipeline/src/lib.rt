@@ -37,6 +37,7 @@ mod start_barrier;
 mod visits;
 
 pub use back::{Back, BackParts, Brought, LostFrame};
+pub use bell::Bell;
 pub use buffers::{Start, heap_start, mapped_start};
 pub use camera::Camera;
 pub use door::Door;
@@ -46,4 +47,5 @@ pub use front::{Begun, Front, FrontParts, TakeOutcome};
 pub use guide::Guide;
 pub use several::{Filmed, Outcome, Shot, film_all};
 pub use start::{new_queue, start_queue};
+pub use start_barrier::StartBarrier;
 pub use visits::Visits;
