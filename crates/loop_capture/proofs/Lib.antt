@@ -1,3 +1,4 @@
 mod SourceTick
 mod Active
+pub mod TickLinks
 pub mod Crossing

@@ -24,15 +24,14 @@ use Rattle.loop_vb2.specs.State.{InStep, Lined, QueueState}
 use Rattle.loop_vb2.proofs.Lines.{same}
 use Rattle.loop_vb2.proofs.Owners.{handed_over_by_owners}
 use Rattle.loop_vb2.proofs.States.{length-changed}
-use Rattle.loop_ioctl.specs.Attached.{IsLinked, values_by_fd}
-use Rattle.loop_ioctl.specs.Names.{Names}
-use Rattle.loop_ioctl.proofs.Device.{completed_linked, failed_linked}
+use Rattle.loop_ioctl.specs.Attached.{values_by_fd}
 use Rattle.loop_ioctl.proofs.QueueSteps.{moves}
 use Rattle.loop_capture.specs.declared.device.Tick.{Tick}
 use Rattle.loop_capture.specs.declared.device.Tick.TheVariants.{Idle, Completed, Failed, Missed, Ended, WrongSize}
 use Rattle.loop_capture.specs.declared.source.Next.{Next}
 use Rattle.loop_capture.specs.declared.source.Next.TheVariants.{More, End, Bad}
 use Rattle.loop_capture.specs.Ticks.{SeenDevice, Ticks, Took, end_of, sequence_after, sequence_of, tick_events, tick_of}
+use Rattle.loop_capture.proofs.TickLinks.{tick-linked}
 use Rattle.loop_desk.specs.declared.hand.Hand.{Hand}
 use Rattle.loop_desk.specs.Front.{Front, HandState, StandsFront, empty, full, planes_held, spent}
 use Rattle.loop_desk.specs.Lane.{completed_frame, hand_frame, without_flags}
@@ -72,17 +71,6 @@ told-by WrongSize answer active is asks = absurd asks
 fresh-or-next : (fresh : Bool) (next : ℕ) → (cond fresh 0 next ≡ next) ⊎ (cond fresh 0 next ≡ 0)
 fresh-or-next true next = inr refl
 fresh-or-next false next = inl refl
-
--- a tick is one end of a buffer, or none
-tick-linked : (tick : Tick) (stamp : Stamp) (bytes : List ℕ) (s : QueueState) (out : List (ℕ × Plane))
-    (n : Names Plane) → IsLinked s.body out n
-    → IsLinked (after_all after_event (on_body body_seen s) (end_of tick stamp bytes)).body out n
-tick-linked (Completed i) stamp bytes s out n linked = completed_linked i stamp bytes (on_body body_seen s) out n linked
-tick-linked (Failed i) stamp bytes s out n linked = failed_linked i stamp (on_body body_seen s) out n linked
-tick-linked Idle stamp bytes s out n linked = linked
-tick-linked Missed stamp bytes s out n linked = linked
-tick-linked Ended stamp bytes s out n linked = linked
-tick-linked WrongSize stamp bytes s out n linked = linked
 
 -- ---- what the end of a buffer is, or none
 
