@@ -38,4 +38,5 @@ module _ {S D P : Type 0} (medium : D → Medium) (gives : S → Next → List �
       → IfErr filmed (GivesBack medium gives meaning asks gives_up due ends camera)
   given-alone (Ok e) kept = kept
   given-alone (Err (NoMemory c)) kept = kept
-  given-alone (Err (NoThread e)) kept = alone _ e.given_up e.left e.missed e.failed e.over kept
+  given-alone (Err (NoThread e)) (device, queue, kept) =
+      (device, queue, alone _ e.given_up e.left e.missed e.failed e.over kept)

@@ -28,7 +28,7 @@ use Rattle.loop_desk.specs.Lane.{completed_frame, hand_frame, without_flags}
 use Rattle.loop_desk.specs.Waiting.{FramesAreKept, IsCounted, IsSoundQueue, QueuesStaySound, dequeued_frame, frames_dequeued, frames_waiting}
 use Rattle.loop_capture.specs.declared.device.Tick.{Tick}
 use Rattle.loop_capture.specs.declared.device.Tick.TheVariants.{Idle, Completed, Failed, Missed, Ended, WrongSize}
-use Rattle.loop_pipeline.specs.Fronts.{AreDue, AreTold, FrontKeeps, GoesOn, HasMoved, IsApart, IsHeld, IsOpen, IsOut, SeenFront, TickRecord, count_failed, count_missed, fails, is_last, misses, shown, shown_given}
+use Rattle.loop_pipeline.specs.Fronts.{AreDue, AreTold, FrontKeeps, GoesOn, HasMoved, IsApart, IsHeld, IsOpen, IsOut, Leaves, SeenFront, TickRecord, count_failed, count_missed, fails, is_last, misses, shown, shown_given}
 
 add-assoc : (a b c : ℕ) → (a + b) + c ≡ a + (b + c)
 add-assoc a b c = omega arith
@@ -163,6 +163,32 @@ module _ {S P G A : Type 0} (gives : S → Next → List ℕ → S → Type 0) (
     told = record { timed = tt; missing = refl; failing = refl; ended = λ e. absurd (cc) };
     shows = refl;
   }
+
+  -- what never ticked leaves what it came with
+  pub rested : (queue : Lined P) (table : Fds P) (device : SeenDevice S) (to : Producer (Frame A) A AnyItems) (guide : G)
+      → IsOpen m queue table → sent to ≡ []
+      → Leaves gives m due ends (record { queue = queue; device = device; to = to; guide = guide })
+      (record { device = device; queue = queue; table = table; hand = hand.Empty; to = to; missed = 0; failed = 0; over = false })
+  rested queue table device to guide is none =
+      let wait = map without_flags (frames_waiting queue is.state.queue) in
+      record {
+        keeps = record {
+          ring = ((refl, refl, refl, refl), refl);
+          first = is.state.queue;
+          last = is.state.queue;
+          stood = is.stands.queue;
+          stands = is.stands.queue;
+          streams = refl;
+          given = [];
+          source = refl;
+          told = record { timed = tt; missing = refl; failing = refl; ended = λ e. absurd (cc) };
+          completed = [];
+          shows = refl;
+          whole = append-nil wait ∙ sym (ap (λ l. map without_flags (map picture l) ++ wait) none);
+        };
+        again = λ _. is;
+        held = tt;
+      }
 
   -- what a front has done, in the words of what it keeps
   pub kept : (seen : SeenFront S P G A) (device : SeenDevice S) (queue : Lined P) (table : Fds P) (h : Hand P A)

@@ -186,20 +186,23 @@ pub record Leaves {S P G A : Type 0} (gives : S → Next → List ℕ → S → 
 
 -- ---- to another thread and back (private contracts alone)
 
--- what came back is what a front leaves, with the end of the ring that is inside the carrier
+-- what came back is what a front leaves, with the end of the ring that is inside the carrier; if it isn't over, it has
+-- never ticked
 abbrev pub LeavesCarried : {S P G W : Type 0} → (W → Producer (Frame Global) Global AnyItems)
     → (S → Next → List ℕ → S → Type 0) → (P → Plane) → (ℕ → ℕ → Type 0) → (ℕ → Type 0) → SeenFront S P G Global
     → Left S P W → Type 0
-LeavesCarried inside gives meaning due ends seen left = Leaves gives meaning due ends seen (record {
-  device = left.device;
-  queue = left.queue;
-  table = left.table;
-  hand = left.hand;
-  to = inside left.to;
-  missed = left.missed;
-  failed = left.failed;
-  over = left.over;
-})
+LeavesCarried inside gives meaning due ends seen left =
+    (left.over ≡ false → (left.device ≡ seen.device) × (left.queue ≡ seen.queue))
+    × Leaves gives meaning due ends seen (record {
+      device = left.device;
+      queue = left.queue;
+      table = left.table;
+      hand = left.hand;
+      to = inside left.to;
+      missed = left.missed;
+      failed = left.failed;
+      over = left.over;
+    })
 
 -- ---- its events (private contracts alone)
 

@@ -66,7 +66,7 @@ pub fn end<S: FrameSource + Drop, D: Disk + Drop, P: PlaneMemory, G: Guide, A: A
     ensures again { result.hand ≡ Empty → IsOpen P.plane result.queue result.table }
     ensures held { IsHeld result.queue result.hand }
     ensures desks { result.desk ∷ result.joined.items ≡ back.desks }
-    ensures over { result.over ≡ front.over }
+    ensures front { (result.device ≡ front.device) × (result.queue ≡ front.queue) × (result.over ≡ front.over) }
 {
     let Begun {
         queue: _,

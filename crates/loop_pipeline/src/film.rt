@@ -50,7 +50,7 @@ pub struct Link {
     room: Bell,
     /// The front's thread has ended.
     over: AtomicBool,
-    /// The front's thread couldn't be started, or a camera beside it can't be filmed: the front doesn't tick.
+    /// The front's thread couldn't be started: the front doesn't tick.
     closed: AtomicBool,
     /// Memory of frames that were stored, for later ones.
     memory: Mutex<Vec<Vec<u8>>>,
@@ -103,7 +103,7 @@ impl Link {
         }
     }
 
-    // Keeps the front from ticking, and those of the cameras beside it: it can't be filmed.
+    // Keeps the front from ticking, and those of the cameras beside it: its camera can't be filmed.
     fn close<R: Wait>(&self, rt: &R) {
         self.closed.store(true, Ordering::SeqCst);
         if let Some(barrier) = &self.others {
@@ -111,13 +111,19 @@ impl Link {
         }
     }
 
-    // Waits until the front of each camera beside this one has a thread. If one can't be filmed, no front ticks.
-    fn wait_for_others<R: Wait>(&self, rt: &R) {
-        if let Some(barrier) = &self.others {
-            if !barrier.wait(rt) {
-                self.closed.store(true, Ordering::SeqCst);
-            }
-        }
+    // Waits until the front of each camera beside this one has a thread. Returns whether it may tick: each has one.
+    fn wait_for_others<R: Wait>(&self, rt: &R) -> bool {
+        let together = match &self.others {
+            Some(barrier) => barrier.wait(rt),
+            None => true,
+        };
+        together && !self.closed.load(Ordering::SeqCst)
+    }
+
+    // The front's thread has ended.
+    fn end<R: Wait>(&self, rt: &R) {
+        self.over.store(true, Ordering::SeqCst);
+        self.given.ring(rt);
     }
 }
 
@@ -159,35 +165,29 @@ fn take_all<R: Wait, S: FrameSource + Drop, P: PlaneMemory, G: Guide>(
     }
 }
 
-// The front's thread: ticks when its guide says so, until the guide or the source ends it. First it waits for the
-// cameras beside it.
+// Ticks when its guide says so, until the guide or the source ends it.
 fn run_front<R: Wait + Clock, S: FrameSource + Drop, P: PlaneMemory, G: Guide>(
     rt: &R,
     alloc: Global,
     link: &Link,
     guide: &G,
     mut front: Front<S, P, G>,
-) -> Front<S, P, G>
+) -> FrontParts<S, P>
     requires { guide.now ≡ front.guide }
-    ensures { result ≡ front }
+    ensures leaves { Leaves S.next_gives P.plane (G.due front.guide) (G.ends front.guide) front result }
+    ensures over { result.over ≡ true }
 {
-    link.wait_for_others(rt);
     'ticks: for _ in rt.forever() {
-        if link.closed.load(Ordering::SeqCst) {
-            break;
+        if let Some(tick) = front.tick(rt, guide) {
+            take_all(rt, alloc, link, guide, &mut front);
+            guide.ticked(rt, tick);
         }
-        let Some(tick) = front.tick(rt, guide) else {
-            break;
+        front = match front.into_ended() {
+            Ok(parts) => return parts,
+            Err(again) => again,
         };
-        take_all(rt, alloc, link, guide, &mut front);
-        guide.ticked(rt, tick);
-        if front.is_over() {
-            break;
-        }
     }
-    link.over.store(true, Ordering::SeqCst);
-    link.given.ring(rt);
-    front
+    unreachable!()
 }
 
 // Brings the frames in the ring to the active desk, where all is locked only `anyway`; returns whether one came out of
@@ -347,11 +347,14 @@ pub fn film_front<R: Wait + Clock, S: FrameSource + Drop, P: PlaneMemory, G: Gui
 ) -> FrontParts<S, P>
     requires ready { IsOpen P.plane queue table }
     requires ring { sent to ≡ [] }
-    ensures { Leaves S.next_gives P.plane (G.due guide.now) (G.ends guide.now)
+    ensures leaves { Leaves S.next_gives P.plane (G.due guide.now) (G.ends guide.now)
         (record { queue = queue; device = device; to = to; guide = guide.now }) result }
+    ensures over { result.over ≡ true }
 {
     let front = Front::new(device, queue, table, to, guide);
-    run_front(rt, alloc, link, guide, front).into_parts()
+    let parts = run_front(rt, alloc, link, guide, front);
+    link.end(rt);
+    parts
 }
 
 // Carries the end of a ring to another thread and back. The toolchain lets an end of a ring cross only behind a type
@@ -412,7 +415,8 @@ impl<S: FrameSource + Drop, P: PlaneMemory, G: Guide, W: Carrier> Promise<Left<S
         (G.due begun.guide.value) (G.ends begun.guide.value) (made_of begun) left };
 }
 
-// The whole work of a front's thread, with the end of the ring carried there and back.
+// The whole work of a front's thread, with the end of the ring carried there and back. First it waits for the cameras
+// beside it; if one can't be filmed, nothing changes.
 fn film_carried<R: Wait + Clock, S: FrameSource + Drop, P: PlaneMemory, G: Guide, W: Carrier>(
     rt: &R,
     alloc: Global,
@@ -428,6 +432,19 @@ fn film_carried<R: Wait + Clock, S: FrameSource + Drop, P: PlaneMemory, G: Guide
     ensures { LeavesCarried W.inside S.next_gives P.plane (G.due guide.now) (G.ends guide.now)
         (record { queue = queue; device = device; to = W.inside to; guide = guide.now }) result }
 {
+    if !link.wait_for_others(rt) {
+        link.end(rt);
+        return Left {
+            device,
+            queue,
+            table,
+            hand: Hand::Empty,
+            to,
+            missed: 0,
+            failed: 0,
+            over: false,
+        };
+    }
     let FrontParts {
         device,
         queue,
@@ -450,15 +467,14 @@ fn film_carried<R: Wait + Clock, S: FrameSource + Drop, P: PlaneMemory, G: Guide
     }
 }
 
-// What both threads leave, and whether the front's could be started.
+// What both threads leave.
 #[derive(Drop)]
 struct Both<S: FrameSource + Drop, D: Disk + Drop, P: PlaneMemory, G: Visits, W: Carrier> {
     front: Left<S, P, W>,
     back: Back<D, G>,
-    began: bool,
 }
 
-// Runs a front in a thread of its own, and the back in this one. If no thread can be started, neither begins.
+// Runs a front in a thread of its own, and the back in this one. If no thread can be started, the front doesn't tick.
 fn run_in<
     's,
     E,
@@ -490,16 +506,17 @@ fn run_in<
         (G.due begun.guide.value) (G.ends begun.guide.value) (made_of begun) result.front }
     ensures back { Joins (door.now ≡ false) back result.back }
 {
-    let work = move || -> Left<S, P, W> {
-        film_carried(rt, alloc, link, guide, device, queue, table, to)
-    };
+    let work = move || -> Left<S, P, W>
+        requires { IsOpen P.plane queue table × (sent (W.inside to) ≡ []) }
+        ensures { LeavesCarried W.inside S.next_gives P.plane (G.due guide.entry.now) (G.ends guide.entry.now)
+            (record { queue = queue; device = device; to = W.inside to; guide = guide.entry.now }) result }
+    { film_carried(rt, alloc, link, guide, device, queue, table, to) };
     match scope.spawn_with(begun, work) {
         Ok(handle) => {
             let back = film_back(rt, alloc, link, guide, door, back);
             Both {
                 front: handle.join(rt),
                 back,
-                began: true,
             }
         }
         Err(refused) => {
@@ -507,7 +524,6 @@ fn run_in<
             Both {
                 front: (refused.value)(),
                 back,
-                began: false,
             }
         }
     }
@@ -530,6 +546,8 @@ fn end_both<S: FrameSource + Drop, D: Disk + Drop, P: PlaneMemory, G: Guide, W: 
         result.given_up result.left result.missed result.failed result.over }
     ensures again { result.hand ≡ Empty → IsOpen P.plane result.queue result.table }
     ensures held { IsHeld result.queue result.hand }
+    ensures rests { result.over ≡ false
+        → (result.device ≡ begun.device.value) × (result.queue ≡ begun.queue.value) }
 {
     let Left {
         device,
@@ -559,8 +577,8 @@ fn end_both<S: FrameSource + Drop, D: Disk + Drop, P: PlaneMemory, G: Guide, W: 
 pub enum Unfilmed<S: FrameSource + Drop, D: Disk + Drop, P: PlaneMemory> {
     /// Memory was refused before it began, or a camera beside it can't be filmed: the camera comes back.
     NoMemory(Camera<S, D, P>),
-    /// A thread couldn't be started, or a camera beside it can't be filmed: what is left of the camera. No frame was
-    /// filmed.
+    /// A thread couldn't be started, or a camera beside it can't be filmed: what is left of the camera. Its device and
+    /// its queue are as they were: no frame was filmed.
     NoThread(CameraEnd<S, D, P>),
 }
 
@@ -623,11 +641,11 @@ pub fn film_desks<
     let begun = Begun::of(&queue, &device, &to, guide);
     let again = Begun::of(&queue, &device, &to, guide);
     let to = Carried { to };
-    let Both { front, back, began } = run_in(
+    let Both { front, back } = run_in(
         rt, alloc, scope, link, guide, begun, device, queue, table, to, door, back,
     );
     let ended = end_both(again, front, back);
-    if began && ended.over {
+    if ended.over {
         Ok(ended)
     } else {
         Err(Unfilmed::NoThread(ended))

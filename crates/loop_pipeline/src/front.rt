@@ -1,6 +1,6 @@
 //! A device, its queue, and the end of the ring to which its frames go: owned by one thread.
 
-ghost use Rattle.std.specs.Prelude.{◌≡◌, ◌<◌, ◌≤◌, ◌++◌, [], get_or};
+ghost use Rattle.std.specs.Prelude.{◌≡◌, ◌<◌, ◌≤◌, ◌++◌, [], IfErr, IfOk, get_or, true};
 ghost use Rattle.rtrb.specs.Ring.{SameProducer, known_free, sent};
 ghost use Rattle.loop_desk.specs.Front.{hand_state};
 ghost use Rattle.loop_pipeline.specs.Fronts.{IsOpen, Leaves, emptied, fails, is_last, made_of, marked_frame, misses};
@@ -275,11 +275,6 @@ impl<S: FrameSource + Drop, P: PlaneMemory, G: Guide, A: Allocator + Copy> Front
         Some(tick)
     }
 
-    /// Whether its guide or its source has ended it. It promises nothing.
-    pub fn is_over(&self) -> bool {
-        self.over
-    }
-
     /// Whether a buffer is done, or its frame was given up, and can be dequeued. It promises nothing.
     pub fn has_done(&self) -> bool {
         self.queue.has_done()
@@ -306,10 +301,15 @@ impl<S: FrameSource + Drop, P: PlaneMemory, G: Guide, A: Allocator + Copy> Front
         requeue(&mut self.queue, &mut self.hand)
     }
 
-    /// What is left of it.
-    pub fn into_parts(self) -> FrontParts<S, P, A>
-        ensures { Leaves S.next_gives P.plane (G.due self.guide) (G.ends self.guide) self result }
+    /// What is left of it, if its guide or its source has ended it; itself, if not.
+    pub fn into_ended(self) -> Result<FrontParts<S, P, A>, Self>
+        ensures ended { IfOk result (λ parts. (parts.over ≡ true)
+            × Leaves S.next_gives P.plane (G.due self.guide) (G.ends self.guide) self parts) }
+        ensures before { IfErr result (λ front. front ≡ self) }
     {
+        if !self.over {
+            return Err(self);
+        }
         frames_are_kept::<P>();
         queues_stay_sound::<P>();
         let Front {
@@ -322,13 +322,13 @@ impl<S: FrameSource + Drop, P: PlaneMemory, G: Guide, A: Allocator + Copy> Front
             missed,
             failed,
             marks: _,
-            over,
+            over: _,
             guide: _,
             queue_before: _,
             device_before: _,
             to_before: _,
         } = self;
-        FrontParts {
+        Ok(FrontParts {
             device,
             queue,
             table,
@@ -336,7 +336,7 @@ impl<S: FrameSource + Drop, P: PlaneMemory, G: Guide, A: Allocator + Copy> Front
             to,
             missed,
             failed,
-            over,
-        }
+            over: true,
+        })
     }
 }

@@ -9,7 +9,7 @@
 //! - `several`: `film_all`, which films several cameras; `start_barrier`: where they wait until all have begun;
 //! - `start`: a queue that a front may begin with, and how it is started; `buffers`: the memory of its buffers.
 //!
-//! The contracts of `Front::into_parts` and `Back::into_parts` say what each half keeps, and that of `film_camera` what
+//! The contracts of `Front::into_ended` and `Back::into_parts` say what each half keeps, and that of `film_camera` what
 //! both do (`specs/Cameras`, `CameraKeeps`): the frames that waited and those that the source gave at ticks that
 //! completed a buffer are, in order and with all bytes, those that came to the desk and those that still wait; each
 //! that came was accepted or is counted; and of those that were accepted the footage is kept, whenever the power fails:

@@ -431,7 +431,7 @@ fn store_and_bring(rt: &impl Abort, back: &mut TestBack)
     same!(rt; bring(back), "submitted");
 }
 
-// The third frame is taken, and then a fourth, whose buffer stays in the hand.
+// The third frame is taken, and then a fourth, whose buffer stays in the hand. Then the guide ends the front.
 fn take_last<R: Abort + Wait + Clock>(rt: &R, alloc: Global, front: &mut TestFront, told: &Guided)
     requires { told.now ≡ front.old.guide }
     ensures { front.new ≡ front.old }
@@ -439,6 +439,7 @@ fn take_last<R: Abort + Wait + Clock>(rt: &R, alloc: Global, front: &mut TestFro
     holds!(rt; front.put_back().is_ok());
     same!(rt; tick(rt, front, told), Some(3));
     same!(rt; take(alloc, front), "frame");
+    same!(rt; tick(rt, front, told), None);
 }
 
 #[test]
@@ -451,7 +452,7 @@ fn a_front_and_a_back_work_by_turns(rt: HostRuntime) {
     let Ok((to, from)) = RingBuffer::new(alloc, 2) else {
         panic!(rt; "memory for a ring")
     };
-    let told = guide(20, 0);
+    let told = guide(4, 0);
     let begun = Begun::of(&queue, &device, &to, &told);
     let mut front = Front::new(device, queue, table, to, &told);
     let mut back = back_before(&rt, alloc, desk, from);
@@ -460,7 +461,10 @@ fn a_front_and_a_back_work_by_turns(rt: HostRuntime) {
     same!(rt; take(alloc, &mut front), "frame");
     store_and_bring(&rt, &mut back);
     take_last(&rt, alloc, &mut front, &told);
-    let ended = end(begun, front.into_parts(), back);
+    let Ok(parts) = front.into_ended() else {
+        panic!(rt; "its guide has ended it")
+    };
+    let ended = end(begun, parts, back);
     same!(rt; (ended.given_up, ended.left), (0, 1));
     same!(rt; (ended.missed, ended.failed), (0, 0));
     same!(rt; (ended.desk.status().next, ended.desk.status().pending), (2, 1));

@@ -1,3 +1,6 @@
+use Rattle.std.proofs.Common.{subst, sym}
+use Rattle.std.specs.Global.{Global}
+use Rattle.loop_pipeline.specs.Fronts.{LeavesCarried, SeenFront}
 use denote.Param.Send.{sendable}
 use Rattle.std.proofs.Crossing.{crosses}
 use Rattle.loop_plane.proofs.Crossing.{table_send}
@@ -21,3 +24,9 @@ pub spawn_with-requires-send-T : goal.spawn_with-requires-send-T
 spawn_with-requires-send-T g c =
     let sl = left_send _ _ _ c.type_bounds.send-S c.type_bounds.send-P c.type_bounds.send-W in
     search (sendable, crosses) depth 40
+
+pub spawn_with-requires-clause-keeps : goal.spawn_with-requires-clause-keeps
+spawn_with-requires-clause-keeps g c = λ lives outlive left is.
+    subst (λ (seen : SeenFront g.row.S.Denot g.row.P.Denot g.row.G.Denot Global). LeavesCarried g.W.Carrier.inside
+    g.S.FrameSource.next_gives g.P.PlaneMemory.plane (g.G.Guide.due seen.guide) (g.G.Guide.ends seen.guide) seen left)
+    (sym c.requires.begun) is
