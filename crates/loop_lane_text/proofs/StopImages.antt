@@ -1,7 +1,8 @@
 -- What a power loss left is opened as a recording after a prefix of the steps.
-use Rattle.std.proofs.Common.{◌≡◌, false, List, ◌++◌, take, ap, subst}
+use Rattle.std.proofs.Common.{◌≡◌, ℕ, false, List, ◌++◌, take, ap, subst}
 use Rattle.loop_disk.specs.Medium.{Medium}
 use Rattle.loop_plane.specs.Plane.{Plane}
+use Rattle.loop_record.specs.declared.geometry.Geometry.{Geometry}
 use Rattle.loop_record.specs.Reading.{Holds}
 use Rattle.loop_record.specs.Recording.{Recording, plain, ring_of}
 use Rattle.loop_store.specs.declared.fault.StoreFault.{StoreFault}
@@ -17,7 +18,18 @@ use Rattle.loop_desk.specs.Footage.{HoldsWhole, steps_begun, steps_made}
 use Rattle.loop_desk.specs.Lane.{LaneKeeps}
 use Rattle.loop_lane_text.proofs.RecordTexts.{one-reading}
 use Rattle.loop_lane_text.specs.declared.TextFault.TheVariants as fault
-use Rattle.loop_lane_text.specs.Reopened.{IsForWant, IsLeftBehind, Reopens}
+use Rattle.loop_lane_text.specs.Refused.{IsForWant}
+use Rattle.loop_lane_text.specs.Reopened.{IsLeftBehind, Reopens}
+
+-- an image that reads as a recording is refused for want of memory or by the disk alone
+pub want : (why : StoreFault) (g : Geometry) (image : List ℕ) {r : Recording} → Holds g r image
+    → IsRefusedOpen 1 image why → IsForWant (fault.Open why)
+want StoreFault.NoMemory g image held refused = tt
+want (StoreFault.Disk failed) g image held refused = tt
+want StoreFault.NotFormatted g image held refused = absurd cc
+want (StoreFault.Damaged damage) g image held refused = absurd cc
+want StoreFault.BadKeep g image held refused = absurd (newest-kept image refused)
+want _ g image held refused = absurd refused
 
 module _ {D E P A : Type 0} (meaning : P → Plane) (medium : D → Medium) (other : E → Medium) (old new : Lane D P A)
     (events : List (LaneEvent P A)) (replies : List (LaneReply P A)) (s : StoreState) (left : E) where
@@ -52,13 +64,5 @@ module _ {D E P A : Type 0} (meaning : P → Plane) (medium : D → Medium) (oth
   pub for-want : (keeps : LaneKeeps meaning medium old new events replies) (why : StoreFault)
       → Stands medium old.desk.store s → s.must_reopen ≡ false
       → IsLeftBehind medium other old.desk new.desk left → IsRefusedOpen 1 (other left).bytes why → IsForWant (fault.Open why)
-  for-want keeps why stands fine is refused = go why (left-whole keeps stands fine is).held.held refused
-    where
-      go : (why : StoreFault) {r : Recording} → Holds old.desk.store.geometry r (other left).bytes
-          → IsRefusedOpen 1 (other left).bytes why → IsForWant (fault.Open why)
-      go StoreFault.NoMemory held refused = tt
-      go (StoreFault.Disk failed) held refused = tt
-      go StoreFault.NotFormatted held refused = absurd cc
-      go (StoreFault.Damaged damage) held refused = absurd cc
-      go StoreFault.BadKeep held refused = absurd (newest-kept (other left).bytes refused)
-      go _ held refused = absurd refused
+  for-want keeps why stands fine is refused =
+      want why old.desk.store.geometry (other left).bytes (left-whole keeps stands fine is).held.held refused

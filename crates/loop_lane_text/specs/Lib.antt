@@ -1,3 +1,4 @@
+pub mod Refused
 pub mod Reopened
 pub mod Filmed
 pub mod RingHolds

@@ -3,7 +3,6 @@ use Rattle.std.specs.Prelude.{◌≡◌, ℕ, Result, Ok, Err, List, Vec, ◌++�
 use Rattle.loop_disk.specs.Medium.{Medium}
 use Rattle.loop_plane.specs.Plane.{Plane}
 use Rattle.loop_record.specs.Recording.{plain, ring_of}
-use Rattle.loop_store.specs.declared.fault.StoreFault.{StoreFault}
 use Rattle.loop_store.specs.Calls.{StoreState}
 use Rattle.loop_store.specs.Seen.{Seen, StandsFor}
 use Rattle.loop_store.specs.Steps.{HoldsFrom}
@@ -14,7 +13,7 @@ use Rattle.loop_desk.specs.Footage.{HoldsWhole, steps_begun, steps_made}
 use Rattle.loop_desk.specs.Lane.{LaneRan}
 use Rattle.loop_desk.specs.Seen.{SeenDesk}
 use Rattle.loop_lane_text.specs.declared.TextFault.{TextFault}
-use Rattle.loop_lane_text.specs.declared.TextFault.TheVariants as fault
+use Rattle.loop_lane_text.specs.Refused.{IsForWant}
 
 -- The store that is opened on the image stands for the recording after a prefix of the run's steps, none skipped,
 -- those that were answered first; and there each clip is whole.
@@ -33,13 +32,6 @@ pub record Reopens {D E P A : Type 0} (meaning : P → Plane) (medium : D → Me
       (steps_made old.desk s ran.calls ++ steps_begun old.desk s ran.calls) image)
       × StandsFor other store (plain (ring_of old.desk.store.geometry) s.recording
       (take all.count (steps_made old.desk s ran.calls ++ steps_begun old.desk s ran.calls)))
-
--- there was no memory, or a call of the disk that was opened failed
-abbrev pub IsForWant : TextFault → Type 0
-IsForWant (fault.Run StoreFault.NoMemory) = Unit {0}
-IsForWant (fault.Open StoreFault.NoMemory) = Unit {0}
-IsForWant (fault.Open (StoreFault.Disk failed)) = Unit {0}
-IsForWant _ = ⊥
 
 -- so the opening is answered
 abbrev pub AnswersReopened : {D E P A : Type 0} → (P → Plane) → (D → Medium) → (E → Medium) → Lane D P A → Lane D P A

@@ -1,9 +1,8 @@
 //! From a filmed camera to a text.
 
-ghost use Rattle.std.specs.Prelude.{IfOk};
 ghost use Rattle.loop_store.specs.Calls.{StoreState};
 ghost use Rattle.loop_store.specs.Goes.{Stands};
-ghost use Rattle.loop_lane_text.specs.Filmed.{FilmsText};
+ghost use Rattle.loop_lane_text.specs.Filmed.{AnswersFilmed};
 
 use crate::TextFault;
 use loop_capture::FrameSource;
@@ -34,6 +33,9 @@ pub struct LostFrames {
 /// Films a camera until its guide or its source ends it, opens the store on its disk again, and writes the held frames
 /// whose numbers are from `from` to `to`. At Ok the text is that of the plain recorder's frames, after steps that store
 /// what waited at the desk and what it accepted, in order; what still waits at the end isn't in it.
+///
+/// `Run`: `NoMemory` where memory or a thread was refused; `MustReopen` where the camera was filmed, and a call of its disk
+/// that writes had failed. `Open`: `NoMemory`, or `Disk` where a call of the disk failed. `Export`: as `export` refused.
 pub fn film_and_export<
     's,
     E,
@@ -55,8 +57,8 @@ pub fn film_and_export<
     out: &mut W,
 ) -> Result<LostFrames, TextFault>
     ensures { (s : StoreState) → Stands D.medium camera.desk.store s → (D.medium camera.desk.store.disk).honest
-        → IfOk result (FilmsText D.medium S.next_gives P.plane G.asks G.gives_up (G.due guide.now) (G.ends guide.now)
-        camera from to (W.contents out.old) (W.contents out.new) s) }
+        → AnswersFilmed D.medium S.next_gives P.plane G.asks G.gives_up (G.due guide.now) (G.ends guide.now)
+        camera from to (W.contents out.old) (W.contents out.new) s result }
 {
     let ended = match film_camera(rt, alloc, scope, link, guide, camera) {
         Ok(ended) => ended,
