@@ -34,8 +34,9 @@ pub struct LostFrames {
 /// whose numbers are from `from` to `to`. At Ok the text is that of the plain recorder's frames, after steps that store
 /// what waited at the desk and what it accepted, in order; what still waits at the end isn't in it.
 ///
-/// `Run`: `NoMemory` where memory or a thread was refused; `MustReopen` where the camera was filmed, and a call of its disk
-/// that writes had failed. `Open`: `NoMemory`, or `Disk` where a call of the disk failed. `Export`: as `export` refused.
+/// `Run`: `NoMemory` where memory or a thread was refused; `MustReopen` where the camera was filmed, and a call of its
+/// disk that writes had failed. `Open`: `NoMemory`, or `Disk` where a call of the disk failed. `Export`: as `export`
+/// refused.
 pub fn film_and_export<
     's,
     E,
