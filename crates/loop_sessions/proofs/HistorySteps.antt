@@ -53,7 +53,7 @@ each-failed-bare [] = refl
 each-failed-bare (c ∷ cs) = λ i. failed-bare c i ∷ each-failed-bare cs i
 
 -- a read is noted without its pixels
-read-bare : {A : Type 0} (answer : Result (ReadFrame A) StoreFault) → head_only (head_of answer) ≡ bare_read
+pub read-bare : {A : Type 0} (answer : Result (ReadFrame A) StoreFault) → head_only (head_of answer) ≡ bare_read
     (read_of answer)
 read-bare (Ok frame) = refl
 read-bare (Err fault) = refl

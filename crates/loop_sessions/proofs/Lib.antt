@@ -5,3 +5,4 @@ pub mod QueueLinks
 pub mod Crossing
 pub mod Apart
 pub mod Ends
+pub mod Seating

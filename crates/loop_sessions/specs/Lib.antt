@@ -6,3 +6,4 @@ pub mod Endings
 pub mod Opened
 pub mod Refused
 pub mod Ends
+pub mod Seats

@@ -21,6 +21,7 @@ mod pace;
 mod port;
 mod recorder;
 mod same;
+mod seat;
 mod session;
 
 pub use ended::EndedCamera;
@@ -30,4 +31,5 @@ pub use opened::CameraParts;
 pub use pace::{Pace, Step};
 pub use port::{Port, QueueLock};
 pub use recorder::{EndRefused, Ended, Recorder};
+pub use seat::{Noting, Seat, Taken};
 pub use session::Session;

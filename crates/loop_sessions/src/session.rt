@@ -21,10 +21,10 @@ use std::snapshot::Snapshot;
 /// calls it may have.
 #[derive(Drop)]
 pub struct Session<D: Disk + Drop, A: Allocator = Global> {
-    desk: Desk<D, A>,
-    history: Vec<Entry, A>,
-    outline: Outline<A>,
-    opening: Snapshot<Desk<D, A>>,
+    pub(crate) desk: Desk<D, A>,
+    pub(crate) history: Vec<Entry, A>,
+    pub(crate) outline: Outline<A>,
+    pub(crate) opening: Snapshot<Desk<D, A>>,
 }
 
 impl<D: Disk + Drop, A: Allocator> Model for Session<D, A> {
@@ -38,7 +38,7 @@ impl<D: Disk + Drop, A: Allocator> Model for Session<D, A> {
 }
 
 // Reserves memory for an entry and a receipt, if the history may have one more.
-fn reserve<A: Allocator>(
+pub(crate) fn reserve<A: Allocator>(
     history: &mut Vec<Entry, A>,
     pass: &mut Pass<A>,
     calls: u32,
@@ -64,7 +64,12 @@ fn reserve<A: Allocator>(
 }
 
 // Adds an entry to a history, and its receipt to a pass.
-fn note<A: Allocator>(history: &mut Vec<Entry, A>, camera: u32, pass: &mut Pass<A>, call: Noted)
+pub(crate) fn note<A: Allocator>(
+    history: &mut Vec<Entry, A>,
+    camera: u32,
+    pass: &mut Pass<A>,
+    call: Noted,
+)
     requires entry { vec_len history.old < vec_capacity history.old }
     requires receipt { vec_len pass.old.receipts < vec_capacity pass.old.receipts }
     ensures history { history.new.items ≡ history.old.items ++ entry (pass_number pass.old) call ∷ [] }
@@ -84,7 +89,7 @@ fn note<A: Allocator>(history: &mut Vec<Entry, A>, camera: u32, pass: &mut Pass<
 }
 
 // A frame's stamp.
-fn stamp_of<A: Allocator>(frame: &Frame<A>) -> FrameInfo
+pub(crate) fn stamp_of<A: Allocator>(frame: &Frame<A>) -> FrameInfo
     ensures { result ≡ stamp_of frame.now }
 {
     FrameInfo {
@@ -95,7 +100,9 @@ fn stamp_of<A: Allocator>(frame: &Frame<A>) -> FrameInfo
 }
 
 // The answer without the frame that a refusal hands back.
-fn answer_of<A: Allocator>(outcome: &Result<u64, (StoreFault, Frame<A>)>) -> Result<u64, StoreFault>
+pub(crate) fn answer_of<A: Allocator>(
+    outcome: &Result<u64, (StoreFault, Frame<A>)>,
+) -> Result<u64, StoreFault>
     ensures { result ≡ answer_of outcome.now }
 {
     match outcome {
@@ -105,7 +112,7 @@ fn answer_of<A: Allocator>(outcome: &Result<u64, (StoreFault, Frame<A>)>) -> Res
 }
 
 // The answer to a read, without pixels.
-fn head_of<A: Allocator>(
+pub(crate) fn head_of<A: Allocator>(
     outcome: &Result<ReadFrame<A>, StoreFault>,
 ) -> Result<FrameHead, StoreFault>
     ensures { result ≡ head_of outcome.now }

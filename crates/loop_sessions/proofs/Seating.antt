@@ -1,0 +1,49 @@
+-- A seat: what is noted of a call, and what came of a frame.
+use Rattle.std.proofs.Common.{◌≡◌, ℕ, Result, Ok, Err, List, [], ◌∷◌, ◌++◌, length, refl, subst, sym}
+use Rattle.rtrb.specs.declared.AnyItems.{AnyItems}
+use Rattle.rtrb.specs.declared.consumer.Consumer.{Consumer}
+use Rattle.rtrb.specs.Ring.{SameConsumer, received}
+use Rattle.loop_disk.specs.Medium.{Medium}
+use Rattle.loop_record.specs.declared.frame.Frame.{Frame}
+use Rattle.loop_record.specs.declared.frame.FrameHead.{FrameHead}
+use Rattle.loop_record.specs.Recording.{picture}
+use Rattle.loop_store.specs.declared.fault.StoreFault.{StoreFault}
+use Rattle.loop_store.specs.Calls.{read_with}
+use Rattle.loop_desk.specs.Bare.{bare_call, bare_read}
+use Rattle.loop_desk.specs.Desk.{submitted}
+use Rattle.loop_desk.specs.Seen.{DeskGoes, SeenDesk, answer_of}
+use Rattle.loop_sessions.specs.declared.entry.FrameInfo.{FrameInfo}
+use Rattle.loop_sessions.specs.declared.entry.Noted.TheVariants as noted
+use Rattle.loop_sessions.specs.Histories.{bare_picture, head_only, noted_call}
+use Rattle.loop_sessions.specs.Receipts.{stamp_of}
+use Rattle.loop_sessions.specs.Seats.{IsAsked}
+
+-- the head of a frame is noted as a read of it
+pub head-bare : (answer : Result FrameHead StoreFault) (bytes : List ℕ)
+    → head_only answer ≡ bare_read (read_with answer bytes)
+head-bare (Ok h) bytes = refl
+head-bare (Err fault) bytes = refl
+
+-- a submit is noted without pixels
+pub submit-noted : {A X : Type 0} (frame : Frame A) (answer : Result ℕ (StoreFault × X)) (stamp : FrameInfo) (size : ℕ)
+    (told : Result ℕ StoreFault) → stamp ≡ stamp_of frame → size ≡ length frame.bytes.items → told ≡ answer_of answer
+    → noted_call (noted.Submit stamp size told)
+    ≡ bare_call (submitted (picture frame) (length frame.bytes.items) (answer_of answer))
+submit-noted frame answer stamp size told is many same =
+    λ i. submitted (bare_picture (is i)) (many i) (same i)
+
+-- the desk was asked for the frame that was popped, and its memory came back after that
+pub asked : {D A X : Type 0} (medium : D → Medium) (old mid new : SeenDesk D) (from up : Consumer (Frame A) A AnyItems)
+    (frame : Frame A) (answer : Result ℕ (StoreFault × X)) (stamp : FrameInfo) (told : Result ℕ StoreFault)
+    → received up ≡ received from ++ frame ∷ [] → SameConsumer from up → stamp ≡ stamp_of frame
+    → told ≡ answer_of answer
+    → DeskGoes medium old mid (submitted (picture frame) (length frame.bytes.items) (answer_of answer) ∷ [])
+    → mid ≡ record old { pending = mid.pending } → new ≡ mid → IsAsked medium old new from up stamp told
+asked {D} medium old mid new from up frame answer stamp told got ring is same goes kept back = record {
+  frame = frame;
+  got = got;
+  ring = ring;
+  is = is;
+  goes = rw (same, back) goes;
+  same = subst (λ (d : SeenDesk D). d ≡ record old { pending = d.pending }) (sym back) kept;
+}

@@ -1,0 +1,12 @@
+use Rattle.std.proofs.Common.{ap, ◌∙◌}
+use Rattle.loop_desk.specs.Desk.{frame_read}
+use Rattle.loop_sessions.specs.Histories.{head_only}
+use Rattle.loop_sessions.proofs.HistorySteps.{read-bare}
+use Rattle.loop_sessions.proofs.seat.Seat.read_frame.Goals as goal
+
+pub invariant_of-self-2 : goal.invariant_of-self-2
+invariant_of-self-2 g c =
+    c.add_note.ensures _ _ _ _ c.read_frame-answer.ensures.goes
+    (ap (λ h. frame_read c.args.number (head_only h)) c.head_of.ensures
+    ∙ ap (frame_read c.args.number) (read-bare c.read_frame-answer.result))
+    (c.room_for_note.ensures.same _ _ c.self.invariant)
