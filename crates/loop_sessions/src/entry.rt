@@ -1,12 +1,12 @@
 //! What is noted of a call.
 
-ghost use Rattle.std.specs.Prelude.{◌≡◌};
+ghost use Rattle.std.specs.Prelude.{◌≡◌, IfOk};
 ghost use Rattle.loop_sessions.specs.Receipts.{pass_number, receipts_of};
 
 use loop_desk::{Flushed, Status};
 use loop_record::{FrameHead, Span};
 use loop_store::StoreFault;
-use std::alloc::{Allocator, Global};
+use std::alloc::{AllocError, Allocator, Global};
 
 /// A frame without its number and its bytes.
 #[derive(Clone, Copy, Debug, PartialEq, Eq)]
@@ -76,5 +76,27 @@ impl<A: Allocator> Pass<A> {
         ensures { result.now ≡ receipts_of self.now }
     {
         self.receipts.as_slice()
+    }
+    /// A copy: the same number and the same receipts. It takes memory once.
+    pub fn duplicate(&self, alloc: A) -> Result<Pass<A>, AllocError>
+        ensures number { IfOk result (λ pass. pass_number pass ≡ pass_number self.now) }
+        ensures receipts { IfOk result (λ pass. receipts_of pass ≡ receipts_of self.now) }
+    {
+        let receipts = Vec::from_slice(alloc, self.receipts.as_slice())?;
+        Ok(Pass {
+            number: self.number,
+            receipts,
+        })
+    }
+
+    /// The pass of this number with the receipts of another, as a copy of it that went on.
+    pub fn with_receipts_of(self, newer: Pass<A>) -> Pass<A>
+        ensures number { pass_number result ≡ pass_number self }
+        ensures receipts { receipts_of result ≡ receipts_of newer }
+    {
+        Pass {
+            number: self.number,
+            receipts: newer.receipts,
+        }
     }
 }
