@@ -35,12 +35,12 @@ pub struct Recorder<
     P: PlaneMemory = Box<dyn PlaneMemory + Send>,
     A: Allocator + Copy = Global,
 > {
-    sessions: Vec<Mutex<Session<D, A>>, A>,
-    ports: Vec<QueueLock<P, A>, A>,
-    outlines: Vec<Outline<A>, A>,
-    passes: u32,
-    ended: Vec<EndedCamera<D, A>, A>,
-    given_up: Vec<u64, A>,
+    pub(crate) sessions: Vec<Mutex<Session<D, A>>, A>,
+    pub(crate) ports: Vec<QueueLock<P, A>, A>,
+    pub(crate) outlines: Vec<Outline<A>, A>,
+    pub(crate) passes: u32,
+    pub(crate) ended: Vec<EndedCamera<D, A>, A>,
+    pub(crate) given_up: Vec<u64, A>,
 }
 
 /// What is left of a recorder.
@@ -151,6 +151,13 @@ impl<D: Disk + Drop, P: PlaneMemory, A: Allocator + Copy> Recorder<D, P, A> {
             given_up,
         };
         Ok((recorder, made))
+    }
+
+    /// How many cameras it has.
+    pub fn count(&self) -> usize
+        ensures { result ≡ length self.now.outlines }
+    {
+        self.outlines.len()
     }
 
     /// As `Session::submit`, at a camera's desk.
