@@ -21,7 +21,11 @@ use Rattle.loop_sessions.specs.contracts.entry.FrameInfo as FrameInfo
 use Rattle.loop_sessions.specs.contracts.port.Port as Port
 use Rattle.loop_sessions.specs.contracts.port.QueueLock as QueueLock
 use Rattle.loop_sessions.specs.contracts.recorder.Recorder as Recorder
+use Rattle.loop_sessions.specs.contracts.opening.OpenCamera as OpenCamera
+use Rattle.loop_sessions.specs.contracts.seat.Notes as Notes
+use Rattle.loop_sessions.specs.contracts.seat.Seat as Seat
 use Rattle.loop_sessions.specs.contracts.session.Session as Session
+use Rattle.loop_sessions.specs.declared.seat.Noting as noting
 
 -- ---- entries and receipts
 
@@ -66,7 +70,15 @@ entry_sync = let a = entry_in_sync in search sendable depth 20
 -- ---- what lies under the locks, and the recorder
 
 module _ (D : RattleType) (g : disk.Ghosts D.Denot) where
-  session_send : IsSend D → IsSend (Session.the_row D heap.the_row g ghosts)
+  session_in_send : IsSend D → IsSend (Session.the_field D heap.the_row g ghosts).row
+  session_in_send d = let a = desk_send D g d in let b = Vec-send _ entry_send in let c = Vec-send _ entry_in_send in
+      let d = outline_in_send in search (sendable, crosses) depth 20
+
+  notes_in_send : IsSend D → IsSend (Notes.the_field D heap.the_row g ghosts).row
+  notes_in_send d = let a = desk_send D g d in let b = Vec-send _ entry_send in let c = Vec-send _ entry_in_send in
+      let d = outline_in_send in let p = pass_in_send in search (sendable, crosses) depth 20
+
+  pub session_send : IsSend D → IsSend (Session.the_row D heap.the_row g ghosts)
   session_send d = let a = desk_send D g d in let b = Vec-send _ entry_send in let c = Vec-send _ entry_in_send in
       let d = outline_in_send in search (sendable, crosses) depth 20
 
@@ -78,8 +90,11 @@ module _ (D : RattleType) (g : disk.Ghosts D.Denot) where
   ended_sync d = let a = ended_in_sync d in search (sendable, crosses) depth 20
 
 module _ (P : RattleType) (p : plane.Ghosts P.Denot) where
-  port_send : IsSend P → IsSend (Port.the_row P heap.the_row p ghosts)
+  pub port_send : IsSend P → IsSend (Port.the_row P heap.the_row p ghosts)
   port_send s = let a = queue_send P s in let b = table_send P s in search sendable depth 20
+
+  port_in_send : IsSend P → IsSend (Port.the_field P heap.the_row p ghosts).row
+  port_in_send s = let a = queue_send P s in let b = table_send P s in search sendable depth 20
 
   lock_sync : IsSend P → IsSync (QueueLock.the_row P heap.the_row p ghosts)
   lock_sync s = let a = port_send s in search (sendable, crosses) depth 20
@@ -92,3 +107,15 @@ module _ (D P : RattleType) (g : disk.Ghosts D.Denot) (p : plane.Ghosts P.Denot)
       let c = lock_sync P p sp in
       let o = outline_sync in
       search (sendable, crosses) depth 20
+
+  pub camera_send : IsSend D → IsSend P → IsSend (OpenCamera.the_row D P heap.the_row g p ghosts)
+  camera_send d s =
+      let a = session_in_send D g d in
+      let b = port_in_send P p s in
+      search (sendable, crosses) depth 20
+
+-- ---- a seat
+
+module _ (D N : RattleType) (g : disk.Ghosts D.Denot) (n : noting.Ghosts N.Denot) where
+  pub seat_send : IsSend D → IsSend N → IsSend (Seat.the_row D N heap.the_row g n ghosts)
+  seat_send d s = let a = desk_send D g d in let b = notes_in_send D g d in search (sendable, crosses) depth 20
