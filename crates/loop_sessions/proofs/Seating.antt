@@ -1,5 +1,5 @@
 -- A seat: what is noted of a call, and what came of a frame.
-use Rattle.std.proofs.Common.{◌≡◌, ℕ, Result, Ok, Err, List, [], ◌∷◌, ◌++◌, length, refl, subst, sym}
+use Rattle.std.proofs.Common.{◌≡◌, ◌∙◌, ℕ, Bool, true, false, Option, Some, None, Result, Ok, Err, List, [], ◌∷◌, ◌++◌, length, refl, subst, sym}
 use Rattle.rtrb.specs.declared.AnyItems.{AnyItems}
 use Rattle.rtrb.specs.declared.consumer.Consumer.{Consumer}
 use Rattle.rtrb.specs.Ring.{SameConsumer, received}
@@ -16,7 +16,8 @@ use Rattle.loop_sessions.specs.declared.entry.FrameInfo.{FrameInfo}
 use Rattle.loop_sessions.specs.declared.entry.Noted.TheVariants as noted
 use Rattle.loop_sessions.specs.Histories.{bare_picture, head_only, noted_call}
 use Rattle.loop_sessions.specs.Receipts.{stamp_of}
-use Rattle.loop_sessions.specs.Seats.{IsAsked}
+use Rattle.loop_sessions.specs.declared.seat.Notes.{Notes}
+use Rattle.loop_sessions.specs.Seats.{IsAsked, IsNoted}
 
 -- the head of a frame is noted as a read of it
 pub head-bare : (answer : Result FrameHead StoreFault) (bytes : List ℕ)
@@ -47,3 +48,9 @@ asked {D} medium old mid new from up frame answer stamp told got ring is same go
   goes = rw (same, back) goes;
   same = subst (λ (d : SeenDesk D). d ≡ record old { pending = d.pending }) (sym back) kept;
 }
+
+-- a seat that notes nothing has no notes
+pub no-notes : {D A : Type 0} (medium : D → Medium) (noted : Bool) (o : Option (Notes D A)) (desk : SeenDesk D)
+    → IsNoted medium noted o desk → noted ≡ false → o ≡ None
+no-notes medium noted None desk kept is = refl
+no-notes medium noted (Some n) desk kept is = absurd (let both : true ≡ false = sym kept.0 ∙ is in cc)

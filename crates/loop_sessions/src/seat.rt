@@ -1,11 +1,12 @@
 //! A desk alone, or one whose calls are noted.
 
-ghost use Rattle.std.specs.Prelude.{◌≡◌, ◌∷◌, ℕ, IfSome, List, None, [], false, true};
+ghost use Rattle.std.specs.Prelude.{◌≡◌, ◌≢◌, ◌∷◌, ℕ, IfSome, IsSome, List, None, [], false, true};
 ghost use Rattle.loop_desk.specs.Desk.{clip_unlocked, flushed, frame_read};
 ghost use Rattle.loop_desk.specs.Keeps.{HaveTime, KeepsTime};
 ghost use Rattle.loop_desk.specs.Seen.{DeskGoes};
 ghost use Rattle.loop_store.specs.Calls.{read_with};
 ghost use Rattle.loop_store.specs.Runs.{read_of};
+ghost use Rattle.loop_sessions.specs.declared.seat.Taken.TheVariants.{Unnoted};
 ghost use Rattle.loop_sessions.specs.Seats.{MayNote, NotesCall, StaysNoted, TakesFrom};
 
 use crate::session::{answer_of, head_of, note, reserve, stamp_of};
@@ -61,6 +62,7 @@ pub enum Taken {
 
 impl<D: Disk + Drop, N: Noting, A: Allocator> Model for Seat<D, N, A> {
     ghost use Rattle.loop_desk.specs.Seen.{SeenDesk};
+    ghost use Rattle.loop_sessions.specs.declared.seat.Taken.TheVariants.{Unnoted};
     ghost use Rattle.loop_sessions.specs.Seats.{IsNoted};
 
     ghost Value = { SeenDesk D };
@@ -74,6 +76,7 @@ impl<D: Disk + Drop, N: Noting, A: Allocator> Model for Seat<D, N, A> {
 fn room_for_note<D: Disk + Drop, A: Allocator>(notes: &mut Option<Notes<D, A>>, calls: u32) -> bool
     ensures same { StaysNoted D.medium notes.old notes.new }
     ensures room { result ≡ true → MayNote notes.new }
+    ensures alone { notes.old ≡ None → result ≡ true }
 {
     match notes {
         Some(notes) => reserve(&mut notes.history, &mut notes.pass, calls).is_ok(),
@@ -164,7 +167,8 @@ impl<D: Disk + Drop, N: Noting, A: Allocator> Seat<D, N, A> {
     /// Takes the next frame of a ring to the desk, as `Desk::submit`, if the call can be noted. The memory of a frame
     /// that the desk refuses is kept for a later one.
     pub fn submit_from(&mut self, from: &mut Consumer<Frame<A>, A>) -> Taken
-        ensures { TakesFrom D.medium self.old self.new from.old from.new result }
+        ensures takes { TakesFrom D.medium self.old self.new from.old from.new result }
+        ensures alone { N.NOTED ≡ false → result ≢ Unnoted }
     {
         if !room_for_note(&mut self.notes, self.desk.limits().calls) {
             return Taken::Unnoted;
@@ -186,6 +190,7 @@ impl<D: Disk + Drop, N: Noting, A: Allocator> Seat<D, N, A> {
     pub fn flush(&mut self) -> Option<Result<Flushed, StoreFault>>
         ensures asked { IfSome result (λ answer. DeskGoes D.medium self.old self.new (flushed answer ∷ [])) }
         ensures unasked { result ≡ None → self.new ≡ self.old }
+        ensures alone { N.NOTED ≡ false → IsSome result }
     {
         if !room_for_note(&mut self.notes, self.desk.limits().calls) {
             return None;
@@ -199,6 +204,7 @@ impl<D: Disk + Drop, N: Noting, A: Allocator> Seat<D, N, A> {
     pub fn unlock_clip(&mut self, id: u32) -> Option<Result<(), StoreFault>>
         ensures asked { IfSome result (λ answer. DeskGoes D.medium self.old self.new (clip_unlocked id answer ∷ [])) }
         ensures unasked { result ≡ None → self.new ≡ self.old }
+        ensures alone { N.NOTED ≡ false → IsSome result }
     {
         if !room_for_note(&mut self.notes, self.desk.limits().calls) {
             return None;
@@ -214,6 +220,7 @@ impl<D: Disk + Drop, N: Noting, A: Allocator> Seat<D, N, A> {
         ensures asked { IfSome result (λ answer. (bytes : List ℕ)
             × DeskGoes D.medium self.old self.new (frame_read number (read_with answer bytes) ∷ [])) }
         ensures unasked { result ≡ None → self.new ≡ self.old }
+        ensures alone { N.NOTED ≡ false → IsSome result }
     {
         if !room_for_note(&mut self.notes, self.desk.limits().calls) {
             return None;
@@ -268,6 +275,7 @@ impl<D: Disk + Drop, N: Noting, A: Allocator + Copy> Seat<D, N, A> {
         ensures asked { IfSome result
             (λ answer. DeskGoes D.medium self.old self.new (frame_read number (read_of answer) ∷ [])) }
         ensures unasked { result ≡ None → self.new ≡ self.old }
+        ensures alone { N.NOTED ≡ false → IsSome result }
     {
         if !room_for_note(&mut self.notes, self.desk.limits().calls) {
             return None;
