@@ -1,12 +1,13 @@
 //! A desk alone, or one whose calls are noted.
 
 ghost use Rattle.std.specs.Prelude.{◌≡◌, ◌≢◌, ◌∷◌, ℕ, IfSome, IsSome, List, None, [], false, true};
+ghost use Rattle.rtrb.specs.Ring.{known_items};
 ghost use Rattle.loop_desk.specs.Desk.{clip_unlocked, flushed, frame_read};
 ghost use Rattle.loop_desk.specs.Keeps.{HaveTime, KeepsTime};
 ghost use Rattle.loop_desk.specs.Seen.{DeskGoes};
 ghost use Rattle.loop_store.specs.Calls.{read_with};
 ghost use Rattle.loop_store.specs.Runs.{read_of};
-ghost use Rattle.loop_sessions.specs.declared.seat.Taken.TheVariants.{Unnoted};
+ghost use Rattle.loop_sessions.specs.declared.seat.Taken.TheVariants.{Nothing, Unnoted};
 ghost use Rattle.loop_sessions.specs.Seats.{MayNote, NotesCall, StaysNoted, TakesFrom};
 
 use crate::session::{answer_of, head_of, note, reserve, stamp_of};
@@ -62,7 +63,6 @@ pub enum Taken {
 
 impl<D: Disk + Drop, N: Noting, A: Allocator> Model for Seat<D, N, A> {
     ghost use Rattle.loop_desk.specs.Seen.{SeenDesk};
-    ghost use Rattle.loop_sessions.specs.declared.seat.Taken.TheVariants.{Unnoted};
     ghost use Rattle.loop_sessions.specs.Seats.{IsNoted};
 
     ghost Value = { SeenDesk D };
@@ -168,6 +168,7 @@ impl<D: Disk + Drop, N: Noting, A: Allocator> Seat<D, N, A> {
     /// that the desk refuses is kept for a later one.
     pub fn submit_from(&mut self, from: &mut Consumer<Frame<A>, A>) -> Taken
         ensures takes { TakesFrom D.medium self.old self.new from.old from.new result }
+        ensures empty { result ≡ Nothing → known_items from.new ≡ [] }
         ensures alone { N.NOTED ≡ false → result ≢ Unnoted }
     {
         if !room_for_note(&mut self.notes, self.desk.limits().calls) {
