@@ -7,6 +7,7 @@ mod FrontRuns
 mod Joining
 mod KeepCalls
 mod OldestGoes
+mod OutPlanes
 mod RingEnds
 mod Searching
 mod SeveralStarts
