@@ -11,6 +11,7 @@ use Rattle.loop_pipeline.specs.declared.ending.CameraEnd.{CameraEnd}
 use Rattle.loop_pipeline.specs.declared.film.Unfilmed.{Unfilmed}
 use Rattle.loop_pipeline.specs.declared.film.Unfilmed.TheVariants.{NoMemory, NoThread}
 use Rattle.loop_pipeline.specs.Cameras.{CameraKeeps, KeepsJoined, SeenCamera}
+use Rattle.loop_pipeline.specs.Fronts.{IsRegular}
 use Rattle.loop_pipeline.specs.Returns.{GivesBack, GivesJoined}
 
 module _ {S D P : Type 0} (medium : D → Medium) (gives : S → Next → List ℕ → S → Type 0) (meaning : P → Plane)
@@ -24,13 +25,13 @@ module _ {S D P : Type 0} (medium : D → Medium) (gives : S → Next → List �
       failed over) (ap (λ l. camera.joined ++ l) (kept.none is) ∙ append-nil camera.joined) kept.keeps
 
   pub filmed-alone : (filmed : Result (CameraEnd S D P Global) (Unfilmed S D P))
-      → IfOk filmed (λ e. KeepsJoined medium gives meaning asks gives_up due ends shut camera
+      → IfOk filmed (λ e. IsRegular meaning camera.queue → KeepsJoined medium gives meaning asks gives_up due ends shut camera
       (record { device = e.device; queue = e.queue; desk = e.desk; joined = e.joined.items }) e.given_up e.left e.missed
       e.failed e.over)
-      → IfOk filmed (λ e. CameraKeeps medium gives meaning asks gives_up due ends camera
+      → IfOk filmed (λ e. IsRegular meaning camera.queue → CameraKeeps medium gives meaning asks gives_up due ends camera
       (record { device = e.device; queue = e.queue; desk = e.desk; joined = e.joined.items }) e.given_up e.left e.missed
       e.failed e.over)
-  filmed-alone (Ok e) kept = alone _ e.given_up e.left e.missed e.failed e.over kept
+  filmed-alone (Ok e) kept = λ regular. alone _ e.given_up e.left e.missed e.failed e.over (kept regular)
   filmed-alone (Err u) kept = kept
 
   pub given-alone : (filmed : Result (CameraEnd S D P Global) (Unfilmed S D P))
@@ -38,5 +39,5 @@ module _ {S D P : Type 0} (medium : D → Medium) (gives : S → Next → List �
       → IfErr filmed (GivesBack medium gives meaning asks gives_up due ends camera)
   given-alone (Ok e) kept = kept
   given-alone (Err (NoMemory c)) kept = kept
-  given-alone (Err (NoThread e)) (device, queue, kept) =
-      (device, queue, alone _ e.given_up e.left e.missed e.failed e.over kept)
+  given-alone (Err (NoThread e)) (device, queue, port, kept) =
+      (device, queue, port, λ regular. alone _ e.given_up e.left e.missed e.failed e.over (kept regular))

@@ -1,5 +1,5 @@
 -- A queue without buffers, and an ioctl more.
-use Rattle.std.proofs.Common.{◌≡◌, Bool, true, false, cond, [], ◌∷◌, Option, Some, None, Result, Ok, Err, refl, sym, ap, ◌∙◌, subst}
+use Rattle.std.proofs.Common.{◌≡◌, Bool, true, false, cond, [], ◌∷◌, Option, Some, None, Result, Ok, refl, sym, ap, ◌∙◌, subst}
 use Rattle.loop_plane.specs.Fds.{Fds}
 use Rattle.loop_plane.specs.Plane.{Plane}
 use Rattle.loop_vb2.specs.declared.reason.Reason.{Reason}
@@ -18,6 +18,7 @@ use Rattle.loop_ioctl.specs.Calls.{Applies, IoctlState, IsAnsweredFor, after_ioc
 use Rattle.loop_ioctl.specs.Modelled.{TurnsAreEvents, events_in}
 use Rattle.loop_desk.specs.Waiting.{IsSoundQueue, QueuesStaySound}
 use Rattle.loop_pipeline.specs.Fronts.{IsOpen}
+use Rattle.loop_pipeline.proofs.FrontRuns.{same-sound}
 
 -- ---- STREAMON
 
@@ -49,32 +50,31 @@ module _ {P A : Type 0} (m : P → Plane) where
   pub turned-on : (c : Ioctl P A) (r : IoctlReply P A) (q q' : Lined P) (t t' : Fds P) (type : BufferType)
       → IsOpen m q t → Applies m c (Ok r) q t q' t' → c ≡ call.StreamOn type → q'.body.streaming ≡ true
   turned-on c r q q' t t' type is applies same =
-      let step = subst (λ x. Applies m x (Ok r) q t q' t') same applies is.state is.stands in
+      let step = subst (λ x. Applies m x (Ok r) q t q' t') same applies is.port.state is.port.stands in
       ap (λ b. b.streaming) step.1.queue.shown.body
-      ∙ streams-after (refusal_before {P = P} {A = A} (call.StreamOn type) is.state) type r is.state step.0.0
+      ∙ streams-after (refusal_before {P = P} {A = A} (call.StreamOn type) is.port.state) type r is.port.state step.0.0
 
   -- ---- any ioctl
-
-  -- no plane comes out of the queue while its fd stays attached
-  same-out : (c : Ioctl P A) (result : Result (IoctlReply P A) (Refused P A)) (j : IoctlState)
-      → (after_ioctl m c j result).out ≡ j.out
-  same-out c (Ok r) j = refl
-  same-out c (Err r) j = refl
 
   -- it leaves a queue that a front may begin with
   pub stays-open : (c : Ioctl P A) (result : Result (IoctlReply P A) (Refused P A)) (q q' : Lined P) (t t' : Fds P)
       → TurnsAreEvents A m → QueuesStaySound m → Applies m c result q t q' t' → q'.body.shape ≡ q.body.shape
       → IsOpen m q t → IsOpen m q' t'
   stays-open c result q q' t t' law sound applies formed is =
-      let j = is.state in
-      let step = applies j is.stands in
+      let j = is.port.state in
+      let stands = is.port.stands in
+      let step = applies j stands in
       let turns = (event.Ioctl c, answer.Ioctl result) ∷ [] in
       let are = law j turns (step.0, tt) in
+      let regular = is.regular in
       record {
-        state = after_ioctl m c j result;
-        stands = step.1;
-        sound = subst (IsSoundQueue q') (sym are.1) (sound.after q q' j.queue (events_in m j turns) is.stands.queue is.sound
-            are.0 (subst (StandsQueue m q') are.1 step.1.queue));
-        inside = same-out c result j ∙ is.inside;
-        shaped = (is.shaped.0, is.shaped.1, is.shaped.2, formed ∙ is.shaped.3);
+        port = record { state = after_ioctl m c j result; stands = step.1 };
+        regular = record {
+          state = (after_ioctl m c j result).queue;
+          stands = step.1.queue;
+          sound = subst (IsSoundQueue q') (sym are.1) (sound.after q q' j.queue (events_in m j turns) stands.queue
+              (same-sound m q regular.state j.queue regular.stands stands.queue regular.sound)
+              are.0 (subst (StandsQueue m q') are.1 step.1.queue));
+          shaped = (regular.shaped.0, regular.shaped.1, regular.shaped.2, formed ∙ regular.shaped.3);
+        };
       }

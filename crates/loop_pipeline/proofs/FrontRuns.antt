@@ -1,5 +1,5 @@
 -- What a front has done, and a step more.
-use Rattle.std.proofs.Common.{◌≡◌, inl, inr, ◌||◌, ◌+◌, ◌<◌, ◌≤◌, ℕ, Bool, true, false, List, [], ◌∷◌, ◌++◌, length, map, refl, sym, ap, ◌∙◌, subst, option_to_list, arith}
+use Rattle.std.proofs.Common.{◌≡◌, inl, inr, ◌||◌, ◌+◌, ◌<◌, ◌≤◌, ℕ, Bool, true, false, List, [], ◌∷◌, ◌++◌, length, map, refl, sym, ap, ◌∙◌, subst, arith}
 use Rattle.std.proofs.lemmas.Grind.{flat_map-append}
 use Rattle.std.proofs.lemmas.List.{append-nil, length-append, map-append}
 use Rattle.std.proofs.lemmas.List.Folds.{list_any-append}
@@ -23,12 +23,14 @@ use Rattle.loop_capture.specs.declared.source.Next.{Next}
 use Rattle.loop_capture.specs.Ticks.{SeenDevice}
 use Rattle.loop_desk.specs.declared.hand.Hand.{Hand}
 use Rattle.loop_desk.specs.declared.hand.Hand.TheVariants as hand
-use Rattle.loop_desk.specs.Front.{Front, StandsFront, empty, hand_state, kind_of, planes_held}
+use Rattle.loop_desk.specs.Front.{Front, StandsFront, empty, hand_state}
 use Rattle.loop_desk.specs.Lane.{completed_frame, hand_frame, without_flags}
-use Rattle.loop_desk.specs.Waiting.{FramesAreKept, IsCounted, IsSoundQueue, QueuesStaySound, dequeued_frame, frames_dequeued, frames_waiting}
+use Rattle.loop_desk.specs.Waiting.{AllHeld, FramesAreKept, IsCounted, IsSoundQueue, QueuesStaySound, dequeued_frame, frames_dequeued, frames_waiting}
+use Rattle.loop_sessions.specs.Ports.{StandsPort}
 use Rattle.loop_capture.specs.declared.device.Tick.{Tick}
 use Rattle.loop_capture.specs.declared.device.Tick.TheVariants.{Idle, Completed, Failed, Missed, Ended, WrongSize}
-use Rattle.loop_pipeline.specs.Fronts.{AreDue, AreTold, FrontKeeps, GoesOn, HasMoved, IsApart, IsHeld, IsOpen, IsOut, Leaves, SeenFront, TickRecord, count_failed, count_missed, fails, is_last, misses, shown, shown_given}
+use Rattle.loop_pipeline.specs.Fronts.{AreDue, AreTold, FrontKeeps, GoesOn, HasMoved, IsApart, IsHeld, IsOut, IsRegular, Leaves, SeenFront, TickRecord, count_failed, count_missed, fails, is_last, misses, shown, shown_given}
+use Rattle.loop_pipeline.proofs.OutPlanes.{forgotten}
 
 add-assoc : (a b c : ℕ) → (a + b) + c ≡ a + (b + c)
 add-assoc a b c = omega arith
@@ -128,6 +130,14 @@ each-may : (s : QueueState) (events : List Event) → EachIn after_event IsCount
 each-may s [] each = tt
 each-may s (x ∷ xs) each = (each.0.0, each-may (after_event s x) xs each.1)
 
+-- a queue is sound in each state that it stands for, or in none
+pub same-sound : {P : Type 0} (m : P → Plane) (q : Lined P) (s t : QueueState) → StandsQueue m q s → StandsQueue m q t
+    → IsSoundQueue q s → IsSoundQueue q t
+same-sound m q s t one other is = record {
+  still = is.still;
+  held = subst (λ (b : Body Plane). AllHeld b.buffers) (sym one.shown.body ∙ other.shown.body) is.held;
+}
+
 none-by-fd : (kind : Memory) → values_by_fd {T = Plane} kind [] ≡ []
 none-by-fd Mmap = refl
 none-by-fd UserPtr = refl
@@ -137,21 +147,23 @@ module _ {S P G A : Type 0} (gives : S → Next → List ℕ → S → Type 0) (
     (ends : ℕ → Type 0) where
   -- a new front has done nothing
   pub begun : (queue : Lined P) (table : Fds P) (device : SeenDevice S) (to : Producer (Frame A) A AnyItems) (guide : G)
-      → IsOpen m queue table → sent to ≡ []
+      → StandsPort m queue table → sent to ≡ []
       → HasMoved gives m due ends (record { queue = queue; device = device; to = to; guide = guide }) device queue table
       hand.Empty to 0 0 0 false
   begun queue table device to guide is none = record {
     first = is.state.queue;
     stood = is.stands.queue;
-    sound = is.sound;
-    shaped = is.shaped;
     formed = refl;
     ring = ((refl, refl, refl, refl), refl);
     events = [];
     legal = tt;
     flows = refl;
-    now = record { queue = is.state; hand = empty };
-    stands = record { queue = is.stands; hand = refl; out = is.inside ∙ sym (none-by-fd is.state.queue.body.kind) };
+    now = record { queue = record is.state { out = [] }; hand = empty };
+    stands = record {
+      queue = forgotten m queue table is.state is.stands;
+      hand = refl;
+      out = sym (none-by-fd is.state.queue.body.kind);
+    };
     reached = refl;
     free = refl;
     apart = tt;
@@ -166,14 +178,14 @@ module _ {S P G A : Type 0} (gives : S → Next → List ℕ → S → Type 0) (
 
   -- what never ticked leaves what it came with
   pub rested : (queue : Lined P) (table : Fds P) (device : SeenDevice S) (to : Producer (Frame A) A AnyItems) (guide : G)
-      → IsOpen m queue table → sent to ≡ []
+      → StandsPort m queue table → sent to ≡ []
       → Leaves gives m due ends (record { queue = queue; device = device; to = to; guide = guide })
       (record { device = device; queue = queue; table = table; hand = hand.Empty; to = to; missed = 0; failed = 0; over = false })
   rested queue table device to guide is none =
       let wait = map without_flags (frames_waiting queue is.state.queue) in
       record {
-        keeps = record {
-          ring = ((refl, refl, refl, refl), refl);
+        ring = ((refl, refl, refl, refl), refl);
+        keeps = λ regular. record {
           first = is.state.queue;
           last = is.state.queue;
           stood = is.stands.queue;
@@ -186,19 +198,19 @@ module _ {S P G A : Type 0} (gives : S → Next → List ℕ → S → Type 0) (
           shows = refl;
           whole = append-nil wait ∙ sym (ap (λ l. map without_flags (map picture l) ++ wait) none);
         };
-        again = λ _. is;
+        port = is;
+        regular = λ regular. regular;
         held = tt;
       }
 
-  -- what a front has done, in the words of what it keeps
+  -- what a front has done, in the words of what it keeps, if it began with a regular queue
   pub kept : (seen : SeenFront S P G A) (device : SeenDevice S) (queue : Lined P) (table : Fds P) (h : Hand P A)
       (to : Producer (Frame A) A AnyItems) (ticks missed failed : ℕ) (over : Bool) → FramesAreKept m
-      → HasMoved gives m due ends seen device queue table h to ticks missed failed over
+      → HasMoved gives m due ends seen device queue table h to ticks missed failed over → IsRegular m seen.queue
       → FrontKeeps gives m due ends seen device queue to missed failed over
-  kept seen device queue table h to ticks missed failed over law has =
+  kept seen device queue table h to ticks missed failed over law has is =
       let last = after_all after_event has.first has.events in
       record {
-        ring = has.ring;
         first = has.first;
         last = last;
         stood = has.stood;
@@ -210,8 +222,9 @@ module _ {S P G A : Type 0} (gives : S → Next → List ℕ → S → Type 0) (
         told = has.told;
         completed = flat_map completed_frame has.events;
         shows = has.shows;
-        whole = law.from_start seen.queue queue has.first has.events has.shaped.0 has.shaped.1 has.shaped.2 has.stood
-            has.sound (shape-of seen.queue has.first has.stood ∙ has.shaped.3) has.legal
+        whole = law.from_start seen.queue queue has.first has.events is.shaped.0 is.shaped.1 is.shaped.2 has.stood
+            (same-sound m seen.queue is.state has.first is.stands has.stood is.sound)
+            (shape-of seen.queue has.first has.stood ∙ is.shaped.3) has.legal
             (subst (StandsQueue m queue) has.reached has.stands.queue.queue) has.flows
             ∙ ap (λ l. l ++ map without_flags (frames_waiting queue last)) (sym has.went);
       }
@@ -241,23 +254,27 @@ module _ {S P G A : Type 0} (gives : S → Next → List ℕ → S → Type 0) (
           absurd (let none : hand_frame (hand_state m (hand.Frame i frame planes)) ≡ [] = ap hand_frame is ∙ has.free in cc)
       by (hand.Spent i planes) is = out i (subst (IsApart has.now.queue.queue.body) (sym is) has.apart)
 
-  -- a front whose hand is empty leaves what another one may begin with
+  -- another front may begin with what a front leaves
   pub again : (seen : SeenFront S P G A) (device : SeenDevice S) (queue : Lined P) (table : Fds P) (h : Hand P A)
+      (to : Producer (Frame A) A AnyItems) (ticks missed failed : ℕ) (over : Bool)
+      → HasMoved gives m due ends seen device queue table h to ticks missed failed over → StandsPort m queue table
+  again seen device queue table h to ticks missed failed over has =
+      record { state = has.now.queue; stands = has.stands.queue }
+
+  -- a regular queue stays so
+  pub regular : (seen : SeenFront S P G A) (device : SeenDevice S) (queue : Lined P) (table : Fds P) (h : Hand P A)
       (to : Producer (Frame A) A AnyItems) (ticks missed failed : ℕ) (over : Bool) → QueuesStaySound m
       → HasMoved gives m due ends seen device queue table h to ticks missed failed over
-      → h ≡ hand.Empty → IsOpen m queue table
-  again seen device queue table h to ticks missed failed over law has none =
-      let last = after_all after_event has.first has.events in
-      let sound = law.after seen.queue queue has.first has.events has.stood has.sound
+      → IsRegular m seen.queue → IsRegular m queue
+  regular seen device queue table h to ticks missed failed over law has is =
+      let sound = law.after seen.queue queue has.first has.events has.stood
+      (same-sound m seen.queue is.state has.first is.stands has.stood is.sound)
       (each-may has.first has.events has.legal) (subst (StandsQueue m queue) has.reached has.stands.queue.queue) in
-      let held : has.now.hand ≡ empty = sym has.stands.hand ∙ ap (hand_state m) none in
       record {
-        state = has.now.queue;
-        stands = has.stands.queue;
+        state = has.now.queue.queue;
+        stands = has.stands.queue.queue;
         sound = subst (IsSoundQueue queue) (sym has.reached) sound;
-        inside = has.stands.out ∙ (ap (λ x. values_by_fd (kind_of has.now.queue) (option_to_list (planes_held x))) held
-            ∙ none-by-fd (kind_of has.now.queue));
-        shaped = (has.shaped.0, has.shaped.1, has.shaped.2, has.formed ∙ has.shaped.3);
+        shaped = (is.shaped.0, is.shaped.1, is.shaped.2, has.formed ∙ is.shaped.3);
       }
 
 -- ---- what a front has done, and a step more
@@ -310,8 +327,6 @@ module _ {S P G A : Type 0} (gives : S → Next → List ℕ → S → Type 0) (
       record {
         first = s;
         stood = before.stood;
-        sound = before.sound;
-        shaped = before.shaped;
         formed = adds.formed ∙ before.formed;
         ring = same-ring seen.to to up before.ring adds.ring;
         events = old ++ new;

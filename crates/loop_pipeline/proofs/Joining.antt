@@ -15,7 +15,7 @@ use Rattle.loop_desk.specs.Desk.{DeskCall}
 use Rattle.loop_desk.specs.Seen.{SeenDesk}
 use Rattle.loop_pipeline.specs.Backs.{Joins, SeenBack, joined}
 use Rattle.loop_pipeline.specs.Cameras.{CameraKeeps, KeepsJoined, SeenCamera}
-use Rattle.loop_pipeline.specs.Fronts.{SeenFront}
+use Rattle.loop_pipeline.specs.Fronts.{IsRegular, SeenFront}
 
 module _ {D A : Type 0} (shut : Type 0) where
   -- none
@@ -60,11 +60,15 @@ module _ {S D P G A : Type 0} (medium : D → Medium) (gives : S → Next → Li
       → record { device = device; queue = queue; desk = desk; joined = [] } ≡ camera
       → seen ≡ record { queue = queue; device = device; to = to; guide = guide }
       → old ≡ record { began = desk ∷ []; from = from; desks = desk ∷ []; active = 0 } → Joins shut old new
-      → ((first : SeenDesk D) (others : List (SeenDesk D)) → new.began ≡ first ∷ others
+      → ((first : SeenDesk D) (others : List (SeenDesk D)) → new.began ≡ first ∷ others → IsRegular meaning seen.queue
       → CameraKeeps medium gives meaning asks gives_up (due seen.guide) (ends seen.guide)
       (record { device = seen.device; queue = seen.queue; desk = first; joined = others }) last given_up left missed failed over)
+      → IsRegular meaning camera.queue
       → KeepsJoined medium gives meaning asks gives_up (due guide) (ends guide) shut camera last given_up left missed failed over
-  keeps-joined camera last device queue desk to guide seen from old new given_up left missed failed over is made was joins keeps =
+  keeps-joined camera last device queue desk to guide seen from old new given_up left missed failed over is made was joins keeps
+      regular =
+      let same : seen.queue ≡ camera.queue =
+      ap (λ (s : SeenFront S P G A). s.queue) made ∙ ap (λ (c : SeenCamera S D P). c.queue) is in
       let began : new.began ≡ desk ∷ joins.others =
       joins.began ∙ ap (λ (b : SeenBack D A). b.began ++ joins.others) was in
       record {
@@ -74,5 +78,5 @@ module _ {S D P G A : Type 0} (medium : D → Medium) (gives : S → Next → Li
             (record c { joined = c.joined ++ joins.others }) last given_up left missed failed over) is
             (subst (λ (s : SeenFront S P G A). CameraKeeps medium gives meaning asks gives_up (due s.guide) (ends s.guide)
             (record { device = s.device; queue = s.queue; desk = desk; joined = joins.others }) last given_up left missed
-            failed over) made (keeps desk joins.others began));
+            failed over) made (keeps desk joins.others began (subst (IsRegular meaning) (sym same) regular)));
       }

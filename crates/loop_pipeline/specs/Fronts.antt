@@ -16,7 +16,6 @@ use Rattle.loop_vb2.specs.Buffers.{state_at}
 use Rattle.loop_vb2.specs.Events.{Event, after_event, stops}
 use Rattle.loop_vb2.specs.First.{shape_of}
 use Rattle.loop_vb2.specs.State.{Body, Lined, QueueState, StandsQueue}
-use Rattle.loop_ioctl.specs.Calls.{IoctlState, StandsIoctl}
 use Rattle.loop_capture.specs.declared.device.Tick.{Tick}
 use Rattle.loop_capture.specs.declared.device.Tick.TheVariants.{Idle, Completed, Failed, Missed, Ended, WrongSize}
 use Rattle.loop_capture.specs.declared.source.Next.{Next}
@@ -26,6 +25,7 @@ use Rattle.loop_desk.specs.declared.hand.Hand.{Hand}
 use Rattle.loop_desk.specs.declared.hand.Hand.TheVariants as hand
 use Rattle.loop_desk.specs.Front.{Front, HandState, StandsFront, empty, full, spent}
 use Rattle.loop_desk.specs.Lane.{completed_frame, hand_frame, without_flags}
+use Rattle.loop_sessions.specs.Ports.{StandsPort}
 use Rattle.loop_pipeline.specs.declared.film.Left.{Left}
 use Rattle.loop_pipeline.specs.declared.front.Begun.{Begun}
 use Rattle.loop_pipeline.specs.declared.front.FrontParts.{FrontParts}
@@ -130,14 +130,23 @@ abbrev pub IsShaped : {P : Type 0} → Lined P → Type 0
 IsShaped queue =
     (format : PixelFormat) × (width : ℕ) × (height : ℕ) × (queue.body.shape ≡ shape_of format width height)
 
--- A queue and its table stand for a sound state, no plane is out of it, and its frames have the planes of a format. A
--- new queue is so.
-pub record IsOpen {P : Type 0} (meaning : P → Plane) (queue : Lined P) (table : Fds P) : Type 0 where
-  pub state : IoctlState
-  pub stands : StandsIoctl meaning queue table state
-  pub sound : IsSoundQueue queue state.queue
-  pub inside : state.out ≡ []
+-- Nothing is done in a queue unless it streams, each buffer that waits for a frame holds planes, and its frames have
+-- the planes of a format. A new queue is so, and stays so.
+pub record IsRegular {P : Type 0} (meaning : P → Plane) (queue : Lined P) : Type 0 where
+  pub state : QueueState
+  pub stands : StandsQueue meaning queue state
+  pub sound : IsSoundQueue queue state
   pub shaped : IsShaped queue
+
+-- a queue and its table stand for a state, and the queue is regular
+pub record IsOpen {P : Type 0} (meaning : P → Plane) (queue : Lined P) (table : Fds P) : Type 0 where
+  pub port : StandsPort meaning queue table
+  pub regular : IsRegular meaning queue
+
+-- a queue and its table stand for a state; and the queue is regular if it was so before
+abbrev pub StaysOpen : {P : Type 0} → (P → Plane) → Lined P → Lined P → Fds P → Type 0
+StaysOpen meaning before queue table =
+    StandsPort meaning queue table × (IsRegular meaning before → IsRegular meaning queue)
 
 -- the application has dequeued the buffer of this index
 abbrev pub IsOut : {P : Type 0} → Body P → ℕ → Type 0
@@ -154,7 +163,6 @@ IsHeld queue (hand.Spent index planes) = IsOut queue.body index
 pub record FrontKeeps {S P G A : Type 0} (gives : S → Next → List ℕ → S → Type 0) (meaning : P → Plane)
     (due : ℕ → ℕ → Type 0) (ends : ℕ → Type 0) (seen : SeenFront S P G A) (device : SeenDevice S) (queue : Lined P)
     (to : Producer (Frame A) A AnyItems) (missed failed : ℕ) (over : Bool) : Type 0 where
-  pub ring : SameProducer seen.to to
   pub first : QueueState
   pub last : QueueState
   pub stood : StandsQueue meaning seen.queue first
@@ -176,12 +184,15 @@ made_of begun = record {
   guide = begun.guide.value;
 }
 
--- So it is of the parts that a front leaves; and another front may begin with them, unless a buffer is in its hand.
+-- So it is of the parts that a front leaves, if it began with a regular queue, which is still so; and another front may
+-- begin with them.
 pub record Leaves {S P G A : Type 0} (gives : S → Next → List ℕ → S → Type 0) (meaning : P → Plane)
     (due : ℕ → ℕ → Type 0) (ends : ℕ → Type 0) (seen : SeenFront S P G A) (parts : FrontParts S P A) : Type 0 where
-  pub keeps : FrontKeeps gives meaning due ends seen parts.device parts.queue parts.to parts.missed parts.failed
-      parts.over
-  pub again : parts.hand ≡ hand.Empty → IsOpen meaning parts.queue parts.table
+  pub ring : SameProducer seen.to parts.to
+  pub keeps : IsRegular meaning seen.queue → FrontKeeps gives meaning due ends seen parts.device parts.queue parts.to
+      parts.missed parts.failed parts.over
+  pub port : StandsPort meaning parts.queue parts.table
+  pub regular : IsRegular meaning seen.queue → IsRegular meaning parts.queue
   pub held : IsHeld parts.queue parts.hand
 
 -- ---- to another thread and back (private contracts alone)
@@ -239,8 +250,6 @@ pub record HasMoved {S P G A : Type 0} (gives : S → Next → List ℕ → S �
     : Type 0 where
   pub first : QueueState
   pub stood : StandsQueue meaning seen.queue first
-  pub sound : IsSoundQueue seen.queue first
-  pub shaped : IsShaped seen.queue
   pub formed : queue.body.shape ≡ seen.queue.body.shape
   pub ring : SameProducer seen.to to
   pub events : List Event

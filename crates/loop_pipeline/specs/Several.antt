@@ -5,7 +5,6 @@ use Rattle.loop_disk.specs.Medium.{Medium}
 use Rattle.loop_plane.specs.Plane.{Plane}
 use Rattle.loop_store.specs.declared.fault.StoreFault.{StoreFault}
 use Rattle.loop_capture.specs.declared.source.Next.{Next}
-use Rattle.loop_desk.specs.declared.hand.Hand.TheVariants.{Empty}
 use Rattle.loop_desk.specs.Desk.{DeskCall}
 use Rattle.loop_pipeline.specs.declared.ending.CameraEnd.{CameraEnd}
 use Rattle.loop_pipeline.specs.declared.film.Unfilmed.{Unfilmed}
@@ -13,20 +12,21 @@ use Rattle.loop_pipeline.specs.declared.several.Outcome.{Outcome}
 use Rattle.loop_pipeline.specs.declared.several.Running.{Running}
 use Rattle.loop_pipeline.specs.declared.several.Shot.{Shot}
 use Rattle.loop_pipeline.specs.Cameras.{CameraKeeps, SeenCamera}
-use Rattle.loop_pipeline.specs.Fronts.{IsHeld, IsOpen}
+use Rattle.loop_pipeline.specs.Fronts.{IsHeld, IsRegular, StaysOpen}
 use Rattle.loop_pipeline.specs.Returns.{GivesBack}
 
--- What filming a camera answers: at the end the camera has kept its frames, and was ended by its guide or its source;
--- or it comes back, or what is left of it, which kept the same.
+-- What filming a camera answers: at the end the camera has kept its frames, if its queue was regular, and was ended by
+-- its guide or its source; or it comes back, or what is left of it, which kept the same.
 pub record IsFilmed {S D P : Type 0} (medium : D → Medium) (gives : S → Next → List ℕ → S → Type 0)
     (meaning : P → Plane) (asks : DeskCall → Type 0) (gives_up : StoreFault → Type 0) (due : ℕ → ℕ → Type 0)
     (ends : ℕ → Type 0) (camera : SeenCamera S D P) (filmed : Result (CameraEnd S D P Global) (Unfilmed S D P))
     : Type 0 where
-  pub keeps : IfOk filmed (λ e. CameraKeeps medium gives meaning asks gives_up due ends camera
+  pub keeps : IfOk filmed (λ e. IsRegular meaning camera.queue
+      → CameraKeeps medium gives meaning asks gives_up due ends camera
       (record { device = e.device; queue = e.queue; desk = e.desk; joined = e.joined.items })
       e.given_up e.left e.missed e.failed e.over)
   pub ended : IfOk filmed (λ e. e.over ≡ true)
-  pub again : IfOk filmed (λ e. e.hand ≡ Empty → IsOpen meaning e.queue e.table)
+  pub again : IfOk filmed (λ e. StaysOpen meaning camera.queue e.queue e.table)
   pub held : IfOk filmed (λ e. IsHeld e.queue e.hand)
   pub refused : IfErr filmed (GivesBack medium gives meaning asks gives_up due ends camera)
 

@@ -2,10 +2,9 @@
 
 ghost use Rattle.std.specs.Prelude.{◌≡◌, ◌∷◌, List};
 ghost use Rattle.rtrb.specs.Ring.{IsPair};
-ghost use Rattle.loop_desk.specs.declared.hand.Hand.TheVariants.{Empty};
 ghost use Rattle.loop_desk.specs.Seen.{SeenDesk};
 ghost use Rattle.loop_pipeline.specs.Cameras.{CameraKeeps};
-ghost use Rattle.loop_pipeline.specs.Fronts.{IsHeld, IsOpen, Leaves, made_of};
+ghost use Rattle.loop_pipeline.specs.Fronts.{IsHeld, IsRegular, Leaves, StaysOpen, made_of};
 
 use crate::{Back, BackParts, Begun, FrontParts, Guide};
 use loop_capture::{Device, FrameSource};
@@ -58,12 +57,12 @@ pub fn end<S: FrameSource + Drop, D: Disk + Drop, P: PlaneMemory, G: Guide, A: A
         (made_of begun) front }
     requires pair { IsPair begun.to.value back.from }
     ensures keeps { (first : SeenDesk D) (others : List (SeenDesk D)) → back.began ≡ first ∷ others
-        → CameraKeeps D.medium S.next_gives P.plane G.asks G.gives_up
+        → IsRegular P.plane begun.queue.value → CameraKeeps D.medium S.next_gives P.plane G.asks G.gives_up
         (G.due begun.guide.value) (G.ends begun.guide.value)
         (record { device = begun.device.value; queue = begun.queue.value; desk = first; joined = others })
         (record { device = result.device; queue = result.queue; desk = result.desk; joined = result.joined.items })
         result.given_up result.left result.missed result.failed result.over }
-    ensures again { result.hand ≡ Empty → IsOpen P.plane result.queue result.table }
+    ensures again { StaysOpen P.plane begun.queue.value result.queue result.table }
     ensures held { IsHeld result.queue result.hand }
     ensures desks { result.desk ∷ result.joined.items ≡ back.desks }
     ensures front { (result.device ≡ front.device) × (result.queue ≡ front.queue) × (result.over ≡ front.over) }

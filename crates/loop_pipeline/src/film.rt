@@ -1,13 +1,13 @@
 //! What the two threads of a camera do: one has its front, the other its back. docs/threads.md says why it is so.
 
 ghost use Rattle.std.specs.Prelude.{◌≡◌, ◌∷◌, [], IfErr, IfOk, List, false, true};
-ghost use Rattle.loop_desk.specs.declared.hand.Hand.TheVariants.{Empty};
 ghost use Rattle.loop_desk.specs.Seen.{SeenDesk};
+ghost use Rattle.loop_sessions.specs.Ports.{StandsPort};
 ghost use Rattle.loop_pipeline.specs.Backs.{Joins};
 ghost use Rattle.loop_pipeline.specs.Cameras.{CameraKeeps, KeepsJoined};
 ghost use Rattle.loop_pipeline.specs.Returns.{GivesBack, GivesJoined};
 ghost use Rattle.rtrb.specs.Ring.{IsPair, sent};
-ghost use Rattle.loop_pipeline.specs.Fronts.{IsHeld, IsOpen, Leaves, LeavesCarried, made_of};
+ghost use Rattle.loop_pipeline.specs.Fronts.{IsHeld, IsRegular, Leaves, LeavesCarried, StaysOpen, made_of};
 
 use crate::bell::Bell;
 use crate::start_barrier::StartBarrier;
@@ -345,7 +345,7 @@ pub fn film_front<R: Wait + Clock, S: FrameSource + Drop, P: PlaneMemory, G: Gui
     table: FdTable<P>,
     to: Producer<Frame>,
 ) -> FrontParts<S, P>
-    requires ready { IsOpen P.plane queue table }
+    requires ready { StandsPort P.plane queue table }
     requires ring { sent to ≡ [] }
     ensures leaves { Leaves S.next_gives P.plane (G.due guide.now) (G.ends guide.now)
         (record { queue = queue; device = device; to = to; guide = guide.now }) result }
@@ -427,7 +427,7 @@ fn film_carried<R: Wait + Clock, S: FrameSource + Drop, P: PlaneMemory, G: Guide
     table: FdTable<P>,
     to: W,
 ) -> Left<S, P, W>
-    requires ready { IsOpen P.plane queue table }
+    requires ready { StandsPort P.plane queue table }
     requires ring { sent (W.inside to) ≡ [] }
     ensures { LeavesCarried W.inside S.next_gives P.plane (G.due guide.now) (G.ends guide.now)
         (record { queue = queue; device = device; to = W.inside to; guide = guide.now }) result }
@@ -500,14 +500,14 @@ fn run_in<
 ) -> Both<S, D, P, G, W>
     requires begun { made_of begun
         ≡ record { queue = queue; device = device; to = W.inside to; guide = guide.now } }
-    requires ready { IsOpen P.plane queue table }
+    requires ready { StandsPort P.plane queue table }
     requires ring { sent (W.inside to) ≡ [] }
     ensures front { LeavesCarried W.inside S.next_gives P.plane
         (G.due begun.guide.value) (G.ends begun.guide.value) (made_of begun) result.front }
     ensures back { Joins (door.now ≡ false) back result.back }
 {
     let work = move || -> Left<S, P, W>
-        requires { IsOpen P.plane queue table × (sent (W.inside to) ≡ []) }
+        requires { StandsPort P.plane queue table × (sent (W.inside to) ≡ []) }
         ensures { LeavesCarried W.inside S.next_gives P.plane (G.due guide.entry.now) (G.ends guide.entry.now)
             (record { queue = queue; device = device; to = W.inside to; guide = guide.entry.now }) result }
     { film_carried(rt, alloc, link, guide, device, queue, table, to) };
@@ -539,12 +539,12 @@ fn end_both<S: FrameSource + Drop, D: Disk + Drop, P: PlaneMemory, G: Guide, W: 
         (G.due begun.guide.value) (G.ends begun.guide.value) (made_of begun) front }
     requires pair { IsPair begun.to.value back.from }
     ensures keeps { (first : SeenDesk D) (others : List (SeenDesk D)) → back.began ≡ first ∷ others
-        → CameraKeeps D.medium S.next_gives P.plane G.asks G.gives_up
+        → IsRegular P.plane begun.queue.value → CameraKeeps D.medium S.next_gives P.plane G.asks G.gives_up
         (G.due begun.guide.value) (G.ends begun.guide.value)
         (record { device = begun.device.value; queue = begun.queue.value; desk = first; joined = others })
         (record { device = result.device; queue = result.queue; desk = result.desk; joined = result.joined.items })
         result.given_up result.left result.missed result.failed result.over }
-    ensures again { result.hand ≡ Empty → IsOpen P.plane result.queue result.table }
+    ensures again { StaysOpen P.plane begun.queue.value result.queue result.table }
     ensures held { IsHeld result.queue result.hand }
     ensures rests { result.over ≡ false
         → (result.device ≡ begun.device.value) × (result.queue ≡ begun.queue.value) }
@@ -602,12 +602,13 @@ pub fn film_desks<
     door: &Door<D>,
     camera: Camera<S, D, P>,
 ) -> Result<CameraEnd<S, D, P>, Unfilmed<S, D, P>>
-    ensures keeps { IfOk result (λ e. KeepsJoined D.medium S.next_gives P.plane G.asks G.gives_up
+    ensures keeps { IfOk result (λ e. IsRegular P.plane camera.queue
+        → KeepsJoined D.medium S.next_gives P.plane G.asks G.gives_up
         (G.due guide.now) (G.ends guide.now) (door.now ≡ false) camera
         (record { device = e.device; queue = e.queue; desk = e.desk; joined = e.joined.items })
         e.given_up e.left e.missed e.failed e.over) }
     ensures ended { IfOk result (λ e. e.over ≡ true) }
-    ensures again { IfOk result (λ e. e.hand ≡ Empty → IsOpen P.plane e.queue e.table) }
+    ensures again { IfOk result (λ e. StaysOpen P.plane camera.queue e.queue e.table) }
     ensures held { IfOk result (λ e. IsHeld e.queue e.hand) }
     ensures refused { IfErr result (GivesJoined D.medium S.next_gives P.plane G.asks G.gives_up
         (G.due guide.now) (G.ends guide.now) (door.now ≡ false) camera) }
@@ -669,12 +670,13 @@ pub fn film_camera<
     guide: &'s G,
     camera: Camera<S, D, P>,
 ) -> Result<CameraEnd<S, D, P>, Unfilmed<S, D, P>>
-    ensures keeps { IfOk result (λ e. CameraKeeps D.medium S.next_gives P.plane G.asks G.gives_up
+    ensures keeps { IfOk result (λ e. IsRegular P.plane camera.queue
+        → CameraKeeps D.medium S.next_gives P.plane G.asks G.gives_up
         (G.due guide.now) (G.ends guide.now) camera
         (record { device = e.device; queue = e.queue; desk = e.desk; joined = e.joined.items })
         e.given_up e.left e.missed e.failed e.over) }
     ensures ended { IfOk result (λ e. e.over ≡ true) }
-    ensures again { IfOk result (λ e. e.hand ≡ Empty → IsOpen P.plane e.queue e.table) }
+    ensures again { IfOk result (λ e. StaysOpen P.plane camera.queue e.queue e.table) }
     ensures held { IfOk result (λ e. IsHeld e.queue e.hand) }
     ensures refused { IfErr result (GivesBack D.medium S.next_gives P.plane G.asks G.gives_up
         (G.due guide.now) (G.ends guide.now) camera) }

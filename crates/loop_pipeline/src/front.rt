@@ -3,7 +3,8 @@
 ghost use Rattle.std.specs.Prelude.{◌≡◌, ◌<◌, ◌≤◌, ◌++◌, [], IfErr, IfOk, get_or, true};
 ghost use Rattle.rtrb.specs.Ring.{SameProducer, known_free, sent};
 ghost use Rattle.loop_desk.specs.Front.{hand_state};
-ghost use Rattle.loop_pipeline.specs.Fronts.{IsOpen, Leaves, emptied, fails, is_last, made_of, marked_frame, misses};
+ghost use Rattle.loop_sessions.specs.Ports.{StandsPort};
+ghost use Rattle.loop_pipeline.specs.Fronts.{Leaves, emptied, fails, is_last, made_of, marked_frame, misses};
 
 use crate::Guide;
 use loop_capture::{Device, FrameSource, Tick};
@@ -226,7 +227,7 @@ impl<S: FrameSource + Drop, P: PlaneMemory, G: Guide, A: Allocator + Copy> Front
         to: Producer<Frame<A>, A>,
         guide: &G,
     ) -> Self
-        requires ready { IsOpen P.plane queue table }
+        requires ready { StandsPort P.plane queue table }
         requires ring { sent to ≡ [] }
         ensures { result ≡ record { queue = queue; device = device; to = to; guide = guide.now } }
     {

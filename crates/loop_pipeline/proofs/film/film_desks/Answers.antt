@@ -1,6 +1,6 @@
 use Rattle.std.proofs.Common.{◌≡◌, ◌∙◌, false, ap, subst, sym}
 use Rattle.std.specs.Global.{Global}
-use Rattle.loop_pipeline.specs.Fronts.{Leaves, SeenFront}
+use Rattle.loop_pipeline.specs.Fronts.{Leaves, SeenFront, StaysOpen}
 use Rattle.loop_pipeline.proofs.Joining.{keeps-joined}
 use Rattle.loop_pipeline.proofs.film.film_desks.Goals as goal
 
@@ -10,6 +10,14 @@ returns-then-ended-clause-keeps g c =
     g.G.Guide.due g.G.Guide.ends _ c.args.camera _ c.camera.inside.device c.camera.inside.queue c.camera.inside.desk _
     c.args.guide.now _ _ _ c.run_in-front.result.back _ _ _ _ _ c.camera.view_is c.of-again.ensures c.in-Ok-new.ensures.made
     c.run_in-front.ensures.back c.end_both-ended.ensures.keeps
+
+-- the queue that ended is that of the camera that was given
+pub returns-then-ended-clause-again : goal.returns-then-ended-clause-again
+returns-then-ended-clause-again g c =
+    let ended = c.end_both-ended.result in
+    subst (λ q. StaysOpen g.P.PlaneMemory.plane q ended.queue ended.table)
+    (ap (λ (s : SeenFront g.row.S.Denot g.row.P.Denot g.row.G.Denot Global). s.queue) c.of-again.ensures
+    ∙ ap (λ v. v.queue) c.camera.view_is) c.end_both-ended.ensures.again
 
 -- what a front leaves is of the camera that was given
 pub end_both-ended-requires-clause-front : goal.end_both-ended-requires-clause-front
@@ -35,6 +43,7 @@ returns-else-ended-clause-refused g c =
           ∙ ap (λ v. v.device) c.camera.view_is),
       rests.1 ∙ (ap (λ (s : SeenFront g.row.S.Denot g.row.P.Denot g.row.G.Denot Global). s.queue) c.of-again.ensures
           ∙ ap (λ v. v.queue) c.camera.view_is),
+      c.end_both-ended.ensures.again.0,
       keeps-joined g.D.Disk.medium g.S.FrameSource.next_gives g.P.PlaneMemory.plane g.G.Visits.asks g.G.Visits.gives_up
           g.G.Guide.due g.G.Guide.ends _ c.args.camera _ c.camera.inside.device c.camera.inside.queue c.camera.inside.desk _
           c.args.guide.now _ _ _ c.run_in-front.result.back _ _ _ _ _ c.camera.view_is c.of-again.ensures c.in-Ok-new.ensures.made

@@ -30,3 +30,10 @@ spawn_with-requires-clause-keeps g c = λ lives outlive left is.
     subst (λ (seen : SeenFront g.row.S.Denot g.row.P.Denot g.row.G.Denot Global). LeavesCarried g.W.Carrier.inside
     g.S.FrameSource.next_gives g.P.PlaneMemory.plane (g.G.Guide.due seen.guide) (g.G.Guide.ends seen.guide) seen left)
     (sym c.requires.begun) is
+
+-- the work that comes back is that of this front
+pub returns-in-Err-clause-front : goal.returns-in-Err-clause-front
+returns-in-Err-clause-front g c =
+    subst (λ (seen : SeenFront g.row.S.Denot g.row.P.Denot g.row.G.Denot Global). LeavesCarried g.W.Carrier.inside
+    g.S.FrameSource.next_gives g.P.PlaneMemory.plane (g.G.Guide.due seen.guide) (g.G.Guide.ends seen.guide) seen
+    c.work.result) (sym c.requires.begun) (rw c.in-Err.ensures.err at c.work.ensures)

@@ -3,9 +3,11 @@ use Rattle.loop_pipeline.proofs.start.new_queue.Goals as goal
 
 pub returns-clause-ready : goal.returns-clause-ready
 returns-clause-ready g c = record {
-  state = _;
-  stands = c.new_queues_stand.ensures _ _ _ c.new-queue.ensures.state refl;
-  sound = c.queues_stay_sound.ensures.new _ _ c.new-queue.ensures.state refl;
-  inside = refl;
-  shaped = (_, _, _, c.new-queue.ensures.shape);
+  port = record { state = _; stands = c.new_queues_stand.ensures _ _ _ c.new-queue.ensures.state refl };
+  regular = record {
+    state = _;
+    stands = c.new-queue.ensures.state;
+    sound = c.queues_stay_sound.ensures.new _ _ c.new-queue.ensures.state refl;
+    shaped = (_, _, _, c.new-queue.ensures.shape);
+  };
 }
