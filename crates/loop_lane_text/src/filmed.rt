@@ -2,6 +2,7 @@
 
 ghost use Rattle.loop_store.specs.Calls.{StoreState};
 ghost use Rattle.loop_store.specs.Goes.{Stands};
+ghost use Rattle.loop_pipeline.specs.Fronts.{IsRegular};
 ghost use Rattle.loop_lane_text.specs.Filmed.{AnswersFilmed};
 
 use crate::TextFault;
@@ -58,6 +59,7 @@ pub fn film_and_export<
     out: &mut W,
 ) -> Result<LostFrames, TextFault>
     ensures { (s : StoreState) → Stands D.medium camera.desk.store s → (D.medium camera.desk.store.disk).honest
+        → IsRegular P.plane camera.queue
         → AnswersFilmed D.medium S.next_gives P.plane G.asks G.gives_up (G.due guide.now) (G.ends guide.now)
         camera from to (W.contents out.old) (W.contents out.new) s result }
 {

@@ -8,7 +8,7 @@ use Rattle.loop_lane_text.proofs.StopImages.{want}
 use Rattle.loop_lane_text.proofs.filmed.film_and_export.Goals as goal
 
 pub returns-in-Ok-export : goal.returns-in-Ok-export
-returns-in-Ok-export g c = λ s stands now.
+returns-in-Ok-export g c = λ s stands now regular.
     let medium = g.D.Disk.medium in
     let camera = c.args.camera in
     let ended = c.in-Ok.ended in
@@ -16,7 +16,7 @@ returns-in-Ok-export g c = λ s stands now.
     record { device = ended.device; queue = ended.queue; desk = ended.desk; joined = ended.joined.items } in
     let keeps = subst (λ over. CameraKeeps medium g.S.FrameSource.next_gives g.P.PlaneMemory.plane g.G.Visits.asks
     g.G.Visits.gives_up (g.G.Guide.due c.args.guide.now) (g.G.Guide.ends c.args.guide.now) camera end ended.given_up
-    ended.left ended.missed ended.failed over) c.in-Ok.ensures.ended c.in-Ok.ensures.keeps in
+    ended.left ended.missed ended.failed over) c.in-Ok.ensures.ended (c.in-Ok.ensures.keeps regular) in
     let calls = calls_at 0 keeps.parts in
     let kept = keeps.footage 0 camera.desk ended.desk refl refl s stands now in
     let went = store-goes medium camera.desk ended.desk calls (keeps.served 0 camera.desk ended.desk refl refl).goes in
@@ -36,7 +36,7 @@ returns-in-Ok-export g c = λ s stands now.
     }
 
 pub returns-then-status : goal.returns-then-status
-returns-then-status g c = λ s stands now.
+returns-then-status g c = λ s stands now regular.
     let medium = g.D.Disk.medium in
     let ended = c.in-Ok.ended in
     let end : SeenCamera g.row.S.Denot g.row.D.Denot g.row.P.Denot =
@@ -46,16 +46,16 @@ returns-then-status g c = λ s stands now.
       lost = record { given_up = ended.given_up; left = ended.left; missed = ended.missed; failed = ended.failed };
       keeps = subst (λ over. CameraKeeps medium g.S.FrameSource.next_gives g.P.PlaneMemory.plane g.G.Visits.asks
           g.G.Visits.gives_up (g.G.Guide.due c.args.guide.now) (g.G.Guide.ends c.args.guide.now) c.args.camera end ended.given_up
-          ended.left ended.missed ended.failed over) c.in-Ok.ensures.ended c.in-Ok.ensures.keeps;
+          ended.left ended.missed ended.failed over) c.in-Ok.ensures.ended (c.in-Ok.ensures.keeps regular);
       broken = sym c.status.ensures.must_reopen ∙ c.if-status.true;
     }
 
 pub returns-in-Err-open : goal.returns-in-Err-open
-returns-in-Err-open g c = λ s stands now.
+returns-in-Err-open g c = λ s stands now regular.
     let medium = g.D.Disk.medium in
     let camera = c.args.camera in
     let ended = c.in-Ok.ended in
-    let keeps = c.in-Ok.ensures.keeps in
+    let keeps = c.in-Ok.ensures.keeps regular in
     let calls = calls_at 0 keeps.parts in
     let kept = keeps.footage 0 camera.desk ended.desk refl refl s stands now in
     let went = store-goes medium camera.desk ended.desk calls (keeps.served 0 camera.desk ended.desk refl refl).goes in
@@ -71,7 +71,7 @@ returns-in-Err-open g c = λ s stands now.
     c.in-Err-open.ensures.stays c.in-Err-open.ensures.refused there)
 
 pub returns : goal.returns
-returns g c = λ s stands now.
+returns g c = λ s stands now regular.
     let medium = g.D.Disk.medium in
     let camera = c.args.camera in
     let ended = c.in-Ok.ended in
@@ -79,7 +79,7 @@ returns g c = λ s stands now.
     record { device = ended.device; queue = ended.queue; desk = ended.desk; joined = ended.joined.items } in
     let keeps = subst (λ over. CameraKeeps medium g.S.FrameSource.next_gives g.P.PlaneMemory.plane g.G.Visits.asks
     g.G.Visits.gives_up (g.G.Guide.due c.args.guide.now) (g.G.Guide.ends c.args.guide.now) camera end ended.given_up
-    ended.left ended.missed ended.failed over) c.in-Ok.ensures.ended c.in-Ok.ensures.keeps in
+    ended.left ended.missed ended.failed over) c.in-Ok.ensures.ended (c.in-Ok.ensures.keeps regular) in
     let calls = calls_at 0 keeps.parts in
     let kept = keeps.footage 0 camera.desk ended.desk refl refl s stands now in
     let went = store-goes medium camera.desk ended.desk calls (keeps.served 0 camera.desk ended.desk refl refl).goes in
