@@ -2,9 +2,9 @@
 //! read and unlocked meanwhile; and the text of what was filmed.
 
 ghost use Rattle.std.specs.Prelude.{◌≡◌, ⊤, []};
-ghost use Rattle.loop_desk.specs.declared.hand.Hand.TheVariants.{Empty};
 ghost use Rattle.loop_pipeline.specs.Fronts.{IsOpen};
 ghost use Rattle.loop_plane.specs.Kinds.{heap_plane};
+ghost use Rattle.loop_sessions.specs.Ports.{StandsPort};
 ghost use Rattle.rtrb.specs.Ring.{received};
 
 use crate::asserts::{holds, same};
@@ -161,14 +161,14 @@ fn film<R: Threads + Wait + Clock + Abort + Sync>(
     guide: &Guided,
     camera: TestCamera,
 ) -> TestEnded
-    ensures { result.hand ≡ Empty → IsOpen ⟦<HeapPlane as PlaneMemory>⟧.plane result.queue result.table }
+    ensures { StandsPort ⟦<HeapPlane as PlaneMemory>⟧.plane result.queue result.table }
 {
     let (rt, link, guide) = (&*rt, &*link, &*guide);
     thread::scope(
         thread::scope_env(),
         rt,
         move |scope| -> TestEnded
-            ensures { result.hand ≡ Empty → IsOpen heap_plane result.queue result.table }
+            ensures { StandsPort heap_plane result.queue result.table }
         {
             match film_camera(rt, alloc, scope, link, guide, camera) {
                 Ok(ended) => ended,
@@ -191,7 +191,7 @@ fn has_frame(rt: &impl Abort, alloc: Global, desk: &mut Desk<Fused>, number: u32
 
 // The camera again, from what its filming ended with.
 fn again(rt: &impl Abort, ended: TestEnded) -> TestCamera
-    requires { ended.hand ≡ Empty → IsOpen ⟦<HeapPlane as PlaneMemory>⟧.plane ended.queue ended.table }
+    requires { StandsPort ⟦<HeapPlane as PlaneMemory>⟧.plane ended.queue ended.table }
 {
     let CameraEnd {
         device,
