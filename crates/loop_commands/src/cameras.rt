@@ -1,5 +1,5 @@
 // Cameras whose frames are recorded into stores in files, each by threads of its own.
-ghost use Rattle.std.specs.Prelude.{◌≡◌, ◌<◌};
+ghost use Rattle.std.specs.Prelude.{◌≡◌, ◌<◌, false};
 ghost use Rattle.loop_script.specs.Pattern.{timestamp_of};
 
 use crate::record::RecordSource;
@@ -8,7 +8,7 @@ use loop_desk::Desk;
 use loop_file::FileDisk;
 use loop_pages::PageFault;
 use loop_pipeline::{
-    Camera, CameraEnd, Guide, Shot, Visits, film_all, mapped_start, new_queue, start_queue,
+    Camera, CameraEnd, Guide, Noting, Shot, Visits, film_all, mapped_start, new_queue, start_queue,
 };
 use loop_plane::MmapPlane;
 use loop_record::Geometry;
@@ -76,10 +76,10 @@ impl Take {
 }
 
 // A camera with a source to record from and a store in a file.
-type RecordCamera = Camera<RecordSource, FileDisk, MmapPlane>;
+type RecordCamera = Camera<RecordSource, FileDisk, MmapPlane, Post>;
 
 // What is left of it.
-type RecordEnded = CameraEnd<RecordSource, FileDisk, MmapPlane>;
+type RecordEnded = CameraEnd<RecordSource, FileDisk, MmapPlane, Post>;
 
 // What guides a camera: so many ticks at the rate of its store, and no flush after one that was refused.
 #[derive(Drop)]
@@ -97,6 +97,13 @@ fn tick_time(n: u64, geometry: &Geometry) -> u64
         return 0;
     }
     pattern_timestamp(n, geometry.rate_num, geometry.rate_den)
+}
+
+/// No call of a recording's desk is noted.
+impl Noting for Post {
+    ghost NOTED = { false };
+
+    const NOTED: bool = false;
 }
 
 /// Nobody visits the desk of a recording: it makes no call but submits and flushes.

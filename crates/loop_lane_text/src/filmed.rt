@@ -53,7 +53,7 @@ pub fn film_and_export<
     scope: &Scope<'s, E>,
     link: &'s Link,
     guide: &'s G,
-    camera: Camera<S, D, P>,
+    camera: Camera<S, D, P, G>,
     from: u64,
     to: u64,
     out: &mut W,

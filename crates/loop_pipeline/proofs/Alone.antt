@@ -24,7 +24,7 @@ module _ {S D P : Type 0} (medium : D → Medium) (gives : S → Next → List �
       subst (λ l. CameraKeeps medium gives meaning asks gives_up due ends (record camera { joined = l }) new given_up left missed
       failed over) (ap (λ l. camera.joined ++ l) (kept.none is) ∙ append-nil camera.joined) kept.keeps
 
-  pub filmed-alone : (filmed : Result (CameraEnd S D P Global) (Unfilmed S D P))
+  pub filmed-alone : {G : Type 0} (filmed : Result (CameraEnd S D P G Global) (Unfilmed S D P G))
       → IfOk filmed (λ e. IsRegular meaning camera.queue → KeepsJoined medium gives meaning asks gives_up due ends shut camera
       (record { device = e.device; queue = e.queue; desk = e.desk; joined = e.joined.items }) e.given_up e.left e.missed
       e.failed e.over)
@@ -34,7 +34,7 @@ module _ {S D P : Type 0} (medium : D → Medium) (gives : S → Next → List �
   filmed-alone (Ok e) kept = λ regular. alone _ e.given_up e.left e.missed e.failed e.over (kept regular)
   filmed-alone (Err u) kept = kept
 
-  pub given-alone : (filmed : Result (CameraEnd S D P Global) (Unfilmed S D P))
+  pub given-alone : {G : Type 0} (filmed : Result (CameraEnd S D P G Global) (Unfilmed S D P G))
       → IfErr filmed (GivesJoined medium gives meaning asks gives_up due ends shut camera)
       → IfErr filmed (GivesBack medium gives meaning asks gives_up due ends camera)
   given-alone (Ok e) kept = kept

@@ -13,11 +13,13 @@ use Rattle.loop_capture.proofs.Crossing.{device_send}
 use Rattle.loop_capture.specs.declared.source.FrameSource as source
 use Rattle.loop_disk.specs.declared.disk.Disk as disk
 use Rattle.loop_plane.specs.declared.memory.PlaneMemory as plane
-use Rattle.loop_desk.proofs.Crossing.{desk_send}
+use Rattle.loop_sessions.specs.declared.seat.Noting as noting
+use Rattle.loop_sessions.proofs.Crossing.{seat_send}
 use Rattle.loop_desk.specs.contracts.hand.Hand as Hand
 use Rattle.loop_pipeline.specs.contracts.camera.Camera as Camera
 use Rattle.loop_pipeline.specs.contracts.ending.CameraEnd as CameraEnd
 use Rattle.loop_pipeline.specs.contracts.film.Unfilmed as Unfilmed
+use Rattle.loop_pipeline.specs.declared.visits.Visits as visits
 use Rattle.loop_pipeline.specs.contracts.start_barrier.StartBarrier as StartBarrier
 use Rattle.loop_pipeline.specs.contracts.film.Left as Left
 use Rattle.loop_pipeline.specs.contracts.film.Link as Link
@@ -49,33 +51,34 @@ barrier_sync = search (sendable, crosses) depth 30
 pub barrier_send : IsSend StartBarrier.the_row
 barrier_send = search (sendable, crosses) depth 30
 
-module _ (S D P : RattleType) (d : disk.Ghosts D.Denot) where
-  pub ended_in_send : IsSend S → IsSend D → IsSend P → IsSend (CameraEnd.the_field S D P heap.the_row d ghosts).row
-  ended_in_send s sd sp =
+module _ (S D P G : RattleType) (d : disk.Ghosts D.Denot) (n : noting.Ghosts G.Denot) where
+  pub ended_in_send : IsSend S → IsSend D → IsSend P → IsSend G → IsSend (CameraEnd.the_field S D P G heap.the_row d n ghosts).row
+  ended_in_send s sd sp sg =
       let a = device_send S s in
       let b = queue_send P sp in
       let c = table_send P sp in
-      let e = desk_send D d sd in
+      let e = seat_send D G d n sd sg in
       let f = hand_in_send P sp in
       search (sendable, crosses) depth 30
 
-  pub ended_send : IsSend S → IsSend D → IsSend P → IsSend (CameraEnd.the_row S D P heap.the_row d ghosts)
-  ended_send s sd sp = let a = ended_in_send s sd sp in search (sendable, crosses) depth 30
+  pub ended_send : IsSend S → IsSend D → IsSend P → IsSend G → IsSend (CameraEnd.the_row S D P G heap.the_row d n ghosts)
+  ended_send s sd sp sg = let a = ended_in_send s sd sp sg in search (sendable, crosses) depth 30
 
-module _ (S D P : RattleType) (f : source.Ghosts S.Denot) (d : disk.Ghosts D.Denot) (p : plane.Ghosts P.Denot) where
-  pub camera_in_send : IsSend S → IsSend D → IsSend P → IsSend (Camera.the_field S D P f d p).row
-  camera_in_send s sd sp =
+module _ (S D P G : RattleType) (f : source.Ghosts S.Denot) (d : disk.Ghosts D.Denot) (p : plane.Ghosts P.Denot)
+    (v : visits.Ghosts G.Denot) (n : noting.Ghosts G.Denot) where
+  pub camera_in_send : IsSend S → IsSend D → IsSend P → IsSend G → IsSend (Camera.the_field S D P G f d p v n).row
+  camera_in_send s sd sp sg =
       let a = device_send S s in
       let b = queue_send P sp in
       let c = table_send P sp in
-      let e = desk_send D d sd in
+      let e = seat_send D G d n sd sg in
       search (sendable, crosses) depth 30
 
-  pub unfilmed_in_send : IsSend S → IsSend D → IsSend P → IsSend (Unfilmed.the_field S D P f d p).row
-  unfilmed_in_send s sd sp =
-      let a = camera_in_send s sd sp in
-      let b = ended_in_send S D P d s sd sp in
+  pub unfilmed_in_send : IsSend S → IsSend D → IsSend P → IsSend G → IsSend (Unfilmed.the_field S D P G f d p v n).row
+  unfilmed_in_send s sd sp sg =
+      let a = camera_in_send s sd sp sg in
+      let b = ended_in_send S D P G d n s sd sp sg in
       search (sendable, crosses) depth 30
 
-  pub unfilmed_send : IsSend S → IsSend D → IsSend P → IsSend (Unfilmed.the_row S D P f d p)
-  unfilmed_send s sd sp = let a = unfilmed_in_send s sd sp in search (sendable, crosses) depth 30
+  pub unfilmed_send : IsSend S → IsSend D → IsSend P → IsSend G → IsSend (Unfilmed.the_row S D P G f d p v n)
+  unfilmed_send s sd sp sg = let a = unfilmed_in_send s sd sp sg in search (sendable, crosses) depth 30

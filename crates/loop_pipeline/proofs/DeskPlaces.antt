@@ -1,9 +1,11 @@
 -- The desk at a place of a back goes on, and all else stays.
-use Rattle.std.proofs.Common.{◌≡◌, ◌<◌, ◌≤◌, ◌-◌, ◌%◌, ◌++◌, ℕ, List, [], ◌∷◌, length, slice_get, slice_set, IfErr, IfOk, Some, Result, Ok, Err, refl, sym, ap, ◌∙◌, subst, arith}
+use Rattle.std.proofs.Common.{◌≡◌, ◌<◌, ◌≤◌, ◌-◌, ◌%◌, ◌++◌, ℕ, List, [], ◌∷◌, length, slice_get, slice_set, IfErr, IfOk, IfSome, None, Option, Some, Result, Ok, Err, refl, sym, ap, ◌∙◌, subst, arith}
 use Rattle.std.proofs.lemmas.List.{length-append, length-set}
 use Rattle.loop_disk.specs.Medium.{Medium}
 use Rattle.loop_record.specs.Recording.{Picture}
-use Rattle.loop_desk.specs.Desk.{submitted}
+use Rattle.loop_store.specs.declared.fault.StoreFault.{StoreFault}
+use Rattle.loop_desk.specs.declared.limits.Flushed.{Flushed}
+use Rattle.loop_desk.specs.Desk.{flushed, submitted}
 use Rattle.loop_desk.specs.Seen.{DeskGoes, SeenDesk}
 use Rattle.loop_desk.proofs.CallRuns.{told-then}
 use Rattle.loop_pipeline.specs.Backs.{FitsBlock, GoesAt, HasRoom, IsChangedAt, SeenBack}
@@ -22,6 +24,21 @@ ok-then (Err e) P Q is more = is
 pub err-then : {X E : Type 0} (r : Result X E) (P Q : E → Type 0) → IfErr r P → ((e : E) → P e → Q e) → IfErr r Q
 err-then (Ok x) P Q is more = is
 err-then (Err e) P Q is more = more e is
+
+pub some-then : {X : Type 0} (o : Option X) (P Q : X → Type 0) → IfSome o P → ((x : X) → P x → Q x) → IfSome o Q
+some-then (Some x) P Q is more = more x is
+some-then None P Q is more = is
+
+-- a frame was answered this
+pub answered : {D : Type 0} (medium : D → Medium) (old new : SeenDesk D) (p : Picture) (size : ℕ)
+    (answer is : Result ℕ StoreFault) → answer ≡ is → DeskGoes medium old new (submitted p size answer ∷ [])
+    → DeskGoes medium old new (submitted p size is ∷ [])
+answered medium old new p size answer is same goes = subst (λ r. DeskGoes medium old new (submitted p size r ∷ [])) same goes
+
+-- and a flush this
+pub flush-answered : {D : Type 0} (medium : D → Medium) (old new : SeenDesk D) (answer is : Result Flushed StoreFault)
+    → answer ≡ is → DeskGoes medium old new (flushed answer ∷ []) → DeskGoes medium old new (flushed is ∷ [])
+flush-answered medium old new answer is same goes = subst (λ r. DeskGoes medium old new (flushed r ∷ [])) same goes
 
 module _ {D A : Type 0} where
   -- the desk at a place goes on

@@ -13,9 +13,9 @@ use Rattle.loop_sessions.specs.Ports.{StandsPort}
 
 -- what comes back where a camera wasn't filmed: the camera; or what is left of it, with the device and the queue as
 -- they were, and with what waited at the desk kept, if the queue was regular
-abbrev pub GivesBack : {S D P : Type 0} → (D → Medium) → (S → Next → List ℕ → S → Type 0) → (P → Plane)
+abbrev pub GivesBack : {S D P G : Type 0} → (D → Medium) → (S → Next → List ℕ → S → Type 0) → (P → Plane)
     → (DeskCall → Type 0) → (StoreFault → Type 0) → (ℕ → ℕ → Type 0) → (ℕ → Type 0) → SeenCamera S D P
-    → Unfilmed S D P → Type 0
+    → Unfilmed S D P G → Type 0
 GivesBack medium gives meaning asks gives_up due ends camera (NoMemory c) = c ≡ camera
 GivesBack medium gives meaning asks gives_up due ends camera (NoThread e) =
     (e.device ≡ camera.device) × (e.queue ≡ camera.queue) × StandsPort meaning e.queue e.table
@@ -24,9 +24,9 @@ GivesBack medium gives meaning asks gives_up due ends camera (NoThread e) =
     e.given_up e.left e.missed e.failed e.over)
 
 -- the same where desks may have joined it
-abbrev pub GivesJoined : {S D P : Type 0} → (D → Medium) → (S → Next → List ℕ → S → Type 0) → (P → Plane)
+abbrev pub GivesJoined : {S D P G : Type 0} → (D → Medium) → (S → Next → List ℕ → S → Type 0) → (P → Plane)
     → (DeskCall → Type 0) → (StoreFault → Type 0) → (ℕ → ℕ → Type 0) → (ℕ → Type 0) → Type 0 → SeenCamera S D P
-    → Unfilmed S D P → Type 0
+    → Unfilmed S D P G → Type 0
 GivesJoined medium gives meaning asks gives_up due ends shut camera (NoMemory c) = c ≡ camera
 GivesJoined medium gives meaning asks gives_up due ends shut camera (NoThread e) =
     (e.device ≡ camera.device) × (e.queue ≡ camera.queue) × StandsPort meaning e.queue e.table

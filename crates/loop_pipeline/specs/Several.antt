@@ -17,9 +17,9 @@ use Rattle.loop_pipeline.specs.Returns.{GivesBack}
 
 -- What filming a camera answers: at the end the camera has kept its frames, if its queue was regular, and was ended by
 -- its guide or its source; or it comes back, or what is left of it, which kept the same.
-pub record IsFilmed {S D P : Type 0} (medium : D → Medium) (gives : S → Next → List ℕ → S → Type 0)
+pub record IsFilmed {S D P G : Type 0} (medium : D → Medium) (gives : S → Next → List ℕ → S → Type 0)
     (meaning : P → Plane) (asks : DeskCall → Type 0) (gives_up : StoreFault → Type 0) (due : ℕ → ℕ → Type 0)
-    (ends : ℕ → Type 0) (camera : SeenCamera S D P) (filmed : Result (CameraEnd S D P Global) (Unfilmed S D P))
+    (ends : ℕ → Type 0) (camera : SeenCamera S D P) (filmed : Result (CameraEnd S D P G Global) (Unfilmed S D P G))
     : Type 0 where
   pub keeps : IfOk filmed (λ e. IsRegular meaning camera.queue
       → CameraKeeps medium gives meaning asks gives_up due ends camera

@@ -1,6 +1,6 @@
 //! A camera's desks, and the end of the ring from which their frames come: owned by one thread.
 
-ghost use Rattle.std.specs.Prelude.{◌≡◌, ◌∷◌, ◌<◌, ◌≤◌, ◌↔◌, ◌+◌, ℕ, ⊤, List, IfErr, IfOk, IfSome, None, Result, [], length, false, true};
+ghost use Rattle.std.specs.Prelude.{◌≡◌, ◌∷◌, ◌<◌, ◌≤◌, ◌↔◌, ◌+◌, ℕ, ⊤, List, IfErr, IfOk, IfSome, IsSome, None, Result, [], length, false, true};
 ghost use Rattle.rtrb.specs.Ring.{received};
 ghost use Rattle.loop_desk.specs.Desk.{clip_unlocked, flushed, frame_read};
 ghost use Rattle.loop_desk.specs.Keeps.{HaveTime, KeepsTime};
@@ -15,9 +15,10 @@ ghost use Rattle.loop_store.specs.Runs.{read_of};
 
 use crate::next::{Search, is_full};
 use crate::{Guide, Visits};
-use loop_desk::{Desk, Flushed, Kept, Outline, Status};
+use loop_desk::{Flushed, Kept, Outline, Status};
 use loop_disk::Disk;
 use loop_record::{Frame, FrameHead, Times};
+use loop_sessions::{Seat, Taken};
 use loop_store::{ReadFrame, StoreFault};
 use rtrb::Consumer;
 use std::alloc::{Allocator, Global};
@@ -34,7 +35,7 @@ pub enum Brought {
     /// No frame is in the ring.
     Nothing,
     /// The desk is full, or what waits there fills the block of its next number, or its store has no room for that
-    /// block; the frame stays in the ring.
+    /// block, or its call can't be noted; the frame stays in the ring.
     NoRoom,
     /// The desk accepted it, under this number.
     Submitted(u64),
@@ -56,24 +57,26 @@ pub struct LostFrame {
 /// as they are now. `K` says what visitors may call.
 #[derive(Drop)]
 pub struct Back<D: Disk + Drop, K: Visits, A: Allocator + Copy = Global> {
-    desks: Vec<Desk<D, A>, A>,
+    desks: Vec<Seat<D, K, A>, A>,
     active: usize,
     from: Consumer<Frame<A>, A>,
     given_up: u64,
     /// A flush of a desk was refused, and isn't tried again.
     refused: bool,
-    desks_before: Vec<Snapshot<Desk<D, A>>, A>,
+    /// A call couldn't be noted, and none is made any more.
+    closed: bool,
+    desks_before: Vec<Snapshot<Seat<D, K, A>>, A>,
     from_before: Snapshot<Consumer<Frame<A>, A>>,
     visits: PhantomData<K>,
 }
 
 /// What is left of a back.
 #[derive(Drop)]
-pub struct BackParts<D: Disk + Drop, A: Allocator + Copy = Global> {
+pub struct BackParts<D: Disk + Drop, K: Visits, A: Allocator + Copy = Global> {
     /// Its first desk.
-    pub desk: Desk<D, A>,
+    pub desk: Seat<D, K, A>,
     /// The desks that joined it, in the order in which they came.
-    pub joined: Vec<Desk<D, A>, A>,
+    pub joined: Vec<Seat<D, K, A>, A>,
     /// The end of its ring.
     pub from: Consumer<Frame<A>, A>,
     /// How many frames came out of the ring and weren't accepted by a desk.
@@ -110,9 +113,9 @@ impl<D: Disk + Drop, K: Visits, A: Allocator + Copy> Back<D, K, A> {
     pub fn new(
         alloc: A,
         most: usize,
-        desk: Desk<D, A>,
+        desk: Seat<D, K, A>,
         from: Consumer<Frame<A>, A>,
-    ) -> Result<Self, (Desk<D, A>, Consumer<Frame<A>, A>)>
+    ) -> Result<Self, (Seat<D, K, A>, Consumer<Frame<A>, A>)>
         requires ring { received from ≡ [] }
         requires room { 1 ≤ most }
         ensures made { IfOk result (λ back. back
@@ -125,7 +128,7 @@ impl<D: Disk + Drop, K: Visits, A: Allocator + Copy> Back<D, K, A> {
         ) else {
             return Err((desk, from));
         };
-        desk.opens();
+        desk.desk().opens();
         desks_before.push_reserved(Snapshot::of(&desk));
         desks.push_reserved(desk);
         let from_before = Snapshot::of(&from);
@@ -135,6 +138,7 @@ impl<D: Disk + Drop, K: Visits, A: Allocator + Copy> Back<D, K, A> {
             from,
             given_up: 0,
             refused: false,
+            closed: false,
             desks_before,
             from_before,
             visits: PhantomData,
@@ -158,19 +162,19 @@ impl<D: Disk + Drop, K: Visits, A: Allocator + Copy> Back<D, K, A> {
         if !self.has_room(anyway) {
             return Brought::NoRoom;
         }
-        let Ok(frame) = self.from.pop() else {
-            return Brought::Nothing;
-        };
-        let lost = LostFrame {
-            sequence: frame.sequence,
-            timestamp: frame.timestamp,
-        };
-        let desk = &mut self.desks[self.active];
-        match desk.submit(frame) {
-            Ok(number) => Brought::Submitted(number),
-            Err((fault, frame)) => {
+        match self.desks[self.active].submit_from(&mut self.from) {
+            Taken::Nothing => Brought::Nothing,
+            Taken::Unnoted => {
+                self.closed = true;
+                Brought::NoRoom
+            }
+            Taken::Asked(_, Ok(number)) => Brought::Submitted(number),
+            Taken::Asked(frame, Err(fault)) => {
                 self.given_up += 1;
-                desk.return_memory(frame.bytes);
+                let lost = LostFrame {
+                    sequence: frame.sequence,
+                    timestamp: frame.timestamp,
+                };
                 Brought::GivenUp(fault, lost)
             }
         }
@@ -200,18 +204,27 @@ impl<D: Disk + Drop, K: Visits, A: Allocator + Copy> Back<D, K, A> {
         Some(lost)
     }
 
-    /// Stores the first frames that wait at the active desk, as `Desk::flush`.
+    /// Stores the first frames that wait at the active desk, as `Desk::flush`, where calls aren't noted.
     pub fn flush(&mut self) -> Result<Flushed, StoreFault>
+        requires { K.NOTED ≡ false }
         ensures goes { GoesAt self.old.active self.old self.new
             (λ d e. DeskGoes D.medium d e (flushed result ∷ [])) }
         ensures last { IsLast D.medium self.new (flushed result) }
     {
-        self.desks[self.active].flush()
+        match self.desks[self.active].flush() {
+            Some(answer) => answer,
+            None => unreachable!(),
+        }
     }
 
     /// Whether a flush was refused, and isn't tried again. It promises nothing.
     pub fn is_refused(&self) -> bool {
         self.refused
+    }
+
+    /// Whether a call couldn't be noted: then it has no further one to make. It promises nothing.
+    pub fn is_closed(&self) -> bool {
+        self.closed
     }
 
     /// How many desks it has.
@@ -245,7 +258,7 @@ impl<D: Disk + Drop, K: Visits, A: Allocator + Copy> Back<D, K, A> {
         ensures block { result ≡ true → anyway ≡ false → 2 ≤ length self.now.desks
             → IsAt self.now.active self.now (MayBegin D.medium) }
     {
-        let desk = &self.desks[self.active];
+        let desk = self.desks[self.active].desk();
         let waiting = desk.status().pending;
         if waiting >= desk.limits().pending {
             return false;
@@ -261,7 +274,7 @@ impl<D: Disk + Drop, K: Visits, A: Allocator + Copy> Back<D, K, A> {
 
     /// How many frames a flush of the active desk stores at most. It promises nothing.
     pub fn group(&self) -> u32 {
-        self.desks[self.active].limits().group
+        self.desks[self.active].desk().limits().group
     }
 
     /// Memory of a frame that the active desk stored, for a later one, as `Desk::spare_memory`.
@@ -269,6 +282,13 @@ impl<D: Disk + Drop, K: Visits, A: Allocator + Copy> Back<D, K, A> {
         ensures { self.new ≡ self.old }
     {
         self.desks[self.active].spare_memory()
+    }
+
+    /// Keeps memory for a later frame at the active desk, as `Desk::return_memory`.
+    pub fn return_memory(&mut self, bytes: Vec<u8, A>)
+        ensures { self.new ≡ self.old }
+    {
+        self.desks[self.active].return_memory(bytes);
     }
 
     // Moves the memory of one stored frame from the active desk to the one at a place; returns whether there was some.
@@ -319,7 +339,7 @@ impl<D: Disk + Drop, K: Visits, A: Allocator + Copy> Back<D, K, A> {
     fn is_between(&self) -> bool
         ensures { IsAt self.now.active self.now (λ desk. (result ≡ true) ↔ IsBetween desk) }
     {
-        let desk = &self.desks[self.active];
+        let desk = self.desks[self.active].desk();
         desk.status().pending == 0 && desk.room() == desk.geometry().slots
     }
 
@@ -330,7 +350,7 @@ impl<D: Disk + Drop, K: Visits, A: Allocator + Copy> Back<D, K, A> {
         if !self.is_between() {
             return false;
         }
-        is_full(self.desks[self.active].space())
+        is_full(self.desks[self.active].desk().space())
     }
 
     // What the first desks' stores have told, and that of the desk at the next place.
@@ -339,7 +359,7 @@ impl<D: Disk + Drop, K: Visits, A: Allocator + Copy> Back<D, K, A> {
         requires so_far { Searches D.medium self.now place search }
         ensures { Searches D.medium self.now (place + 1) result }
     {
-        search.with(self.active, place, self.desks[place].space())
+        search.with(self.active, place, self.desks[place].desk().space())
     }
 
     /// The place of the desk that takes the next block, by what each store tells: the active one, if it has a segment
@@ -382,7 +402,7 @@ impl<D: Disk + Drop, K: Visits, A: Allocator + Copy> Back<D, K, A> {
     }
 
     /// Takes another desk, and returns its place; if there is no memory for it, it comes back.
-    pub fn join(&mut self, desk: Desk<D, A>) -> Result<usize, Desk<D, A>>
+    pub fn join(&mut self, desk: Seat<D, K, A>) -> Result<usize, Seat<D, K, A>>
         ensures done { IfOk result (λ place. (place ≡ length self.old.desks) × (self.new ≡ joined desk self.old)) }
         ensures refused { IfErr result (λ back. (back ≡ desk) × (self.new ≡ self.old)) }
     {
@@ -392,7 +412,7 @@ impl<D: Disk + Drop, K: Visits, A: Allocator + Copy> Back<D, K, A> {
         {
             return Err(desk);
         }
-        desk.opens();
+        desk.desk().opens();
         self.desks_before.push_reserved(Snapshot::of(&desk));
         self.desks.push_reserved(desk);
         Ok(place)
@@ -404,10 +424,28 @@ impl<D: Disk + Drop, K: Visits, A: Allocator + Copy> Back<D, K, A> {
         ensures outline { IfOk result (λ outline. IsAt place self.now (λ desk. TellsOutline D.medium desk outline)) }
         ensures refused { IfErr result (λ fault. IsAt place self.now (λ desk. OutlineRefuses desk fault)) }
     {
-        self.desks[place].outline(alloc)
+        self.desks[place].desk().outline(alloc)
     }
 
-    /// Reads a stored frame of the desk at a place, as `Desk::read_frame`.
+    /// Reads a stored frame of the desk at a place, as `Desk::read_frame`, and notes it where calls are noted. None: it
+    /// couldn't be noted, and the desk wasn't asked.
+    pub fn read_noted(
+        &mut self,
+        alloc: A,
+        place: usize,
+        number: u64,
+    ) -> Option<Result<ReadFrame<A>, StoreFault>>
+        requires place { place < length self.old.desks }
+        requires may { (answer : Result (FrameHead × List ℕ) StoreFault) → K.asks (frame_read number answer) }
+        ensures asked { IfSome result (λ answer. GoesAt place self.old self.new
+            (λ d e. DeskGoes D.medium d e (frame_read number (read_of answer) ∷ []))) }
+        ensures unasked { result ≡ None → self.new ≡ self.old }
+        ensures always { K.NOTED ≡ false → IsSome result }
+    {
+        self.desks[place].read_frame(alloc, number)
+    }
+
+    /// Reads a stored frame of the desk at a place, as `Desk::read_frame`, where calls aren't noted.
     pub fn read_frame(
         &mut self,
         alloc: A,
@@ -416,25 +454,35 @@ impl<D: Disk + Drop, K: Visits, A: Allocator + Copy> Back<D, K, A> {
     ) -> Result<ReadFrame<A>, StoreFault>
         requires place { place < length self.old.desks }
         requires may { (answer : Result (FrameHead × List ℕ) StoreFault) → K.asks (frame_read number answer) }
+        requires plain { K.NOTED ≡ false }
         ensures { GoesAt place self.old self.new
             (λ d e. DeskGoes D.medium d e (frame_read number (read_of result) ∷ [])) }
     {
-        self.desks[place].read_frame(alloc, number)
+        match self.read_noted(alloc, place, number) {
+            Some(answer) => answer,
+            None => unreachable!(),
+        }
     }
 
-    /// Reads the head of a stored frame of the desk at a place and none of its bytes, as `Desk::read_head`.
+    /// Reads the head of a stored frame of the desk at a place and none of its bytes, as `Desk::read_head`, where calls
+    /// aren't noted.
     pub fn read_head(&mut self, place: usize, number: u64) -> Result<FrameHead, StoreFault>
         requires place { place < length self.old.desks }
+        requires plain { K.NOTED ≡ false }
         requires may { (answer : Result (FrameHead × List ℕ) StoreFault) → K.asks (frame_read number answer) }
         ensures { (bytes : List ℕ) × GoesAt place self.old self.new
             (λ d e. DeskGoes D.medium d e (frame_read number (read_with result bytes) ∷ [])) }
     {
-        self.desks[place].read_head(number)
+        match self.desks[place].read_head(number) {
+            Some(answer) => answer,
+            None => unreachable!(),
+        }
     }
 
-    /// Locks the held frames of a time at a place with a tag, as `Desk::keep_time`.
+    /// Locks the held frames of a time at a place with a tag, as `Desk::keep_time`, where calls aren't noted.
     pub fn keep(&mut self, alloc: A, place: usize, times: Times, tag: u64) -> Kept<A>
         requires place { place < length self.old.desks }
+        requires plain { K.NOTED ≡ false }
         requires may { MayKeep K.asks }
         ensures goes { GoesAt place self.old self.new (λ d e. KeepsTime D.medium times tag d e result) }
         ensures whole { result.fault ≡ None → IsAt place self.old (λ desk. HaveTime times desk result.clips.items) }
@@ -442,18 +490,22 @@ impl<D: Disk + Drop, K: Visits, A: Allocator + Copy> Back<D, K, A> {
         self.desks[place].keep_time(alloc, times, tag)
     }
 
-    /// Unlocks the clip of an id at a place, as `Desk::unlock_clip`.
+    /// Unlocks the clip of an id at a place, as `Desk::unlock_clip`, where calls aren't noted.
     pub fn unlock_clip(&mut self, place: usize, id: u32) -> Result<(), StoreFault>
         requires place { place < length self.old.desks }
+        requires plain { K.NOTED ≡ false }
         requires may { (answer : Result ⊤ StoreFault) → K.asks (clip_unlocked id answer) }
         ensures { GoesAt place self.old self.new
             (λ d e. DeskGoes D.medium d e (clip_unlocked id result ∷ [])) }
     {
-        self.desks[place].unlock_clip(id)
+        match self.desks[place].unlock_clip(id) {
+            Some(answer) => answer,
+            None => unreachable!(),
+        }
     }
 
     /// What is left of it.
-    pub fn into_parts(self) -> BackParts<D, A>
+    pub fn into_parts(self) -> BackParts<D, K, A>
         ensures desks { result.desk ∷ result.joined.items ≡ self.desks }
         ensures keeps { BackKeeps D.medium K.asks K.gives_up self result.from result.given_up result.refused }
     {
@@ -463,6 +515,7 @@ impl<D: Disk + Drop, K: Visits, A: Allocator + Copy> Back<D, K, A> {
             from,
             given_up,
             refused,
+            closed: _,
             desks_before: _,
             from_before: _,
             visits: _,
@@ -479,19 +532,23 @@ impl<D: Disk + Drop, K: Visits, A: Allocator + Copy> Back<D, K, A> {
 }
 
 impl<D: Disk + Drop, G: Guide, A: Allocator + Copy> Back<D, G, A> {
-    /// Stores the first frames that wait at the active desk, as `flush`. Where that is refused and the guide doesn't
-    /// try it again, frames may be given up from then on.
-    pub fn flush_for<R: Wait>(&mut self, rt: &R, guide: &G) -> Result<Flushed, StoreFault>
-        ensures last { IsLast D.medium self.new (flushed result) }
+    /// Stores the first frames that wait at the active desk, as `Desk::flush`. Where that is refused and the guide
+    /// doesn't try it again, frames may be given up from then on. None: it couldn't be noted, and the desk wasn't asked.
+    pub fn flush_for<R: Wait>(&mut self, rt: &R, guide: &G) -> Option<Result<Flushed, StoreFault>>
+        ensures last { IfSome result (λ answer. IsLast D.medium self.new (flushed answer)) }
         ensures same { IsChangedAt self.old.active self.old self.new }
     {
         match self.desks[self.active].flush() {
-            Ok(flushed) => Ok(flushed),
-            Err(fault) => {
+            None => {
+                self.closed = true;
+                None
+            }
+            Some(Ok(flushed)) => Some(Ok(flushed)),
+            Some(Err(fault)) => {
                 if !guide.flushes_again(rt, fault) {
                     self.refused = true;
                 }
-                Err(fault)
+                Some(Err(fault))
             }
         }
     }

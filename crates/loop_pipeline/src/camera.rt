@@ -1,25 +1,28 @@
 //! A camera: its device, its queue and its desk.
 
-ghost use Rattle.std.specs.Prelude.{◌≡◌, []};
+ghost use Rattle.std.specs.Prelude.{◌≡◌, [], false};
 ghost use Rattle.loop_sessions.specs.Ports.{StandsPort};
 
+use crate::Visits;
 use loop_capture::{Device, FrameSource};
 use loop_desk::Desk;
 use loop_disk::Disk;
 use loop_plane::{FdTable, PlaneMemory};
+use loop_sessions::Seat;
 use loop_vb2::Queue;
 use std::marker::Model;
 
-/// A camera that can be filmed: its device, its queue, what fds name, and its desk.
+/// A camera that can be filmed by guides of a type: its device, its queue, what fds name, and its desk.
 #[derive(Drop)]
-pub struct Camera<S: FrameSource + Drop, D: Disk + Drop, P: PlaneMemory> {
+pub struct Camera<S: FrameSource + Drop, D: Disk + Drop, P: PlaneMemory, G: Visits> {
     pub(crate) device: Device<S>,
     pub(crate) queue: Queue<P>,
     pub(crate) table: FdTable<P>,
-    pub(crate) desk: Desk<D>,
+    pub(crate) desk: Seat<D, G>,
 }
 
-impl<S: FrameSource + Drop, D: Disk + Drop, P: PlaneMemory> Model for Camera<S, D, P> {
+impl<S: FrameSource + Drop, D: Disk + Drop, P: PlaneMemory, G: Visits> Model
+    for Camera<S, D, P, G> {
     ghost use Rattle.std.specs.Prelude.{[]};
     ghost use Rattle.loop_sessions.specs.Ports.{StandsPort};
     ghost use Rattle.loop_pipeline.specs.Cameras.{SeenCamera};
@@ -31,9 +34,18 @@ impl<S: FrameSource + Drop, D: Disk + Drop, P: PlaneMemory> Model for Camera<S, 
     ghost invariant = { λ c. StandsPort P.plane c.queue c.table };
 }
 
-impl<S: FrameSource + Drop, D: Disk + Drop, P: PlaneMemory> Camera<S, D, P> {
-    /// A camera with these parts.
+impl<S: FrameSource + Drop, D: Disk + Drop, P: PlaneMemory, G: Visits> Camera<S, D, P, G> {
+    /// A camera with these parts, where the calls of its desk aren't noted.
     pub fn new(device: Device<S>, queue: Queue<P>, table: FdTable<P>, desk: Desk<D>) -> Self
+        requires ready { StandsPort P.plane queue table }
+        requires plain { G.NOTED ≡ false }
+        ensures { result ≡ record { device = device; queue = queue; desk = desk; joined = [] } }
+    {
+        Camera::seated(device, queue, table, Seat::alone(desk))
+    }
+
+    /// A camera with these parts.
+    pub fn seated(device: Device<S>, queue: Queue<P>, table: FdTable<P>, desk: Seat<D, G>) -> Self
         requires { StandsPort P.plane queue table }
         ensures { result ≡ record { device = device; queue = queue; desk = desk; joined = [] } }
     {
@@ -45,8 +57,22 @@ impl<S: FrameSource + Drop, D: Disk + Drop, P: PlaneMemory> Camera<S, D, P> {
         }
     }
 
+    /// Its parts.
+    pub fn into_parts(self) -> (Device<S>, Queue<P>, FdTable<P>, Seat<D, G>)
+        ensures parts { (result.0 ≡ self.device) × (result.1 ≡ self.queue) × (result.3 ≡ self.desk) }
+        ensures ready { StandsPort P.plane result.1 result.2 }
+    {
+        let Camera {
+            device,
+            queue,
+            table,
+            desk,
+        } = self;
+        (device, queue, table, desk)
+    }
+
     // How many frames a flush of its desk stores at most.
     pub(crate) fn group(&self) -> u32 {
-        self.desk.limits().group
+        self.desk.desk().limits().group
     }
 }

@@ -6,11 +6,12 @@ ghost use Rattle.loop_desk.specs.Seen.{SeenDesk};
 ghost use Rattle.loop_pipeline.specs.Cameras.{CameraKeeps};
 ghost use Rattle.loop_pipeline.specs.Fronts.{IsHeld, IsRegular, Leaves, StaysOpen, made_of};
 
-use crate::{Back, BackParts, Begun, FrontParts, Guide};
+use crate::{Back, BackParts, Begun, FrontParts, Guide, Visits};
 use loop_capture::{Device, FrameSource};
-use loop_desk::{Desk, Hand};
+use loop_desk::Hand;
 use loop_disk::Disk;
 use loop_plane::{FdTable, PlaneMemory};
+use loop_sessions::Seat;
 use loop_vb2::Queue;
 use std::alloc::{Allocator, Global};
 
@@ -20,6 +21,7 @@ pub struct CameraEnd<
     S: FrameSource + Drop,
     D: Disk + Drop,
     P: PlaneMemory,
+    G: Visits,
     A: Allocator + Copy = Global,
 > {
     /// Its device.
@@ -31,9 +33,9 @@ pub struct CameraEnd<
     /// The buffer that isn't queued again, if there is one.
     pub hand: Hand<P, A>,
     /// The desk that it had.
-    pub desk: Desk<D, A>,
+    pub desk: Seat<D, G, A>,
     /// The desks that joined it, in the order in which they came.
-    pub joined: Vec<Desk<D, A>, A>,
+    pub joined: Vec<Seat<D, G, A>, A>,
     /// How many frames a desk refused, or were given up before they came to one.
     pub given_up: u64,
     /// How many frames were still in the ring, and are lost.
@@ -52,7 +54,7 @@ pub fn end<S: FrameSource + Drop, D: Disk + Drop, P: PlaneMemory, G: Guide, A: A
     begun: Begun<S, P, G, A>,
     front: FrontParts<S, P, A>,
     back: Back<D, G, A>,
-) -> CameraEnd<S, D, P, A>
+) -> CameraEnd<S, D, P, G, A>
     requires front { Leaves S.next_gives P.plane (G.due begun.guide.value) (G.ends begun.guide.value)
         (made_of begun) front }
     requires pair { IsPair begun.to.value back.from }

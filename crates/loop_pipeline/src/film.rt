@@ -16,10 +16,11 @@ use crate::{
     end,
 };
 use loop_capture::{Device, FrameSource};
-use loop_desk::{Desk, Hand};
+use loop_desk::Hand;
 use loop_disk::Disk;
 use loop_plane::{FdTable, PlaneMemory};
 use loop_record::Frame;
+use loop_sessions::Seat;
 use loop_vb2::Queue;
 use rtrb::{Producer, RingBuffer};
 use std::alloc::{AllocError, Global};
@@ -52,6 +53,8 @@ pub struct Link {
     over: AtomicBool,
     /// The front's thread couldn't be started: the front doesn't tick.
     closed: AtomicBool,
+    /// The desk's thread takes no frame any more: a call couldn't be noted.
+    stopped: AtomicBool,
     /// Memory of frames that were stored, for later ones.
     memory: Mutex<Vec<Vec<u8>>>,
     /// Where the front's thread waits before its first tick, if other cameras are filmed beside this one.
@@ -74,6 +77,7 @@ impl Link {
             room: Bell::new(),
             over: AtomicBool::new(false),
             closed: AtomicBool::new(false),
+            stopped: AtomicBool::new(false),
             memory: Mutex::new(Vec::with_capacity(alloc, SPARES)?),
             others,
         })
@@ -88,6 +92,7 @@ impl Link {
     fn begin(&self) {
         self.over.store(false, Ordering::SeqCst);
         self.closed.store(false, Ordering::SeqCst);
+        self.stopped.store(false, Ordering::SeqCst);
     }
 
     // Memory of a stored frame, if there is some.
@@ -111,7 +116,14 @@ impl Link {
         }
     }
 
-    // Waits until the front of each camera beside this one has a thread. Returns whether it may tick: each has one.
+    // No frame is taken out of the ring any more: the front doesn't wait for room.
+    fn stop<R: Wait>(&self, rt: &R) {
+        self.stopped.store(true, Ordering::SeqCst);
+        self.room.ring(rt);
+    }
+
+    // Waits until front and back of each camera beside this one have a thread. Returns whether they may begin: each has
+    // one.
     fn wait_for_others<R: Wait>(&self, rt: &R) -> bool {
         let together = match &self.others {
             Some(barrier) => barrier.wait(rt),
@@ -127,8 +139,8 @@ impl Link {
     }
 }
 
-// Moves the frames that wait in the queue into the ring, and waits for room there. Where none waits, it takes no memory
-// and no lock.
+// Moves the frames that wait in the queue into the ring, and waits for room there as long as any is made. Where none
+// waits, it takes no memory and no lock.
 fn take_all<R: Wait, S: FrameSource + Drop, P: PlaneMemory, G: Guide>(
     rt: &R,
     alloc: Global,
@@ -151,11 +163,16 @@ fn take_all<R: Wait, S: FrameSource + Drop, P: PlaneMemory, G: Guide>(
         }
         let seen = link.room.count(rt);
         match front.take(alloc, &mut spare) {
-            TakeOutcome::Frame => link.given.ring(rt),
+            TakeOutcome::Frame => {
+                guide.dequeued(rt);
+                link.given.ring(rt);
+            }
             TakeOutcome::NoFrame => {
+                guide.dequeued(rt);
                 guide.lacked(rt);
                 link.given.ring(rt);
             }
+            TakeOutcome::RingFull if link.stopped.load(Ordering::SeqCst) => break,
             TakeOutcome::RingFull => link.room.wait(rt, seen),
             TakeOutcome::Refused(_) => break,
         }
@@ -236,19 +253,19 @@ fn give_memory<R: Wait, D: Disk + Drop, K: Visits>(rt: &R, link: &Link, back: &m
     }
 }
 
-// Takes the desks that wait at the door.
+// Takes the desks that wait at the door; none where calls are noted.
 fn join_all<R: Wait, D: Disk + Drop, K: Visits>(rt: &R, door: &Door<D>, back: &mut Back<D, K>)
     ensures { Joins (door.now ≡ false) back.old back.new }
 {
     'desks: for _ in 0..DESKS {
-        if !back.may_join() {
+        if K::NOTED || !back.may_join() {
             break;
         }
         let Some(desk) = door.take(rt) else {
             break;
         };
         // There is memory for it.
-        let _joined = back.join(desk);
+        let _joined = back.join(Seat::alone(desk));
     }
 }
 
@@ -282,8 +299,8 @@ fn serve<R: Wait + Clock, D: Disk + Drop, G: Guide>(
     some
 }
 
-// Flushes the active desk. None: nothing waits there, or no flush is tried any more. Otherwise how many milliseconds
-// its thread may rest then.
+// Flushes the active desk. None: nothing waits there, or no flush is tried any more, or it couldn't be noted. Otherwise
+// how many milliseconds its thread may rest then.
 fn flush_some<R: Wait, D: Disk + Drop, G: Guide>(
     rt: &R,
     guide: &G,
@@ -294,7 +311,8 @@ fn flush_some<R: Wait, D: Disk + Drop, G: Guide>(
     if back.is_refused() || back.status(back.active()).pending == 0 {
         return None;
     }
-    match back.flush_for(rt, guide) {
+    guide.flushing(rt);
+    match back.flush_for(rt, guide)? {
         Ok(flushed) => {
             guide.stored(rt, back, flushed);
             Some(0)
@@ -305,7 +323,8 @@ fn flush_some<R: Wait, D: Disk + Drop, G: Guide>(
 }
 
 /// The whole work of a back's thread: it takes the desks that wait at the door, brings frames to the active one, serves
-/// what others ask, and flushes, until the front's thread has ended and nothing is left to flush.
+/// what others ask, and flushes, until the front's thread has ended and nothing is left to flush, or a call couldn't be
+/// noted.
 pub fn film_back<R: Wait + Clock, D: Disk + Drop, G: Guide>(
     rt: &R,
     alloc: Global,
@@ -321,6 +340,10 @@ pub fn film_back<R: Wait + Clock, D: Disk + Drop, G: Guide>(
         let over = link.over.load(Ordering::SeqCst);
         let some = serve(rt, alloc, link, guide, door, &mut back);
         let rest = match flush_some(rt, guide, &mut back) {
+            _ if back.is_closed() => {
+                link.stop(rt);
+                break;
+            }
             Some(rest) => rest,
             None if some => 0,
             None if over => break,
@@ -474,7 +497,25 @@ struct Both<S: FrameSource + Drop, D: Disk + Drop, P: PlaneMemory, G: Visits, W:
     back: Back<D, G>,
 }
 
-// Runs a front in a thread of its own, and the back in this one. If no thread can be started, the front doesn't tick.
+// The whole work of a back's thread, once those of the cameras beside it can begin too. If one can't, no desk is asked.
+fn film_beside<R: Wait + Clock, D: Disk + Drop, G: Guide>(
+    rt: &R,
+    alloc: Global,
+    link: &Link,
+    guide: &G,
+    door: &Door<D>,
+    back: Back<D, G>,
+) -> Back<D, G>
+    ensures { Joins (door.now ≡ false) back result }
+{
+    if !link.wait_for_others(rt) {
+        return back;
+    }
+    film_back(rt, alloc, link, guide, door, back)
+}
+
+// Runs a front in a thread of its own, and the back in this one, once those of the cameras beside it can begin too. If
+// no thread can be started, the front doesn't tick, and no desk is asked.
 fn run_in<
     's,
     E,
@@ -513,7 +554,7 @@ fn run_in<
     { film_carried(rt, alloc, link, guide, device, queue, table, to) };
     match scope.spawn_with(begun, work) {
         Ok(handle) => {
-            let back = film_back(rt, alloc, link, guide, door, back);
+            let back = film_beside(rt, alloc, link, guide, door, back);
             Both {
                 front: handle.join(rt),
                 back,
@@ -534,7 +575,7 @@ fn end_both<S: FrameSource + Drop, D: Disk + Drop, P: PlaneMemory, G: Guide, W: 
     begun: Begun<S, P, G>,
     front: Left<S, P, W>,
     back: Back<D, G>,
-) -> CameraEnd<S, D, P>
+) -> CameraEnd<S, D, P, G>
     requires front { LeavesCarried W.inside S.next_gives P.plane
         (G.due begun.guide.value) (G.ends begun.guide.value) (made_of begun) front }
     requires pair { IsPair begun.to.value back.from }
@@ -574,12 +615,12 @@ fn end_both<S: FrameSource + Drop, D: Disk + Drop, P: PlaneMemory, G: Guide, W: 
 
 /// Why a camera wasn't filmed.
 #[derive(Drop)]
-pub enum Unfilmed<S: FrameSource + Drop, D: Disk + Drop, P: PlaneMemory> {
+pub enum Unfilmed<S: FrameSource + Drop, D: Disk + Drop, P: PlaneMemory, G: Visits> {
     /// Memory was refused before it began, or a camera beside it can't be filmed: the camera comes back.
-    NoMemory(Camera<S, D, P>),
+    NoMemory(Camera<S, D, P, G>),
     /// A thread couldn't be started, or a camera beside it can't be filmed: what is left of the camera. Its device and
     /// its queue are as they were: no frame was filmed.
-    NoThread(CameraEnd<S, D, P>),
+    NoThread(CameraEnd<S, D, P, G>),
 }
 
 /// Films a camera until its guide or its source ends it and nothing is left to flush. The front runs in a new thread of
@@ -600,8 +641,8 @@ pub fn film_desks<
     link: &'s Link,
     guide: &'s G,
     door: &Door<D>,
-    camera: Camera<S, D, P>,
-) -> Result<CameraEnd<S, D, P>, Unfilmed<S, D, P>>
+    camera: Camera<S, D, P, G>,
+) -> Result<CameraEnd<S, D, P, G>, Unfilmed<S, D, P, G>>
     ensures keeps { IfOk result (λ e. IsRegular P.plane camera.queue
         → KeepsJoined D.medium S.next_gives P.plane G.asks G.gives_up
         (G.due guide.now) (G.ends guide.now) (door.now ≡ false) camera
@@ -668,8 +709,8 @@ pub fn film_camera<
     scope: &Scope<'s, E>,
     link: &'s Link,
     guide: &'s G,
-    camera: Camera<S, D, P>,
-) -> Result<CameraEnd<S, D, P>, Unfilmed<S, D, P>>
+    camera: Camera<S, D, P, G>,
+) -> Result<CameraEnd<S, D, P, G>, Unfilmed<S, D, P, G>>
     ensures keeps { IfOk result (λ e. IsRegular P.plane camera.queue
         → CameraKeeps D.medium S.next_gives P.plane G.asks G.gives_up
         (G.due guide.now) (G.ends guide.now) camera

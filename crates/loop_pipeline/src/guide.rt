@@ -30,6 +30,9 @@ pub trait Guide: Visits {
         ensures due { IfSome result (due self.now n) }
         ensures ends { result ≡ None → ends self.now n };
 
+    /// A frame was taken from the queue.
+    fn dequeued<R: Wait>(&self, rt: &R) {}
+
     /// What a tick did.
     fn ticked<R: Wait>(&self, rt: &R, tick: Tick) {}
 
@@ -45,6 +48,9 @@ pub trait Guide: Visits {
     fn gave_up<R: Wait, D: Disk + Drop>(&self, rt: &R, back: &Back<D, Self>, frame: LostFrame)
         requires { IsGivenUp D.medium Self.gives_up back.now frame }
     {}
+
+    /// A flush begins; the disk isn't written yet.
+    fn flushing<R: Wait>(&self, rt: &R) {}
 
     /// A flush stored frames.
     fn stored<R: Wait, D: Disk + Drop>(&self, rt: &R, back: &Back<D, Self>, done: Flushed)

@@ -16,8 +16,8 @@ use loop_plane::PlaneMemory;
 /// the one of the plain recorder at its point, the desk stands for the state after them, and calls of its disk have
 /// failed just as the answers say.
 pub fn a_camera_is_legal<S: FrameSource + Drop, D: Disk + Drop, P: PlaneMemory, G: Guide>(
-    before: &Camera<S, D, P>,
-    after: &Camera<S, D, P>,
+    before: &Camera<S, D, P, G>,
+    after: &Camera<S, D, P, G>,
     guide: &G,
 )
     ensures { (given_up left missed failed : ℕ) (over : Bool)
@@ -30,8 +30,8 @@ pub fn a_camera_is_legal<S: FrameSource + Drop, D: Disk + Drop, P: PlaneMemory, 
 
 /// Where a camera has one desk, all calls are that desk's own: what is kept of it is said without places.
 pub fn one_desk_has_all<S: FrameSource + Drop, D: Disk + Drop, P: PlaneMemory, G: Guide>(
-    before: &Camera<S, D, P>,
-    after: &Camera<S, D, P>,
+    before: &Camera<S, D, P, G>,
+    after: &Camera<S, D, P, G>,
     guide: &G,
 )
     ensures { (given_up left missed failed : ℕ) (over : Bool)

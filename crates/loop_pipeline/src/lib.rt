@@ -45,6 +45,7 @@ pub use ending::{CameraEnd, end};
 pub use film::{Link, Unfilmed, film_back, film_camera, film_desks, film_front};
 pub use front::{Begun, Front, FrontParts, TakeOutcome};
 pub use guide::Guide;
+pub use loop_sessions::{Noting, Seat};
 pub use several::{Filmed, Outcome, Shot, film_all};
 pub use start::{new_queue, start_queue};
 pub use start_barrier::StartBarrier;

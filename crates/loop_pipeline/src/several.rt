@@ -18,7 +18,7 @@ use std::thread::{Promise, PromisedHandle, Scope, Threads};
 use std::time::Clock;
 
 /// What filming a camera answers, as `film_camera`.
-pub type Filmed<S, D, P> = Result<CameraEnd<S, D, P>, Unfilmed<S, D, P>>;
+pub type Filmed<S, D, P, G> = Result<CameraEnd<S, D, P, G>, Unfilmed<S, D, P, G>>;
 
 /// A camera and its guide.
 #[derive(Drop)]
@@ -26,7 +26,7 @@ pub struct Shot<S: FrameSource + Drop, D: Disk + Drop, P: PlaneMemory, G: Guide 
     /// Its guide.
     pub guide: G,
     /// The camera.
-    pub camera: Camera<S, D, P>,
+    pub camera: Camera<S, D, P, G>,
 }
 
 /// What came of one of several cameras.
@@ -35,7 +35,7 @@ pub struct Outcome<S: FrameSource + Drop, D: Disk + Drop, P: PlaneMemory, G: Gui
     /// What was filmed, as it was before.
     pub shot: Snapshot<Shot<S, D, P, G>>,
     /// What filming it answered.
-    pub filmed: Filmed<S, D, P>,
+    pub filmed: Filmed<S, D, P, G>,
 }
 
 // A camera's thread returns what filming it answered.
@@ -45,7 +45,7 @@ struct Given<S: FrameSource + Drop, D: Disk + Drop, P: PlaneMemory, G: Guide + D
 );
 
 impl<S: FrameSource + Drop, D: Disk + Drop, P: PlaneMemory, G: Guide + Drop> Promise<
-    Filmed<S, D, P>,
+    Filmed<S, D, P, G>,
 > for Given<S, D, P, G> {
     ghost use Rattle.loop_pipeline.specs.Several.{IsFilmed};
 
@@ -65,7 +65,7 @@ fn film_alone<
     D: Disk + Drop,
     P: PlaneMemory + Send,
     G: Guide + Sync,
->(rt: &R, alloc: Global, link: &Link, guide: &G, camera: Camera<S, D, P>) -> Filmed<S, D, P>
+>(rt: &R, alloc: Global, link: &Link, guide: &G, camera: Camera<S, D, P, G>) -> Filmed<S, D, P, G>
     ensures { IsFilmed D.medium S.next_gives P.plane G.asks G.gives_up
         (G.due guide.now) (G.ends guide.now) camera result }
 {
@@ -73,7 +73,7 @@ fn film_alone<
     thread::scope(
         thread::scope_env(),
         rt,
-        move |scope| -> Filmed<S, D, P>
+        move |scope| -> Filmed<S, D, P, G>
             ensures { IsFilmed D.medium S.next_gives P.plane G.asks G.gives_up
                 (G.due guide.entry.now) (G.ends guide.entry.now) camera result }
         { film_camera(rt, alloc, scope, link, guide, camera) },
@@ -87,7 +87,7 @@ fn film_one<
     D: Disk + Drop,
     P: PlaneMemory + Send,
     G: Guide + Drop + Sync,
->(rt: &R, alloc: Global, barrier: &Arc<StartBarrier>, shot: Shot<S, D, P, G>) -> Filmed<S, D, P>
+>(rt: &R, alloc: Global, barrier: &Arc<StartBarrier>, shot: Shot<S, D, P, G>) -> Filmed<S, D, P, G>
     ensures { IsFilmed D.medium S.next_gives P.plane G.asks G.gives_up
         (G.due shot.guide) (G.ends shot.guide) shot.camera result }
 {
@@ -105,7 +105,7 @@ fn film_one<
 #[derive(Drop)]
 struct Running<S: FrameSource + Drop, D: Disk + Drop, P: PlaneMemory, G: Guide + Drop> {
     shot: Snapshot<Shot<S, D, P, G>>,
-    handle: PromisedHandle<Filmed<S, D, P>, Given<S, D, P, G>>,
+    handle: PromisedHandle<Filmed<S, D, P, G>, Given<S, D, P, G>>,
 }
 
 // Starts a camera's thread. If it can't be started, no camera is filmed.
@@ -130,7 +130,7 @@ fn start_one<
 {
     let given = Snapshot::of(&shot);
     let kept = Snapshot::of(&shot);
-    let work = move || -> Filmed<S, D, P>
+    let work = move || -> Filmed<S, D, P, G>
         ensures { IsFilmed D.medium S.next_gives P.plane G.asks G.gives_up
             (G.due shot.guide) (G.ends shot.guide) shot.camera result }
     { film_one(rt, alloc, barrier, shot) };
@@ -297,7 +297,7 @@ pub fn film_all<
     let Ok(outcomes) = Vec::with_capacity(alloc, count) else {
         return Err(shots);
     };
-    let Ok(barrier) = Arc::new(alloc, StartBarrier::new(count)) else {
+    let Ok(barrier) = Arc::new(alloc, StartBarrier::new(count.saturating_mul(2))) else {
         return Err(shots);
     };
     let (rt, barrier) = (&*rt, &barrier);

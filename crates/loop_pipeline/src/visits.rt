@@ -1,7 +1,10 @@
 //! What visitors of a desk may call, and when its frames may be given up.
 
-/// What visitors of a camera's desk may call, between what its filming does by itself: submits and flushes.
-pub trait Visits {
+use loop_sessions::Noting;
+
+/// What visitors of a camera's desk may call, between what its filming does by itself: submits and flushes; and whether
+/// each call is noted.
+pub trait Visits: Noting {
     ghost use Rattle.std.specs.Prelude.{⊤};
     ghost use Rattle.loop_desk.specs.Desk.{DeskCall};
     ghost use Rattle.loop_store.specs.declared.fault.StoreFault.{StoreFault};

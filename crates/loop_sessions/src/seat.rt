@@ -4,7 +4,7 @@ ghost use Rattle.std.specs.Prelude.{◌≡◌, ◌≢◌, ◌∷◌, ℕ, IfSome
 ghost use Rattle.rtrb.specs.Ring.{known_items};
 ghost use Rattle.loop_desk.specs.Desk.{clip_unlocked, flushed, frame_read};
 ghost use Rattle.loop_desk.specs.Keeps.{HaveTime, KeepsTime};
-ghost use Rattle.loop_desk.specs.Seen.{DeskGoes};
+ghost use Rattle.loop_desk.specs.Seen.{DeskGoes, TellsStatus};
 ghost use Rattle.loop_store.specs.Calls.{read_with};
 ghost use Rattle.loop_store.specs.Runs.{read_of};
 ghost use Rattle.loop_sessions.specs.declared.seat.Taken.TheVariants.{Nothing, Unnoted};
@@ -12,7 +12,7 @@ ghost use Rattle.loop_sessions.specs.Seats.{MayNote, NotesCall, StaysNoted, Take
 
 use crate::session::{answer_of, head_of, note, reserve, stamp_of};
 use crate::{Entry, FrameInfo, Noted, Pass, Session};
-use loop_desk::{Desk, Flushed, Kept, Outline};
+use loop_desk::{Desk, Flushed, Kept, Outline, Status};
 use loop_disk::Disk;
 use loop_record::{Frame, FrameHead, Times};
 use loop_store::{ReadFrame, StoreFault};
@@ -150,6 +150,13 @@ impl<D: Disk + Drop, N: Noting, A: Allocator> Seat<D, N, A> {
         &self.desk
     }
 
+    /// The counts of the desk, as `Desk::status`. They aren't noted.
+    pub fn status(&self) -> Status
+        ensures { TellsStatus D.medium self.now result }
+    {
+        self.desk.status()
+    }
+
     /// Memory of a stored frame, as `Desk::spare_memory`. It isn't noted.
     pub fn spare_memory(&mut self) -> Option<Vec<u8, A>>
         ensures { self.new ≡ self.old }
@@ -241,6 +248,13 @@ impl<D: Disk + Drop, N: Noting, A: Allocator> Seat<D, N, A> {
             noting: _,
         } = self;
         desk
+    }
+
+    /// The disk alone, as `Desk::into_disk`.
+    pub fn into_disk(self) -> D
+        ensures { result ≡ self.store.disk }
+    {
+        self.into_desk().into_disk()
     }
 
     /// The session with the desk, and the pass.

@@ -1,6 +1,6 @@
 //! What the threads of one camera share, and how that guides them.
 
-ghost use Rattle.std.specs.Prelude.{◌≡◌};
+ghost use Rattle.std.specs.Prelude.{◌≡◌, false};
 
 use crate::clerk::{attend, one_must_reopen, take_joined};
 use crate::growing::{Growing, Ongoing};
@@ -9,7 +9,7 @@ use crate::save::{Saves, begin_ordered, tell_ended};
 use loop_capture::Tick;
 use loop_desk::Flushed;
 use loop_disk::Disk;
-use loop_pipeline::{Back, Guide, Link, LostFrame, Visits};
+use loop_pipeline::{Back, Guide, Link, LostFrame, Noting, Visits};
 use loop_station_core::{
     Act, EventEnd, FilmingEvent, Keep, MayRelease, OpenEvent, Run, SaveKey, Tally, event_end,
     may_release, may_release_saved,
@@ -550,6 +550,13 @@ impl CameraState {
             None => 0,
         }
     }
+}
+
+/// The calls of a station's desks aren't noted.
+impl Noting for CameraState {
+    ghost NOTED = { false };
+
+    const NOTED: bool = false;
 }
 
 /// Orders lock, unlock and read; they store nothing.

@@ -45,12 +45,12 @@ const DESKS: usize = 256;
 const FLUSH_BYTES: u32 = 67_108_864;
 
 // A camera in front of a store in a file.
-type FileCamera = Camera<FeedSource, FileDisk, HeapPlane>;
+type FileCamera = Camera<FeedSource, FileDisk, HeapPlane, CameraState>;
 
 // The result of filming it.
 type Filmed = Result<
-    CameraEnd<FeedSource, FileDisk, HeapPlane>,
-    Unfilmed<FeedSource, FileDisk, HeapPlane>,
+    CameraEnd<FeedSource, FileDisk, HeapPlane, CameraState>,
+    Unfilmed<FeedSource, FileDisk, HeapPlane, CameraState>,
 >;
 
 /// Opens a camera's store, or makes it, and films into it, again and again until the camera is stopped. It tries again

@@ -5,8 +5,8 @@ use loop_capture::{Device, Pattern};
 use loop_desk::Desk;
 use loop_disk::MemDisk;
 use loop_pipeline::{
-    Camera, CameraEnd, Guide, Link, Unfilmed, Visits, film_camera, heap_start, new_queue,
-    start_queue,
+    Camera, CameraEnd, Guide, Link, Noting, Seat, Unfilmed, Visits, film_camera, heap_start,
+    new_queue, start_queue,
 };
 use loop_plane::HeapPlane;
 use loop_record::{Geometry, PixelFormat};
@@ -25,15 +25,23 @@ const ROWS: [(PixelFormat, u32, u32, u32, u64); 2] = [
     (PixelFormat::Ym12, 1600, 900, 2_160_000, 8_643_712),
 ];
 
-type HeapCamera = Camera<Pattern, MemDisk, HeapPlane>;
+type HeapCamera = Camera<Pattern, MemDisk, HeapPlane, Four>;
 
-type HeapEnded = CameraEnd<Pattern, MemDisk, HeapPlane>;
+type HeapEnded = CameraEnd<Pattern, MemDisk, HeapPlane, Four>;
 
-type Filmed = Result<HeapEnded, Unfilmed<Pattern, MemDisk, HeapPlane>>;
+type Filmed = Result<HeapEnded, Unfilmed<Pattern, MemDisk, HeapPlane, Four>>;
 
 // Four ticks at 25 frames a second.
 #[derive(Drop)]
 struct Four;
+
+impl Noting for Four {
+    ghost use Rattle.std.specs.Prelude.{false};
+
+    ghost NOTED = { false };
+
+    const NOTED: bool = false;
+}
 
 impl Visits for Four {
     ghost asks = { λ call. ⊥ };
@@ -132,10 +140,11 @@ fn are_of(bytes: &[u8], number: u8, size: u32) -> bool {
 }
 
 // Checks that a desk holds the frame of a number, which is the pattern's.
-fn is_held(rt: &impl Abort, alloc: Global, desk: &mut Desk<MemDisk>, number: u8, size: u32) {
+fn is_held(rt: &impl Abort, alloc: Global, desk: &mut Seat<MemDisk, Four>, number: u8, size: u32) {
     match desk.read_frame(alloc, u64::from(number)) {
-        Ok(read) => holds!(rt; are_of(&read.bytes, number, size), (number, size)),
-        Err(fault) => panic!(rt; "frame {number}: {fault}"),
+        None => panic!(rt; "frame {number}: not asked"),
+        Some(Ok(read)) => holds!(rt; are_of(&read.bytes, number, size), (number, size)),
+        Some(Err(fault)) => panic!(rt; "frame {number}: {fault}"),
     }
 }
 

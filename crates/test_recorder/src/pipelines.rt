@@ -1,7 +1,7 @@
 //! Cameras that are filmed, by turns and by threads, into a disk that takes all and into one that fails; what is kept,
 //! read and unlocked meanwhile; and the text of what was filmed.
 
-ghost use Rattle.std.specs.Prelude.{◌≡◌, ⊤, []};
+ghost use Rattle.std.specs.Prelude.{◌≡◌, ⊤, [], false};
 ghost use Rattle.loop_pipeline.specs.Fronts.{IsOpen};
 ghost use Rattle.loop_plane.specs.Kinds.{heap_plane};
 ghost use Rattle.loop_sessions.specs.Ports.{StandsPort};
@@ -14,8 +14,8 @@ use loop_desk::{Desk, Flushed, Hand, LaneFault};
 use loop_disk::{Disk, FuseDisk, MemDisk};
 use loop_lane_text::{LostFrames, film_and_export};
 use loop_pipeline::{
-    Back, Begun, Brought, Camera, CameraEnd, Front, Guide, Link, LostFrame, Outcome, Shot,
-    TakeOutcome, Visits, end, film_all, film_camera, heap_start, new_queue, start_queue,
+    Back, Begun, Brought, Camera, CameraEnd, Front, Guide, Link, LostFrame, Noting, Outcome, Seat,
+    Shot, TakeOutcome, Visits, end, film_all, film_camera, heap_start, new_queue, start_queue,
 };
 use loop_plane::{FdTable, HeapPlane, PlaneMemory};
 use loop_record::{Frame, Times};
@@ -53,6 +53,12 @@ fn guide(ticks: u64, first: u64) -> Guided {
         stored: AtomicU64::new(0),
         clips: AtomicU64::new(0),
     }
+}
+
+impl Noting for Guided {
+    ghost NOTED = { false };
+
+    const NOTED: bool = false;
 }
 
 impl Visits for Guided {
@@ -120,9 +126,9 @@ const ALL: Times = Times {
 
 type Fused = FuseDisk<MemDisk>;
 
-type TestCamera = Camera<Pattern, Fused, HeapPlane>;
+type TestCamera = Camera<Pattern, Fused, HeapPlane, Guided>;
 
-type TestEnded = CameraEnd<Pattern, Fused, HeapPlane>;
+type TestEnded = CameraEnd<Pattern, Fused, HeapPlane, Guided>;
 
 // A queue that streams, with four buffers in the application's memory.
 fn streaming(rt: &impl Abort, alloc: Global) -> (Queue<HeapPlane>, FdTable<HeapPlane>)
@@ -179,13 +185,14 @@ fn film<R: Threads + Wait + Clock + Abort + Sync>(
 }
 
 // Checks that a desk holds the frame of a number, which is the pattern's, at the time of its tick.
-fn has_frame(rt: &impl Abort, alloc: Global, desk: &mut Desk<Fused>, number: u32) {
+fn has_frame(rt: &impl Abort, alloc: Global, desk: &mut Seat<Fused, Guided>, number: u32) {
     match desk.read_frame(alloc, u64::from(number)) {
-        Ok(read) => {
+        None => panic!(rt; "frame {number}: not asked"),
+        Some(Ok(read)) => {
             holds!(rt; are_of(&read.bytes, number, 12), number);
             same!(rt; read.head.timestamp, u64::from(number) * 1_000, number);
         }
-        Err(fault) => panic!(rt; "frame {number}: {fault}"),
+        Some(Err(fault)) => panic!(rt; "frame {number}: {fault}"),
     }
 }
 
@@ -202,7 +209,7 @@ fn again(rt: &impl Abort, ended: TestEnded) -> TestCamera
         ..
     } = ended;
     match hand {
-        Hand::Empty => Camera::new(device, queue, table, desk),
+        Hand::Empty => Camera::seated(device, queue, table, desk),
         _ => panic!(rt; "a buffer isn't in its queue"),
     }
 }
@@ -484,7 +491,7 @@ fn back_before(
     requires { received from ≡ [] }
     ensures { result.from ≡ from }
 {
-    match Back::new(alloc, 1, desk, from) {
+    match Back::new(alloc, 1, Seat::alone(desk), from) {
         Ok(back) => back,
         Err(_) => panic!(rt; "memory for a back"),
     }

@@ -37,3 +37,6 @@ returns-in-Err-clause-front g c =
     subst (λ (seen : SeenFront g.row.S.Denot g.row.P.Denot g.row.G.Denot Global). LeavesCarried g.W.Carrier.inside
     g.S.FrameSource.next_gives g.P.PlaneMemory.plane (g.G.Guide.due seen.guide) (g.G.Guide.ends seen.guide) seen
     c.work.result) (sym c.requires.begun) (rw c.in-Err.ensures.err at c.work.ensures)
+
+pub returns-in-Ok-clause-front : goal.returns-in-Ok-clause-front
+returns-in-Ok-clause-front g c = rw c.in-Ok.ensures.ok at c.join.ensures

@@ -13,16 +13,16 @@ spawn_with-requires-send-F g c =
     let sg = b.send-G in
     let sb = barrier_send in
     let yb = barrier_sync in
-    let sc = camera_in_send _ _ _ g.S.FrameSource g.D.Disk g.P.PlaneMemory b.send-S b.send-D b.send-P in
+    let sc = camera_in_send _ _ _ _ g.S.FrameSource g.D.Disk g.P.PlaneMemory g.G.Visits g.G.Noting b.send-S b.send-D b.send-P b.send-G in
     search (sendable, crosses) depth 40
 
 pub spawn_with-requires-send-T : goal.spawn_with-requires-send-T
 spawn_with-requires-send-T g c =
     let b = c.type_bounds in
-    let se = ended_send _ _ _ g.D.Disk b.send-S b.send-D b.send-P in
-    let si = ended_in_send _ _ _ g.D.Disk b.send-S b.send-D b.send-P in
-    let su = unfilmed_send _ _ _ g.S.FrameSource g.D.Disk g.P.PlaneMemory b.send-S b.send-D b.send-P in
-    let sv = unfilmed_in_send _ _ _ g.S.FrameSource g.D.Disk g.P.PlaneMemory b.send-S b.send-D b.send-P in
+    let se = ended_send _ _ _ _ g.D.Disk g.G.Noting b.send-S b.send-D b.send-P b.send-G in
+    let si = ended_in_send _ _ _ _ g.D.Disk g.G.Noting b.send-S b.send-D b.send-P b.send-G in
+    let su = unfilmed_send _ _ _ _ g.S.FrameSource g.D.Disk g.P.PlaneMemory g.G.Visits g.G.Noting b.send-S b.send-D b.send-P b.send-G in
+    let sv = unfilmed_in_send _ _ _ _ g.S.FrameSource g.D.Disk g.P.PlaneMemory g.G.Visits g.G.Noting b.send-S b.send-D b.send-P b.send-G in
     search (sendable, crosses) depth 40
 
 pub spawn_with-requires-clause-keeps : goal.spawn_with-requires-clause-keeps

@@ -1,3 +1,4 @@
+use Rattle.std.proofs.Common.{Some, ap, sym, ◌∙◌}
 use Rattle.loop_pipeline.proofs.Places.{read-at}
 use Rattle.loop_pipeline.proofs.Turning.{begins-not, begins-with}
 use Rattle.loop_pipeline.proofs.back.Back.is_locked.Goals as goal
@@ -7,5 +8,5 @@ returns-then-not-is_between g c e = begins-not g.D.Disk.medium c.args.self.now c
 
 pub returns : goal.returns
 returns g c e =
-    begins-with g.D.Disk.medium _ _ c.index.result.now c.space.result c.is_full.result c.self.view_is
-    (read-at _ _ _ c.self.invariant.inside c.index.ensures) c.space.ensures c.is_full.ensures e
+    begins-with g.D.Disk.medium _ _ c.desk.result.now c.space.result c.is_full.result c.self.view_is
+    (read-at _ _ _ c.self.invariant.inside c.index.ensures ∙ ap Some (sym c.desk.ensures)) c.space.ensures c.is_full.ensures e

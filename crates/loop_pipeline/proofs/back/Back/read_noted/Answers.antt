@@ -1,0 +1,19 @@
+use Rattle.loop_pipeline.proofs.BackRuns.{read-on}
+use Rattle.loop_pipeline.proofs.DeskPlaces.{some-then, goes-at, within}
+use Rattle.loop_pipeline.proofs.Places.{read-at, set-same}
+use Rattle.loop_pipeline.proofs.back.Back.read_noted.Goals as goal
+
+pub invariant_of-self : goal.invariant_of-self
+invariant_of-self g c =
+    read-on g.D.Disk.medium g.K.Visits.asks g.K.Visits.gives_up _ _ _ _ c.self.inside.from c.self.inside.from _ _ c.self.invariant _ _ _
+    (read-at _ _ _ (within c.self.view_is c.requires.place) c.index_mut.ensures.value) c.index_mut.ensures.value _
+    c.requires.may c.read_frame.result c.read_frame.ensures.asked c.read_frame.ensures.unasked
+
+pub returns-clause-asked : goal.returns-clause-asked
+returns-clause-asked g c =
+    some-then c.read_frame.result _ _ c.read_frame.ensures.asked (λ answer goes.
+    goes-at _ _ c.args.place _ _ _ c.self.view_is
+    (read-at _ _ _ (within c.self.view_is c.requires.place) c.index_mut.ensures.value) goes)
+
+pub returns-clause-unasked : goal.returns-clause-unasked
+returns-clause-unasked g c none = rw (set-same _ _ _ _ c.index_mut.ensures.value (c.read_frame.ensures.unasked none)) c.self.view_is
