@@ -18,6 +18,11 @@ pub record SeenDevice (S : Type 0) : Type 0 where
   pub size : ℕ
   pub next : ℕ
 
+-- a device without its source
+pub record SeenRest : Type 0 where
+  pub size : ℕ
+  pub next : ℕ
+
 -- a new device
 abbrev pub IsNew : {S : Type 0} → S → ℕ → SeenDevice S → Type 0
 IsNew source size d = d ≡ record { source = source; size = size; next = 0 }

@@ -1,14 +1,16 @@
 // The device: a source's frames for a queue's buffers. docs/capture.md says why it is so.
 ghost use Rattle.std.specs.Prelude.{◌≡◌, IfErr, IfOk, length};
 ghost use Rattle.loop_capture.specs.declared.source.Next.TheVariants.{More};
-ghost use Rattle.loop_capture.specs.Ticks.{Ends, IsLongest, IsNew, SeenDevice, Ticks, sequence_after};
+ghost use Rattle.loop_capture.specs.Ticks.{Ends, IsLongest, IsNew, SeenDevice, SeenRest, Ticks, sequence_after};
 ghost use Rattle.loop_vb2.specs.Planes.{frame_size};
 
+use crate::loan::Loan;
 use crate::source::{FrameSource, Next};
 use loop_plane::PlaneMemory;
 use loop_vb2::{Queue, Stamp};
 use std::alloc::{Allocator, Global};
 use std::marker::Model;
+use std::mem;
 
 /// What a tick did.
 #[derive(Clone, Copy, PartialEq, Eq, Debug)]
@@ -42,10 +44,23 @@ pub struct Device<S = Box<dyn FrameSource + Send>, A: Allocator + Copy = Global>
     next: u32,
 }
 
+/// A device without its source: its buffer, and the sequence of the next frame.
+#[derive(Drop)]
+pub struct Rest<A: Allocator + Copy = Global> {
+    frame: Vec<u8, A>,
+    next: u32,
+}
+
 impl<S, A: Allocator + Copy> Model for Device<S, A> {
     ghost Value = { SeenDevice S };
 
     ghost view = { λ d. record { source = d.source; size = length d.frame.items; next = d.next } };
+}
+
+impl<A: Allocator + Copy> Model for Rest<A> {
+    ghost Value = { SeenRest };
+
+    ghost view = { λ r. record { size = length r.frame.items; next = r.next } };
 }
 
 impl<S: FrameSource, A: Allocator + Copy> Device<S, A> {
@@ -100,6 +115,46 @@ impl<S: FrameSource, A: Allocator + Copy> Device<S, A> {
                 end_frame(queue, active, answer, stamp, &self.frame)
             }
         }
+    }
+
+    /// A device over the source of this one, lent, with this one's buffer and sequence. After the loan this one resumes
+    /// with the rest of it. A device that doesn't has no buffer, and its ticks are WrongSize.
+    pub fn lend(&mut self) -> Device<Loan<'_, S>, A>
+        ensures source { result.source.source.now ≡ self.old.source }
+        ensures size { result.size ≡ self.old.size }
+        ensures next { result.next ≡ self.old.next }
+    {
+        let none = Vec::new(*self.frame.allocator());
+        let frame = mem::replace(&mut self.frame, none);
+        Device {
+            source: Loan {
+                source: &mut self.source,
+            },
+            frame,
+            next: self.next,
+        }
+    }
+
+    /// What a device leaves without its source, as one whose source was lent.
+    pub fn into_rest(self) -> Rest<A>
+        ensures size { result.size ≡ self.size }
+        ensures next { result.next ≡ self.next }
+    {
+        let Device {
+            source: _,
+            frame,
+            next,
+        } = self;
+        Rest { frame, next }
+    }
+
+    /// Takes the buffer and the sequence that a device left, as one to which its source was lent.
+    pub fn resume(&mut self, rest: Rest<A>)
+        ensures { self.new ≡ record { source = self.old.source; size = rest.size; next = rest.next } }
+    {
+        let Rest { frame, next } = rest;
+        self.frame = frame;
+        self.next = next;
     }
 
     /// What is to be among the flags of the frame of the last tick that completed a buffer: its source says so.

@@ -6,17 +6,19 @@
 //!
 //! - `source`: what a source is, and a box of one; `pattern`: frames whose bytes identify them; `footage`: frames of a
 //!   YUV4MPEG2 input;
-//! - `device`: the device, and its tick.
+//! - `device`: the device, and its tick; `loan`: a device's source, lent.
 //!
 //! docs/capture.md says why it is so.
 #![tactic(auto)]
 
 mod device;
 mod footage;
+mod loan;
 mod pattern;
 mod source;
 
-pub use device::{Device, NoMemory, Tick};
+pub use device::{Device, NoMemory, Rest, Tick};
 pub use footage::Y4mSource;
+pub use loan::Loan;
 pub use pattern::Pattern;
 pub use source::{FrameSource, Next};
