@@ -1,0 +1,17 @@
+use Rattle.std.proofs.Common.{arith}
+use Rattle.loop_recorder.proofs.Standing.{holds-fewer}
+use Rattle.loop_recorder.proofs.returns.shots_back.Goals as goal
+
+pub put_back-returned-requires-clause-room : goal.put_back-returned-requires-clause-room
+put_back-returned-requires-clause-room g c κs within =
+    let so = c.loop-shot.invariant in
+    holds-fewer (omega (arith, c.in-Some.ensures.steps.1, so.count)) so.room
+
+pub loop-shot-preserved : goal.loop-shot-preserved
+loop-shot-preserved g c =
+    let so = c.loop-shot.invariant in
+    let put = c.put_back-returned.ensures in
+    record {
+      count = omega (arith, c.in-Some.ensures.steps.1, so.count, put.one);
+      room = put.room _ so.room;
+    }

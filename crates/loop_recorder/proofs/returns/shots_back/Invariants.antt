@@ -1,0 +1,10 @@
+use Rattle.std.proofs.Common.{◌≡◌, ◌+◌, vec_len}
+use Rattle.std.specs.Vec.Iter.{into_iter_len}
+use Rattle.loop_recorder.specs.Recordings.{Holds}
+use Rattle.loop_recorder.proofs.returns.shots_back.Given as goal
+
+abbrev pub invariant-loop-shot : goal.invariant-loop-shot
+invariant-loop-shot g l = record {
+  count : vec_len l.returned.cameras + into_iter_len l.shot-iterator ≡ vec_len l.fn.shots;
+  room : Holds (vec_len l.fn.shots) l.returned;
+}
