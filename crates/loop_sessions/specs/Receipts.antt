@@ -84,7 +84,7 @@ pub record Receives {A : Type 0} (camera place : ℕ) (note : Option Noted) (bef
   pub number : pass_number after ≡ pass_number before
 
 -- the history has one entry more, for what was noted, and the pass its receipt, at the entry's place
-pub record Records {A : Type 0} (camera : ℕ) (note : Option Noted) (old new : SeenSession) (before after : Pass A)
+pub record Records {D A : Type 0} (camera : ℕ) (note : Option Noted) (old new : SeenSession D) (before after : Pass A)
     : Type 0 where
   pub entered : new.history ≡ old.history ++ one_or_none (entry (pass_number before)) note
   pub calls : new.calls ≡ old.calls

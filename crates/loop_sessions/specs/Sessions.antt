@@ -16,10 +16,11 @@ use Rattle.loop_desk.specs.Seen.{DeskGoes, Opens, SeenDesk, StandsAt, TellsOutli
 use Rattle.loop_sessions.specs.declared.entry.Entry.{Entry}
 use Rattle.loop_sessions.specs.Histories.{IsLegal, calls_of}
 
--- a desk under its lock as its callers see it: the history of its calls, and how many it may have
-pub record SeenSession : Type 0 where
+-- a desk under its lock as its callers see it: the history of its calls, how many it may have, and the desk
+pub record SeenSession (D : Type 0) : Type 0 where
   pub history : List Entry
   pub calls : ℕ
+  pub desk : SeenDesk D
 
 -- From an opening that could be written and had this outline, the desk came to this one by some calls. Without pixels,
 -- these are the history's. `goes` says what the calls leave on the disk, whenever the power fails.

@@ -123,6 +123,7 @@ impl<D: Disk + Drop, N: Noting, A: Allocator> Seat<D, N, A> {
     /// camera's of that number.
     pub fn noting(session: Session<D, A>, camera: u32, pass: Pass<A>) -> Self
         requires { N.NOTED ≡ true }
+        ensures { result ≡ session.desk }
     {
         let Session {
             desk,
@@ -260,6 +261,7 @@ impl<D: Disk + Drop, N: Noting, A: Allocator> Seat<D, N, A> {
     /// The session with the desk, and the pass.
     pub fn into_noted(self) -> (Session<D, A>, Pass<A>)
         requires { N.NOTED ≡ true }
+        ensures { result.0.desk ≡ self }
     {
         let Seat {
             desk,

@@ -17,8 +17,8 @@ use std::alloc::{Allocator, Global};
 use std::marker::Model;
 use std::snapshot::Snapshot;
 
-/// A desk, the history of its calls, and its outline before the first of them. Contracts see the history, and how many
-/// calls it may have.
+/// A desk, the history of its calls, and its outline before the first of them. Contracts see the history, how many calls
+/// it may have, and the desk.
 #[derive(Drop)]
 pub struct Session<D: Disk + Drop, A: Allocator = Global> {
     pub(crate) desk: Desk<D, A>,
@@ -30,9 +30,9 @@ pub struct Session<D: Disk + Drop, A: Allocator = Global> {
 impl<D: Disk + Drop, A: Allocator> Model for Session<D, A> {
     ghost use Rattle.loop_sessions.specs.Sessions.{HasGoneOn, SeenSession};
 
-    ghost Value = { SeenSession };
+    ghost Value = { SeenSession D };
 
-    ghost view = { λ s. record { history = s.history.items; calls = s.desk.limits.calls } };
+    ghost view = { λ s. record { history = s.history.items; calls = s.desk.limits.calls; desk = s.desk } };
 
     ghost invariant = { λ s. HasGoneOn D.medium s.opening.value s.outline s.history.items s.desk };
 }
@@ -128,7 +128,7 @@ impl<D: Disk + Drop, A: Allocator + Copy> Session<D, A> {
     pub fn new(alloc: A, desk: Desk<D, A>, outline: Outline<A>) -> Self
         requires writable { desk.store.must_reopen ≡ false }
         requires outline { TellsOutline D.medium desk outline }
-        ensures { result ≡ record { history = []; calls = desk.limits.calls } }
+        ensures { result ≡ record { history = []; calls = desk.limits.calls; desk = desk } }
     {
         desk.opens();
         let opening = Snapshot::of(&desk);
@@ -309,6 +309,7 @@ impl<D: Disk + Drop, A: Allocator + Copy> Session<D, A> {
     /// The desk, its history, and its outline before the first call.
     pub fn into_parts(self) -> EndedCamera<D, A>
         ensures history { result.history.items ≡ self.history }
+        ensures desk { result.desk ≡ self.desk }
         ensures faithful { IsFaithful D.medium result.outline result.history.items result.desk }
     {
         let Session {
