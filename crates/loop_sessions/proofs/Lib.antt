@@ -4,5 +4,6 @@ pub mod OutlineSteps
 pub mod QueueLinks
 pub mod Crossing
 pub mod Apart
+pub mod Mapped
 pub mod Ends
 pub mod Seating

@@ -1,10 +1,14 @@
 //! A recorder whose locks are open: each camera is owned alone, and goes back under its locks later.
 
-ghost use Rattle.std.specs.Prelude.{◌≡◌, ◌+◌, ◌≤◌, ◌<◌, ◌^◌, [], length, vec_len};
+ghost use Rattle.std.specs.Prelude.{◌≡◌, ◌+◌, ◌≤◌, ◌<◌, ◌^◌, [], All, IfErr, IfOk, length, map, replicate, vec_len};
 ghost use Rattle.std.specs.Vec.{vec_capacity};
+ghost use Rattle.loop_sessions.specs.Endings.{IsFaithfulCamera};
+ghost use Rattle.loop_sessions.specs.Ends.{IsEnd};
 ghost use Rattle.loop_sessions.specs.Opened.{AreNumbered};
+ghost use Rattle.loop_sessions.specs.Refused.{RefusesEnd};
 
-use crate::{EndedCamera, Port, QueueLock, Recorder, Session};
+use crate::recorder::compared;
+use crate::{EndRefused, Ended, EndedCamera, Pass, Port, QueueLock, Recorder, Session};
 use loop_desk::Outline;
 use loop_disk::Disk;
 use loop_plane::PlaneMemory;
@@ -103,6 +107,33 @@ fn lock_cameras<D: Disk + Drop, P: PlaneMemory, A: Allocator + Copy>(
     (sessions, ports)
 }
 
+// Takes each session apart, and puts each port under a lock.
+fn part_cameras<D: Disk + Drop, P: PlaneMemory, A: Allocator + Copy>(
+    cameras: Vec<OpenCamera<D, P, A>, A>,
+    mut ended: Vec<EndedCamera<D, A>, A>,
+    mut ports: Vec<QueueLock<P, A>, A>,
+) -> (Vec<EndedCamera<D, A>, A>, Vec<QueueLock<P, A>, A>)
+    requires few { vec_len cameras < 2 ^ 32 }
+    requires ended { (ended.items ≡ []) × (vec_len cameras ≤ vec_capacity ended) }
+    requires ports { (vec_len ports ≡ 0) × (vec_len cameras ≤ vec_capacity ports) }
+    ensures faithful { All (IsFaithfulCamera D.medium) result.0.items }
+    ensures desks { map (λ c. c.desk) result.0.items ≡ map (λ c. c.session.desk) cameras.items }
+    ensures count { vec_len result.0 ≡ vec_len cameras }
+    ensures numbers { AreNumbered (vec_len cameras) result.1.items }
+{
+    let mut number = 0;
+    for camera in cameras {
+        let OpenCamera { session, port } = camera;
+        ended.push_reserved(session.into_parts());
+        ports.push_reserved(QueueLock {
+            camera: number,
+            port: Mutex::new(port),
+        });
+        number += 1;
+    }
+    (ended, ports)
+}
+
 impl<D: Disk + Drop, P: PlaneMemory, A: Allocator + Copy> Recorder<D, P, A> {
     /// Takes the cameras out of their locks, into an empty list with memory for them. It takes no memory.
     pub fn open_locks(
@@ -157,6 +188,42 @@ impl<D: Disk + Drop, P: PlaneMemory, A: Allocator + Copy> OpenRecorder<D, P, A> 
             passes,
             ended,
             given_up,
+        }
+    }
+
+    /// As `lock_again` and then `Recorder::end`. It takes no memory. The desks that come back are the sessions' own.
+    pub fn end(
+        self,
+        cameras: Vec<OpenCamera<D, P, A>, A>,
+        passes: Vec<Pass<A>, A>,
+    ) -> Result<Ended<D, P, A>, EndRefused<D, P, A>>
+        requires { vec_len cameras ≡ length self.outlines }
+        ensures ended { IfOk result (IsEnd D.medium self.outlines) }
+        ensures desks { IfOk result
+            (λ e. map (λ c. c.desk) e.cameras.items ≡ map (λ c. c.session.desk) cameras.items) }
+        ensures passes { IfOk result (λ e. e.passes ≡ passes) }
+        ensures enough { IfOk result (λ _. self.passes ≤ vec_len passes) }
+        ensures given_up { IfOk result (λ e. e.given_up.items ≡ replicate (length self.outlines) 0) }
+        ensures refused { IfErr result (RefusesEnd D.medium self passes.items) }
+    {
+        if passes.len() < self.passes as usize {
+            let given = passes.len() as u32;
+            let made = self.passes;
+            let recorder = self.lock_again(cameras);
+            return Err(EndRefused::PassesMissing(given, made, recorder, passes));
+        }
+        let OpenRecorder {
+            sessions: _,
+            ports,
+            outlines,
+            passes: _,
+            ended,
+            given_up,
+        } = self;
+        let (cameras, ports) = part_cameras(cameras, ended, ports);
+        match compared(cameras, ports, &outlines, passes, given_up) {
+            Ok(ended) => Ok(ended),
+            Err((camera, ended)) => Err(EndRefused::TieBroken(camera, ended)),
         }
     }
 }

@@ -3,11 +3,12 @@
 ghost use Rattle.std.specs.Prelude.{◌≡◌, ◌<◌, ◌≤◌, ◌^◌, ℕ, All, IfErr, IfOk, None, length, map, replicate, vec_len};
 ghost use Rattle.std.specs.List.{range_with_len};
 ghost use Rattle.loop_sessions.specs.declared.fault.NewRefused.TheVariants.{NoMemory};
+ghost use Rattle.loop_sessions.specs.Endings.{IsFaithfulCamera};
 ghost use Rattle.loop_sessions.specs.Ends.{IsEnd};
-ghost use Rattle.loop_sessions.specs.Opened.{IsReady, TellEach, desks_of};
+ghost use Rattle.loop_sessions.specs.Opened.{AreNumbered, IsReady, TellEach, desks_of};
 ghost use Rattle.loop_sessions.specs.Ports.{AnswersCopy, AnswersIoctl, AnswersTick};
 ghost use Rattle.loop_sessions.specs.Receipts.{Receives, desk_fault, flush_note, lock_note, pass_number, read_note, status_note, submit_note, unlock_note};
-ghost use Rattle.loop_sessions.specs.Refused.{RefusesEnd};
+ghost use Rattle.loop_sessions.specs.Refused.{BreaksTie, RefusesEnd};
 ghost use Rattle.loop_sessions.specs.Sessions.{AnswersRead};
 
 use crate::ended::{least_broken, open_all};
@@ -393,16 +394,43 @@ impl<D: Disk + Drop, P: PlaneMemory, A: Allocator + Copy> Recorder<D, P, A> {
             given_up,
         } = self;
         let cameras = open_all(sessions, ended);
-        let broken = least_broken(cameras.as_slice(), outlines.as_slice(), passes.as_slice());
-        let ended = Ended {
-            cameras,
-            ports,
-            passes,
-            given_up,
-        };
-        match broken {
-            None => Ok(ended),
-            Some(camera) => Err(EndRefused::TieBroken(camera, ended)),
+        match compared(cameras, ports, &outlines, passes, given_up) {
+            Ok(ended) => Ok(ended),
+            Err((camera, ended)) => Err(EndRefused::TieBroken(camera, ended)),
         }
+    }
+}
+
+// Compares the passes' receipts with the histories of cameras out of their locks. An error has the least camera for
+// which it fails.
+pub(crate) fn compared<D: Disk + Drop, P: PlaneMemory, A: Allocator + Copy>(
+    cameras: Vec<EndedCamera<D, A>, A>,
+    ports: Vec<QueueLock<P, A>, A>,
+    outlines: &Vec<Outline<A>, A>,
+    passes: Vec<Pass<A>, A>,
+    given_up: Vec<u64, A>,
+) -> Result<Ended<D, P, A>, (u32, Ended<D, P, A>)>
+    requires few { vec_len cameras < 2 ^ 32 }
+    requires count { vec_len cameras ≡ vec_len outlines.now }
+    requires faithful { All (IsFaithfulCamera D.medium) cameras.items }
+    requires ports { AreNumbered (vec_len outlines.now) ports.items }
+    requires counts { vec_len given_up ≡ vec_len outlines.now }
+    ensures ended { IfOk result (IsEnd D.medium outlines.now.items) }
+    ensures cameras { IfOk result (λ e. e.cameras ≡ cameras) }
+    ensures passes { IfOk result (λ e. e.passes ≡ passes) }
+    ensures given_up { IfOk result (λ e. e.given_up ≡ given_up) }
+    ensures broken { IfErr result (λ broken. (made : ℕ) → made ≤ vec_len passes
+        → BreaksTie D.medium (record { outlines = outlines.now.items; passes = made }) passes.items broken.0 broken.1) }
+{
+    let broken = least_broken(cameras.as_slice(), outlines.as_slice(), passes.as_slice());
+    let ended = Ended {
+        cameras,
+        ports,
+        passes,
+        given_up,
+    };
+    match broken {
+        None => Ok(ended),
+        Some(camera) => Err((camera, ended)),
     }
 }

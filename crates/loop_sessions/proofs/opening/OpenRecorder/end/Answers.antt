@@ -1,0 +1,60 @@
+use Rattle.std.proofs.Common.{◌≡◌, ◌∙◌, ap, arith, length, refl, replicate, subst, vec_len}
+use Rattle.std.proofs.lemmas.List.{length-replicate}
+use Rattle.loop_sessions.specs.Opened.{AreNumbered, SeenRecorder}
+use Rattle.loop_sessions.specs.Refused.{BreaksTie}
+use Rattle.loop_sessions.proofs.opening.OpenRecorder.end.Goals as goal
+
+pub returns-then-len-self-clause-refused : goal.returns-then-len-self-clause-refused
+returns-then-len-self-clause-refused g c = (
+  omega (arith, c.if-len-self.true, c.len.ensures, c.len-given.ensures),
+  omega (arith, c.len-given.ensures, c.args.passes.ok.0),
+  ap (λ (o : SeenRecorder g.row.A.Denot). o.passes) c.self.view_is,
+  c.lock_again-recorder.ensures,
+  refl,
+)
+
+pub part_cameras-cameras-requires-clause-few : goal.part_cameras-cameras-requires-clause-few
+part_cameras-cameras-requires-clause-few g c =
+    let outlines : c.self.inside.outlines.items ≡ c.args.self.outlines = ap (λ (o : SeenRecorder g.row.A.Denot). o.outlines) c.self.view_is in
+    let all : vec_len c.args.cameras ≡ vec_len c.self.inside.outlines = omega (arith, c.requires, ap length outlines, c.self.inside.outlines.ok.0) in
+    omega (arith, all, c.self.invariant.1.1.1.1.0)
+
+pub part_cameras-cameras-requires-clause-ended : goal.part_cameras-cameras-requires-clause-ended
+part_cameras-cameras-requires-clause-ended g c =
+    let outlines : c.self.inside.outlines.items ≡ c.args.self.outlines = ap (λ (o : SeenRecorder g.row.A.Denot). o.outlines) c.self.view_is in
+    let all : vec_len c.args.cameras ≡ vec_len c.self.inside.outlines = omega (arith, c.requires, ap length outlines, c.self.inside.outlines.ok.0) in
+    (c.self.invariant.1.1.0, omega (arith, all, c.self.invariant.1.1.1.0))
+
+pub compared-requires-clause-few : goal.compared-requires-clause-few
+compared-requires-clause-few g c =
+    let outlines : c.self.inside.outlines.items ≡ c.args.self.outlines = ap (λ (o : SeenRecorder g.row.A.Denot). o.outlines) c.self.view_is in
+    let all : vec_len c.args.cameras ≡ vec_len c.self.inside.outlines = omega (arith, c.requires, ap length outlines, c.self.inside.outlines.ok.0) in
+    omega (arith, c.part_cameras-cameras.ensures.count, all, c.self.invariant.1.1.1.1.0)
+
+pub compared-requires-clause-ports : goal.compared-requires-clause-ports
+compared-requires-clause-ports g c =
+    let outlines : c.self.inside.outlines.items ≡ c.args.self.outlines = ap (λ (o : SeenRecorder g.row.A.Denot). o.outlines) c.self.view_is in
+    let all : vec_len c.args.cameras ≡ vec_len c.self.inside.outlines = omega (arith, c.requires, ap length outlines, c.self.inside.outlines.ok.0) in
+    subst (λ n. AreNumbered n c.part_cameras-cameras.result.1.items) all c.part_cameras-cameras.ensures.numbers
+
+pub compared-requires-clause-counts : goal.compared-requires-clause-counts
+compared-requires-clause-counts g c =
+    let all : length c.self.inside.given_up.items ≡ vec_len c.self.inside.outlines =
+    ap length c.self.invariant.1.1.1.1.1 ∙ length-replicate (vec_len c.self.inside.outlines) 0 in
+    omega (arith, all, c.self.inside.given_up.ok.0)
+
+pub returns-in-Ok-clause-desks : goal.returns-in-Ok-clause-desks
+returns-in-Ok-clause-desks g c = rw c.in-Ok.ensures.cameras c.part_cameras-cameras.ensures.desks
+
+pub returns-in-Ok-clause-given_up : goal.returns-in-Ok-clause-given_up
+returns-in-Ok-clause-given_up g c =
+    let outlines : c.self.inside.outlines.items ≡ c.args.self.outlines = ap (λ (o : SeenRecorder g.row.A.Denot). o.outlines) c.self.view_is in
+    let made : vec_len c.self.inside.outlines ≡ length c.args.self.outlines = omega (arith, ap length outlines, c.self.inside.outlines.ok.0) in
+    rw c.in-Ok.ensures.given_up (c.self.invariant.1.1.1.1.1 ∙ ap (λ n. replicate n 0) made)
+
+-- no pass is missing
+pub returns-clause-refused : goal.returns-clause-refused
+returns-clause-refused g c =
+    subst (λ (r : SeenRecorder g.row.A.Denot). BreaksTie g.D.Disk.medium r c.args.passes.items c.in-Err.camera c.in-Err.ended)
+    c.self.view_is
+    (c.in-Err.ensures.broken c.self.inside.passes (omega (arith, c.if-len-self.false, c.len.ensures)))
