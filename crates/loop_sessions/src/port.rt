@@ -1,12 +1,11 @@
 //! A queue with its table of fds, which share a lock.
 
 ghost use Rattle.std.specs.Prelude.{◌≡◌};
-ghost use Rattle.loop_ioctl.specs.Types.{type_of};
 ghost use Rattle.loop_sessions.specs.Ports.{AnswersCopy, AnswersIoctl, AnswersTick, SeenPort, StandsPort};
 
 use loop_capture::{Device, FrameSource, Tick};
-use loop_ioctl::{BufferType, Ioctl, IoctlReply, apply};
-use loop_plane::{FdTable, Memory, PlaneMemory};
+use loop_ioctl::{Ioctl, IoctlReply, apply};
+use loop_plane::{FdTable, PlaneMemory};
 use loop_vb2::{Errno, Queue, Refused};
 use std::alloc::{Allocator, Global};
 use std::marker::Model;
@@ -77,25 +76,6 @@ impl<P: PlaneMemory, A: Allocator + Copy> Port<P, A> {
         ensures { AnswersCopy index plane at out.old out.new result }
     {
         self.queue.copy_plane(index, plane, at, out)
-    }
-
-    /// Whether a buffer waits for a frame. It promises nothing.
-    pub fn is_fed(&self) -> bool {
-        self.queue.next_active().is_some()
-    }
-
-    /// The kind of memory.
-    pub fn kind(&self) -> Memory
-        ensures { result ≡ self.now.queue.body.kind }
-    {
-        self.queue.kind()
-    }
-
-    /// The buffer type.
-    pub fn buf_type(&self) -> BufferType
-        ensures { result ≡ type_of self.now.queue.body.format }
-    {
-        BufferType::of(self.queue.format())
     }
 
     /// The queue and its table.

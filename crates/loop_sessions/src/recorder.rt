@@ -17,9 +17,9 @@ use crate::{EndedCamera, NewRefused, Pace, Pass, QueueLock, Session, SessionFaul
 use loop_capture::{Device, FrameSource, Tick};
 use loop_desk::{Flushed, Outline, Status};
 use loop_disk::Disk;
-use loop_ioctl::{BufferType, Ioctl, IoctlReply};
-use loop_plane::{Memory, PlaneMemory};
-use loop_record::{Frame, Geometry};
+use loop_ioctl::{Ioctl, IoctlReply};
+use loop_plane::PlaneMemory;
+use loop_record::Frame;
 use loop_store::ReadFrame;
 use loop_vb2::{Errno, Refused};
 use std::alloc::{Allocator, Global};
@@ -152,13 +152,6 @@ impl<D: Disk + Drop, P: PlaneMemory, A: Allocator + Copy> Recorder<D, P, A> {
             given_up,
         };
         Ok((recorder, made))
-    }
-
-    /// How many cameras it has.
-    pub fn count(&self) -> usize
-        ensures { result ≡ length self.now.outlines }
-    {
-        self.outlines.len()
     }
 
     /// As `Session::submit`, at a camera's desk.
@@ -314,61 +307,11 @@ impl<D: Disk + Drop, P: PlaneMemory, A: Allocator + Copy> Recorder<D, P, A> {
             .copy_plane(index, plane, at, out)
     }
 
-    /// Whether a buffer of a camera's queue waits for a frame. It promises nothing.
-    pub fn is_fed<R: Wait>(&self, rt: &R, camera: u32) -> bool
-        requires { camera < length self.now.outlines }
-    {
-        self.ports[camera as usize].port.lock(rt).is_fed()
-    }
-
-    /// The memory of a camera's queue. It promises nothing.
-    pub fn kind<R: Wait>(&self, rt: &R, camera: u32) -> Memory
-        requires { camera < length self.now.outlines }
-    {
-        self.ports[camera as usize].port.lock(rt).kind()
-    }
-
-    /// The buffer type of a camera's queue. It promises nothing.
-    pub fn buf_type<R: Wait>(&self, rt: &R, camera: u32) -> BufferType
-        requires { camera < length self.now.outlines }
-    {
-        self.ports[camera as usize].port.lock(rt).buf_type()
-    }
-
-    /// The geometry of a camera's store. It promises nothing.
-    pub fn geometry<R: Wait>(&self, rt: &R, camera: u32) -> Geometry
-        requires { camera < length self.now.outlines }
-    {
-        self.sessions[camera as usize].lock(rt).geometry()
-    }
-
-    /// Whether a camera's desk is full. It promises nothing.
-    pub fn is_full<R: Wait>(&self, rt: &R, camera: u32) -> bool
-        requires { camera < length self.now.outlines }
-    {
-        self.sessions[camera as usize].lock(rt).is_full()
-    }
-
-    /// Whether as many frames wait at a camera's desk as a flush stores at most. It promises nothing, and is no call of
-    /// the history.
-    pub fn has_group<R: Wait>(&self, rt: &R, camera: u32) -> bool
-        requires { camera < length self.now.outlines }
-    {
-        self.sessions[camera as usize].lock(rt).has_group()
-    }
-
     /// Memory of a frame that a camera's desk has stored, for a later frame (`Desk::spare_memory`). It isn't noted.
     pub fn spare_memory<R: Wait>(&self, rt: &R, camera: u32) -> Option<Vec<u8, A>>
         requires { camera < length self.now.outlines }
     {
         self.sessions[camera as usize].lock(rt).spare_memory()
-    }
-
-    /// Keeps memory for a later frame of a camera (`Desk::return_memory`). It isn't noted.
-    pub fn return_memory<R: Wait>(&self, rt: &R, camera: u32, bytes: Vec<u8, A>)
-        requires { camera < length self.now.outlines }
-    {
-        self.sessions[camera as usize].lock(rt).return_memory(bytes);
     }
 
     /// Takes the desks out of their locks, and compares the passes' receipts with the histories: `PassesMissing`, then

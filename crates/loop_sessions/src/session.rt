@@ -11,7 +11,7 @@ use crate::ended::EndedCamera;
 use crate::{Entry, FrameInfo, Noted, Pace, Pass, Receipt, SessionFault, Step};
 use loop_desk::{Desk, Flushed, Outline, Status};
 use loop_disk::Disk;
-use loop_record::{Frame, FrameHead, Geometry, Span};
+use loop_record::{Frame, FrameHead, Span};
 use loop_store::{ReadFrame, StoreFault};
 use std::alloc::{Allocator, Global};
 use std::marker::Model;
@@ -273,37 +273,11 @@ impl<D: Disk + Drop, A: Allocator + Copy> Session<D, A> {
         self.desk.status().pending
     }
 
-    /// Whether the desk is full. It is no call of the history, and promises nothing.
-    pub fn is_full(&self) -> bool {
-        self.desk.status().pending >= self.desk.limits().pending
-    }
-
-    /// Whether as many frames wait as a flush stores at most: a group, or as many as the block of the next number has
-    /// room for. It is no call of the history, and promises nothing.
-    pub fn has_group(&self) -> bool {
-        let Status { next, pending, .. } = self.desk.status();
-        let slots = u64::from(self.desk.geometry().slots).max(1);
-        let room = slots - next % slots;
-        u64::from(pending) >= room.min(u64::from(self.desk.limits().group))
-    }
-
     /// As `Desk::spare_memory`. It is no call of the history.
     pub fn spare_memory(&mut self) -> Option<Vec<u8, A>>
         ensures { self.new ≡ self.old }
     {
         self.desk.spare_memory()
-    }
-
-    /// As `Desk::return_memory`. It is no call of the history.
-    pub fn return_memory(&mut self, bytes: Vec<u8, A>)
-        ensures { self.new ≡ self.old }
-    {
-        self.desk.return_memory(bytes);
-    }
-
-    /// The geometry of the store. It is no call of the history, and promises nothing.
-    pub fn geometry(&self) -> Geometry {
-        self.desk.geometry()
     }
 
     /// The desk, its history, and its outline before the first call.
