@@ -25,7 +25,5 @@ stands-after medium gives meaning asks gives_up due ends camera (Err (NoThread e
 pub holds-fewer : {D P : Type 0} {few all : ℕ} {r : Returned D P} → few ≤ all → Holds all r → Holds few r
 holds-fewer le h = record {
   rests = (h.rests.0, omega (arith, le, h.rests.1));
-  cameras = omega (arith, le, h.cameras);
-  copies = (h.copies.0, omega (arith, le, h.copies.1));
-  given_up = (h.given_up.0, omega (arith, le, h.given_up.1));
+  filmed = omega (arith, le, h.filmed);
 }

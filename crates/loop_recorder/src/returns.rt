@@ -1,11 +1,11 @@
 //! How the cameras of a recording come back.
 
-ghost use Rattle.std.specs.Prelude.{◌≡◌, ◌+◌, ℕ, All, vec_len};
-ghost use Rattle.loop_recorder.specs.Recordings.{Holds, StandsAfter};
+ghost use Rattle.std.specs.Prelude.{◌≡◌, ◌+◌, ◌++◌, ◌∷◌, ℕ, [], All, None, Some, map, vec_len};
+ghost use Rattle.loop_recorder.specs.Recordings.{AreFilmed, Holds, StandsAfter, left_after, left_of, lost_of, rest_after, rest_of};
 ghost use Rattle.loop_sessions.specs.Ports.{StandsPort};
 
 use crate::post::{Post, Watch};
-use crate::room::{Recorded, Returned};
+use crate::room::{FilmedCamera, Recorded, Returned};
 use crate::{Pace, Port};
 use loop_capture::{Device, FrameSource};
 use loop_disk::Disk;
@@ -18,7 +18,7 @@ use std::sync::Wait;
 use std::thread::Threads;
 use std::time::Clock;
 
-// The parts of a camera that came back, and how many of its frames were given up, if it was filmed to its end.
+// The parts of a camera that came back, and how many of its frames were lost, if it was filmed to its end.
 #[derive(Drop)]
 struct Parts<'a, S: FrameSource + Drop, D: Disk + Drop, P: PlaneMemory, Q: Pace> {
     device: Device<S>,
@@ -33,7 +33,10 @@ fn parts_left<'a, S: FrameSource + Drop, D: Disk + Drop, P: PlaneMemory, Q: Pace
     ended: CameraEnd<S, D, P, Post<Watch<'a, Q>>>,
 ) -> Parts<'a, S, D, P, Q>
     requires { StandsPort P.plane ended.queue ended.table }
-    ensures { StandsPort P.plane result.queue result.table }
+    ensures stands { StandsPort P.plane result.queue result.table }
+    ensures device { result.device ≡ ended.entry.device }
+    ensures held { (result.queue ≡ ended.entry.queue) × (result.seat ≡ ended.entry.desk) }
+    ensures lost { result.lost ≡ Some (lost_of ended.entry) }
 {
     let lost = ended
         .given_up
@@ -66,7 +69,9 @@ fn parts_of<'a, S: FrameSource + Drop, D: Disk + Drop, P: PlaneMemory, Q: Pace>(
     filmed: Filmed<S, D, P, Post<Watch<'a, Q>>>,
 ) -> Parts<'a, S, D, P, Q>
     requires { StandsAfter P.plane filmed }
-    ensures { StandsPort P.plane result.queue result.table }
+    ensures stands { StandsPort P.plane result.queue result.table }
+    ensures rest { rest_of result.device ≡ rest_after filmed.entry }
+    ensures left { record { queue = result.queue; desk = result.seat; lost = result.lost } ≡ left_after filmed.entry }
 {
     match filmed {
         Ok(ended) => parts_left(ended),
@@ -93,16 +98,16 @@ fn put_back<'a, S: FrameSource + Drop, D: Disk + Drop, P: PlaneMemory, Q: Pace>(
     returned: Returned<D, P>,
 ) -> Returned<D, P>
     requires stands { StandsAfter P.plane filmed }
-    requires room { Holds (vec_len returned.cameras + 1) returned }
-    ensures one { vec_len result.cameras ≡ vec_len returned.cameras + 1 }
+    requires room { Holds (vec_len returned.filmed + 1) returned }
+    ensures one { vec_len result.filmed ≡ vec_len returned.filmed + 1 }
+    ensures rests { result.rests.items ≡ returned.rests.items ++ rest_after filmed.entry ∷ [] }
+    ensures filmed { map left_of result.filmed.items
+        ≡ map left_of returned.filmed.items ++ left_after filmed.entry ∷ [] }
     ensures room { (all : ℕ) → Holds all returned → Holds all result }
 {
     let Returned {
         mut rests,
-        mut cameras,
-        mut copies,
-        mut given_up,
-        all_filmed,
+        filmed: mut list,
     } = returned;
     let Parts {
         device,
@@ -111,18 +116,17 @@ fn put_back<'a, S: FrameSource + Drop, D: Disk + Drop, P: PlaneMemory, Q: Pace>(
         seat,
         lost,
     } = parts_of(filmed);
-    let (session, copy) = seat.into_noted();
+    let (session, pass) = seat.into_noted();
     let port = Port::new(queue, table);
     rests.push_reserved(device.into_rest());
-    cameras.push_reserved(OpenCamera { session, port });
-    copies.push_reserved(copy);
-    given_up.push_reserved(lost.unwrap_or(0));
+    list.push_reserved(FilmedCamera {
+        camera: OpenCamera { session, port },
+        pass,
+        given_up: lost,
+    });
     Returned {
         rests,
-        cameras,
-        copies,
-        given_up,
-        all_filmed: all_filmed && lost.is_some(),
+        filmed: list,
     }
 }
 
@@ -132,10 +136,10 @@ fn outcomes_back<'a, S: FrameSource + Drop, D: Disk + Drop, P: PlaneMemory, Q: P
     mut returned: Returned<D, P>,
 ) -> Returned<D, P>
     requires each { All (λ o. StandsAfter P.plane o.filmed) outcomes.items }
-    requires none { vec_len returned.cameras ≡ 0 }
+    requires none { (returned.rests.items ≡ []) × (returned.filmed.items ≡ []) }
     requires room { Holds (vec_len outcomes) returned }
-    ensures all { vec_len result.cameras ≡ vec_len outcomes.entry }
-    ensures room { Holds (vec_len outcomes.entry) result }
+    ensures rests { result.rests.items ≡ map (λ o. rest_after o.filmed) outcomes.entry.items }
+    ensures filmed { map left_of result.filmed.items ≡ map (λ o. left_after o.filmed) outcomes.entry.items }
 {
     for outcome in outcomes {
         let Outcome { shot: _, filmed } = outcome;
@@ -149,10 +153,10 @@ fn shots_back<'a, S: FrameSource + Drop, D: Disk + Drop, P: PlaneMemory, Q: Pace
     shots: Vec<Recorded<'a, S, D, P, Q>>,
     mut returned: Returned<D, P>,
 ) -> Returned<D, P>
-    requires none { vec_len returned.cameras ≡ 0 }
+    requires none { (returned.rests.items ≡ []) × (returned.filmed.items ≡ []) }
     requires room { Holds (vec_len shots) returned }
-    ensures all { vec_len result.cameras ≡ vec_len shots.entry }
-    ensures room { Holds (vec_len shots.entry) result }
+    ensures count { (vec_len result.rests ≡ vec_len shots.entry) × (vec_len result.filmed ≡ vec_len shots.entry) }
+    ensures none { All (λ l. l.lost ≡ None) (map left_of result.filmed.items) }
 {
     for shot in shots {
         let Shot { guide: _, camera } = shot;
@@ -174,10 +178,10 @@ pub(crate) fn film<
     shots: Vec<Recorded<'_, S, D, P, Q>>,
     returned: Returned<D, P>,
 ) -> Returned<D, P>
-    requires none { vec_len returned.cameras ≡ 0 }
+    requires none { (returned.rests.items ≡ []) × (returned.filmed.items ≡ []) }
     requires room { Holds (vec_len shots) returned }
-    ensures all { vec_len result.cameras ≡ vec_len shots.entry }
-    ensures room { Holds (vec_len shots.entry) result }
+    ensures count { (vec_len result.rests ≡ vec_len shots.entry) × (vec_len result.filmed ≡ vec_len shots.entry) }
+    ensures filmed { AreFilmed D.medium S.next_gives P.plane shots.entry.items result }
 {
     match film_all(rt, alloc, shots) {
         Ok(outcomes) => outcomes_back(outcomes, returned),

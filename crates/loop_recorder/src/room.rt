@@ -16,30 +16,38 @@ use std::alloc::Global;
 /// A camera of a recording with its guide.
 pub(crate) type Recorded<'a, S, D, P, Q> = Shot<S, D, P, Post<Watch<'a, Q>>>;
 
+/// What is left of a camera that was to be filmed out of its locks.
+#[derive(Drop)]
+pub struct FilmedCamera<D: Disk + Drop, P: PlaneMemory> {
+    /// Its desk with the history, and its queue.
+    pub camera: OpenCamera<D, P>,
+    /// The pass in which its calls were noted.
+    pub pass: Pass,
+    /// How many of its frames were lost after a tick asked its source for them. None: it wasn't filmed, since memory or
+    /// a thread was refused.
+    pub given_up: Option<u64>,
+}
+
 /// What came back of cameras.
 #[derive(Drop)]
 pub(crate) struct Returned<D: Disk + Drop, P: PlaneMemory> {
     /// What their devices left besides their sources, which were lent.
     pub rests: Vec<Rest>,
-    /// Their desks with the histories, and their queues.
-    pub cameras: Vec<OpenCamera<D, P>>,
-    /// The passes in which their calls were noted.
-    pub copies: Vec<Pass>,
-    /// How many frames of each were given up.
-    pub given_up: Vec<u64>,
-    /// Whether each was filmed to its end.
-    pub all_filmed: bool,
+    /// The rest of them.
+    pub filmed: Vec<FilmedCamera<D, P>>,
 }
 
-/// The memory of a recording.
+/// The memory for the end of a recording.
 #[derive(Drop)]
-pub(crate) struct Room<'a, S: FrameSource + Drop, D: Disk + Drop, P: PlaneMemory, Q: Pace> {
+pub(crate) struct Room<D: Disk + Drop, P: PlaneMemory> {
     /// For the cameras, out of their locks.
     pub cameras: Vec<OpenCamera<D, P>>,
-    /// For what is filmed.
-    pub shots: Vec<Recorded<'a, S, D, P, Q>>,
-    /// For what comes back.
-    pub returned: Returned<D, P>,
+    /// For the same after they were filmed.
+    pub back: Vec<OpenCamera<D, P>>,
+    /// For the passes in which their calls were noted.
+    pub copies: Vec<Pass>,
+    /// For the counts of their lost frames.
+    pub given_up: Vec<u64>,
     /// For the passes at the end.
     pub passes: Vec<Pass>,
 }
@@ -56,18 +64,40 @@ pub(crate) fn copies_of(alloc: Global, passes: &[Pass], count: usize) -> Option<
     Some(copies)
 }
 
-// For what comes back of so many cameras.
-fn returned_for<D: Disk + Drop, P: PlaneMemory>(
+/// The memory for what comes back of so many cameras; None if it is refused.
+pub(crate) fn returned_for<D: Disk + Drop, P: PlaneMemory>(
     alloc: Global,
     count: usize,
 ) -> Option<Returned<D, P>>
-    ensures none { IfSome result (λ r. vec_len r.cameras ≡ 0) }
+    ensures rests { IfSome result (λ r. r.rests.items ≡ []) }
+    ensures filmed { IfSome result (λ r. r.filmed.items ≡ []) }
     ensures room { IfSome result (Holds count) }
 {
     let Ok(rests) = Vec::with_capacity(alloc, count) else {
         return None;
     };
+    let Ok(filmed) = Vec::with_capacity(alloc, count) else {
+        return None;
+    };
+    Some(Returned { rests, filmed })
+}
+
+/// The memory for the end of a recording of so many cameras and passes; None if it is refused.
+pub(crate) fn room_for<D: Disk + Drop, P: PlaneMemory>(
+    alloc: Global,
+    count: usize,
+    passes: usize,
+) -> Option<Room<D, P>>
+    ensures cameras { IfSome result (λ r. (r.cameras.items ≡ []) × (count ≤ vec_capacity r.cameras)) }
+    ensures back { IfSome result (λ r. (r.back.items ≡ []) × (count ≤ vec_capacity r.back)) }
+    ensures copies { IfSome result (λ r. (r.copies.items ≡ []) × (count ≤ vec_capacity r.copies)) }
+    ensures given_up { IfSome result (λ r. (r.given_up.items ≡ []) × (count ≤ vec_capacity r.given_up)) }
+    ensures passes { IfSome result (λ r. (r.passes.items ≡ []) × (passes ≤ vec_capacity r.passes)) }
+{
     let Ok(cameras) = Vec::with_capacity(alloc, count) else {
+        return None;
+    };
+    let Ok(back) = Vec::with_capacity(alloc, count) else {
         return None;
     };
     let Ok(copies) = Vec::with_capacity(alloc, count) else {
@@ -76,41 +106,14 @@ fn returned_for<D: Disk + Drop, P: PlaneMemory>(
     let Ok(given_up) = Vec::with_capacity(alloc, count) else {
         return None;
     };
-    Some(Returned {
-        rests,
-        cameras,
-        copies,
-        given_up,
-        all_filmed: true,
-    })
-}
-
-/// The memory for a recording of so many cameras and passes; None if it is refused.
-pub(crate) fn room_for<'a, S: FrameSource + Drop, D: Disk + Drop, P: PlaneMemory, Q: Pace>(
-    alloc: Global,
-    count: usize,
-    passes: usize,
-) -> Option<Room<'a, S, D, P, Q>>
-    ensures cameras { IfSome result (λ r. (r.cameras.items ≡ []) × (count ≤ vec_capacity r.cameras)) }
-    ensures shots { IfSome result (λ r. (r.shots.items ≡ []) × (count ≤ vec_capacity r.shots)) }
-    ensures none { IfSome result (λ r. vec_len r.returned.cameras ≡ 0) }
-    ensures returned { IfSome result (λ r. Holds count r.returned) }
-    ensures passes { IfSome result (λ r. (r.passes.items ≡ []) × (passes ≤ vec_capacity r.passes)) }
-{
-    let returned = returned_for(alloc, count)?;
-    let Ok(cameras) = Vec::with_capacity(alloc, count) else {
-        return None;
-    };
-    let Ok(shots) = Vec::with_capacity(alloc, count) else {
-        return None;
-    };
     let Ok(list) = Vec::with_capacity(alloc, passes) else {
         return None;
     };
     Some(Room {
         cameras,
-        shots,
-        returned,
+        back,
+        copies,
+        given_up,
         passes: list,
     })
 }

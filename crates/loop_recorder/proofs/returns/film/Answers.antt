@@ -1,6 +1,12 @@
-use Rattle.std.proofs.Common.{ap, arith, length}
+use Rattle.std.proofs.Common.{◌≡◌, ap, arith, length, vec_len}
 use Rattle.std.proofs.lemmas.List.{length-map}
+use Rattle.loop_capture.specs.Ticks.{SeenRest}
+use Rattle.loop_pipeline.specs.declared.several.Outcome.{Outcome}
 use Rattle.loop_pipeline.specs.Several.{shot_of}
+use Rattle.loop_recorder.specs.declared.post.Post.{Post}
+use Rattle.loop_recorder.specs.declared.post.Watch.{Watch}
+use Rattle.loop_recorder.specs.Recordings.{SeenLeft, left_after, left_of, rest_after}
+use Rattle.loop_recorder.proofs.Kept.{are-filmed, none-filmed}
 use Rattle.loop_recorder.proofs.Standing.{holds-fewer, stands-after}
 use Rattle.loop_recorder.proofs.returns.film.Goals as goal
 
@@ -20,13 +26,34 @@ outcomes_back-requires-clause-room g c κs within =
     ))
     c.requires.room
 
-pub returns-in-Ok-clause-all : goal.returns-in-Ok-clause-all
-returns-in-Ok-clause-all g c =
-    omega (
-      arith,
-      c.outcomes_back.ensures.all,
-      length-map c.in-Ok.outcomes.items shot_of,
-      ap length c.in-Ok.ensures.shots,
-      c.in-Ok.outcomes.ok.0,
-      c.args.shots.ok.0,
+pub returns-in-Ok-clause-count : goal.returns-in-Ok-clause-count
+returns-in-Ok-clause-count g c =
+    let rest : Outcome g.row.S.Denot g.row.D.Denot g.row.P.Denot (Post (Watch g.row.Q.Denot)) → SeenRest =
+    λ o. rest_after o.filmed in
+    let left : Outcome g.row.S.Denot g.row.D.Denot g.row.P.Denot (Post (Watch g.row.Q.Denot))
+    → SeenLeft g.row.D.Denot g.row.P.Denot = λ o. left_after o.filmed in
+    let outcomes = c.in-Ok.outcomes.items in
+    let back = c.outcomes_back in
+    let count : length outcomes ≡ vec_len c.args.shots =
+    omega (arith, length-map outcomes shot_of, ap length c.in-Ok.ensures.shots, c.args.shots.ok.0) in (
+      omega (arith, count, ap length back.ensures.rests, length-map outcomes rest, back.result.rests.ok.0),
+      omega (
+        arith,
+        count,
+        ap length back.ensures.filmed,
+        length-map outcomes left,
+        length-map back.result.filmed.items left_of,
+        back.result.filmed.ok.0,
+      ),
     )
+
+pub returns-in-Ok-clause-filmed : goal.returns-in-Ok-clause-filmed
+returns-in-Ok-clause-filmed g c =
+    are-filmed g.D.Disk.medium g.S.FrameSource.next_gives g.P.PlaneMemory.plane c.args.shots.items
+    c.outcomes_back.result c.in-Ok.outcomes.items c.in-Ok.ensures.shots c.in-Ok.ensures.each
+    c.outcomes_back.ensures.rests c.outcomes_back.ensures.filmed
+
+pub returns-in-Err-clause-filmed : goal.returns-in-Err-clause-filmed
+returns-in-Err-clause-filmed g c =
+    none-filmed g.D.Disk.medium g.S.FrameSource.next_gives g.P.PlaneMemory.plane c.args.shots.items c.shots_back.result
+    c.shots_back.ensures.none

@@ -10,7 +10,7 @@ returns-in-Ok-clause-ended g c =
     let counts : length c.counted.result.given_up.items ≡ length c.args.counts.items =
     λ i. length (n.counts i).items in
     end-counted g.D.Disk.medium _ c.in-Ok.ended c.counted.result n.rest
-    (omega (arith, counts, c.args.counts.ok.0, c.requires, c.in-Ok.ensures.ended.counts)) c.in-Ok.ensures.ended
+    (omega (arith, counts, c.args.counts.ok.0, c.requires.counts, c.in-Ok.ensures.ended.counts)) c.in-Ok.ensures.ended
 
 pub returns-in-Err-TieBroken-clause-refused : goal.returns-in-Err-TieBroken-clause-refused
 returns-in-Err-TieBroken-clause-refused g c =
@@ -21,4 +21,4 @@ returns-in-Err-TieBroken-clause-refused g c =
     let refused : BreaksTie {D = g.row.D.Denot} {P = g.row.P.Denot} {A = Global} g.D.Disk.medium c.args.recorder
     c.args.passes.items e.camera e.ended = rw e.field-0-is at e.ensures.refused in
     broken-counted g.D.Disk.medium _ _ _ e.ended c.counted-in-Err-TieBroken.result n.rest
-    (omega (arith, counts, c.args.counts.ok.0, c.requires, refused.counts)) refused
+    (omega (arith, counts, c.args.counts.ok.0, c.requires.counts, refused.counts)) refused

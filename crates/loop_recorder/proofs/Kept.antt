@@ -1,0 +1,211 @@
+-- What a filming promises of a camera whose source was lent, it promises of the camera that lent it.
+use Rattle.std.proofs.Common.{◌≡◌, ◌∙◌, ℕ, Bool, true, List, [], ◌∷◌, Result, Ok, Err, IfSome, None, Option, Some, ◌≤◌, All, ap, arith, length, map, refl, slice_get, subst, sym}
+use Rattle.std.proofs.lemmas.List.{nil_from_length}
+use Rattle.std.specs.Global.{Global}
+use Rattle.std.specs.Prelude.{⊤}
+use Rattle.loop_disk.specs.Medium.{Medium}
+use Rattle.loop_plane.specs.Plane.{Plane}
+use Rattle.loop_record.specs.declared.geometry.Geometry.{Geometry}
+use Rattle.loop_store.specs.declared.fault.StoreFault.{StoreFault}
+use Rattle.loop_vb2.specs.State.{Lined}
+use Rattle.loop_capture.specs.declared.device.Tick.{Tick}
+use Rattle.loop_capture.specs.declared.device.Tick.TheVariants.{Completed, Ended, Failed, Idle, Missed, WrongSize}
+use Rattle.loop_capture.specs.declared.source.Next.{Next}
+use Rattle.loop_capture.specs.Ticks.{SeenDevice, SeenRest}
+use Rattle.loop_desk.specs.Desk.{DeskCall}
+use Rattle.loop_desk.specs.Seen.{SeenDesk}
+use Rattle.loop_pipeline.specs.declared.ending.CameraEnd.{CameraEnd}
+use Rattle.loop_pipeline.specs.declared.film.Unfilmed.{Unfilmed}
+use Rattle.loop_pipeline.specs.declared.film.Unfilmed.TheVariants.{NoMemory, NoThread}
+use Rattle.loop_pipeline.specs.declared.several.Outcome.{Outcome}
+use Rattle.loop_pipeline.specs.declared.several.Shot.{Shot}
+use Rattle.loop_pipeline.specs.Cameras.{CameraKeeps, SeenCamera}
+use Rattle.loop_pipeline.specs.Fronts.{GaveBy, GoesOn, IsRegular, TickRecord}
+use Rattle.loop_pipeline.specs.Several.{IsFilmed, IsOutcome, shot_of}
+use Rattle.loop_sessions.specs.declared.opening.OpenCamera.{OpenCamera}
+use Rattle.loop_recorder.specs.declared.post.Post.{Post}
+use Rattle.loop_recorder.specs.declared.room.Returned.{Returned}
+use Rattle.loop_recorder.specs.Recordings.{AreFilmed, EachKept, HasKept, IsGuided, IsPeriod, IsRead, SeenLeft, held_by, held_in, left_after, left_of, lender, lender_of, rest_after, rest_of}
+use Rattle.loop_recorder.proofs.Places.{all-at, made-from, makes, same-some}
+
+module _ {B S : Type 0} (source : B → S) (gives : S → Next → List ℕ → S → Type 0) where
+  -- what a lent source gives
+  abbrev lent : B → Next → List ℕ → B → Type 0
+  lent b answer out c = gives (source b) answer out (source c)
+
+  gave : (tick : Tick) (sequence : ℕ) (bytes : List ℕ) (d e : SeenDevice B) → GaveBy lent tick sequence bytes d e
+      → GaveBy gives tick sequence bytes (lender source d) (lender source e)
+  gave Idle sequence bytes d e g = ap (lender source) g
+  gave WrongSize sequence bytes d e g = ap (lender source) g
+  gave (Completed i) sequence bytes d e g = g
+  gave (Failed i) sequence bytes d e g = g
+  gave Missed sequence bytes d e g = g
+  gave Ended sequence bytes d e g = g
+
+  goes : (d : SeenDevice B) (given : List TickRecord) (e : SeenDevice B) → GoesOn lent d given e
+      → GoesOn gives (lender source d) given (lender source e)
+  goes d [] e g = ap (lender source) g
+  goes d (t ∷ given) e g =
+      (lender source g.0, gave t.tick t.sequence t.bytes d g.0 g.1, goes g.0 given e g.2)
+
+  module _ {D P : Type 0} (medium : D → Medium) (meaning : P → Plane) where
+    abbrev camera_of : SeenCamera B D P → SeenCamera S D P
+    camera_of c = record { device = lender source c.device; queue = c.queue; desk = c.desk; joined = c.joined }
+
+    keeps-lent : {asks : DeskCall → Type 0} {gives_up : StoreFault → Type 0} {due : ℕ → ℕ → Type 0} {ends : ℕ → Type 0}
+        (old new : SeenCamera B D P) (given_up left missed failed : ℕ) (over : Bool)
+        → CameraKeeps medium lent meaning asks gives_up due ends old new given_up left missed failed over
+        → CameraKeeps medium gives meaning asks gives_up due ends (camera_of old) (camera_of new) given_up left missed
+        failed over
+    keeps-lent old new given_up left missed failed over k = record {
+      given = k.given;
+      source = goes old.device k.given new.device k.source;
+      told = k.told;
+      completed = k.completed;
+      shows = k.shows;
+      first = k.first;
+      last = k.last;
+      stood = k.stood;
+      stands = k.stands;
+      streams = k.streams;
+      came = k.came;
+      whole = k.whole;
+      lost = k.lost;
+      all = k.all;
+      parts = k.parts;
+      among = k.among;
+      submits = k.submits;
+      served = k.served;
+      rightful = k.rightful;
+      excused = k.excused;
+      footage = k.footage;
+    }
+
+    kept-lent : (frames : ℕ) (geometry : Geometry) (old : SeenCamera B D P) (rest : SeenRest) (queue : Lined P)
+        (desk : SeenDesk D) (lost : ℕ) → HasKept medium lent meaning frames geometry old rest queue desk lost
+        → HasKept medium gives meaning frames geometry (camera_of old) rest queue desk lost
+    kept-lent frames geometry old rest queue desk lost h = record {
+      device = lender source h.device;
+      same = h.same;
+      refused = h.refused;
+      left = h.left;
+      missed = h.missed;
+      failed = h.failed;
+      counted = h.counted;
+      keeps = keeps-lent old _ h.refused h.left h.missed h.failed true h.keeps;
+    }
+
+module _ {S D P G : Type 0} (medium : D → Medium) (gives : S → Next → List ℕ → S → Type 0) (meaning : P → Plane)
+    (frames : ℕ) (geometry : Geometry) where
+  -- of a camera that had one desk
+  pub kept-of : (camera : SeenCamera S D P) (filmed : Result (CameraEnd S D P G Global) (Unfilmed S D P G))
+      → IsFilmed medium gives meaning IsRead (λ fault. ⊤) (IsPeriod geometry) (λ n. frames ≤ n) camera filmed
+      → camera.joined ≡ [] → IsRegular meaning camera.queue
+      → IfSome (left_after filmed).lost (HasKept medium gives meaning frames geometry camera (rest_after filmed)
+      (left_after filmed).queue (left_after filmed).desk)
+  kept-of camera (Ok e) is alone regular =
+      let kept : CameraKeeps medium gives meaning IsRead (λ fault. ⊤) (IsPeriod geometry) (λ n. frames ≤ n) camera
+      (record { device = e.device; queue = e.queue; desk = e.desk; joined = e.joined.items })
+      e.given_up e.left e.missed e.failed e.over = is.keeps regular in
+      let none : e.joined.items ≡ [] = nil_from_length e.joined.items (kept.all ∙ ap length alone) in
+      record {
+        device = e.device;
+        same = refl;
+        refused = e.given_up;
+        left = e.left;
+        missed = e.missed;
+        failed = e.failed;
+        counted = omega arith;
+        keeps =
+            subst (λ over. CameraKeeps medium gives meaning IsRead (λ fault. ⊤) (IsPeriod geometry) (λ n. frames ≤ n)
+            camera (record { device = e.device; queue = e.queue; desk = e.desk; joined = [] })
+            e.given_up e.left e.missed e.failed over) is.ended
+            (subst (λ joined. CameraKeeps medium gives meaning IsRead (λ fault. ⊤) (IsPeriod geometry)
+            (λ n. frames ≤ n) camera (record { device = e.device; queue = e.queue; desk = e.desk; joined = joined })
+            e.given_up e.left e.missed e.failed e.over) none kept);
+      }
+  kept-of camera (Err (NoMemory c)) is alone regular = tt
+  kept-of camera (Err (NoThread e)) is alone regular = tt
+
+-- so it is of each of several
+module _ {S D P W : Type 0} (medium : D → Medium) (gives : S → Next → List ℕ → S → Type 0) (meaning : P → Plane)
+    (shots : List (Shot S D P (Post W))) (r : Returned D P) where
+  pub are-filmed : (outcomes : List (Outcome S D P (Post W))) → map shot_of outcomes ≡ shots
+      → All (IsOutcome medium gives meaning IsRead (λ fault. ⊤) (λ (post : Post W) n now. IsPeriod post.geometry n now)
+      (λ post n. post.frames ≤ n)) outcomes
+      → r.rests.items ≡ map (λ o. rest_after o.filmed) outcomes
+      → map left_of r.filmed.items ≡ map (λ o. left_after o.filmed) outcomes → AreFilmed medium gives meaning shots r
+  are-filmed outcomes same each rests left k s rest e is-s is-rest is-e alone regular =
+      let after : Outcome S D P (Post W) → SeenRest = λ o. rest_after o.filmed in
+      let all : Outcome S D P (Post W) → SeenLeft D P = λ o. left_after o.filmed in
+      let at = made-from shot_of outcomes k s (subst (λ l. slice_get l k ≡ Some s) (sym same) is-s) in
+      let o = at.0 in
+      let shot = shot_of o in
+      let the-rest : after o ≡ rest =
+      same-some (after o) rest
+      (sym (makes after outcomes k o at.1) ∙ sym (ap (λ l. slice_get l k) rests) ∙ is-rest) in
+      let the-left : all o ≡ left_of e =
+      same-some (all o) (left_of e)
+      (sym (makes all outcomes k o at.1) ∙ sym (ap (λ l. slice_get l k) left)
+      ∙ makes left_of r.filmed.items k e is-e) in
+      let kept : IfSome (all o).lost (HasKept medium gives meaning shot.guide.frames shot.guide.geometry shot.camera
+      (after o) (all o).queue (all o).desk) =
+      kept-of medium gives meaning shot.guide.frames shot.guide.geometry shot.camera o.filmed
+      (all-at (IsOutcome medium gives meaning IsRead (λ fault. ⊤)
+      (λ (post : Post W) n now. IsPeriod post.geometry n now) (λ post n. post.frames ≤ n)) outcomes k o each at.1)
+      (subst (λ (z : Shot S D P (Post W)). z.camera.joined ≡ []) (sym at.2) alone)
+      (subst (λ (z : Shot S D P (Post W)). IsRegular meaning z.camera.queue) (sym at.2) regular) in
+      subst (λ (z : Shot S D P (Post W)). IfSome e.given_up (HasKept medium gives meaning z.guide.frames
+      z.guide.geometry z.camera rest e.camera.port.queue e.camera.session.desk)) at.2
+      (subst (λ z. IfSome e.given_up (HasKept medium gives meaning shot.guide.frames shot.guide.geometry shot.camera z
+      e.camera.port.queue e.camera.session.desk)) the-rest
+      (subst (λ (z : SeenLeft D P). IfSome z.lost (HasKept medium gives meaning shot.guide.frames shot.guide.geometry
+      shot.camera (after o) z.queue z.desk)) the-left kept))
+
+  -- where none was filmed, nothing is promised
+  pub none-filmed : All (λ (l : SeenLeft D P). l.lost ≡ None) (map left_of r.filmed.items)
+      → AreFilmed medium gives meaning shots r
+  none-filmed none k s rest e is-s is-rest is-e alone regular =
+      subst (λ lost. IfSome lost (HasKept medium gives meaning s.guide.frames s.guide.geometry s.camera rest
+      e.camera.port.queue e.camera.session.desk))
+      (sym (all-at (λ (l : SeenLeft D P). l.lost ≡ None) (map left_of r.filmed.items) k (left_of e) none
+      (makes left_of r.filmed.items k e is-e))) tt
+
+if-some : {X : Type 0} (P Q : X → Type 0) (o : Option X) → ((x : X) → P x → Q x) → IfSome o P → IfSome o Q
+if-some P Q None more is = tt
+if-some P Q (Some x) more is = more x is
+
+-- and of each camera that lent its source
+pub each-kept : {B S D P W : Type 0} (source : B → S) (gives : S → Next → List ℕ → S → Type 0) (medium : D → Medium)
+    (meaning : P → Plane) (frames : ℕ) (old new : List (SeenDevice S)) (cameras : List (OpenCamera D P Global))
+    (shots : List (Shot B D P (Post W))) (r : Returned D P) → map (lender_of source) shots ≡ old
+    → map held_by shots ≡ map held_in cameras → All (IsGuided frames) shots → map rest_of new ≡ r.rests.items
+    → AreFilmed medium (lent source gives) meaning shots r
+    → EachKept medium gives meaning frames old new cameras r.filmed.items
+each-kept {B} {S} {D} {P} {W} source gives medium meaning frames old new cameras shots r devices held guided resumed
+    filmed k d f c e is-d is-f is-c is-e regular =
+    let at = made-from (lender_of source) shots k d (subst (λ l. slice_get l k ≡ Some d) (sym devices) is-d) in
+    let s = at.0 in
+    let holds : held_by s ≡ held_in c =
+    same-some (held_by s) (held_in c)
+    (sym (makes held_by shots k s at.1) ∙ ap (λ l. slice_get l k) held ∙ makes held_in cameras k c is-c) in
+    let guide = all-at (IsGuided frames) shots k s guided at.1 in
+    let rest : slice_get r.rests.items k ≡ Some (rest_of f) =
+    sym (ap (λ l. slice_get l k) resumed) ∙ makes rest_of new k f is-f in
+    let was : camera_of source gives medium meaning s.camera
+    ≡ record { device = d; queue = c.port.queue; desk = c.session.desk; joined = [] } =
+    λ i. record { device = at.2 i; queue = (holds i).0; desk = (holds i).1; joined = guide.alone i } in
+    let geometry : s.guide.geometry ≡ c.session.desk.store.geometry =
+    guide.geometry ∙ ap (λ (h : Lined P × SeenDesk D). h.1.store.geometry) holds in
+    if-some (HasKept medium (lent source gives) meaning s.guide.frames s.guide.geometry s.camera (rest_of f)
+    e.camera.port.queue e.camera.session.desk) _ e.given_up
+    (λ n h. subst (λ (z : SeenCamera S D P). HasKept medium gives meaning frames c.session.desk.store.geometry z
+    (rest_of f) e.camera.port.queue e.camera.session.desk n) was
+    (subst (λ z. HasKept medium gives meaning frames z (camera_of source gives medium meaning s.camera) (rest_of f)
+    e.camera.port.queue e.camera.session.desk n) geometry
+    (subst (λ z. HasKept medium gives meaning z s.guide.geometry (camera_of source gives medium meaning s.camera)
+    (rest_of f) e.camera.port.queue e.camera.session.desk n) guide.ticks
+    (kept-lent source gives medium meaning s.guide.frames s.guide.geometry s.camera (rest_of f)
+    e.camera.port.queue e.camera.session.desk n h))))
+    (filmed k s (rest_of f) e at.1 rest is-e guide.alone
+    (subst (λ (h : Lined P × SeenDesk D). IsRegular meaning h.0) (sym holds) regular))
