@@ -25,7 +25,7 @@ use Rattle.loop_pipeline.specs.Several.{IsFilmed, IsOutcome, shot_of}
 use Rattle.loop_sessions.specs.declared.opening.OpenCamera.{OpenCamera}
 use Rattle.loop_recorder.specs.declared.post.Post.{Post}
 use Rattle.loop_recorder.specs.declared.room.Returned.{Returned}
-use Rattle.loop_recorder.specs.Recordings.{AreFilmed, EachKept, HasKept, IsGuided, IsPeriod, IsRead, SeenLeft, held_by, held_in, left_after, left_of, lender, lender_of, rest_after, rest_of}
+use Rattle.loop_recorder.specs.Recordings.{AreFilmed, EachKept, HasKept, IsGuided, IsPeriod, IsRead, SeenLeft, had_by, had_in, left_by, left_in, lender, lender_of, rest_left, without_source}
 use Rattle.loop_recorder.proofs.Places.{all-at, made-from, makes, same-some}
 
 module _ {B S : Type 0} (source : B → S) (gives : S → Next → List ℕ → S → Type 0) where
@@ -101,8 +101,8 @@ module _ {S D P G : Type 0} (medium : D → Medium) (gives : S → Next → List
   pub kept-of : (camera : SeenCamera S D P) (filmed : Result (CameraEnd S D P G Global) (Unfilmed S D P G))
       → IsFilmed medium gives meaning IsRead (λ fault. ⊤) (IsPeriod geometry) (λ n. frames ≤ n) camera filmed
       → camera.joined ≡ [] → IsRegular meaning camera.queue
-      → IfSome (left_after filmed).lost (HasKept medium gives meaning frames geometry camera (rest_after filmed)
-      (left_after filmed).queue (left_after filmed).desk)
+      → IfSome (left_by filmed).lost (HasKept medium gives meaning frames geometry camera (rest_left filmed)
+      (left_by filmed).queue (left_by filmed).desk)
   kept-of camera (Ok e) is alone regular =
       let kept : CameraKeeps medium gives meaning IsRead (λ fault. ⊤) (IsPeriod geometry) (λ n. frames ≤ n) camera
       (record { device = e.device; queue = e.queue; desk = e.desk; joined = e.joined.items })
@@ -133,21 +133,21 @@ module _ {S D P W : Type 0} (medium : D → Medium) (gives : S → Next → List
   pub are-filmed : (outcomes : List (Outcome S D P (Post W))) → map shot_of outcomes ≡ shots
       → All (IsOutcome medium gives meaning IsRead (λ fault. ⊤) (λ (post : Post W) n now. IsPeriod post.geometry n now)
       (λ post n. post.frames ≤ n)) outcomes
-      → r.rests.items ≡ map (λ o. rest_after o.filmed) outcomes
-      → map left_of r.filmed.items ≡ map (λ o. left_after o.filmed) outcomes → AreFilmed medium gives meaning shots r
+      → r.rests.items ≡ map (λ o. rest_left o.filmed) outcomes
+      → map left_in r.filmed.items ≡ map (λ o. left_by o.filmed) outcomes → AreFilmed medium gives meaning shots r
   are-filmed outcomes same each rests left k s rest e is-s is-rest is-e alone regular =
-      let after : Outcome S D P (Post W) → SeenRest = λ o. rest_after o.filmed in
-      let all : Outcome S D P (Post W) → SeenLeft D P = λ o. left_after o.filmed in
+      let after : Outcome S D P (Post W) → SeenRest = λ o. rest_left o.filmed in
+      let all : Outcome S D P (Post W) → SeenLeft D P = λ o. left_by o.filmed in
       let at = made-from shot_of outcomes k s (subst (λ l. slice_get l k ≡ Some s) (sym same) is-s) in
       let o = at.0 in
       let shot = shot_of o in
       let the-rest : after o ≡ rest =
       same-some (after o) rest
       (sym (makes after outcomes k o at.1) ∙ sym (ap (λ l. slice_get l k) rests) ∙ is-rest) in
-      let the-left : all o ≡ left_of e =
-      same-some (all o) (left_of e)
+      let the-left : all o ≡ left_in e =
+      same-some (all o) (left_in e)
       (sym (makes all outcomes k o at.1) ∙ sym (ap (λ l. slice_get l k) left)
-      ∙ makes left_of r.filmed.items k e is-e) in
+      ∙ makes left_in r.filmed.items k e is-e) in
       let kept : IfSome (all o).lost (HasKept medium gives meaning shot.guide.frames shot.guide.geometry shot.camera
       (after o) (all o).queue (all o).desk) =
       kept-of medium gives meaning shot.guide.frames shot.guide.geometry shot.camera o.filmed
@@ -163,13 +163,13 @@ module _ {S D P W : Type 0} (medium : D → Medium) (gives : S → Next → List
       shot.camera (after o) z.queue z.desk)) the-left kept))
 
   -- where none was filmed, nothing is promised
-  pub none-filmed : All (λ (l : SeenLeft D P). l.lost ≡ None) (map left_of r.filmed.items)
+  pub none-filmed : All (λ (l : SeenLeft D P). l.lost ≡ None) (map left_in r.filmed.items)
       → AreFilmed medium gives meaning shots r
   none-filmed none k s rest e is-s is-rest is-e alone regular =
       subst (λ lost. IfSome lost (HasKept medium gives meaning s.guide.frames s.guide.geometry s.camera rest
       e.camera.port.queue e.camera.session.desk))
-      (sym (all-at (λ (l : SeenLeft D P). l.lost ≡ None) (map left_of r.filmed.items) k (left_of e) none
-      (makes left_of r.filmed.items k e is-e))) tt
+      (sym (all-at (λ (l : SeenLeft D P). l.lost ≡ None) (map left_in r.filmed.items) k (left_in e) none
+      (makes left_in r.filmed.items k e is-e))) tt
 
 if-some : {X : Type 0} (P Q : X → Type 0) (o : Option X) → ((x : X) → P x → Q x) → IfSome o P → IfSome o Q
 if-some P Q None more is = tt
@@ -179,33 +179,33 @@ if-some P Q (Some x) more is = more x is
 pub each-kept : {B S D P W : Type 0} (source : B → S) (gives : S → Next → List ℕ → S → Type 0) (medium : D → Medium)
     (meaning : P → Plane) (frames : ℕ) (old new : List (SeenDevice S)) (cameras : List (OpenCamera D P Global))
     (shots : List (Shot B D P (Post W))) (r : Returned D P) → map (lender_of source) shots ≡ old
-    → map held_by shots ≡ map held_in cameras → All (IsGuided frames) shots → map rest_of new ≡ r.rests.items
+    → map had_by shots ≡ map had_in cameras → All (IsGuided frames) shots → map without_source new ≡ r.rests.items
     → AreFilmed medium (lent source gives) meaning shots r
     → EachKept medium gives meaning frames old new cameras r.filmed.items
 each-kept {B} {S} {D} {P} {W} source gives medium meaning frames old new cameras shots r devices held guided resumed
     filmed k d f c e is-d is-f is-c is-e regular =
     let at = made-from (lender_of source) shots k d (subst (λ l. slice_get l k ≡ Some d) (sym devices) is-d) in
     let s = at.0 in
-    let holds : held_by s ≡ held_in c =
-    same-some (held_by s) (held_in c)
-    (sym (makes held_by shots k s at.1) ∙ ap (λ l. slice_get l k) held ∙ makes held_in cameras k c is-c) in
+    let holds : had_by s ≡ had_in c =
+    same-some (had_by s) (had_in c)
+    (sym (makes had_by shots k s at.1) ∙ ap (λ l. slice_get l k) held ∙ makes had_in cameras k c is-c) in
     let guide = all-at (IsGuided frames) shots k s guided at.1 in
-    let rest : slice_get r.rests.items k ≡ Some (rest_of f) =
-    sym (ap (λ l. slice_get l k) resumed) ∙ makes rest_of new k f is-f in
+    let rest : slice_get r.rests.items k ≡ Some (without_source f) =
+    sym (ap (λ l. slice_get l k) resumed) ∙ makes without_source new k f is-f in
     let was : camera_of source gives medium meaning s.camera
     ≡ record { device = d; queue = c.port.queue; desk = c.session.desk; joined = [] } =
     λ i. record { device = at.2 i; queue = (holds i).0; desk = (holds i).1; joined = guide.alone i } in
     let geometry : s.guide.geometry ≡ c.session.desk.store.geometry =
     guide.geometry ∙ ap (λ (h : Lined P × SeenDesk D). h.1.store.geometry) holds in
-    if-some (HasKept medium (lent source gives) meaning s.guide.frames s.guide.geometry s.camera (rest_of f)
+    if-some (HasKept medium (lent source gives) meaning s.guide.frames s.guide.geometry s.camera (without_source f)
     e.camera.port.queue e.camera.session.desk) _ e.given_up
     (λ n h. subst (λ (z : SeenCamera S D P). HasKept medium gives meaning frames c.session.desk.store.geometry z
-    (rest_of f) e.camera.port.queue e.camera.session.desk n) was
-    (subst (λ z. HasKept medium gives meaning frames z (camera_of source gives medium meaning s.camera) (rest_of f)
-    e.camera.port.queue e.camera.session.desk n) geometry
+    (without_source f) e.camera.port.queue e.camera.session.desk n) was
+    (subst (λ z. HasKept medium gives meaning frames z (camera_of source gives medium meaning s.camera)
+    (without_source f) e.camera.port.queue e.camera.session.desk n) geometry
     (subst (λ z. HasKept medium gives meaning z s.guide.geometry (camera_of source gives medium meaning s.camera)
-    (rest_of f) e.camera.port.queue e.camera.session.desk n) guide.ticks
-    (kept-lent source gives medium meaning s.guide.frames s.guide.geometry s.camera (rest_of f)
+    (without_source f) e.camera.port.queue e.camera.session.desk n) guide.ticks
+    (kept-lent source gives medium meaning s.guide.frames s.guide.geometry s.camera (without_source f)
     e.camera.port.queue e.camera.session.desk n h))))
-    (filmed k s (rest_of f) e at.1 rest is-e guide.alone
+    (filmed k s (without_source f) e at.1 rest is-e guide.alone
     (subst (λ (h : Lined P × SeenDesk D). IsRegular meaning h.0) (sym holds) regular))

@@ -12,7 +12,7 @@ use Rattle.loop_pipeline.specs.declared.film.Unfilmed.TheVariants.{NoMemory, NoT
 use Rattle.loop_pipeline.specs.Cameras.{SeenCamera}
 use Rattle.loop_pipeline.specs.Several.{IsFilmed}
 use Rattle.loop_recorder.specs.declared.room.Returned.{Returned}
-use Rattle.loop_recorder.specs.Recordings.{Holds, StandsAfter}
+use Rattle.loop_recorder.specs.Recordings.{HoldsAll, StandsAfter}
 
 pub stands-after : {S D P G : Type 0} (medium : D → Medium) (gives : S → Next → List ℕ → S → Type 0)
     (meaning : P → Plane) (asks : DeskCall → Type 0) (gives_up : StoreFault → Type 0) (due : ℕ → ℕ → Type 0)
@@ -22,7 +22,7 @@ stands-after medium gives meaning asks gives_up due ends camera (Ok e) is = is.a
 stands-after medium gives meaning asks gives_up due ends camera (Err (NoMemory c)) is = tt
 stands-after medium gives meaning asks gives_up due ends camera (Err (NoThread e)) is = is.refused.2
 
-pub holds-fewer : {D P : Type 0} {few all : ℕ} {r : Returned D P} → few ≤ all → Holds all r → Holds few r
+pub holds-fewer : {D P : Type 0} {few all : ℕ} {r : Returned D P} → few ≤ all → HoldsAll all r → HoldsAll few r
 holds-fewer le h = record {
   rests = (h.rests.0, omega (arith, le, h.rests.1));
   filmed = omega (arith, le, h.filmed);

@@ -2,7 +2,7 @@
 
 ghost use Rattle.std.specs.Prelude.{◌≡◌, ◌<◌, ◌≤◌, ◌^◌, [], All, IfErr, IfOk, length, map, vec_len};
 ghost use Rattle.std.specs.Vec.{vec_capacity};
-ghost use Rattle.loop_recorder.specs.Recordings.{EachKept, IsGuided, held_by, held_in, lender_of, rest_of};
+ghost use Rattle.loop_recorder.specs.Recordings.{EachKept, IsGuided, had_by, had_in, lender_of, without_source};
 
 use crate::post::{Post, Watch};
 use crate::returns::film;
@@ -29,7 +29,7 @@ fn shot_of<'a, S: FrameSource + Drop, D: Disk + Drop, P: PlaneMemory, Q: Pace>(
     pass: Pass,
 ) -> Recorded<'a, S, D, P, Q>
     ensures device { result.camera.device ≡ device }
-    ensures held { held_by result ≡ held_in camera }
+    ensures held { had_by result ≡ had_in camera }
     ensures guided { IsGuided frames result }
 {
     let OpenCamera { session, port } = camera;
@@ -61,7 +61,7 @@ fn shots_of<'d, 'a, S: FrameSource + Drop, D: Disk + Drop, P: PlaneMemory, Q: Pa
     requires room { (shots.items ≡ []) × (length devices.old ≤ vec_capacity shots) }
     ensures count { vec_len result ≡ length devices.old }
     ensures devices { map (lender_of (λ loan. loan.source.now)) result.items ≡ devices.old }
-    ensures held { map held_by result.items ≡ map held_in cameras.items }
+    ensures held { map had_by result.items ≡ map had_in cameras.items }
     ensures guided { All (IsGuided frames) result.items }
 {
     let mut cameras = cameras.into_iter();
@@ -83,7 +83,7 @@ fn shots_of<'d, 'a, S: FrameSource + Drop, D: Disk + Drop, P: PlaneMemory, Q: Pa
 // Each device resumes with what the device left to which its source was lent.
 fn resume_all<S: FrameSource>(devices: &mut [Device<S>], rests: Vec<Rest>)
     requires { vec_len rests ≡ length devices.old }
-    ensures { map rest_of devices.new ≡ rests.items }
+    ensures { map without_source devices.new ≡ rests.items }
 {
     let mut rests = rests.into_iter();
     for at in 0..devices.len() {

@@ -1,7 +1,7 @@
 //! How the cameras of a recording come back.
 
 ghost use Rattle.std.specs.Prelude.{◌≡◌, ◌+◌, ◌++◌, ◌∷◌, ℕ, [], All, None, Some, map, vec_len};
-ghost use Rattle.loop_recorder.specs.Recordings.{AreFilmed, Holds, StandsAfter, left_after, left_of, lost_of, rest_after, rest_of};
+ghost use Rattle.loop_recorder.specs.Recordings.{AreFilmed, HoldsAll, StandsAfter, left_by, left_in, lost_of, rest_left, without_source};
 ghost use Rattle.loop_sessions.specs.Ports.{StandsPort};
 
 use crate::post::{Post, Watch};
@@ -70,8 +70,8 @@ fn parts_of<'a, S: FrameSource + Drop, D: Disk + Drop, P: PlaneMemory, Q: Pace>(
 ) -> Parts<'a, S, D, P, Q>
     requires { StandsAfter P.plane filmed }
     ensures stands { StandsPort P.plane result.queue result.table }
-    ensures rest { rest_of result.device ≡ rest_after filmed.entry }
-    ensures left { record { queue = result.queue; desk = result.seat; lost = result.lost } ≡ left_after filmed.entry }
+    ensures rest { without_source result.device ≡ rest_left filmed.entry }
+    ensures left { record { queue = result.queue; desk = result.seat; lost = result.lost } ≡ left_by filmed.entry }
 {
     match filmed {
         Ok(ended) => parts_left(ended),
@@ -98,12 +98,12 @@ fn put_back<'a, S: FrameSource + Drop, D: Disk + Drop, P: PlaneMemory, Q: Pace>(
     returned: Returned<D, P>,
 ) -> Returned<D, P>
     requires stands { StandsAfter P.plane filmed }
-    requires room { Holds (vec_len returned.filmed + 1) returned }
+    requires room { HoldsAll (vec_len returned.filmed + 1) returned }
     ensures one { vec_len result.filmed ≡ vec_len returned.filmed + 1 }
-    ensures rests { result.rests.items ≡ returned.rests.items ++ rest_after filmed.entry ∷ [] }
-    ensures filmed { map left_of result.filmed.items
-        ≡ map left_of returned.filmed.items ++ left_after filmed.entry ∷ [] }
-    ensures room { (all : ℕ) → Holds all returned → Holds all result }
+    ensures rests { result.rests.items ≡ returned.rests.items ++ rest_left filmed.entry ∷ [] }
+    ensures filmed { map left_in result.filmed.items
+        ≡ map left_in returned.filmed.items ++ left_by filmed.entry ∷ [] }
+    ensures room { (all : ℕ) → HoldsAll all returned → HoldsAll all result }
 {
     let Returned {
         mut rests,
@@ -137,9 +137,9 @@ fn outcomes_back<'a, S: FrameSource + Drop, D: Disk + Drop, P: PlaneMemory, Q: P
 ) -> Returned<D, P>
     requires each { All (λ o. StandsAfter P.plane o.filmed) outcomes.items }
     requires none { (returned.rests.items ≡ []) × (returned.filmed.items ≡ []) }
-    requires room { Holds (vec_len outcomes) returned }
-    ensures rests { result.rests.items ≡ map (λ o. rest_after o.filmed) outcomes.entry.items }
-    ensures filmed { map left_of result.filmed.items ≡ map (λ o. left_after o.filmed) outcomes.entry.items }
+    requires room { HoldsAll (vec_len outcomes) returned }
+    ensures rests { result.rests.items ≡ map (λ o. rest_left o.filmed) outcomes.entry.items }
+    ensures filmed { map left_in result.filmed.items ≡ map (λ o. left_by o.filmed) outcomes.entry.items }
 {
     for outcome in outcomes {
         let Outcome { shot: _, filmed } = outcome;
@@ -154,9 +154,9 @@ fn shots_back<'a, S: FrameSource + Drop, D: Disk + Drop, P: PlaneMemory, Q: Pace
     mut returned: Returned<D, P>,
 ) -> Returned<D, P>
     requires none { (returned.rests.items ≡ []) × (returned.filmed.items ≡ []) }
-    requires room { Holds (vec_len shots) returned }
+    requires room { HoldsAll (vec_len shots) returned }
     ensures count { (vec_len result.rests ≡ vec_len shots.entry) × (vec_len result.filmed ≡ vec_len shots.entry) }
-    ensures none { All (λ l. l.lost ≡ None) (map left_of result.filmed.items) }
+    ensures none { All (λ l. l.lost ≡ None) (map left_in result.filmed.items) }
 {
     for shot in shots {
         let Shot { guide: _, camera } = shot;
@@ -179,7 +179,7 @@ pub(crate) fn film<
     returned: Returned<D, P>,
 ) -> Returned<D, P>
     requires none { (returned.rests.items ≡ []) × (returned.filmed.items ≡ []) }
-    requires room { Holds (vec_len shots) returned }
+    requires room { HoldsAll (vec_len shots) returned }
     ensures count { (vec_len result.rests ≡ vec_len shots.entry) × (vec_len result.filmed ≡ vec_len shots.entry) }
     ensures filmed { AreFilmed D.medium S.next_gives P.plane shots.entry.items result }
 {

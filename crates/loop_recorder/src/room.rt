@@ -2,7 +2,7 @@
 
 ghost use Rattle.std.specs.Prelude.{[], ◌≡◌, ◌≤◌, IfSome, length, vec_len};
 ghost use Rattle.std.specs.Vec.{vec_capacity};
-ghost use Rattle.loop_recorder.specs.Recordings.{Holds};
+ghost use Rattle.loop_recorder.specs.Recordings.{HoldsAll};
 
 use crate::Pass;
 use crate::post::{Post, Watch};
@@ -71,7 +71,7 @@ pub(crate) fn returned_for<D: Disk + Drop, P: PlaneMemory>(
 ) -> Option<Returned<D, P>>
     ensures rests { IfSome result (λ r. r.rests.items ≡ []) }
     ensures filmed { IfSome result (λ r. r.filmed.items ≡ []) }
-    ensures room { IfSome result (Holds count) }
+    ensures room { IfSome result (HoldsAll count) }
 {
     let Ok(rests) = Vec::with_capacity(alloc, count) else {
         return None;

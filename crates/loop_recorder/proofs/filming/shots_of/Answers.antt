@@ -8,7 +8,7 @@ use Rattle.loop_capture.specs.Ticks.{SeenDevice}
 use Rattle.loop_pipeline.specs.declared.several.Shot.{Shot}
 use Rattle.loop_recorder.specs.declared.post.Post.{Post}
 use Rattle.loop_recorder.specs.declared.post.Watch.{Watch}
-use Rattle.loop_recorder.specs.Recordings.{IsGuided, held_by, held_in, lender_of}
+use Rattle.loop_recorder.specs.Recordings.{IsGuided, had_by, had_in, lender_of}
 use Rattle.loop_recorder.proofs.Places.{none-left, one-more, taken-more}
 use Rattle.loop_recorder.proofs.filming.shots_of.Goals as goal
 
@@ -46,16 +46,16 @@ loop-device-preserved g c =
           ap (map lender) push.items ∙ map_push lender shots shot ∙ (λ i. so.devices i ++ is i ∷ [])
           ∙ sym (taken-more devices number (number + 1) item (omega arith) at);
       held =
-          one-more held_in _ _ _ _ _ _
-          (ap (map held_by) push.items ∙ map_push held_by shots shot
-          ∙ ap (λ h. map held_by shots ++ h ∷ []) c.shot_of.ensures.held) one.items so.held;
+          one-more had_in _ _ _ _ _ _
+          (ap (map had_by) push.items ∙ map_push had_by shots shot
+          ∙ ap (λ h. map had_by shots ++ h ∷ []) c.shot_of.ensures.held) one.items so.held;
       guided = rw push.items (All-push (IsGuided c.args.frames) _ _ so.guided c.shot_of.ensures.guided);
     }
 
 pub returns-clause-held : goal.returns-clause-held
 returns-clause-held g c =
     let at = c.loop-device in
-    none-left held_in (map held_by at.shots.items) (into_iter_items at.cameras) (map held_in c.args.cameras.items) _
+    none-left had_in (map had_by at.shots.items) (into_iter_items at.cameras) (map had_in c.args.cameras.items) _
     at.invariant.left
     (omega (arith, at.invariant.cameras, at.invariant.number, c.loop-device-test.false, at.auto.device-index-end))
     at.invariant.held

@@ -5,7 +5,7 @@ use Rattle.loop_pipeline.specs.declared.several.Outcome.{Outcome}
 use Rattle.loop_pipeline.specs.Several.{shot_of}
 use Rattle.loop_recorder.specs.declared.post.Post.{Post}
 use Rattle.loop_recorder.specs.declared.post.Watch.{Watch}
-use Rattle.loop_recorder.specs.Recordings.{SeenLeft, left_after, left_of, rest_after}
+use Rattle.loop_recorder.specs.Recordings.{SeenLeft, left_by, left_in, rest_left}
 use Rattle.loop_recorder.proofs.Kept.{are-filmed, none-filmed}
 use Rattle.loop_recorder.proofs.Standing.{holds-fewer, stands-after}
 use Rattle.loop_recorder.proofs.returns.film.Goals as goal
@@ -29,9 +29,9 @@ outcomes_back-requires-clause-room g c κs within =
 pub returns-in-Ok-clause-count : goal.returns-in-Ok-clause-count
 returns-in-Ok-clause-count g c =
     let rest : Outcome g.row.S.Denot g.row.D.Denot g.row.P.Denot (Post (Watch g.row.Q.Denot)) → SeenRest =
-    λ o. rest_after o.filmed in
+    λ o. rest_left o.filmed in
     let left : Outcome g.row.S.Denot g.row.D.Denot g.row.P.Denot (Post (Watch g.row.Q.Denot))
-    → SeenLeft g.row.D.Denot g.row.P.Denot = λ o. left_after o.filmed in
+    → SeenLeft g.row.D.Denot g.row.P.Denot = λ o. left_by o.filmed in
     let outcomes = c.in-Ok.outcomes.items in
     let back = c.outcomes_back in
     let count : length outcomes ≡ vec_len c.args.shots =
@@ -42,7 +42,7 @@ returns-in-Ok-clause-count g c =
         count,
         ap length back.ensures.filmed,
         length-map outcomes left,
-        length-map back.result.filmed.items left_of,
+        length-map back.result.filmed.items left_in,
         back.result.filmed.ok.0,
       ),
     )

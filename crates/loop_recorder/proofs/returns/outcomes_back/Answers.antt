@@ -5,7 +5,7 @@ use Rattle.loop_capture.specs.Ticks.{SeenRest}
 use Rattle.loop_pipeline.specs.declared.several.Outcome.{Outcome}
 use Rattle.loop_recorder.specs.declared.post.Post.{Post}
 use Rattle.loop_recorder.specs.declared.post.Watch.{Watch}
-use Rattle.loop_recorder.specs.Recordings.{SeenLeft, StandsAfter, left_after, left_of, rest_after}
+use Rattle.loop_recorder.specs.Recordings.{SeenLeft, StandsAfter, left_by, left_in, rest_left}
 use Rattle.loop_recorder.proofs.Places.{none-left, one-more}
 use Rattle.loop_recorder.proofs.Standing.{holds-fewer}
 use Rattle.loop_recorder.proofs.returns.outcomes_back.Goals as goal
@@ -15,9 +15,9 @@ loop-outcome-init g c =
     let P : Outcome g.row.S.Denot g.row.D.Denot g.row.P.Denot (Post (Watch g.row.Q.Denot)) → Type 0 =
     λ o. StandsAfter g.P.PlaneMemory.plane o.filmed in
     let rest : Outcome g.row.S.Denot g.row.D.Denot g.row.P.Denot (Post (Watch g.row.Q.Denot)) → SeenRest =
-    λ o. rest_after o.filmed in
+    λ o. rest_left o.filmed in
     let left : Outcome g.row.S.Denot g.row.D.Denot g.row.P.Denot (Post (Watch g.row.Q.Denot))
-    → SeenLeft g.row.D.Denot g.row.P.Denot = λ o. left_after o.filmed in
+    → SeenLeft g.row.D.Denot g.row.P.Denot = λ o. left_by o.filmed in
     let items = c.into_iter-outcome-iterator.ensures.into_iter_gives.0 in
     let len = c.into_iter-outcome-iterator.ensures.into_iter_gives.1 in
     let none = c.requires.none.1 in
@@ -27,7 +27,7 @@ loop-outcome-init g c =
       each = subst (λ l. All P l) (sym items) c.requires.each;
       room = c.requires.room;
       rests = λ i. c.requires.none.0 i ++ map rest (items i);
-      filmed = λ i. map left_of (none i) ++ map left (items i);
+      filmed = λ i. map left_in (none i) ++ map left (items i);
     }
 
 pub put_back-returned-requires-clause-stands : goal.put_back-returned-requires-clause-stands
@@ -46,9 +46,9 @@ loop-outcome-preserved g c =
     let P : Outcome g.row.S.Denot g.row.D.Denot g.row.P.Denot (Post (Watch g.row.Q.Denot)) → Type 0 =
     λ o. StandsAfter g.P.PlaneMemory.plane o.filmed in
     let rest : Outcome g.row.S.Denot g.row.D.Denot g.row.P.Denot (Post (Watch g.row.Q.Denot)) → SeenRest =
-    λ o. rest_after o.filmed in
+    λ o. rest_left o.filmed in
     let left : Outcome g.row.S.Denot g.row.D.Denot g.row.P.Denot (Post (Watch g.row.Q.Denot))
-    → SeenLeft g.row.D.Denot g.row.P.Denot = λ o. left_after o.filmed in
+    → SeenLeft g.row.D.Denot g.row.P.Denot = λ o. left_by o.filmed in
     let so = c.loop-outcome.invariant in
     let steps = c.in-Some.ensures.steps in
     let put = c.put_back-returned.ensures in
@@ -64,7 +64,7 @@ loop-outcome-preserved g c =
 pub returns-clause-rests : goal.returns-clause-rests
 returns-clause-rests g c =
     let rest : Outcome g.row.S.Denot g.row.D.Denot g.row.P.Denot (Post (Watch g.row.Q.Denot)) → SeenRest =
-    λ o. rest_after o.filmed in
+    λ o. rest_left o.filmed in
     let at = c.loop-outcome in
     none-left rest at.returned.rests.items (into_iter_items at.outcome-iterator) (map rest c.args.outcomes.items)
     (into_iter_len at.outcome-iterator) at.invariant.left c.in-None.ensures.steps.0 at.invariant.rests
@@ -72,8 +72,8 @@ returns-clause-rests g c =
 pub returns-clause-filmed : goal.returns-clause-filmed
 returns-clause-filmed g c =
     let left : Outcome g.row.S.Denot g.row.D.Denot g.row.P.Denot (Post (Watch g.row.Q.Denot))
-    → SeenLeft g.row.D.Denot g.row.P.Denot = λ o. left_after o.filmed in
+    → SeenLeft g.row.D.Denot g.row.P.Denot = λ o. left_by o.filmed in
     let at = c.loop-outcome in
-    none-left left (map left_of at.returned.filmed.items) (into_iter_items at.outcome-iterator)
+    none-left left (map left_in at.returned.filmed.items) (into_iter_items at.outcome-iterator)
     (map left c.args.outcomes.items) (into_iter_len at.outcome-iterator) at.invariant.left c.in-None.ensures.steps.0
     at.invariant.filmed
