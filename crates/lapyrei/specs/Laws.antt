@@ -1,5 +1,5 @@
 -- What follows from the definitions of what C is told.
-use Rattle.std.specs.Prelude.{◌⊎◌, ℕ, ◌+◌, ◌*◌, ◌<◌, ◌≤◌, List, [], ◌∷◌, length}
+use Rattle.std.specs.Prelude.{◌⊎◌, ℕ, ◌*◌, ◌<◌, ◌≤◌, List, [], ◌∷◌, length}
 use Rattle.lapyrei.specs.declared.answer.Answer.{Answer}
 use Rattle.lapyrei.specs.Told.{AsksForBytes, IsThere, Meets}
 

@@ -1,8 +1,8 @@
 -- The first frame of the block that goes.
-use Rattle.std.proofs.Common.{◌≡◌, ◌<◌, ◌≤◌, ◌*◌, ◌-◌, ◌^◌, ◌/◌, ◌⊎◌, inl, inr, is_some, ℕ, Bool, true, false, min, Option, Some, None, refl, sym, ap, ◌∙◌, subst, arith}
+use Rattle.std.proofs.Common.{◌≡◌, ◌<◌, ◌≤◌, ◌*◌, ◌-◌, ◌^◌, ◌⊎◌, inl, inr, is_some, ℕ, Bool, true, false, min, Option, Some, None, refl, sym, ap, ◌∙◌, subst, arith}
 use Rattle.std.proofs.lemmas.Bool.{cases_lt}
 use Rattle.std.proofs.Math.Nat.{div-mul-le_self, le-div_iff_mul-le}
-use Rattle.loop_record.specs.Recording.{IsWellFormed, MayGo, Picture, Recording, Ring, block, frame_under, holds, numbers_end, victim}
+use Rattle.loop_record.specs.Recording.{IsWellFormed, Picture, Recording, Ring, block, frame_under, holds, numbers_end, victim}
 use Rattle.loop_record.proofs.Victim.{victim-is}
 use Rattle.loop_store.specs.Numbers.{IsLeastFrom}
 use Rattle.loop_desk.specs.Space.{IsFirstOf, TellsOldest}

@@ -10,7 +10,6 @@ use Rattle.loop_vb2.specs.declared.reason.Refused.{Refused}
 use Rattle.loop_vb2.specs.Buffers.{stop_buffer}
 use Rattle.loop_vb2.proofs.Short.{mapped_as}
 use Rattle.loop_vb2.specs.Effects.{on_body, change_buffer, body_streaming, body_stopped, settle_device}
-use Rattle.loop_vb2.specs.Errnos.{errno}
 use Rattle.loop_vb2.specs.State.{Body, QueueState, Lined}
 use Rattle.loop_vb2.specs.Events.{Happens, refusal_in, streamon, streamoff, querybuf, mmap, munmap}
 use Rattle.loop_ioctl.specs.declared.call.BufferType.{BufferType}

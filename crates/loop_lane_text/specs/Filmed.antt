@@ -5,7 +5,7 @@ use Rattle.loop_disk.specs.Medium.{Medium}
 use Rattle.loop_plane.specs.Plane.{Plane}
 use Rattle.loop_record.specs.Recording.{plain, ring_of}
 use Rattle.loop_store.specs.declared.fault.StoreFault.{StoreFault}
-use Rattle.loop_store.specs.declared.fault.StoreFault.TheVariants.{MustReopen, NoMemory}
+use Rattle.loop_store.specs.declared.fault.StoreFault.TheVariants.{MustReopen}
 use Rattle.loop_store.specs.Calls.{StoreState}
 use Rattle.loop_capture.specs.declared.source.Next.{Next}
 use Rattle.loop_desk.specs.Desk.{DeskCall, accepted_in, frames_stored}
@@ -16,7 +16,7 @@ use Rattle.loop_y4m.specs.Export.{frames_between}
 use Rattle.loop_y4m.specs.Text.{text}
 use Rattle.loop_y4m.specs.declared.fault.ExportFault.{ExportFault}
 use Rattle.loop_lane_text.specs.declared.TextFault.{TextFault}
-use Rattle.loop_lane_text.specs.declared.TextFault.TheVariants.{Export, Open, Run}
+use Rattle.loop_lane_text.specs.declared.TextFault.TheVariants.{Export, Run}
 use Rattle.loop_lane_text.specs.declared.filmed.LostFrames.{LostFrames}
 use Rattle.loop_lane_text.specs.Refused.{IsForWant, ExportsNot}
 

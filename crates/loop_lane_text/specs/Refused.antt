@@ -3,7 +3,6 @@ use Rattle.std.specs.Prelude.{ℕ, false, Option, Err, List}
 use Rattle.loop_disk.specs.Medium.{Medium}
 use Rattle.loop_record.specs.declared.geometry.Geometry.{Geometry}
 use Rattle.loop_store.specs.declared.fault.StoreFault.{StoreFault}
-use Rattle.loop_store.specs.Seen.{Seen}
 use Rattle.loop_y4m.specs.declared.fault.ExportFault.{ExportFault}
 use Rattle.loop_y4m.specs.Export.{IsExport}
 use Rattle.loop_lane_text.specs.declared.TextFault.{TextFault}

@@ -1,12 +1,11 @@
 -- What goes is the oldest.
-use Rattle.std.proofs.Common.{◌≡◌, ◌≢◌, ◌==◌, true, false, ◌<◌, ◌≤◌, ◌/◌, ◌⊎◌, inl, inr, is_some, ℕ, Option, Some, None, List, slice_get, refl, sym, ap, ◌∙◌, arith}
+use Rattle.std.proofs.Common.{◌≡◌, ◌≢◌, ◌==◌, true, false, ◌<◌, ◌≤◌, ◌⊎◌, inl, inr, is_some, ℕ, Option, Some, None, refl, sym, ap, ◌∙◌, arith}
 use Rattle.std.proofs.lemmas.Bool.Decides.{eqb_tells}
 use Rattle.std.proofs.Math.Nat.{div-mul-le_self, le-div_iff_mul-le}
-use Rattle.loop_record.specs.Recording.{IsWellFormed, MayGo, Picture, Recording, Ring, block, frame_under, holds, victim}
+use Rattle.loop_record.specs.Recording.{IsWellFormed, MayGo, Picture, Recording, Ring, block, frame_under, victim}
 use Rattle.loop_record.proofs.Victim.{victim-is, victim-none}
-use Rattle.loop_desk.specs.declared.limits.Space.{Space}
-use Rattle.loop_desk.specs.Space.{IsFirstOf, TellsSpace}
-use Rattle.loop_pipeline.specs.Nexts.{IsEarliest, OldestGoes, TimesRise}
+use Rattle.loop_desk.specs.Space.{IsFirstOf}
+use Rattle.loop_pipeline.specs.Nexts.{OldestGoes}
 
 -- the block of a later number is no earlier
 block-le : (ring : Ring) (m n : ℕ) → 1 ≤ ring.slots → m ≤ n → block ring m ≤ block ring n

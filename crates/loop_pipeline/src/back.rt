@@ -533,7 +533,8 @@ impl<D: Disk + Drop, K: Visits, A: Allocator + Copy> Back<D, K, A> {
 
 impl<D: Disk + Drop, G: Guide, A: Allocator + Copy> Back<D, G, A> {
     /// Stores the first frames that wait at the active desk, as `Desk::flush`. Where that is refused and the guide
-    /// doesn't try it again, frames may be given up from then on. None: it couldn't be noted, and the desk wasn't asked.
+    /// doesn't try it again, frames may be given up from then on. None: it couldn't be noted, and the desk wasn't
+    /// asked.
     pub fn flush_for<R: Wait>(&mut self, rt: &R, guide: &G) -> Option<Result<Flushed, StoreFault>>
         ensures last { IfSome result (λ answer. IsLast D.medium self.new (flushed answer)) }
         ensures same { IsChangedAt self.old.active self.old self.new }

@@ -359,9 +359,7 @@ pub(crate) fn compared<D: Disk + Drop, P: PlaneMemory, A: Allocator + Copy>(
     requires ports { AreNumbered (vec_len outlines.now) ports.items }
     requires counts { vec_len given_up ≡ vec_len outlines.now }
     ensures ended { IfOk result (IsEnd D.medium outlines.now.items) }
-    ensures cameras { IfOk result (λ e. e.cameras ≡ cameras) }
-    ensures passes { IfOk result (λ e. e.passes ≡ passes) }
-    ensures given_up { IfOk result (λ e. e.given_up ≡ given_up) }
+    ensures parts { IfOk result (λ e. (e.cameras ≡ cameras) × (e.passes ≡ passes) × (e.given_up ≡ given_up)) }
     ensures broken { IfErr result (λ broken. (made : ℕ) → made ≤ vec_len passes
         → BreaksTie D.medium (record { outlines = outlines.now.items; passes = made }) passes.items broken.0 broken.1) }
 {

@@ -41,8 +41,8 @@ struct Notes<D: Disk + Drop, A: Allocator = Global> {
     pass: Pass<A>,
 }
 
-/// A desk alone, or one whose calls are noted: each is an entry of the desk's history and a receipt of a pass. Contracts
-/// see the desk. `N` says which of the two it is.
+/// A desk alone, or one whose calls are noted: each is an entry of the desk's history and a receipt of a pass.
+/// Contracts see the desk. `N` says which of the two it is.
 #[derive(Drop)]
 pub struct Seat<D: Disk + Drop, N: Noting, A: Allocator = Global> {
     desk: Desk<D, A>,

@@ -17,8 +17,8 @@ use std::alloc::{Allocator, Global};
 use std::marker::Model;
 use std::snapshot::Snapshot;
 
-/// A desk, the history of its calls, and its outline before the first of them. Contracts see the history, how many calls
-/// it may have, and the desk.
+/// A desk, the history of its calls, and its outline before the first of them. Contracts see the history, how many
+/// calls it may have, and the desk.
 #[derive(Drop)]
 pub struct Session<D: Disk + Drop, A: Allocator = Global> {
     pub(crate) desk: Desk<D, A>,

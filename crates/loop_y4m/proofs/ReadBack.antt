@@ -18,7 +18,7 @@ use Rattle.loop_y4m.specs.declared.depth.Colours.TheVariants as colours
 use Rattle.loop_y4m.specs.declared.depth.Depth.{Depth}
 use Rattle.loop_y4m.specs.declared.depth.Depth.TheVariants.{Bits8, Bits9, Bits10, Bits12, Bits14, Bits16}
 use Rattle.loop_y4m.specs.Depths.{is_deep}
-use Rattle.loop_y4m.specs.Header.{and_then, colour_by, complete, is_halved, row_of, size_of_frame, header_of, nothing_given, with_parameter, with_parameters, with_row, header_words}
+use Rattle.loop_y4m.specs.Header.{and_then, colour_by, complete, is_halved, row_of, header_of, nothing_given, with_parameter, with_parameters, with_row, header_words}
 use Rattle.loop_y4m.specs.declared.header.Parameters.{Parameters}
 use Rattle.loop_y4m.specs.declared.header.Header.{Header}
 use Rattle.loop_y4m.specs.Stream.{before, ends_after, frames_within_input, header_and_rest, header_line, next_frame, parse, parse_deep}

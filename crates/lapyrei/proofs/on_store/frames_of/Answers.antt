@@ -1,4 +1,4 @@
-use Rattle.std.proofs.Common.{rules, ◌+◌, ◌*◌, length, arith}
+use Rattle.std.proofs.Common.{rules, ◌+◌, length, arith}
 use Rattle.std.proofs.Math.Nat.{mul-le-mul_right}
 use Rattle.lapyrei.proofs.GroupFrames.{frames_more, one_more, sizes_more}
 use Rattle.lapyrei.proofs.on_store.frames_of.Goals as goal

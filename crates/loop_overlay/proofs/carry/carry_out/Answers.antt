@@ -1,5 +1,4 @@
-use Rattle.std.proofs.Common.{rules, None, Ok, map, refl}
-use Rattle.loop_disk.specs.Crashing.{call_of}
+use Rattle.std.proofs.Common.{rules, None, Ok, refl}
 use Rattle.loop_disk.proofs.Moments.{called_on}
 use Rattle.loop_overlay.proofs.LogCalls.{carried_all, carried_failed, carried_none, carried_step, within_disk}
 use Rattle.loop_overlay.proofs.carry.carry_out.Goals as goal

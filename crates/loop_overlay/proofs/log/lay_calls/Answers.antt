@@ -1,9 +1,9 @@
-use Rattle.std.proofs.Common.{rules, ℕ, List, ◌∙◌, map, take, subst, sym, refl}
+use Rattle.std.proofs.Common.{rules, List, ◌∙◌, map, take, subst}
 use Rattle.std.proofs.lemmas.List.{take_all}
 use Rattle.loop_disk.specs.declared.crash.DeviceCall.{DeviceCall}
 use Rattle.loop_disk.specs.Crashing.{call_of, moment_after}
 use Rattle.loop_disk.specs.History.{Moment}
-use Rattle.loop_disk.proofs.CrashCalls.{take-within, turned, within-at}
+use Rattle.loop_disk.proofs.CrashCalls.{turned, within-at}
 use Rattle.loop_overlay.specs.Parts.{IsBufferOf}
 use Rattle.loop_overlay.proofs.LogCalls.{length-moment}
 use Rattle.loop_overlay.proofs.log.lay_calls.Goals as goal

@@ -1,4 +1,4 @@
-use Rattle.std.proofs.Common.{◌≡◌, ◌∙◌, ◌+◌, ◌-◌, ℕ, List, ap, subst, sym, inl, inr, take, drop, arith}
+use Rattle.std.proofs.Common.{◌≡◌, ◌∙◌, ℕ, List, ap, subst, sym, inl, inr, take, drop, arith}
 use Rattle.loop_disk.specs.Medium.{with_bytes_at}
 use Rattle.loop_overlay.specs.Layers.{LaidWrite, laid_on}
 use Rattle.loop_overlay.specs.Parts.{IsBufferOf}

@@ -1,4 +1,3 @@
-use Rattle.std.proofs.Common.{◌≡◌, length}
 use Rattle.loop_station_camera.proofs.KeepRuns.{KeepsFirst}
 use Rattle.loop_station_camera.proofs.keeping.store_and_keep.Given as goal
 

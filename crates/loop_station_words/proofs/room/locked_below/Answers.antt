@@ -1,7 +1,7 @@
-use Rattle.std.proofs.Common.{◌≡◌, ◌≤◌, ◌+◌, ◌^◌, ℕ, Some, sym, rules, arith}
+use Rattle.std.proofs.Common.{◌≡◌, ◌≤◌, ℕ, Some, arith}
 use Rattle.std.proofs.lemmas.Grind.{common_steps}
 use Rattle.loop_station_words.proofs.Rooms.{all_counted, counted_on}
-use Rattle.loop_station_words.specs.Rooms.{locked_below, lowest_met}
+use Rattle.loop_station_words.specs.Rooms.{lowest_met}
 use Rattle.loop_station_words.proofs.room.locked_below.Goals as goal
 
 pub blocks-2-smaller : goal.blocks-2-smaller

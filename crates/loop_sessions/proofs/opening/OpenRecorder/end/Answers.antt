@@ -44,13 +44,13 @@ compared-requires-clause-counts g c =
     omega (arith, all, c.self.inside.given_up.ok.0)
 
 pub returns-in-Ok-clause-desks : goal.returns-in-Ok-clause-desks
-returns-in-Ok-clause-desks g c = rw c.in-Ok.ensures.cameras c.part_cameras-cameras.ensures.desks
+returns-in-Ok-clause-desks g c = rw c.in-Ok.ensures.parts.0 c.part_cameras-cameras.ensures.desks
 
 pub returns-in-Ok-clause-given_up : goal.returns-in-Ok-clause-given_up
 returns-in-Ok-clause-given_up g c =
     let outlines : c.self.inside.outlines.items ≡ c.args.self.outlines = ap (λ (o : SeenRecorder g.row.A.Denot). o.outlines) c.self.view_is in
     let made : vec_len c.self.inside.outlines ≡ length c.args.self.outlines = omega (arith, ap length outlines, c.self.inside.outlines.ok.0) in
-    rw c.in-Ok.ensures.given_up (c.self.invariant.1.1.1.1.1 ∙ ap (λ n. replicate n 0) made)
+    rw c.in-Ok.ensures.parts.2 (c.self.invariant.1.1.1.1.1 ∙ ap (λ n. replicate n 0) made)
 
 -- no pass is missing
 pub returns-clause-refused : goal.returns-clause-refused

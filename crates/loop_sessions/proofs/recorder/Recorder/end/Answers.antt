@@ -23,7 +23,7 @@ pub returns-in-Ok-clause-given_up : goal.returns-in-Ok-clause-given_up
 returns-in-Ok-clause-given_up g c =
     let outlines : c.self.inside.outlines.items ≡ c.args.self.outlines = ap (λ (o : SeenRecorder g.row.A.Denot). o.outlines) c.self.view_is in
     let made : vec_len c.self.inside.outlines ≡ length c.args.self.outlines = omega (arith, ap length outlines, c.self.inside.outlines.ok.0) in
-    rw c.in-Ok.ensures.given_up (c.self.invariant.1.1.1.1.1.1 ∙ ap (λ n. replicate n 0) made)
+    rw c.in-Ok.ensures.parts.2 (c.self.invariant.1.1.1.1.1.1 ∙ ap (λ n. replicate n 0) made)
 
 -- no pass is missing
 pub returns-clause-refused : goal.returns-clause-refused

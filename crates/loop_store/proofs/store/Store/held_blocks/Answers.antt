@@ -1,4 +1,4 @@
-use Rattle.std.proofs.Common.{◌≡◌, ap, length, sym, ◌∙◌, subst}
+use Rattle.std.proofs.Common.{◌≡◌, ap, length, ◌∙◌, subst}
 use Rattle.loop_record.specs.Recording.{Recording, held_blocks, ring_of}
 use Rattle.std.specs.List.{count_by}
 use Rattle.loop_ring.specs.Heads.{has_frame}
