@@ -7,7 +7,7 @@
 //! stop of the program or a `cancel` where that thread waits for a pipe that nobody reads.
 
 ghost use Rattle.std.specs.Prelude.{◌≡◌, IfErr, IfOk};
-ghost use Rattle.loop_station_camera.specs.Saves.{clips_of};
+ghost use Rattle.loop_station_camera.specs.Saves.{clips_read};
 ghost use Rattle.loop_station_core.specs.Saving.{places_of, withdrawn};
 
 mod pieces;
@@ -73,7 +73,7 @@ impl Save {
 
     // The clips that it reads.
     fn clips(&self, alloc: Global) -> Result<Vec<FoundClip>, AllocError>
-        ensures { IfOk result (λ clips. clips.items ≡ clips_of self.now) }
+        ensures { IfOk result (λ clips. clips.items ≡ clips_read self.now) }
     {
         let mut clips = Vec::new(alloc);
         match &self.event {
