@@ -699,7 +699,7 @@ KINDS = {
                 "a page that doesn't say what a keep lacks",
                 given={
                     "LOOP_PAGE": changed_page(
-                        "laboratory.py", 'lack = "" if part.held is None', 'lack = "" if True'
+                        "keeping.py", 'lack = "" if part.held is None', 'lack = "" if True'
                     )
                 },
                 words=["station"],
