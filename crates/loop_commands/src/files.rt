@@ -5,9 +5,8 @@ ghost use Rattle.loop_record.specs.Geometry.{is_good};
 use crate::on_store::{
     Beneath, ExportTarget, Reported, export_along, export_apart, list, lock, unlock, upgrade,
 };
-use loop_ahead::AheadDisk;
 use loop_disk::Disk;
-use loop_file::{FileDisk, FileFault, FilePlace, TextFile};
+use loop_file::{AheadDisk, FileDisk, FileFault, FilePlace, TextFile};
 use loop_record::Geometry;
 use loop_script::{FileCommand, print_line, print_parts, print_refusal};
 use loop_store::{OpenRefused, Store, StoreFault};

@@ -1,7 +1,7 @@
 // The bytes of a disk that were read before they are asked for.
 ghost use Rattle.std.specs.Prelude.{◌≡◌, ◌+◌, ◌≤◌, ℕ, List, IfOk, OnOk, length};
 ghost use Rattle.loop_disk.specs.Medium.{MayBe, piece};
-ghost use Rattle.loop_ahead.specs.Windows.{IsAhead, IsCopy, OnlyReads};
+ghost use Rattle.loop_file.specs.Windows.{IsAhead, IsCopy, OnlyReads};
 
 use loop_disk::{Disk, DiskFault};
 use std::alloc::Allocator;

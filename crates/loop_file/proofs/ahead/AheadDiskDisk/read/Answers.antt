@@ -1,9 +1,9 @@
 use Rattle.std.proofs.Common.{◌≡◌, ◌≤◌, ◌+◌, ◌-◌, ◌++◌, ℕ, List, OnOk, length, take, drop, subst, sym, ap, arith}
 use Rattle.std.proofs.lemmas.Result.{on_ok_weaker}
 use Rattle.loop_disk.specs.Medium.{MayBe, piece}
-use Rattle.loop_ahead.proofs.Copies.{read_on}
-use Rattle.loop_ahead.proofs.ahead.AheadDiskDisk.read.Given.{Over}
-use Rattle.loop_ahead.proofs.ahead.AheadDiskDisk.read.Goals as goal
+use Rattle.loop_file.proofs.Copies.{read_on}
+use Rattle.loop_file.proofs.ahead.AheadDiskDisk.read.Given.{Over}
+use Rattle.loop_file.proofs.ahead.AheadDiskDisk.read.Goals as goal
 
 -- what the buffer gets is what an image has there that agrees with what was read
 got : (g : Over) (c : goal.After-note g) (image : List ℕ) → MayBe (g.D.Disk.medium c.read_by-outcome.new.disk) image

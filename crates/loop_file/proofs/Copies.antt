@@ -4,7 +4,7 @@ use Rattle.std.proofs.lemmas.Bool.{cases_lt}
 use Rattle.std.proofs.lemmas.List.{ext_get_or, get_or-take, get_or_append_left, get_or-append_right, length-take-le}
 use Rattle.loop_disk.specs.Medium.{piece}
 use Rattle.loop_disk.proofs.Images.{length-piece, get_or-piece}
-use Rattle.loop_ahead.specs.Windows.{IsCopy}
+use Rattle.loop_file.specs.Windows.{IsCopy}
 
 -- a buffer whose first bytes were known, and whose rest was read
 pub read_on : (at k n : ℕ) (image given rest : List ℕ) → k ≤ n → length given ≡ n → at + n ≤ length image

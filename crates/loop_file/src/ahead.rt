@@ -2,7 +2,7 @@
 ghost use Rattle.std.specs.Prelude.{◌≡◌, IfErr, IfOk};
 ghost use Rattle.loop_disk.specs.Calls.{no_failures};
 ghost use Rattle.loop_disk.specs.Sound.{sound_recounted};
-ghost use Rattle.loop_ahead.specs.Windows.{IsAhead, Recounted};
+ghost use Rattle.loop_file.specs.Windows.{IsAhead, Recounted};
 
 use crate::window::{Window, read_by};
 use loop_disk::{Disk, DiskFault, Failures};
