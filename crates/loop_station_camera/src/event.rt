@@ -7,7 +7,7 @@ use crate::state::CameraState;
 use loop_disk::Disk;
 use loop_pipeline::Back;
 use loop_station_core::clip_id;
-use loop_station_parts::FoundClip;
+use loop_station_shared::FoundClip;
 use loop_store::{Clip, StoreFault};
 use std::alloc::Global;
 use std::sync::Wait;

@@ -5,7 +5,7 @@ use crate::state::CameraState;
 use circular_buffer::HeapCircularBuffer;
 use loop_desk::Kept;
 use loop_station_core::{ClipSpan, Keep, SaveKey, is_covered};
-use loop_station_parts::store_of;
+use loop_station_shared::store_of;
 use loop_store::{Clip, StoreFault};
 use std::alloc::{AllocError, Global};
 use std::sync::{Mutex, Wait};

@@ -14,10 +14,8 @@ use loop_station_core::{
     Act, EventEnd, FilmingEvent, Keep, MayRelease, OpenEvent, Run, SaveKey, Tally, event_end,
     may_release, may_release_saved,
 };
-use loop_station_parts::{
-    Absent, Answering, Feed, FoundClip, Inbox, Job, Jobs, KeptClip, Life, Maker, Member, Message,
-    NotSaved, NotTaken, Note, Posts, Request, Room, SaveOrder, Stored, Timeline,
-};
+use loop_station_outside::{Absent, Maker, NotSaved, Timeline};
+use loop_station_shared::{Answering, Feed, FoundClip, Inbox, Job, Jobs, KeptClip, Life, Member, Message, NotTaken, Note, Posts, Request, Room, SaveOrder, Stored};
 use loop_station_words::{CameraConfig, Lines, micros_of, numbered};
 use loop_store::{Clip, ReadFrame, StoreFault};
 use std::alloc::{AllocError, Global};

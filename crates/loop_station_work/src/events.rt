@@ -8,7 +8,7 @@
 use crate::filming::limits_for;
 use loop_station_camera::{CameraState, tell_source_on, tell_times};
 use loop_station_core::{Change, DiskSeen, KINDS, NOT_THERE_YET, Reported, Seen, StoreSeen};
-use loop_station_parts::Absent;
+use loop_station_outside::Absent;
 use loop_station_words::{Lines, held_of_asked, size_of};
 use std::io;
 use std::sync::Wait;

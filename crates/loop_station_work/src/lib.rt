@@ -7,7 +7,7 @@
 //! `run` starts all that. `orders` reads orders and asks the cameras, `printer` prints what they answer and begins
 //! saves, and `notes` writes down what goes on at the next start. `events` prints what happens without an order,
 //! and `watch` sees that a source is silent, that a store was moved away, and that the program stood still. What the
-//! threads share stands in loop_station_parts, and what a camera does of its orders in loop_station_camera.
+//! threads share stands in loop_station_shared, and what a camera does of its orders in loop_station_camera.
 //!
 //! What an order means, and the choice of a store's size, is proved in loop_station_words, and what a station decides
 //! in loop_station_core. Each frame of the source comes to the desk, in order and whole, or is counted, and its footage
@@ -26,5 +26,5 @@ mod run;
 mod source;
 mod watch;
 
-pub use loop_station_parts::Places;
+pub use loop_station_outside::Places;
 pub use run::{NotBegun, run_station};

@@ -11,9 +11,8 @@ use crate::watch::run_watch;
 use loop_script::MAX_LINE;
 use loop_station_camera::{CameraState, MOST_SAVES, Saves, begin, run_saves};
 use loop_station_core::Numbers;
-use loop_station_parts::{
-    Message, Note, Outlet, PathKind, Places, Posts, Tap, Timeline, run_outlet, run_tap,
-};
+use loop_station_outside::{PathKind, Places, Timeline};
+use loop_station_shared::{Message, Note, Outlet, Posts, Tap, run_outlet, run_tap};
 use loop_station_words::{AnswersForm, CameraConfig, Config, Lines, NoRing, Source, asked_set};
 use std::alloc::{AllocError, AllocGlobal, Global};
 use std::io::{BufReader, Read, Write};
