@@ -2,7 +2,7 @@
 
 ghost use Rattle.std.specs.Prelude.{◌≡◌, ◌<◌, length};
 
-use crate::clerk::found_of;
+use crate::reading::found_of;
 use crate::state::CameraState;
 use loop_disk::Disk;
 use loop_pipeline::Back;

@@ -2,7 +2,7 @@
 //!
 //! Each camera has a thread for its source (`source`), which puts frames into its feed, and two threads that film it
 //! (`filming`): the store is opened or made, and `film_desks` of loop_pipeline brings the frames to it. Where a camera
-//! has several stores, one more thread opens and makes the others meanwhile (`opening`).
+//! has several stores, one more thread opens and makes the others meanwhile (`opening`); `stores` says what they are.
 //!
 //! `run` starts all that. `orders` reads orders and asks the cameras, `printer` prints what they answer and begins
 //! saves, and `notes` writes down what goes on at the next start. `events` prints what happens without an order,
@@ -24,6 +24,7 @@ mod orders;
 mod printer;
 mod run;
 mod source;
+mod stores;
 mod watch;
 
 pub use loop_station_outside::Places;

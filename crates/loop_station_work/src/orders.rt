@@ -196,8 +196,12 @@ fn perform<R: AllocGlobal + Places + Wait + Clock, W: Write + Drop>(
             after,
             tag,
         } => {
-            let period = KeepPeriod::Around(seconds, after);
-            keep(rt, station, read, label, &camera, period, tag)
+            let asked = KeepOrder {
+                camera: &camera,
+                period: KeepPeriod::Around(seconds, after),
+                tag,
+            };
+            keep(rt, station, read, label, asked)
         }
         Order::KeepBetween {
             camera,
@@ -205,8 +209,12 @@ fn perform<R: AllocGlobal + Places + Wait + Clock, W: Write + Drop>(
             until,
             tag,
         } => {
-            let period = KeepPeriod::Between(since, until);
-            keep(rt, station, read, label, &camera, period, tag)
+            let asked = KeepOrder {
+                camera: &camera,
+                period: KeepPeriod::Between(since, until),
+                tag,
+            };
+            keep(rt, station, read, label, asked)
         }
         Order::List => list(rt, station, label),
         Order::Status | Order::Help | Order::Stop => {
@@ -317,16 +325,26 @@ fn asked_keep<R: Wait + Clock>(
     }
 }
 
+// What a line asks to keep: of one camera, or of all, with this tag or their own.
+struct KeepOrder<'a> {
+    camera: &'a Option<Name<'a>>,
+    period: KeepPeriod,
+    tag: Option<u64>,
+}
+
 // Locks what one camera, or all, held in a time. Each camera is asked before any has to answer.
 fn keep<R: Wait + Clock, W: Write + Drop>(
     rt: &R,
     station: &Station<W>,
     read: u64,
     label: Option<&str>,
-    camera: &Option<Name<'_>>,
-    period: KeepPeriod,
-    tag: Option<u64>,
+    asked: KeepOrder<'_>,
 ) -> Result<(), AllocError> {
+    let KeepOrder {
+        camera,
+        period,
+        tag,
+    } = asked;
     let name = match camera {
         Some(name) => Some(name.text()),
         None => None,
