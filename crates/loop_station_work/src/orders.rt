@@ -138,7 +138,7 @@ fn do_line<R: AllocGlobal + Places + Wait + Clock, W: Write + Drop>(
         }
         // Where memory is refused, the order isn't answered.
         Some(order) => {
-            let _unanswered = perform(rt, station, read, label, order);
+            let _unanswered = hand_out(rt, station, read, label, order);
         }
         None => bad_order(rt, station, line),
     }
@@ -182,7 +182,7 @@ fn bad_order<R: Wait, W: Write + Drop>(rt: &R, station: &Station<W>, line: &[u8]
 }
 
 // Hands an order to the cameras that it means, or answers it.
-fn perform<R: AllocGlobal + Places + Wait + Clock, W: Write + Drop>(
+fn hand_out<R: AllocGlobal + Places + Wait + Clock, W: Write + Drop>(
     rt: &R,
     station: &Station<W>,
     read: u64,
@@ -221,12 +221,12 @@ fn perform<R: AllocGlobal + Places + Wait + Clock, W: Write + Drop>(
             tell_all(rt, station, label, matches!(order, Order::Help));
             Ok(())
         }
-        order => perform_on_clip(rt, station, label, order),
+        order => hand_out_for_clip(rt, station, label, order),
     }
 }
 
 // Hands an order about a clip to the clip's camera, or answers it.
-fn perform_on_clip<R: Wait, W: Write + Drop>(
+fn hand_out_for_clip<R: Wait, W: Write + Drop>(
     rt: &R,
     station: &Station<W>,
     label: Option<&str>,
