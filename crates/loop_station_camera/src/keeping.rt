@@ -25,7 +25,11 @@ pub(crate) struct KeepPart {
 }
 
 /// What a keep does now.
-pub(crate) fn turn_of<R: Wait + Clock>(rt: &R, state: &CameraState, keep: Keep) -> (Keep, KeepTurn) {
+pub(crate) fn turn_of<R: Wait + Clock>(
+    rt: &R,
+    state: &CameraState,
+    keep: Keep,
+) -> (Keep, KeepTurn) {
     let now = state.timeline.now(rt);
     let come = state.feed.come(rt, now.min(keep.until));
     next_turn(

@@ -37,12 +37,7 @@ impl NotReleased {
 
 impl CameraState {
     // Whether a clip may be released now: it isn't being saved, and begins with the frame that is given, if one is.
-    fn may_release<R: Wait>(
-        &self,
-        rt: &R,
-        id: u32,
-        first: Option<u64>,
-    ) -> Result<(), NotReleased> {
+    fn may_release<R: Wait>(&self, rt: &R, id: u32, first: Option<u64>) -> Result<(), NotReleased> {
         let clip = self.stored.clip_of(rt, id);
         let is_read = self.is_read(rt, id, clip.map(|clip| clip.tag));
         match may_release(is_read, first, clip.map(|clip| clip.from)) {

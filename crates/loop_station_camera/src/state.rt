@@ -1,6 +1,6 @@
 //! What the threads of one camera share.
 
-ghost use Rattle.std.specs.Prelude.{◌≡◌, false};
+ghost use Rattle.std.specs.Prelude.{false};
 
 use crate::growing::Ongoing;
 use crate::saves::Saves;
@@ -8,7 +8,8 @@ use loop_pipeline::{Link, Noting, Visits};
 use loop_station_core::{FilmingEvent, SaveKey, Tally};
 use loop_station_outside::{Absent, Maker, Timeline};
 use loop_station_shared::{
-    Answering, Feed, FoundClip, Inbox, Job, Jobs, KeptClip, Life, Member, Message, NotTaken, Posts, Request, Room, Stored,
+    Answering, Feed, FoundClip, Inbox, Job, Jobs, KeptClip, Life, Member, Message, NotTaken, Posts,
+    Request, Room, Stored,
 };
 use loop_station_words::{CameraConfig, Lines, micros_of, numbered};
 use loop_store::{Clip, ReadFrame, StoreFault};

@@ -5,7 +5,6 @@ use crate::tap::{Tap, write_to_file, write_to_pipe};
 use loop_station_outside::Places;
 use loop_station_words::Lines;
 use std::alloc::AllocGlobal;
-use std::fs::OpenFile;
 use std::io::Write;
 use std::sync::Wait;
 use std::thread;

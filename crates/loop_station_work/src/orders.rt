@@ -5,7 +5,7 @@ use loop_script::{MAX_LINE, next_line};
 use loop_station_camera::{CameraState, Saves, tell_status};
 use loop_station_core::{KeepPeriod, Numbers, asked_time, is_too_far, tag_of};
 use loop_station_outside::{Places, Timeline};
-use loop_station_shared::{Answering, AskedKeep, Job, Message, NotTaken, Outlet, Posts, Request};
+use loop_station_shared::{Answering, AskedKeep, Job, NotTaken, Outlet, Posts, Request};
 use loop_station_words::{Lines, Name, Order, label_of, read_order};
 use std::alloc::{AllocError, AllocGlobal, Global};
 use std::io::{BufRead, Write};

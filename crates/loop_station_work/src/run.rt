@@ -537,11 +537,7 @@ fn serve<
     R: AllocGlobal + Places + Threads + Wait + Clock + Clone + Drop + Send + Sync + 'static,
     I: Read + Drop,
     W: Write + Drop + Send + 'static,
->(
-    rt: &R,
-    station: &Station<W>,
-    reader: OrderReader<I>,
-) -> bool {
+>(rt: &R, station: &Station<W>, reader: OrderReader<I>) -> bool {
     let OrderReader {
         path,
         mut input,
