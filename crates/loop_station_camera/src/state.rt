@@ -11,7 +11,7 @@ use loop_station_shared::{
     Answering, Feed, FoundClip, Inbox, Job, Jobs, KeptClip, Life, Member, Message, NotTaken, Posts,
     Request, Room, Stored,
 };
-use loop_station_words::{CameraConfig, Lines, micros_of, numbered};
+use loop_station_words::{CameraConfig, Lines, duration_of, numbered};
 use loop_store::{Clip, ReadFrame, StoreFault};
 use std::alloc::{AllocError, Global};
 use std::sync::{Arc, Wait};
@@ -353,7 +353,7 @@ impl CameraState {
     /// The duration in microseconds of the frames that have come from the source and are neither stored nor given up.
     pub fn behind_micros<R: Wait>(&self, rt: &R) -> u64 {
         match self.life.store(rt) {
-            Some(geometry) => micros_of(self.tally(rt).behind(), &geometry),
+            Some(geometry) => duration_of(self.tally(rt).behind(), &geometry),
             None => 0,
         }
     }
