@@ -3,11 +3,11 @@
 //! Whoever prints puts lines into memory and goes on. A thread of its own writes them to the output, and another one to
 //! the further file or pipe (`tap`). Each has a list of its own: what becomes of one doesn't concern the other.
 
-use crate::clock::Timeline;
 use crate::spool::{Spool, first_line, print_dropped, write_most};
 use crate::tap::Tap;
+use loop_station_outside::Timeline;
 use loop_station_words::Lines;
-use std::alloc::{AllocError, AllocGlobal, Global};
+use std::alloc::{AllocError, Global};
 use std::io::Write;
 use std::sync::atomic::{AtomicBool, Ordering};
 use std::sync::{Arc, Mutex, Wait};
@@ -126,7 +126,7 @@ pub struct Outlet<W: Write + Drop> {
     /// Only the thread that writes takes this lock.
     screen: Mutex<Screen<W>>,
     /// The lines on their way to the output.
-    spool: Spool,
+    pub(crate) spool: Spool,
     /// Memory for one line. Whoever has this lock prints: so the lines of an answer stay together.
     line: Mutex<Vec<u8>>,
     /// The clock for the time that each line begins with, if lines begin with times.
@@ -276,8 +276,8 @@ impl<W: Write + Drop> Outlet<W> {
         self.failed.load(Ordering::SeqCst)
     }
 
-    // Writes lines to the output, and the status below them where it is a new one.
-    fn write<R: Wait + Clock>(&self, rt: &R, lines: &[u8], status: Option<Vec<u8>>) {
+    /// Writes lines to the output, and the status below them where it is a new one.
+    pub(crate) fn write<R: Wait + Clock>(&self, rt: &R, lines: &[u8], status: Option<Vec<u8>>) {
         let mut guard = self.screen.lock(rt);
         let screen = &mut *guard;
         let mut printed = screen.hide().is_ok();
@@ -333,14 +333,5 @@ impl<W: Write + Drop> Outlet<W> {
             return (true, written);
         }
         (is_done, written)
-    }
-}
-
-/// Writes what is printed to the output, as long as the program runs.
-pub fn run_outlet<R: AllocGlobal + Wait + Clock, W: Write + Drop>(rt: &R, outlet: &Outlet<W>) {
-    let mut lines = Vec::new(rt.alloc());
-    for _ in rt.forever() {
-        let status = outlet.spool.next(rt, &mut lines);
-        outlet.write(rt, &lines, status);
     }
 }

@@ -1,9 +1,9 @@
 //! Orders that are being answered, and what the printer's thread is told.
 
-use crate::absent::Absent;
 use crate::found::FoundClip;
 use crate::post::Post;
 use loop_station_core::{OpenEvent, Replies};
+use loop_station_outside::Absent;
 use loop_station_words::Lines;
 use std::alloc::{AllocError, Global};
 use std::sync::{Arc, Mutex, Wait};

@@ -4,28 +4,21 @@
 //! doesn't read. No other thread ever waits. The newest lines for a pipe that nobody reads are kept for its next
 //! reader. A file that takes no more is cut back to its last whole line, and tried again.
 
-use crate::clock::Timeline;
-use crate::outlet::Outlet;
-use crate::places::Places;
 use crate::spool::{Spool, first_line, whole_lines, write_most};
-use loop_station_words::Lines;
+use loop_station_outside::Timeline;
 use std::alloc::{AllocError, AllocGlobal, Global};
-use std::fs::{File, OpenFile};
+use std::fs::File;
 use std::io::Write;
 use std::sync::Wait;
 use std::sync::atomic::{AtomicBool, Ordering};
-use std::thread;
-use std::time::{Clock, Duration};
-
-// How many milliseconds pass before a file that can't be opened or written is tried again.
-const TRY_AGAIN: u64 = 1_000;
+use std::time::Clock;
 
 /// What is printed, on its way to a file or pipe.
 #[derive(Drop)]
 pub struct Tap {
-    path: String,
-    is_pipe: bool,
-    spool: Spool,
+    pub(crate) path: String,
+    pub(crate) is_pipe: bool,
+    pub(crate) spool: Spool,
     /// The last try to open or to write it failed.
     failing: AtomicBool,
 }
@@ -61,57 +54,14 @@ impl Tap {
         self.failing.load(Ordering::SeqCst)
     }
 
-    // The last try failed, or didn't. Returns whether it failed for the first time.
-    fn set_failing(&self, failing: bool) -> bool {
+    /// The last try failed, or didn't. Returns whether it failed for the first time.
+    pub(crate) fn set_failing(&self, failing: bool) -> bool {
         !self.failing.swap(failing, Ordering::SeqCst) && failing
     }
 }
 
-/// Writes the lines of a tap, as long as the program runs.
-pub fn run_tap<R: AllocGlobal + Places + Wait + Clock, W: Write + Drop>(
-    rt: &R,
-    tap: &Tap,
-    outlet: &Outlet<W>,
-) {
-    // Held as long as the program runs, so that no reader comes to an end of the pipe. Where it can't be held, a reader
-    // may come to one before the next line.
-    let _held = if tap.is_pipe {
-        rt.hold_answers(tap.path.as_str()).ok()
-    } else {
-        None
-    };
-    for _ in rt.forever() {
-        if let Ok(file) = rt.open_answers(tap.path.as_str()) {
-            tap.spool.set_unread(rt, false);
-            if tap.is_pipe {
-                write_to_pipe(rt, tap, file);
-                tap.spool.set_unread(rt, true);
-                continue;
-            }
-            write_to_file(rt, tap, file);
-        }
-        if tap.set_failing(true) {
-            tell_lost(rt, tap, outlet);
-        }
-        thread::sleep(rt, Duration::from_millis(TRY_AGAIN));
-    }
-}
-
-// Prints that the file or pipe can't be opened, or can't be written.
-fn tell_lost<R: AllocGlobal + Wait + Clock, W: Write + Drop>(
-    rt: &R,
-    tap: &Tap,
-    outlet: &Outlet<W>,
-) {
-    let mut lines = Lines::new(rt.alloc(), false);
-    // Where memory for the line is refused, nothing is printed.
-    if lines.no_answers(tap.path.as_str()).is_ok() {
-        outlet.put(rt, &lines);
-    }
-}
-
-// Writes lines into a pipe until nobody reads it any more. A line that nobody read is for the next reader.
-fn write_to_pipe<R: AllocGlobal + Wait + Clock>(rt: &R, tap: &Tap, file: File) {
+/// Writes lines into a pipe until nobody reads it any more. A line that nobody read is for the next reader.
+pub(crate) fn write_to_pipe<R: AllocGlobal + Wait + Clock>(rt: &R, tap: &Tap, file: File) {
     let (mut file, mut lines) = (file, Vec::new(rt.alloc()));
     for _ in rt.forever() {
         let _no_status = tap.spool.next(rt, &mut lines);
@@ -140,8 +90,8 @@ fn pass_lines<R: Wait>(rt: &R, tap: &Tap, file: &mut File, lines: &[u8]) -> bool
     true
 }
 
-// Writes lines into a file until it takes no more.
-fn write_to_file<R: AllocGlobal + Wait + Clock>(rt: &R, tap: &Tap, file: File) {
+/// Writes lines into a file until it takes no more.
+pub(crate) fn write_to_file<R: AllocGlobal + Wait + Clock>(rt: &R, tap: &Tap, file: File) {
     let (mut file, mut lines) = (file, Vec::new(rt.alloc()));
     for _ in rt.forever() {
         let _no_status = tap.spool.next(rt, &mut lines);

@@ -1,10 +1,10 @@
 //! The orders of a camera, which the thread of its desk does in their order. Which are taken in is decided by
 //! loop_station_core.
 
-use crate::absent::Absent;
 use crate::answering::{Answering, NotTaken};
 use circular_buffer::HeapCircularBuffer;
 use loop_station_core::{AddedOrder, Attended, MOST_ORDERS, Orders, SaveKey};
+use loop_station_outside::Absent;
 use std::alloc::{AllocError, Global};
 use std::sync::{Arc, Mutex, Wait};
 

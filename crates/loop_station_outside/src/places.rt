@@ -4,6 +4,7 @@ use crate::absent::Absent;
 use crate::clock::Timeline;
 use crate::not_saved::NotSaved;
 use crate::part::{PartFile, lies_in};
+use crate::path_kind::{PathKind, path_kind_at};
 use loop_file::{FileDisk, FileFault, FilePlace, open_file, open_to_read};
 use loop_record::Geometry;
 use loop_station_core::goes_on;
@@ -12,7 +13,7 @@ use loop_store::{OpenRefused, Store, StoreFault, format};
 use std::alloc::AllocGlobal;
 use std::fs::{File, OpenFile, OpenOptions};
 use std::io::{ErrorKind, Read};
-use std::os::unix::fs::{FileExt, FileTypeExt, MetadataExt};
+use std::os::unix::fs::{FileExt, MetadataExt};
 use std::rt::Files;
 use std::sync::Wait;
 use std::time::{Clock, Duration};
@@ -35,21 +36,6 @@ const SYNCED: u64 = 16;
 const REST_MOST: u64 = 1_000_000;
 
 static ZEROS: [u8; PIECE] = [0; PIECE];
-
-/// What a path leads to.
-#[derive(Clone, Copy, Debug, PartialEq, Eq)]
-pub enum PathKind {
-    /// Nothing is there, and a file may be made.
-    Nothing,
-    /// A regular file.
-    File,
-    /// A named pipe.
-    Pipe,
-    /// A device, a folder or the like.
-    Other,
-    /// A link to nothing, or something that can't be determined.
-    Unknown,
-}
 
 /// Who waits for a store that is made.
 pub trait Maker {
@@ -259,28 +245,6 @@ impl Places for HostRuntime {
 
     fn sync_time(&self, path: &str, timeline: &Timeline) -> Option<u64> {
         sync_time_beside(self, path, timeline)
-    }
-}
-
-// What a path leads to.
-fn path_kind_at<R: Files>(rt: &R, path: &str) -> PathKind {
-    let metadata = match fs::metadata(rt, path) {
-        Ok(metadata) => metadata,
-        Err(fault) if fault.kind() == ErrorKind::NotFound => {
-            return match fs::symlink_metadata(rt, path) {
-                Err(_) => PathKind::Nothing,
-                Ok(_) => PathKind::Unknown,
-            };
-        }
-        Err(_) => return PathKind::Unknown,
-    };
-    let kind = metadata.file_type();
-    if kind.is_file() {
-        PathKind::File
-    } else if kind.is_fifo() {
-        PathKind::Pipe
-    } else {
-        PathKind::Other
     }
 }
 

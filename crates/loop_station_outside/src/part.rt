@@ -4,7 +4,7 @@
 //! the name OUT is whole. What a stop or a loss of power leaves of OUT.part is written anew by the next save to OUT.
 
 use crate::not_saved::NotSaved;
-use crate::places::PathKind;
+use crate::path_kind::PathKind;
 use loop_file::{FileFault, TextFile, open_file, open_to_read};
 use loop_station_core::{TextStep, next_text_step};
 use std::alloc::AllocGlobal;

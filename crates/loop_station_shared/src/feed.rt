@@ -3,10 +3,10 @@
 ghost use Rattle.std.specs.Prelude.{◌≡◌, IfSome, None, Some, length};
 ghost use Rattle.loop_capture.specs.declared.source.Next.TheVariants.{More};
 
-use crate::clock::Timeline;
 use circular_buffer::HeapCircularBuffer;
 use loop_capture::{FrameSource, Next};
 use loop_station_core::{Arrival, Stamped, Timing, came_late, mark};
+use loop_station_outside::Timeline;
 use std::alloc::{AllocError, Global};
 use std::mem;
 use std::sync::{Arc, Condvar, Mutex, Wait};

@@ -32,8 +32,3 @@ impl Timeline {
         }
     }
 }
-
-/// Seconds in microseconds, at most 2^64 - 1.
-pub fn micros(seconds: u32) -> u64 {
-    u64::from(seconds).saturating_mul(1_000_000)
-}

@@ -4,8 +4,8 @@
 //! until there is room again; then `dropped N lines` stands in their place. Where nobody reads, the newest lines are
 //! kept, and the oldest make room for them.
 
-use crate::clock::Timeline;
 use loop_station_core::{MOST_SPOOLED, drops_oldest, says_dropped, takes_line};
+use loop_station_outside::Timeline;
 use loop_station_words::print_head;
 use std::alloc::{AllocError, Global};
 use std::io;
