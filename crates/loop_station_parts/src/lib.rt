@@ -41,5 +41,6 @@ pub use not_saved::NotSaved;
 pub use outlet::{Outlet, run_outlet};
 pub use part::PartFile;
 pub use places::{Maker, PathKind, Places};
+pub use spool::LineForm;
 pub use stored::{Extent, Member, Room, Stored, store_of};
 pub use tap::{Tap, run_tap};

@@ -4,10 +4,9 @@
 //! doesn't read. No other thread ever waits. The newest lines for a pipe that nobody reads are kept for its next
 //! reader. A file that takes no more is cut back to its last whole line, and tried again.
 
-use crate::clock::Timeline;
 use crate::outlet::Outlet;
 use crate::places::Places;
-use crate::spool::{Spool, first_line, whole_lines, write_most};
+use crate::spool::{LineForm, Spool, first_line, whole_lines, write_most};
 use loop_station_words::Lines;
 use std::alloc::{AllocError, AllocGlobal, Global};
 use std::fs::{File, OpenFile};
@@ -31,17 +30,17 @@ pub struct Tap {
 }
 
 impl Tap {
-    /// A tap for the file or pipe of a path. Its lines begin with times where those of the output do.
+    /// A tap for the file or pipe of a path, which gets lines of a form.
     pub fn new(
         alloc: Global,
         path: String,
         is_pipe: bool,
-        times: Option<Timeline>,
+        form: LineForm,
     ) -> Result<Tap, AllocError> {
         Ok(Tap {
             path,
             is_pipe,
-            spool: Spool::new(alloc, times, is_pipe)?,
+            spool: Spool::new(alloc, form, is_pipe)?,
             failing: AtomicBool::new(false),
         })
     }

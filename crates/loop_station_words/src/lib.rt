@@ -36,7 +36,7 @@ mod sets;
 mod shape;
 mod time;
 
-pub use answers::{CameraStatus, StoresStatus, print_clip_path, print_head};
+pub use answers::{CameraStatus, StoresStatus, print_clip_path};
 pub use calendar::{CivilTime, civil_time_of};
 pub use config::{
     AnswersForm, CameraConfig, Config, MAX_CAMERAS, MemoryLimit, Source, StoreSize, TimesFrom,

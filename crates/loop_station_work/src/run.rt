@@ -12,7 +12,7 @@ use loop_script::MAX_LINE;
 use loop_station_camera::{CameraState, MOST_SAVES, Saves, begin, run_saves};
 use loop_station_core::Numbers;
 use loop_station_parts::{
-    Message, Note, Outlet, PathKind, Places, Posts, Tap, Timeline, run_outlet, run_tap,
+    LineForm, Message, Note, Outlet, PathKind, Places, Posts, Tap, Timeline, run_outlet, run_tap,
 };
 use loop_station_words::{AnswersForm, CameraConfig, Config, Lines, NoRing, Source, asked_set};
 use std::alloc::{AllocError, AllocGlobal, Global};
@@ -105,7 +105,7 @@ fn station_of<R: AllocGlobal + Places + Wait + Clock, W: Write + Drop>(
     let posts = shared(alloc, Posts::new(alloc)?)?;
     let states = states_of(alloc, cameras, timeline, json, &posts, &saves)?;
     let times = times.then_some(timeline);
-    let tap = tap_of(rt, answers, times)?;
+    let tap = tap_of(rt, answers, LineForm { json, times })?;
     let ours = match &tap {
         Some(tap) => Some(Arc::try_clone(tap)?),
         None => None,
@@ -277,13 +277,13 @@ fn add_path(alloc: Global, paths: &mut Vec<String>, path: &str) -> Result<(), No
 fn tap_of<R: AllocGlobal + Places>(
     rt: &R,
     answers: Option<String>,
-    times: Option<Timeline>,
+    form: LineForm,
 ) -> Result<Option<Arc<Tap>>, NotBegun> {
     let Some(path) = answers else {
         return Ok(None);
     };
     let is_pipe = rt.path_kind(path.as_str()) == PathKind::Pipe;
-    let tap = shared(rt.alloc(), Tap::new(rt.alloc(), path, is_pipe, times)?)?;
+    let tap = shared(rt.alloc(), Tap::new(rt.alloc(), path, is_pipe, form)?)?;
     Ok(Some(tap))
 }
 
