@@ -28,6 +28,7 @@ pub use inbox::Inbox;
 pub use jobs::{AskedKeep, Job, Jobs, Request};
 pub use life::{Life, source_name};
 pub use outlet::Outlet;
+pub use spool::LineForm;
 pub use stored::{Extent, Member, Room, Stored, store_of};
 pub use tap::Tap;
 pub use writers::{run_outlet, run_tap};

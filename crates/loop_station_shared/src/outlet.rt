@@ -3,7 +3,7 @@
 //! Whoever prints puts lines into memory and goes on. A thread of its own writes them to the output, and another one to
 //! the further file or pipe (`tap`). Each has a list of its own: what becomes of one doesn't concern the other.
 
-use crate::spool::{Spool, first_line, print_dropped, write_most};
+use crate::spool::{LineForm, Spool, first_line, print_dropped, write_most};
 use crate::tap::Tap;
 use loop_station_outside::Timeline;
 use loop_station_words::Lines;
@@ -25,7 +25,7 @@ const LOOKS: u32 = 500;
 struct Screen<W: Write + Drop> {
     alloc: Global,
     out: W,
-    times: Option<Timeline>,
+    form: LineForm,
     status: Vec<u8>,
     shown: usize,
     // The rest of a line that a failed write has cut.
@@ -85,7 +85,9 @@ impl<W: Write + Drop> Screen<W> {
             return false;
         }
         let mut mark = Vec::new(self.alloc);
-        if self.lost > 0 && print_dropped(rt, &self.times, &mut mark, self.lost).is_ok() {
+        if self.lost > 0
+            && print_dropped(rt, self.alloc, &self.form, &mut mark, self.lost).is_ok()
+        {
             let count = write_most(&mut self.out, &mark);
             if count > 0 {
                 self.lost = 0;
@@ -149,17 +151,18 @@ impl<W: Write + Drop> Outlet<W> {
         tap: Option<Arc<Tap>>,
         json: bool,
     ) -> Result<Self, AllocError> {
+        let form = LineForm { json: false, times };
         Ok(Outlet {
             screen: Mutex::new(Screen {
                 alloc,
                 out,
-                times,
+                form,
                 status: Vec::new(alloc),
                 shown: 0,
                 torn: Vec::new(alloc),
                 lost: 0,
             }),
-            spool: Spool::new(alloc, times, false)?,
+            spool: Spool::new(alloc, form, false)?,
             line: Mutex::new(Vec::new(alloc)),
             times,
             tap,

@@ -6,7 +6,7 @@
 
 use loop_station_core::{MOST_SPOOLED, drops_oldest, says_dropped, takes_line};
 use loop_station_outside::Timeline;
-use loop_station_words::print_head;
+use loop_station_words::Lines;
 use std::alloc::{AllocError, Global};
 use std::io;
 use std::io::Write;
@@ -73,19 +73,37 @@ pub fn write_most<W: Write>(out: &mut W, text: &[u8]) -> usize {
     count.min(text.len())
 }
 
-/// Prints the line that says how many lines were dropped.
-pub fn print_dropped<R: Clock, L: Write>(
+/// How the lines of an output are written, and what each begins with.
+#[derive(Clone, Copy)]
+pub struct LineForm {
+    /// They are JSON, not text.
+    pub json: bool,
+    /// The clock for the time that each line begins with, if lines begin with times.
+    pub times: Option<Timeline>,
+}
+
+/// Adds the line that says how many lines were dropped, in the form of the others.
+pub fn print_dropped<R: Clock>(
     rt: &R,
-    times: &Option<Timeline>,
-    out: &mut L,
+    alloc: Global,
+    form: &LineForm,
+    out: &mut Vec<u8>,
     count: u64,
 ) -> io::Result<()> {
-    let time = match times {
+    let time = match &form.times {
         Some(timeline) => Some(timeline.now(rt)),
         None => None,
     };
-    print_head(out, time, None)?;
-    writeln!(out, "dropped {count} lines")
+    let mut lines = Lines::new(alloc, form.json);
+    lines.dropped_lines(count)?;
+    let line = if form.json {
+        Lines::json_head(alloc, out, time, None)?;
+        lines.json()
+    } else {
+        Lines::head(out, time, None)?;
+        lines.text()
+    };
+    out.write_all(line)
 }
 
 #[derive(Drop)]
@@ -160,10 +178,10 @@ impl WaitingLines {
 
     // Says in the place of lines that were dropped how many they are, where there is room. Where memory for that is
     // refused, it is said later.
-    fn mark<R: Clock>(&mut self, rt: &R, alloc: Global, times: &Option<Timeline>) {
+    fn mark<R: Clock>(&mut self, rt: &R, alloc: Global, form: &LineForm) {
         let mut mark = Vec::new(alloc);
         if says_dropped(self.rest().len(), self.dropped)
-            && print_dropped(rt, times, &mut mark, self.dropped).is_ok()
+            && print_dropped(rt, alloc, form, &mut mark, self.dropped).is_ok()
             && self.lines.extend_from_slice(&mark).is_ok()
         {
             self.dropped = 0;
@@ -171,10 +189,10 @@ impl WaitingLines {
     }
 
     // The same before the lines that wait.
-    fn mark_front<R: Clock>(&mut self, rt: &R, alloc: Global, times: &Option<Timeline>) {
+    fn mark_front<R: Clock>(&mut self, rt: &R, alloc: Global, form: &LineForm) {
         let mut lines = Vec::new(alloc);
         if self.gone > 0
-            && print_dropped(rt, times, &mut lines, self.gone).is_ok()
+            && print_dropped(rt, alloc, form, &mut lines, self.gone).is_ok()
             && lines.extend_from_slice(self.rest()).is_ok()
         {
             self.lines = lines;
@@ -188,17 +206,17 @@ impl WaitingLines {
 #[derive(Drop)]
 pub struct Spool {
     alloc: Global,
-    times: Option<Timeline>,
+    form: LineForm,
     waiting: Mutex<WaitingLines>,
     changed: Condvar,
 }
 
 impl Spool {
-    /// A spool without a line. Its own lines begin with times where the others do.
-    pub fn new(alloc: Global, times: Option<Timeline>, unread: bool) -> Result<Spool, AllocError> {
+    /// A spool without a line. Its own lines have the form of the others.
+    pub fn new(alloc: Global, form: LineForm, unread: bool) -> Result<Spool, AllocError> {
         Ok(Spool {
             alloc,
-            times,
+            form,
             waiting: Mutex::new(WaitingLines {
                 lines: Vec::with_capacity(alloc, MARK)?,
                 done: 0,
@@ -216,7 +234,7 @@ impl Spool {
     pub fn put<R: Wait + Clock>(&self, rt: &R, line: &[u8]) -> bool {
         let mut guard = self.waiting.lock(rt);
         let waiting = &mut *guard;
-        waiting.mark(rt, self.alloc, &self.times);
+        waiting.mark(rt, self.alloc, &self.form);
         let is_in = waiting.add(line);
         self.changed.notify_all();
         is_in
@@ -236,8 +254,8 @@ impl Spool {
             .changed
             .wait_while(rt, self.waiting.lock(rt), |waiting| waiting.is_idle());
         let waiting = &mut *guard;
-        waiting.mark_front(rt, self.alloc, &self.times);
-        waiting.mark(rt, self.alloc, &self.times);
+        waiting.mark_front(rt, self.alloc, &self.form);
+        waiting.mark(rt, self.alloc, &self.form);
         // Where memory is refused, nothing is handed out now.
         let _later = lines.extend_from_slice(first_lines(waiting.rest()));
         waiting.status.take()

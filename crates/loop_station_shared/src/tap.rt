@@ -4,8 +4,7 @@
 //! doesn't read. No other thread ever waits. The newest lines for a pipe that nobody reads are kept for its next
 //! reader. A file that takes no more is cut back to its last whole line, and tried again.
 
-use crate::spool::{Spool, first_line, whole_lines, write_most};
-use loop_station_outside::Timeline;
+use crate::spool::{LineForm, Spool, first_line, whole_lines, write_most};
 use std::alloc::{AllocError, AllocGlobal, Global};
 use std::fs::File;
 use std::io::Write;
@@ -24,17 +23,17 @@ pub struct Tap {
 }
 
 impl Tap {
-    /// A tap for the file or pipe of a path. Its lines begin with times where those of the output do.
+    /// A tap for the file or pipe of a path, which gets lines of a form.
     pub fn new(
         alloc: Global,
         path: String,
         is_pipe: bool,
-        times: Option<Timeline>,
+        form: LineForm,
     ) -> Result<Tap, AllocError> {
         Ok(Tap {
             path,
             is_pipe,
-            spool: Spool::new(alloc, times, is_pipe)?,
+            spool: Spool::new(alloc, form, is_pipe)?,
             failing: AtomicBool::new(false),
         })
     }

@@ -12,7 +12,7 @@ use loop_script::MAX_LINE;
 use loop_station_camera::{CameraState, Common, MOST_SAVES, Saves, begin, run_saves};
 use loop_station_core::Numbers;
 use loop_station_outside::{PathKind, Places, Timeline};
-use loop_station_shared::{Message, Note, Outlet, Posts, Tap, run_outlet, run_tap};
+use loop_station_shared::{LineForm, Message, Note, Outlet, Posts, Tap, run_outlet, run_tap};
 use loop_station_words::{AnswersForm, CameraConfig, Config, Lines, NoRing, Source, asked_set};
 use std::alloc::{AllocError, AllocGlobal, Global};
 use std::io::{BufReader, Read, Write};
@@ -115,7 +115,7 @@ fn station_of<R: AllocGlobal + Places + Wait + Clock, W: Write + Drop>(
     };
     let cameras = states_of(alloc, cameras, &common)?;
     let times = times.then_some(timeline);
-    let tap = tap_of(rt, answers, times)?;
+    let tap = tap_of(rt, answers, LineForm { json, times })?;
     let ours = match &tap {
         Some(tap) => Some(Arc::try_clone(tap)?),
         None => None,
@@ -283,13 +283,13 @@ fn add_path(alloc: Global, paths: &mut Vec<String>, path: &str) -> Result<(), No
 fn tap_of<R: AllocGlobal + Places>(
     rt: &R,
     answers: Option<String>,
-    times: Option<Timeline>,
+    form: LineForm,
 ) -> Result<Option<Arc<Tap>>, NotBegun> {
     let Some(path) = answers else {
         return Ok(None);
     };
     let is_pipe = rt.path_kind(path.as_str()) == PathKind::Pipe;
-    let tap = shared(rt.alloc(), Tap::new(rt.alloc(), path, is_pipe, times)?)?;
+    let tap = shared(rt.alloc(), Tap::new(rt.alloc(), path, is_pipe, form)?)?;
     Ok(Some(tap))
 }
 
