@@ -22,7 +22,9 @@ PROGRAM = Path(os.environ.get("LOOP_PAGE") or TOP / "python/page/loop_page")
 PLACES = [PROGRAM.resolve().parent.parent, PROGRAM.resolve().parent, TOP / "tools", TOP / "python"]
 sys.path[1:1] = map(str, PLACES)
 sys.dont_write_bytecode = True
-import lapyrei.layout  # noqa: E402,F401  Before tools/layout.py, which would take the one beside it.
+# Before tools/layout.py, which would take the one beside it.
+import lapyrei.layout  # noqa: E402,F401
+
 STATION = os.environ.get("FAKE_STATION") or str(HERE / "fake_station.py")
 # How many seconds a test waits for a state before it fails, and a ring that holds minutes: no test
 # depends on how fast a machine is.
@@ -35,7 +37,10 @@ PATIENT = dict.fromkeys(
 )
 PATIENT = {f"{name}_SECONDS": seconds for name, seconds in PATIENT.items()} | {"ASK_SECONDS": 1}
 OWN = {"X-Loop-Page": "1", "Content-Type": "application/json"}
-CAMERAS = [{"name": "left", "pattern": "64x48 YM12 100:1"}, {"name": "right", "pattern": "33x21 GREY 50:1"}]
+CAMERAS = [
+    {"name": "left", "pattern": "64x48 YM12 100:1"},
+    {"name": "right", "pattern": "33x21 GREY 50:1"},
+]
 
 
 TOKEN = "a-token-of-more-than-16"
@@ -137,7 +142,10 @@ class Laboratory:
         lines += [f'answers_form = "{form}"'] if answers and form else []
         for words in cameras or CAMERAS:
             whole = {"source": "pattern", "store": f"{words['name']}.loop"} | room | words
-            lines += ["[[camera]]", *(f"{key} = {json.dumps(value)}" for key, value in whole.items())]
+            lines += [
+                "[[camera]]",
+                *(f"{key} = {json.dumps(value)}" for key, value in whole.items()),
+            ]
         (self.folder / "station.toml").write_text("\n".join(lines) + "\n", encoding="utf-8")
 
     def begin(self, *words, **more):
@@ -159,10 +167,15 @@ class Laboratory:
     def start_station(self):
         """Starts the station."""
         self.station = subprocess.Popen(
-            [STATION, "station.toml"], cwd=self.folder, stdin=subprocess.DEVNULL, stdout=open(self.folder / "told", "w")
+            [STATION, "station.toml"],
+            cwd=self.folder,
+            stdin=subprocess.DEVNULL,
+            stdout=open(self.folder / "told", "w"),
         )
         self.runs.append(self.station)
-        self.until(lambda: all((self.folder / f"{name}.loop").exists() for name in self.names()), "stores")
+        self.until(
+            lambda: all((self.folder / f"{name}.loop").exists() for name in self.names()), "stores"
+        )
         return self
 
     def names(self):
@@ -273,7 +286,11 @@ class Laboratory:
 
     def told(self, *kinds):
         """The lines that the station has printed, of these kinds or of all."""
-        lines = [json.loads(line) for line in (self.folder / "told").read_text().splitlines() if line.endswith("}")]
+        lines = [
+            json.loads(line)
+            for line in (self.folder / "told").read_text().splitlines()
+            if line.endswith("}")
+        ]
         return [line for line in lines if not kinds or line["kind"] in kinds]
 
     def polls(self):

@@ -9,8 +9,8 @@ It films a pendulum into each camera's store of the configuration, in the size, 
 `!raw LINE`, which writes one as it is; `!pause CAMERA` and `!go CAMERA`, which stop and start its
 frames; `!mute`, after which nothing is answered any more; `!absent CAMERA WHY` and `!there CAMERA`,
 between which it has no store; `!source CAMERA WORDS`, which its status then says; `!behind CAMERA
-SECONDS`, the same; `!making CAMERA PERCENT`; `!end CAMERA`, which ends its events that go on; `!hang CAMERA`, after which it answers no keep, whose
-answer never ends; and `!saving CAMERA`, whose clips can't be released. A camera's `scene` is what
+SECONDS`, the same; `!making CAMERA PERCENT`; `!end CAMERA`, which ends its events that go on;
+`!hang CAMERA`, after which it answers no keep, whose answer never ends; and `!saving CAMERA`, whose clips can't be released. A camera's `scene` is what
 it films: a `pendulum`, also `warm` or `cold`, or a dark `beam`. What it prints is JSON everywhere,
 unless the configuration says otherwise of the answers; then it has words there that the page
 doesn't read. The orders that it was given are in the file `ordered`."""
@@ -48,7 +48,13 @@ class Film(layout.Ring):
         # Samples of more than 8 bits have two bytes each.
         self.bits = words.get("bits", 8)
         width *= 2 if self.bits > 8 else 1
-        self.words, self.name, self.is_paused, self.given_up, self.still = words, words["name"], False, 0, None
+        self.words, self.name, self.is_paused, self.given_up, self.still = (
+            words,
+            words["name"],
+            False,
+            0,
+            None,
+        )
         self.reel: dict[int, bytes] = {}
         # The tag of each clip.
         self.tags: dict[int, int] = {}
@@ -86,7 +92,9 @@ class Film(layout.Ring):
         """A frame with a dim beam that wanders."""
         height, width = luma.shape
         down, across = numpy.mgrid[0:height, 0:width]
-        x, y = width * (0.56 + 0.03 * math.cos(number * 0.05)), height * (0.48 + 0.03 * math.sin(number * 0.07))
+        x, y = width * (0.56 + 0.03 * math.cos(number * 0.05)), height * (
+            0.48 + 0.03 * math.sin(number * 0.07)
+        )
         far = ((across - x) / width * 4) ** 2 + ((down - y) / height * 3.2) ** 2
         light = 62 * numpy.exp(-far * 2.2) * (0.8 + 0.2 * numpy.cos(far * 26))
         return (luma + light).astype(numpy.uint8).tobytes() + self.still[1]
@@ -118,7 +126,10 @@ class Film(layout.Ring):
         top, left = int(arm * math.cos(angle)) - ball, int(width / 2 + arm * math.sin(angle)) - ball
         box = luma[max(0, top) : top + 2 * ball, max(0, left) : max(0, left + 2 * ball)]
         down, across = numpy.mgrid[0 : box.shape[0], 0 : box.shape[1]]
-        box[(down + max(0, top) - top - ball) ** 2 + (across + max(0, left) - left - ball) ** 2 < ball * ball] = 225
+        box[
+            (down + max(0, top) - top - ball) ** 2 + (across + max(0, left) - left - ball) ** 2
+            < ball * ball
+        ] = 225
         return luma.tobytes() + self.still[1]
 
     def film(self) -> bool:
@@ -134,14 +145,25 @@ class Film(layout.Ring):
                 self.due += self.period
                 self.given_up += 1
                 return False
-            index, slot = self.blocks.index(self.next // self.geometry.slots), self.next % self.geometry.slots
+            index, slot = (
+                self.blocks.index(self.next // self.geometry.slots),
+                self.next % self.geometry.slots,
+            )
             self.times[self.next] = moment = self.due
             self.write(
                 self.geometry.slot_at(index, slot),
-                layout.head(self.next, self.next, moment, self.geometry.size, self.bits if self.bits > 8 else 0)
+                layout.head(
+                    self.next,
+                    self.next,
+                    moment,
+                    self.geometry.size,
+                    self.bits if self.bits > 8 else 0,
+                )
                 + self.filmed(self.next),
             )
-            self.write(self.geometry.segment_at(index) + layout.GATES_AT + slot, bytes([layout.OPEN]))
+            self.write(
+                self.geometry.segment_at(index) + layout.GATES_AT + slot, bytes([layout.OPEN])
+            )
             self.next += 1
             self.due += self.period
         return True
@@ -162,7 +184,10 @@ class Film(layout.Ring):
         lines = []
         for begin, end in layout.runs_of(numbers):
             if len(self.clips) == layout.CLIPS:
-                return [*lines, {"kind": "refused", "camera": self.name, "number": 11, "name": "ClipTableFull"}]
+                return [
+                    *lines,
+                    {"kind": "refused", "camera": self.name, "number": 11, "name": "ClipTableFull"},
+                ]
             before = set(self.clips)
             self.lock(begin, end, tag or event)
             (id_,) = set(self.clips) - before
@@ -179,7 +204,11 @@ class Film(layout.Ring):
 
     def shortfall(self, first: int, last: int, event: int) -> list[dict]:
         """How much of a time is held, and where no frame is, where that isn't all."""
-        held = [self.times[number] for number in sorted(self.held()) if first <= self.times[number] <= last]
+        held = [
+            self.times[number]
+            for number in sorted(self.held())
+            if first <= self.times[number] <= last
+        ]
         least, gaps, at = max(self.period * 3 // 2, LEAST_GAP), [], first
         for moment in [*held, last]:
             if moment - at > least:
@@ -188,13 +217,35 @@ class Film(layout.Ring):
         if not gaps or not held:
             return []
         missing = sum(micros for _, micros in gaps)
-        front = {"kind": "held", "camera": self.name, "held_micros": last - first - missing, "asked_micros": last - first, "event": event}
-        return [front, *({"kind": "gap", "camera": self.name, "micros": micros, "at": stamp(at), "event": event} for at, micros in gaps)]
+        front = {
+            "kind": "held",
+            "camera": self.name,
+            "held_micros": last - first - missing,
+            "asked_micros": last - first,
+            "event": event,
+        }
+        return [
+            front,
+            *(
+                {
+                    "kind": "gap",
+                    "camera": self.name,
+                    "micros": micros,
+                    "at": stamp(at),
+                    "event": event,
+                }
+                for at, micros in gaps
+            ),
+        ]
 
     def grow(self, since: int, until: int, event: int, tag: int) -> list[dict]:
         """Locks what has come of an event whose end lies ahead, in a clip that is longer than those
         of before, which are released."""
-        old = [id_ for id_, clip in self.clips.items() if self.tags[id_] == (tag or event) and since <= self.times[clip[0]] <= until]
+        old = [
+            id_
+            for id_, clip in self.clips.items()
+            if self.tags[id_] == (tag or event) and since <= self.times[clip[0]] <= until
+        ]
         lines = self.keep(since, until, event, tag)
         if any(line["kind"] == "kept" for line in lines):
             for id_ in old:
@@ -204,7 +255,9 @@ class Film(layout.Ring):
 
 def stamp(moment: int) -> str:
     """A time as the station prints it."""
-    return (EPOCH + datetime.timedelta(microseconds=moment)).strftime("%Y-%m-%dT%H:%M:%S.%f")[:-3] + "Z"
+    return (EPOCH + datetime.timedelta(microseconds=moment)).strftime("%Y-%m-%dT%H:%M:%S.%f")[
+        :-3
+    ] + "Z"
 
 
 class Station:
@@ -240,7 +293,9 @@ class Station:
         if not self.answers or self.is_mute:
             return
         try:
-            file = os.open(self.answers, os.O_WRONLY | os.O_APPEND | os.O_NONBLOCK | os.O_CREAT, 0o644)
+            file = os.open(
+                self.answers, os.O_WRONLY | os.O_APPEND | os.O_NONBLOCK | os.O_CREAT, 0o644
+            )
             os.write(file, line.encode() + b"\n")
             self.out, old = file, self.out
             if old is not None:
@@ -308,7 +363,9 @@ class Station:
             self.is_mute = True
         elif verb == "end":
             now = int(time.time() * 1e6)
-            self.growing = [(it[0], it[1], now if it[0] == rest else it[2], *it[3:]) for it in self.growing]
+            self.growing = [
+                (it[0], it[1], now if it[0] == rest else it[2], *it[3:]) for it in self.growing
+            ]
         elif verb in ("pause", "go"):
             self.films[rest].is_paused = verb == "pause"
         elif verb == "there":
@@ -317,7 +374,12 @@ class Station:
             getattr(self, {"hang": "hanging", "saving": "saving"}[verb]).add(rest)
         elif verb in ("absent", "source", "behind", "making"):
             camera, _, words = rest.partition(" ")
-            {"absent": self.absent, "source": self.sources, "behind": self.behind, "making": self.making}[verb][camera] = words
+            {
+                "absent": self.absent,
+                "source": self.sources,
+                "behind": self.behind,
+                "making": self.making,
+            }[verb][camera] = words
 
     def answer(self, order: str) -> list[dict]:
         """The lines that answer an order."""
@@ -351,13 +413,24 @@ class Station:
     def status(self, name: str, film: Film) -> dict:
         """How a camera stands."""
         if name in self.making:
-            return {"kind": "status_making", "camera": name, "path": film.words["store"], "percent": int(self.making[name])}
+            return {
+                "kind": "status_making",
+                "camera": name,
+                "path": film.words["store"],
+                "percent": int(self.making[name]),
+            }
         if name in self.absent:
             return {"kind": "absent", "camera": name, "why": self.absent[name]}
         counts = {"stored": film.next, "given_up": film.given_up, "waiting": 0}
         behind = round(float(self.behind.get(name, "0")) * 1e6)
         source = self.sources.get(name, "missing" if film.is_paused else "on")
-        room = {"behind_micros": behind, "room": 0 if name in self.full else 3, "keeps": 2, "faults": 0, "source": source}
+        room = {
+            "behind_micros": behind,
+            "room": 0 if name in self.full else 3,
+            "keeps": 2,
+            "faults": 0,
+            "source": source,
+        }
         return {"kind": "status", "camera": name, **counts, **room}
 
     def keep(self, parts: list[str]) -> list[dict]:
@@ -392,14 +465,17 @@ class Station:
         lines = film.keep(since, min(until, now), event, tag)
         if until > now:
             self.growing.append((name, since, until, event, tag))
-            return [*lines, {"kind": "event_begun", "event": event, "from": stamp(since), "to": stamp(until)}]
+            return [
+                *lines,
+                {"kind": "event_begun", "event": event, "from": stamp(since), "to": stamp(until)},
+            ]
         return [*lines, *film.shortfall(since, until, event)]
 
     def moment(self, text: str) -> int:
         """The microseconds of a time."""
-        return (datetime.datetime.fromisoformat(text.replace("Z", "+00:00")) - EPOCH) // datetime.timedelta(
-            microseconds=1
-        )
+        return (
+            datetime.datetime.fromisoformat(text.replace("Z", "+00:00")) - EPOCH
+        ) // datetime.timedelta(microseconds=1)
 
 
 if __name__ == "__main__":

@@ -127,7 +127,8 @@ def test_a_store_that_is_damaged_or_taken_away_is_told_and_found_again(make):
     path = lab.folder / "left.loop"
     path.rename(lab.folder / "away")
     lab.until(
-        lambda: lab.camera()["level"] == "bad" and "There is no store" in lab.camera()["state"], "missing store"
+        lambda: lab.camera()["level"] == "bad" and "There is no store" in lab.camera()["state"],
+        "missing store",
     )
     assert any("its store was there" in it["text"] for it in lab.status()["alerts"])
     path.write_bytes(b"no store at all" * 1000)

@@ -58,7 +58,16 @@ def test_brackets_in_a_text_are_no_depth():
     assert answers.value_in(b"[" * 32 + b"]" * 32)
 
 
-@pytest.mark.parametrize("raw", [b'"' + b'\\"' * 2_000_000, b'["' + b'\\"[' * 1_000_000 + b'"]', b"[]," * 2_000_000, b'{"a":[' * 500_000], ids=range(4))
+@pytest.mark.parametrize(
+    "raw",
+    [
+        b'"' + b'\\"' * 2_000_000,
+        b'["' + b'\\"[' * 1_000_000 + b'"]',
+        b"[]," * 2_000_000,
+        b'{"a":[' * 500_000,
+    ],
+    ids=range(4),
+)
 def test_a_long_text_is_read_in_time(raw):
     begun = time.monotonic()
     try:
@@ -74,17 +83,32 @@ def test_a_long_text_is_read_in_time(raw):
         ({}, "^cameras is missing$"),
         ([], "^it isn't an object$"),
         ({"cameras": [CAMERA, {}], "alerts": []}, r"^cameras\[1\]\.name is missing$"),
-        ({"cameras": [CAMERA | {"name": "../x"}], "alerts": []}, r"^cameras\[0\]\.name isn't a camera's name$"),
+        (
+            {"cameras": [CAMERA | {"name": "../x"}], "alerts": []},
+            r"^cameras\[0\]\.name isn't a camera's name$",
+        ),
         ({"cameras": [CAMERA | {"name": "a\udc00"}], "alerts": []}, "name isn't"),
         ({"cameras": [CAMERA | {"state": "\udc00"}], "alerts": []}, "state isn't a text"),
         ({"cameras": [CAMERA | {"after": True}], "alerts": []}, "after isn't a whole number"),
         ({"cameras": [CAMERA | {"rate": "20"}], "alerts": []}, "rate isn't a number"),
         ({"cameras": [CAMERA | {"level": "best"}], "alerts": []}, "level isn't one of good"),
-        ({"cameras": [CAMERA | {"pieces": [[0, 1, 2, "3"]]}], "alerts": []}, r"pieces\[0\]\[3\] isn't a whole"),
-        ({"cameras": [CAMERA | {"frames": -1}], "alerts": []}, "frames isn't a whole number from 0"),
+        (
+            {"cameras": [CAMERA | {"pieces": [[0, 1, 2, "3"]]}], "alerts": []},
+            r"pieces\[0\]\[3\] isn't a whole",
+        ),
+        (
+            {"cameras": [CAMERA | {"frames": -1}], "alerts": []},
+            "frames isn't a whole number from 0",
+        ),
         ({"cameras": [], "alerts": [{"id": 10**9, "text": ""}]}, "id isn't a whole number"),
-        ({"cameras": [{it: to for it, to in CAMERA.items() if it != "pieces"}], "alerts": []}, r"cameras\[0\]\.pieces is missing"),
-        ({"cameras": [], "alerts": [], "station": ["good"]}, "station isn't a level and a sentence"),
+        (
+            {"cameras": [{it: to for it, to in CAMERA.items() if it != "pieces"}], "alerts": []},
+            r"cameras\[0\]\.pieces is missing",
+        ),
+        (
+            {"cameras": [], "alerts": [], "station": ["good"]},
+            "station isn't a level and a sentence",
+        ),
         ({"cameras": [{"name": "a"}] * 300, "alerts": []}, "cameras isn't a list of 0 to 256"),
     ],
 )
@@ -99,13 +123,20 @@ def test_unknown_words_are_let_pass():
 
 
 def test_a_clip_does_not_end_before_it_begins():
-    for wrong in ({"last": -1}, {"first": 10}, {"from_us": 450_001}, {"id": "0"}, {"camera": "../../OUT/x"}, {"tag": None}):
+    for wrong in (
+        {"last": -1},
+        {"first": 10},
+        {"from_us": 450_001},
+        {"id": "0"},
+        {"camera": "../../OUT/x"},
+        {"tag": None},
+    ):
         with pytest.raises(Unusable):
             answers.CLIPS_SAID({"clips": [CLIP | wrong]})
     answers.CLIPS_SAID({"clips": [CLIP]})
 
 
-# ------------------------------------------------------------------------------- ten thousand answers
+# ----------------------------------------------------------------------------- ten thousand answers
 
 
 def no_constant(word):
@@ -117,7 +148,11 @@ def shown(others):
     """What a page makes of what other stations say, as JSON that a browser reads."""
     own = {"cameras": [{"name": "own"}], "alerts": []}
     events = [(it.name, event_of(it, event)) for it in others for event in it.events]
-    made = state_of(own, others), more_of({"cameras": {"own": {}}}, others), joined(events, Presses(9))
+    made = (
+        state_of(own, others),
+        more_of({"cameras": {"own": {}}}, others),
+        joined(events, Presses(9)),
+    )
     texts = [json.dumps(it, separators=(",", ":")).encode() for it in made]
     state, more, _ = [json.loads(it, parse_constant=no_constant) for it in texts]
     assert state["cameras"][0] == {"name": "own"} and more["cameras"]["own"] == {}
@@ -135,7 +170,9 @@ def test_ten_thousand_wrong_answers_touch_nothing_of_the_others():
             other.take(kind, answer_of(luck, SAID[kind]))
         except Unfit as unfit:
             refused += 1
-            assert "north is unusable" in str(unfit) and other.standing()["kind"] == "unusable", number
+            assert (
+                "north is unusable" in str(unfit) and other.standing()["kind"] == "unusable"
+            ), number
         # It needn't be rare that a wrong answer is as good as a right one.
         state = shown([good, other])
         assert [it["name"] for it in state["cameras"]][: len(wanted)] == wanted, number
@@ -176,7 +213,7 @@ def test_no_fault_ends_what_asks_a_station(monkeypatch, work, part):
     assert other.standing()["kind"] == "unusable"
 
 
-# ---------------------------------------------------------------------- a station that says anything
+# --------------------------------------------------------------------- a station that says anything
 
 
 @pytest.fixture
@@ -224,7 +261,9 @@ def test_a_neighbour_that_lacks_a_word_is_unusable_and_own_clips_are_listed(hub,
     found = page.ask("/api/clips").json()
     assert not [it for it in found["clips"] if it["camera"] == "odd:left"]
     assert "clips[0].to_us is missing" in found["unusable"]["odd"]
-    assert station_of(page, "odd")["kind"] == "unusable" and station_of(page, "odd")["level"] == "bad"
+    assert (
+        station_of(page, "odd")["kind"] == "unusable" and station_of(page, "odd")["level"] == "bad"
+    )
     page.until(lambda: ("unusable", "odd") in page.alerts(), "warning")
     # What it says of its cameras is as good as before; and once it says its clips, all is well.
     assert {it["name"]: it["kind"] for it in page.status()["cameras"]}["odd:left"] == "good"
@@ -236,7 +275,16 @@ def test_a_neighbour_that_lacks_a_word_is_unusable_and_own_clips_are_listed(hub,
     page.until(lambda: ("unusable", "odd") not in page.alerts(), "end of the warning")
 
 
-@pytest.mark.parametrize("body", [b"[" * 200_000, b'{"cameras": [], "alerts": [], "now": NaN}', b'{"cameras": [{"name": 5}], "alerts": []}', b"\xff"], ids=("deep", "nan", "type", "bytes"))
+@pytest.mark.parametrize(
+    "body",
+    [
+        b"[" * 200_000,
+        b'{"cameras": [], "alerts": [], "now": NaN}',
+        b'{"cameras": [{"name": 5}], "alerts": []}',
+        b"\xff",
+    ],
+    ids=("deep", "nan", "type", "bytes"),
+)
 def test_a_state_that_is_none_ends_nothing(hub, neighbour, body):
     odd, fair = neighbour(), neighbour()
     odd.stream = [message("hello", b"", id="x"), message("state", body)]
@@ -257,16 +305,25 @@ def test_what_was_said_before_is_shown_as_such(hub, neighbour):
     odd.over.set()
     page.until(lambda: station_of(page, "odd")["kind"] == "unusable", "word of it")
     camera = {it["name"]: it for it in page.status()["cameras"]}["odd:left"]
-    assert camera["level"] == "bad" and camera["short"] == "unusable answer" and "cameras is missing" in camera["state"]
+    assert (
+        camera["level"] == "bad"
+        and camera["short"] == "unusable answer"
+        and "cameras is missing" in camera["state"]
+    )
 
 
 def test_stations_that_it_shows_too_are_left_to_their_own_pages(hub, neighbour):
     odd = neighbour()
     third = CAMERA | {"name": "south:left"}
-    both = EVENT | {"cameras": ["left", "south:left"], "clips": EVENT["clips"] + [EVENT["clips"][0] | {"camera": "south:left"}]}
+    both = EVENT | {
+        "cameras": ["left", "south:left"],
+        "clips": EVENT["clips"] + [EVENT["clips"][0] | {"camera": "south:left"}],
+    }
     odd.stream = [
-        message("hello", b"", id="x"), message("state", STATE | {"cameras": [CAMERA, third]}),
-        message("more", {"cameras": {"left": {}, "south:left": {}}}), message("events", [both, EVENT | {"clips": both["clips"][1:]}]),
+        message("hello", b"", id="x"),
+        message("state", STATE | {"cameras": [CAMERA, third]}),
+        message("more", {"cameras": {"left": {}, "south:left": {}}}),
+        message("events", [both, EVENT | {"clips": both["clips"][1:]}]),
     ]
     odd.answers["/api/clips"] = {"clips": [CLIP, CLIP | {"camera": "south:left"}]}
     page = hub(odd.port)
@@ -280,9 +337,16 @@ def test_an_answer_to_a_keep_that_is_none_is_said_and_the_own_camera_keeps(hub, 
     odd = neighbour()
     page = hub(odd.port)
     page.until(lambda: "odd:left" in names_of(page), "camera")
-    for told in ({"answers": 5}, {"kept": True, "answers": [{"camera": "left"}]}, b"[" * 100_000, b"no JSON"):
+    for told in (
+        {"answers": 5},
+        {"kept": True, "answers": [{"camera": "left"}]},
+        b"[" * 100_000,
+        b"no JSON",
+    ):
         odd.answers["/api/keep"] = told
-        found = {it["camera"]: it for it in page.post("/api/keep", {"seconds": 1}).json()["answers"]}
+        found = {
+            it["camera"]: it for it in page.post("/api/keep", {"seconds": 1}).json()["answers"]
+        }
         assert found["left"]["kept"] and not found["odd"]["kept"]
         assert "is unusable" in found["odd"]["text"] and "may have kept" in found["odd"]["text"]
     odd.answers["/api/step"] = {"moment": "now"}
@@ -327,7 +391,9 @@ def test_a_token_is_not_sent_where_a_redirect_leads(hub, neighbour, tmp_path):
     (tmp_path / "secret").chmod(0o600)
     page = hub(odd.port, more=[f'token = "{tmp_path}/secret"'])
     page.until(lambda: "odd:left" in names_of(page), "camera")
-    assert all(head.get("Authorization") == "Bearer a-token-of-more-than-16" for _, head in odd.asked)
+    assert all(
+        head.get("Authorization") == "Bearer a-token-of-more-than-16" for _, head in odd.asked
+    )
     for status in (301, 302, 307):
         place = f"http://127.0.0.1:{elsewhere.port}/api/clips".encode()
         odd.answers["/api/clips"] = place, status, "text/plain"
@@ -342,8 +408,19 @@ def test_each_station_is_sent_its_own_token(make, neighbour, tmp_path):
     for name in ("north", "south", "own"):
         (tmp_path / name).write_text(f"the-token-of-{name}-{name}\n")
         (tmp_path / name).chmod(0o600)
-    settings_of(page.folder, *((name, it.port, f'token = "{tmp_path}/{name}"') for name, it in (("north", north), ("south", south))))
+    settings_of(
+        page.folder,
+        *(
+            (name, it.port, f'token = "{tmp_path}/{name}"')
+            for name, it in (("north", north), ("south", south))
+        ),
+    )
     page.start_page("--settings", "page.toml", "--token", str(tmp_path / "own"))
     for name, it in (("north", north), ("south", south)):
-        until(lambda it=it: {path for path, _ in it.asked} >= {"/api/stream", "/api/clock"}, f"questions to {name}")
-        assert {head["Authorization"] for _, head in it.asked} == {f"Bearer the-token-of-{name}-{name}"}
+        until(
+            lambda it=it: {path for path, _ in it.asked} >= {"/api/stream", "/api/clock"},
+            f"questions to {name}",
+        )
+        assert {head["Authorization"] for _, head in it.asked} == {
+            f"Bearer the-token-of-{name}-{name}"
+        }

@@ -7,15 +7,36 @@ import pytest
 from station_page import limits
 from station_page.archived import Archive
 
-CLIP = {"camera": "left", "id": 0, "first": 5, "last": 9, "from_us": 1000, "tag": 0, "event": 10**15}
-ENTRY = {"camera": "left", "id": 0, "first": 5, "last": 9, "since": 1000, "tag": 10**15, "event": 10**15}
+CLIP = {
+    "camera": "left",
+    "id": 0,
+    "first": 5,
+    "last": 9,
+    "from_us": 1000,
+    "tag": 0,
+    "event": 10**15,
+}
+ENTRY = {
+    "camera": "left",
+    "id": 0,
+    "first": 5,
+    "last": 9,
+    "since": 1000,
+    "tag": 10**15,
+    "event": 10**15,
+}
 LEFT = {"name": "left", "waiting": 0, "archived": 1, "fault": "", "behind_seconds": 0.0}
 
 
 def written(path, *archived, fault="", why="", **camera):
     """Writes the file as loop_archive does; `why` is the camera's fault."""
     entries = [{"is_released": False} | it for it in archived]
-    body = {"time": 0, "fault": fault, "cameras": [LEFT | {"fault": why} | camera], "archived": entries}
+    body = {
+        "time": 0,
+        "fault": fault,
+        "cameras": [LEFT | {"fault": why} | camera],
+        "archived": entries,
+    }
     new = f"{path}.new"
     with open(new, "w", encoding="utf-8") as file:
         json.dump(body, file)
@@ -86,13 +107,21 @@ def test_an_event_is_told_as_archived_once_all_its_clips_are(make):
     (laboratory.folder / "page.toml").write_text('archive = "archive.json"\n')
     laboratory.start_page("--settings", "page.toml").filmed().filmed(name="right")
     assert laboratory.post("/api/keep", {"seconds": 1}).status == 200
-    clips = laboratory.until(lambda: len(found := laboratory.ask("/api/clips").json()["clips"]) == 2 and found, "clips")
-    entries = [{it: clip[it] for it in ("camera", "id", "first", "last", "event")} | {"since": clip["from_us"], "tag": clip["event"]} for clip in clips]
+    clips = laboratory.until(
+        lambda: len(found := laboratory.ask("/api/clips").json()["clips"]) == 2 and found, "clips"
+    )
+    entries = [
+        {it: clip[it] for it in ("camera", "id", "first", "last", "event")}
+        | {"since": clip["from_us"], "tag": clip["event"]}
+        for clip in clips
+    ]
 
     def told():
         """Whether the event is archived, and which of its clips."""
         (event,) = laboratory.ask("/api/events").json()["events"]
-        return event["archived"], sorted(it["camera"] for it in laboratory.ask("/api/clips").json()["clips"] if it["archived"])
+        return event["archived"], sorted(
+            it["camera"] for it in laboratory.ask("/api/clips").json()["clips"] if it["archived"]
+        )
 
     assert told() == (False, [])
     written(path, entries[0])

@@ -54,17 +54,25 @@ def test_grey_is_shown_by_its_whole_range_or_by_a_window(bits):
     plain = numpy.asarray(pictures.image_of(geometry, data, bits=bits))
     assert (plain.ravel() == numpy.rint(samples / top * 255)).all()
     black, white = top // 4, top // 2
-    seen = numpy.asarray(pictures.image_of(geometry, data, stretch=(black, white), bits=bits)).ravel()
+    seen = numpy.asarray(
+        pictures.image_of(geometry, data, stretch=(black, white), bits=bits)
+    ).ravel()
     assert (seen[samples <= black] == 0).all() and (seen[samples >= white] == 255).all()
     between = (samples > black) & (samples < white)
-    assert between.any() and (abs(seen[between] - (samples[between] - black) * 255.0 / (white - black)) <= 0.5).all()
+    assert (
+        between.any()
+        and (abs(seen[between] - (samples[between] - black) * 255.0 / (white - black)) <= 0.5).all()
+    )
 
 
 @pytest.mark.parametrize("bits", DEPTHS)
 def test_deep_colours_are_as_ffmpeg_takes_them(bits):
     geometry = layout.geometry_of(32, 16, b"YM12", 25, 1, 2, 2)
     unit = 1 << (bits - 8)
-    planes = [numpy.full(count // 2, value * unit, "<u2") for count, value in zip(layout.planes_of(32, 16, b"YM12"), (81, 90, 240))]
+    planes = [
+        numpy.full(count // 2, value * unit, "<u2")
+        for count, value in zip(layout.planes_of(32, 16, b"YM12"), (81, 90, 240))
+    ]
     data = b"".join(plane.tobytes() for plane in planes)
     red = pictures.image_of(geometry, data, bits=bits).convert("RGB").getpixel((4, 8))
     assert red[0] > 240 and max(red[1:]) < 20
@@ -81,11 +89,21 @@ def test_auto_finds_a_narrow_range_of_deep_samples(bits):
 
 
 def test_a_narrow_stretch_follows_and_a_wide_one_doesnt_flicker():
-    assert calmed((100, 140), (104, 144)) == (104, 144) and calmed((100, 140), (102, 138)) == (100, 140)
+    assert calmed((100, 140), (104, 144)) == (104, 144) and calmed((100, 140), (102, 138)) == (
+        100,
+        140,
+    )
     assert calmed((0, 64000), (900, 64900)) == (0, 64000) and calmed(None, (1, 5)) == (1, 5)
 
 
-@pytest.mark.parametrize("form, at", [(b"GREY", [2 * 8 + 7]), (b"YM12", [2 * 8 + 7, 32 + 7, 40 + 7]), (b"YM24", [2 * 8 + 7, 32 + 23, 64 + 23])])
+@pytest.mark.parametrize(
+    "form, at",
+    [
+        (b"GREY", [2 * 8 + 7]),
+        (b"YM12", [2 * 8 + 7, 32 + 7, 40 + 7]),
+        (b"YM24", [2 * 8 + 7, 32 + 23, 64 + 23]),
+    ],
+)
 def test_a_pixel_has_its_whole_value(form, at):
     geometry, samples, data = frame(form, 12)
     found = pictures.value_at(geometry, lambda place, count: data[place : place + count], 7, 2, 12)
@@ -179,14 +197,27 @@ def test_a_zip_has_films_and_deep_pictures(deep):
         for name in films:
             path = deep.folder / "film.mp4"
             path.write_bytes(archive.read(name))
-            words = ["ffprobe", "-v", "error", "-count_frames", "-show_entries", "stream=nb_read_frames", "-of", "csv=p=0", path]
+            words = [
+                "ffprobe",
+                "-v",
+                "error",
+                "-count_frames",
+                "-show_entries",
+                "stream=nb_read_frames",
+                "-of",
+                "csv=p=0",
+                path,
+            ]
             counted = subprocess.run(words, capture_output=True, check=True, text=True).stdout
             assert int(counted.strip(",\n")) == len(names)
 
 
 def test_a_clip_of_several_depths_is_fetched_as_pictures_alone():
     geometry, _, data = frame(b"GREY", 12)
-    frames = tuple(layout.Frame(it, it, 0x2000 | bits << 24, 5 + it, geometry.size) for it, bits in enumerate((12, 0)))
+    frames = tuple(
+        layout.Frame(it, it, 0x2000 | bits << 24, 5 + it, geometry.size)
+        for it, bits in enumerate((12, 0))
+    )
     opened = SimpleNamespace(geometry=geometry, frame=lambda number: data)
     fetch = Fetch("left", Clip(0, 0, 1, 0, 5, 6), opened, frames)
     with pytest.raises(Unfit, match="have 8 and 12 bits"):
@@ -194,4 +225,6 @@ def test_a_clip_of_several_depths_is_fetched_as_pictures_alone():
     bundle = Bundle([fetch], ["png"], "")
     assert b"8x4 GREY of 8 and 12 bits" in bundle.text()
     deep_one, plain = (step[2] for step in bundle.png_pieces(fetch))
-    assert Image.open(io.BytesIO(deep_one)).size == (8, 4) and Image.open(io.BytesIO(plain)).size == (16, 4)
+    assert Image.open(io.BytesIO(deep_one)).size == (8, 4) and Image.open(
+        io.BytesIO(plain)
+    ).size == (16, 4)

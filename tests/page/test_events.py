@@ -99,7 +99,11 @@ def test_clips_of_other_tags_are_other_events():
 
 
 def test_clips_of_one_number_are_one_event_whatever_their_times_and_tags():
-    clips = [clip("a", 0, 60, event=8), clip("b", 20, 90, tag=7, event=8), clip("c", 100, 101, event=8)]
+    clips = [
+        clip("a", 0, 60, event=8),
+        clip("b", 20, 90, tag=7, event=8),
+        clip("c", 100, 101, event=8),
+    ]
     (event,) = events_of(clips)
     assert event["cameras"] == ["a", "b", "c"] and event["number"] == 8 and event["tag"] == 0
     assert (event["from_us"], event["to_us"]) == (0, 101_000_000)
@@ -135,7 +139,9 @@ def test_an_event_says_what_it_lacks_and_until_when_it_goes_on():
     hear("gap", micros=4, at="1970-01-01T00:00:00Z", **number)
     assert told()["lacks"] == [{"camera": "b", "held_us": 5, "asked_us": 9, "why": ""}]
     hear("event_not_whole", why="Gaps", **number)
-    assert told()["until_us"] is None and told()["lacks"] == [{"camera": "b", "held_us": 5, "asked_us": 9, "why": "Gaps"}]
+    assert told()["until_us"] is None and told()["lacks"] == [
+        {"camera": "b", "held_us": 5, "asked_us": 9, "why": "Gaps"}
+    ]
     hear("event_whole", camera="a")
     assert [it["camera"] for it in told()["lacks"]] == ["b"]
 
@@ -146,7 +152,10 @@ def test_what_is_remembered_of_events_has_a_bound(monkeypatch):
     for number in range(1, 9):
         heard.take(kept_line("left", number, 0, 9, number))
     assert len(heard.events) == len(heard.clips) == 3
-    assert heard.number_of("left", Clip(8, 0, 9, 7, 1, 2)) == 8 and heard.number_of("left", Clip(1, 0, 9, 7, 1, 2)) is None
+    assert (
+        heard.number_of("left", Clip(8, 0, 9, 7, 1, 2)) == 8
+        and heard.number_of("left", Clip(1, 0, 9, 7, 1, 2)) is None
+    )
 
 
 def test_a_clip_is_of_the_event_that_its_tag_or_the_station_says():
@@ -155,9 +164,18 @@ def test_a_clip_is_of_the_event_that_its_tag_or_the_station_says():
     assert heard.number_of("left", Clip(0, 93, 217, 7, 1, 2)) == number
     assert heard.number_of("left", Clip(1, 5, 9, number + 1, 1, 2)) == number + 1
     # Another clip with that id, camera or beginning.
-    for camera, clip_ in (("left", Clip(0, 94, 217, 7, 1, 2)), ("right", Clip(0, 93, 217, 7, 1, 2)), ("left", Clip(1, 93, 300, 7, 1, 2))):
+    for camera, clip_ in (
+        ("left", Clip(0, 94, 217, 7, 1, 2)),
+        ("right", Clip(0, 93, 217, 7, 1, 2)),
+        ("left", Clip(1, 93, 300, 7, 1, 2)),
+    ):
         assert heard.number_of(camera, clip_) is None
-    begun = {"kind": "event_begun", "event": number, "from": "2026-11-22T15:37:55Z", "to": "2026-11-22T15:38:10Z"}
+    begun = {
+        "kind": "event_begun",
+        "event": number,
+        "from": "2026-11-22T15:37:55Z",
+        "to": "2026-11-22T15:38:10Z",
+    }
     heard.take(read_line(json.dumps(begun)))
     assert heard.number_of("left", Clip(1, 93, 300, 7, 1, 2)) == number
     assert heard.number_of("left", Clip(1, 94, 300, 7, 1, 2)) is None
@@ -282,7 +300,9 @@ def test_a_clip_of_another_beginning_is_in_no_zip(kept):
 @pytest.mark.parametrize("tag", [0, 7])
 def test_an_event_whose_end_lies_ahead_grows_and_keeps_its_note(make, tag):
     more = {"tag": tag, "slots": 64}
-    lab = make(cameras=[{"name": name, "pattern": "33x21 GREY 25:1", **more} for name in ("left", "right")])
+    lab = make(
+        cameras=[{"name": name, "pattern": "33x21 GREY 25:1", **more} for name in ("left", "right")]
+    )
     lab.filmed(30).filmed(30, "right")
     lab.order("@me keep 1 +3600")
 
@@ -305,14 +325,20 @@ def test_an_event_whose_end_lies_ahead_grows_and_keeps_its_note(make, tag):
     lab.until(lambda: lab.camera()["newest"][1] > second["to_us"] + 1_000_000, "more frames")
     lab.order("!end left", "!end right")
     last = lab.until(lambda: grown(second["to_us"], None), "end")
-    lab.until(lambda: {it["note"] for it in lab.ask("/api/clips").json()["clips"]} == {"run 7"}, "note")
+    lab.until(
+        lambda: {it["note"] for it in lab.ask("/api/clips").json()["clips"]} == {"run 7"}, "note"
+    )
     assert last["cameras"] == ["left", "right"] and len(last["clips"]) == 2 and last["lacks"] == []
     assert {it["number"] for it in seen} == {event["number"]}
     news = [it["text"] for it in lab.status()["news"]]
     assert any("has ended, and all of it is kept" in text for text in news)
     lab.end(lab.page, signal.SIGTERM)
     lab.start_page()
-    lab.until(lambda: [(it["cameras"], it["note"]) for it in lab.ask("/api/events").json()["events"]] == [(["left", "right"], "run 7")], "event")
+    lab.until(
+        lambda: [(it["cameras"], it["note"]) for it in lab.ask("/api/events").json()["events"]]
+        == [(["left", "right"], "run 7")],
+        "event",
+    )
 
 
 def whole_of(lab):
@@ -327,7 +353,9 @@ def test_an_event_that_has_grown_since_it_was_seen_is_released_and_noted_as_that
     seen = lab.until(lambda: lab.ask("/api/events").json()["events"], "event")[0]
     old = named(seen)
     # Its clip has another id after each second time that it grew.
-    lab.until(lambda: lab.ask("/api/events").json()["events"][0]["to_us"] > seen["to_us"], "longer clip")
+    lab.until(
+        lambda: lab.ask("/api/events").json()["events"][0]["to_us"] > seen["to_us"], "longer clip"
+    )
     lab.order("!end left")
     lab.until(lambda: lab.ask("/api/events").json()["events"][0]["until_us"] is None, "end")
     if named(lab.until(lambda: whole_of(lab), "whole event")) == old:
@@ -342,14 +370,21 @@ def test_an_event_that_has_grown_since_it_was_seen_is_released_and_noted_as_that
 
 def test_a_keep_of_cameras_with_other_tags_is_one_event(make):
     """Also once the page has begun again, which hasn't heard it."""
-    cameras = [{"name": name, "pattern": "33x21 GREY 25:1", "tag": tag} for name, tag in (("left", 1), ("right", 2))]
+    cameras = [
+        {"name": name, "pattern": "33x21 GREY 25:1", "tag": tag}
+        for name, tag in (("left", 1), ("right", 2))
+    ]
     lab = make(cameras=cameras).filmed(30)
     assert lab.post("/api/keep", {"seconds": 1}).status == 200
     (heard,) = lab.ask("/api/events").json()["events"]
     assert heard["cameras"] == ["left", "right"] and heard["number"] == lab.told("kept")[0]["event"]
     lab.end(lab.page, signal.SIGTERM)
     lab.start_page()
-    lab.until(lambda: [(it["cameras"], it["number"]) for it in lab.ask("/api/events").json()["events"]] == [(["left", "right"], None)], "event")
+    lab.until(
+        lambda: [(it["cameras"], it["number"]) for it in lab.ask("/api/events").json()["events"]]
+        == [(["left", "right"], None)],
+        "event",
+    )
 
 
 def test_a_button_of_a_camera_that_keeps_on_says_until_when(make):
@@ -428,7 +463,8 @@ def test_clips_of_a_zip_that_is_fetched_cannot_be_released(make):
         client.setsockopt(socket.SOL_SOCKET, socket.SO_RCVBUF, 4096)
         client.connect(("127.0.0.1", lab.port))
         client.sendall(
-            f"GET /api/event.zip?clips={event['key']}&what=y4m HTTP/1.1\r\nHost: localhost\r\n\r\n".encode()
+            f"GET /api/event.zip?clips={event['key']}&what=y4m HTTP/1.1\r\n"
+            "Host: localhost\r\n\r\n".encode()
         )
         client.recv(100)
         found = lab.post("/api/event/release", {"clips": named(event)})

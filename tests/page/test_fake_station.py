@@ -16,8 +16,10 @@ def station(tmp_path, monkeypatch):
     monkeypatch.chdir(tmp_path)
     (tmp_path / "station.toml").write_text(
         'orders = "orders"\nanswers_form = "json"\n'
-        '[[camera]]\nname = "left"\nstore = "left.loop"\npattern = "8x6 GREY 25:1"\nsegments = 3\nslots = 16\n'
-        '[[camera]]\nname = "right"\nstore = "right.loop"\npattern = "8x6 GREY 25:1"\ntag = 7\nafter = 5\n'
+        '[[camera]]\nname = "left"\nstore = "left.loop"\npattern = "8x6 GREY 25:1"\nsegments = '
+        "3\nslots = 16\n"
+        '[[camera]]\nname = "right"\nstore = "right.loop"\npattern = "8x6 GREY 25:1"\ntag = 7\n'
+        "after = 5\n"
     )
     (tmp_path / "orders").touch()
     one, lines = fake_station.Station("station.toml"), []
@@ -68,11 +70,22 @@ def test_each_line_has_the_members_of_its_kind(station):
     station.go_on()
     lines += [json.loads(line) for line in station.lines]
     kinds = {line["kind"] for line in lines}
-    assert kinds > {"kept", "kept_none", "held", "gap", "event_begun", "released", "refused", "status"}
+    assert kinds > {
+        "kept",
+        "kept_none",
+        "held",
+        "gap",
+        "event_begun",
+        "released",
+        "refused",
+        "status",
+    }
     assert kinds > {"absent", "no_camera", "bad_order", "saving", "status_making", "done"}
     assert kinds & {"event_whole", "event_not_whole"}
     for line in lines:
-        assert list(line)[: len(FRONT & set(line))] == [it for it in ("time", "label", "kind") if it in line]
+        assert list(line)[: len(FRONT & set(line))] == [
+            it for it in ("time", "label", "kind") if it in line
+        ]
         needed = {it.lstrip("#@") for it in words.MEMBERS[line["kind"]] if not it.startswith("?")}
         assert needed <= set(line) - FRONT <= documented()[line["kind"]], line
         assert words.read_line(json.dumps(line)), line

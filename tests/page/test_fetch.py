@@ -54,14 +54,29 @@ def test_each_range_is_that_part_of_the_whole(kept):
     for word in (f"{size}-", "-0", "9" * 19 + "-"):
         found = kept.ask("/api/clips/left/0.y4m", headers={"Range": f"bytes={word}"})
         assert found.status == 416 and found.headers["Content-Range"] == f"bytes */{size}", word
-    for word in ("bytes=5-4", "bytes=a-b", "bytes=-", "lines=1-2", "bytes=0-1,4-5", "bytes=" + "9" * 99 + "-"):
+    for word in (
+        "bytes=5-4",
+        "bytes=a-b",
+        "bytes=-",
+        "lines=1-2",
+        "bytes=0-1,4-5",
+        "bytes=" + "9" * 99 + "-",
+    ):
         assert kept.ask("/api/clips/left/0.y4m", headers={"Range": word}).body == whole, word
 
 
 def test_a_range_of_another_file_is_the_whole(kept):
     tag = kept.ask("/api/clips/left/0.y4m", "HEAD").headers["ETag"]
-    assert kept.ask("/api/clips/left/0.y4m", headers={"Range": "bytes=0-3", "If-Range": tag}).body == b"YUV4"
-    assert kept.ask("/api/clips/left/0.y4m", headers={"Range": "bytes=0-3", "If-Range": '"other"'}).status == 200
+    assert (
+        kept.ask("/api/clips/left/0.y4m", headers={"Range": "bytes=0-3", "If-Range": tag}).body
+        == b"YUV4"
+    )
+    assert (
+        kept.ask(
+            "/api/clips/left/0.y4m", headers={"Range": "bytes=0-3", "If-Range": '"other"'}
+        ).status
+        == 200
+    )
 
 
 def test_a_head_has_no_body(kept):
@@ -122,7 +137,8 @@ def test_a_film_is_as_bright_as_its_frames(kept, tmp_path):
     wanted = text[text.index(b"FRAME\n") + 6 :][: 64 * 48]
     assert (
         numpy.abs(
-            numpy.frombuffer(luma, numpy.uint8).astype(int)[200:] - numpy.frombuffer(wanted, numpy.uint8)[200:]
+            numpy.frombuffer(luma, numpy.uint8).astype(int)[200:]
+            - numpy.frombuffer(wanted, numpy.uint8)[200:]
         ).mean()
         < 4
     )
@@ -138,13 +154,20 @@ def test_the_zip_has_a_picture_of_each_frame(kept):
         for place, name in enumerate(names[1:]):
             picture = Image.open(io.BytesIO(archive.read(name)))
             at = text.index(b"\n") + 1 + place * (step + 6) + 6
-            assert (picture.size, picture.mode, picture.tobytes()) == ((33, 21), "L", text[at : at + step])
+            assert (picture.size, picture.mode, picture.tobytes()) == (
+                (33, 21),
+                "L",
+                text[at : at + step],
+            )
 
 
 def test_the_table_has_each_number_and_time(kept):
     clip = kept.clips["left"]
     lines = kept.ask("/api/clips/left/0.csv").body.decode().splitlines()
-    assert lines[0] == "number,time_us,time,sequence" and len(lines) == clip["last"] - clip["first"] + 2
+    assert (
+        lines[0] == "number,time_us,time,sequence"
+        and len(lines) == clip["last"] - clip["first"] + 2
+    )
     assert lines[1].split(",")[:3] == [str(clip["first"]), str(clip["from_us"]), clip["from"]]
     assert kept.ask("/api/clips/left/0.csv", headers={"Range": "bytes=0-5"}).body == b"number"
 
@@ -152,7 +175,9 @@ def test_the_table_has_each_number_and_time(kept):
 def test_a_thumbnail_is_a_picture_and_a_frame_is_whole(kept):
     assert Image.open(io.BytesIO(kept.ask("/api/clips/left/0.jpg").body)).size == (64, 48)
     clip = kept.clips["left"]
-    assert Image.open(io.BytesIO(kept.ask(f"/api/cameras/left/frames/{clip['first']}.jpg").body)).size == (64, 48)
+    assert Image.open(
+        io.BytesIO(kept.ask(f"/api/cameras/left/frames/{clip['first']}.jpg").body)
+    ).size == (64, 48)
     assert kept.ask("/api/cameras/left/frames/9999999.jpg").status == 404
 
 
@@ -193,7 +218,9 @@ def test_a_clip_that_is_fetched_cannot_be_released_until_that_has_ended(make):
         assert found.status == 409 and "being fetched" in found.json()["error"]
         assert lab.ask("/api/clips").json()["clips"][0]["fetched"]
     lab.until(
-        lambda: lab.post("/api/release", {"camera": "left", "id": 0, "first": clip["first"]}).status == 200, "release"
+        lambda: lab.post("/api/release", {"camera": "left", "id": 0, "first": clip["first"]}).status
+        == 200,
+        "release",
     )
     assert not lab.camera()["clips"]
 
@@ -201,7 +228,9 @@ def test_a_clip_that_is_fetched_cannot_be_released_until_that_has_ended(make):
 def test_a_fetch_whose_frames_are_taken_away_breaks_off(make):
     """Somebody else releases the clip, and its frames are overwritten: the client sees that the
     file isn't whole."""
-    lab = make(cameras=[{"name": "left", "pattern": "640x480 YM12 10:1", "segments": 3, "slots": 10}])
+    lab = make(
+        cameras=[{"name": "left", "pattern": "640x480 YM12 10:1", "segments": 3, "slots": 10}]
+    )
     lab.filmed(25).keep(1)
     with slow_client(lab, "/api/clips/left/0.y4m") as client:
         front = client.recv(4096)
@@ -212,7 +241,9 @@ def test_a_fetch_whose_frames_are_taken_away_breaks_off(make):
 
 def test_a_zip_whose_frames_are_taken_away_never_looks_whole(make):
     """Its length isn't known before: only the end of the last piece says that it is whole."""
-    lab = make(cameras=[{"name": "left", "pattern": "640x480 YM12 10:1", "segments": 3, "slots": 10}])
+    lab = make(
+        cameras=[{"name": "left", "pattern": "640x480 YM12 10:1", "segments": 3, "slots": 10}]
+    )
     lab.filmed(25).keep(20)
     with slow_client(lab, "/api/clips/left/0.zip") as client:
         front = client.recv(4096)
@@ -253,7 +284,10 @@ def test_several_fetch_the_same_film_at_once(make):
     lab = make(cameras=[{"name": "left", "pattern": "320x240 YM12 10:1"}])
     lab.filmed(25).keep(2)
     found = []
-    threads = [threading.Thread(target=lambda: found.append(lab.ask("/api/clips/left/0.mp4").body)) for _ in range(4)]
+    threads = [
+        threading.Thread(target=lambda: found.append(lab.ask("/api/clips/left/0.mp4").body))
+        for _ in range(4)
+    ]
     for thread in threads:
         thread.start()
     for thread in threads:

@@ -30,11 +30,13 @@ def test_a_range_is_kept_as_its_times_say(make):
     lab.filmed(60)
     newest = lab.camera()["newest"]
     begin, end = newest[1] - 40 * 10000, newest[1] - 20 * 10000
-    clip = lab.post("/api/keep", {"camera": "left", "from": begin, "to": end}).json()["answers"][0]["clips"][0]
-    assert (clip["from_us"], clip["to_us"], clip["last"] - clip["first"]) == (begin, end, 20)
-    again = lab.post("/api/keep", {"camera": "left", "from": clip["from"], "to": clip["from"]}).json()["answers"][0][
+    clip = lab.post("/api/keep", {"camera": "left", "from": begin, "to": end}).json()["answers"][0][
         "clips"
     ][0]
+    assert (clip["from_us"], clip["to_us"], clip["last"] - clip["first"]) == (begin, end, 20)
+    again = lab.post(
+        "/api/keep", {"camera": "left", "from": clip["from"], "to": clip["from"]}
+    ).json()["answers"][0]["clips"][0]
     assert again["first"] == again["last"] == clip["first"]
 
 
@@ -46,7 +48,12 @@ def test_a_note_is_changed_and_stays_with_its_clip_alone(make):
     assert lab.ask("/api/clips").json()["clips"][0]["note"] == "other"
     assert lab.post("/api/note", body | {"first": 999999}).status == 404
     assert lab.post("/api/note", body | {"note": "x" * 501}).status == 507
-    assert lab.post("/api/release", {"camera": "left", "id": clip["id"], "first": clip["first"]}).status == 200
+    assert (
+        lab.post(
+            "/api/release", {"camera": "left", "id": clip["id"], "first": clip["first"]}
+        ).status
+        == 200
+    )
     lab.filmed(lab.camera()["newest"][0] + 30)
     lab.keep()
     assert lab.ask("/api/clips").json()["clips"][0]["note"] == ""
@@ -119,14 +126,20 @@ def test_what_the_station_refuses_is_said_with_what_to_do(make):
     lab.order(*["keep left 1"] * 64)
     lab.until(lambda: len(lab.camera()["clips"]) == 64, "64 clips")
     found = lab.post("/api/keep", {"camera": "left", "seconds": 1})
-    assert found.status == 409 and "64 clips are kept already. Release one" in found.json()["answers"][0]["text"]
+    assert (
+        found.status == 409
+        and "64 clips are kept already. Release one" in found.json()["answers"][0]["text"]
+    )
 
 
 def test_a_keep_of_no_frame_says_so(make):
     lab = make()
     lab.filmed()
     found = lab.post("/api/keep", {"camera": "left", "from": 1, "to": 2})
-    assert found.status == 409 and "no stored frame is of that time" in found.json()["answers"][0]["text"]
+    assert (
+        found.status == 409
+        and "no stored frame is of that time" in found.json()["answers"][0]["text"]
+    )
 
 
 def test_without_a_station_a_keep_says_that_it_does_not_run(make):
@@ -145,7 +158,9 @@ def test_a_station_that_dies_and_comes_back_is_seen_and_asked_again(make):
     assert lab.post("/api/keep", {"seconds": 1}).status == 503
     lab.start_station()
     lab.until(lambda: lab.status()["station"][0] == "good", "the station again")
-    lab.until(lambda: lab.post("/api/keep", {"camera": "left", "seconds": 1}).status == 200, "a keep")
+    lab.until(
+        lambda: lab.post("/api/keep", {"camera": "left", "seconds": 1}).status == 200, "a keep"
+    )
 
 
 def test_a_station_that_never_answers_is_said_to(make):
@@ -189,7 +204,12 @@ def test_without_answers_a_keep_is_seen_in_the_store(make):
     assert "no `answers`" in lab.status()["station"][1]
     clip = lab.keep()
     assert clip["last"] >= clip["first"]
-    assert lab.post("/api/release", {"camera": "left", "id": clip["id"], "first": clip["first"]}).status == 200
+    assert (
+        lab.post(
+            "/api/release", {"camera": "left", "id": clip["id"], "first": clip["first"]}
+        ).status
+        == 200
+    )
 
 
 def test_answers_as_text_are_not_read_and_that_is_said(make):
@@ -228,9 +248,19 @@ def test_a_keep_of_which_a_part_was_refused_says_both():
         {"kind": "no_camera", "camera": "x"},
         {"kind": "bad_order", "line": "keep"},
     ]
-    lines = [kept_line("left", 0, 1, 5), kept_line("left", 1, 9, 9, tag=3), *(read_line(json.dumps(it)) for it in said)]
+    lines = [
+        kept_line("left", 0, 1, 5),
+        kept_line("left", 1, 9, 9, tag=3),
+        *(read_line(json.dumps(it)) for it in said),
+    ]
     found = laboratory_of().kept_of(lines)
-    assert [it.is_kept for it in found] == [True] + [False] * 5 and [clip.count() for clip in found[0].clips] == [5, 1]
+    assert [it.is_kept for it in found] == [True] + [False] * 5 and [
+        clip.count() for clip in found[0].clips
+    ] == [5, 1]
     texts = [it.sentence() for it in found]
-    assert "left: a part was kept" in texts[1] and "plugged in" in texts[2] and "no stored frame" in texts[3]
+    assert (
+        "left: a part was kept" in texts[1]
+        and "plugged in" in texts[2]
+        and "no stored frame" in texts[3]
+    )
     assert "no camera of that name" in texts[4] and "bad_order" in texts[5] and "keep" in texts[5]

@@ -41,7 +41,10 @@ def test_open_pages_have_a_bound(make):
 
 
 def test_fetches_of_all_cameras_have_a_bound(make):
-    lab = make(page=False, cameras=[{"name": name, "pattern": "640x480 YM12 10:1"} for name in ("left", "right")])
+    lab = make(
+        page=False,
+        cameras=[{"name": name, "pattern": "640x480 YM12 10:1"} for name in ("left", "right")],
+    )
     lab.start_limited(FETCHES=2).filmed(25).filmed(25, "right").keep(2)
     lab.keep(2, "right")
     clients = [asking(lab, f"/api/clips/{name}/0.y4m", 4096) for name in ("left", "right")]
@@ -63,10 +66,14 @@ def test_a_request_that_is_not_whole_in_time_is_closed(make):
 
 def test_a_body_that_does_not_come_in_time_is_refused(make):
     lab = make(page=False).start_limited(REQUEST_SECONDS=1)
-    found = lab.raw(f"POST /api/keep HTTP/1.1\r\n{HEAD}Content-Length: 40\r\n\r\n{{".encode(), is_head)
+    found = lab.raw(
+        f"POST /api/keep HTTP/1.1\r\n{HEAD}Content-Length: 40\r\n\r\n{{".encode(), is_head
+    )
     assert found.startswith(b"HTTP/1.1 408")
     form = HEAD.replace("application/json", "application/x-www-form-urlencoded")
-    found = lab.raw(f"POST /sign-in HTTP/1.1\r\n{form}Content-Length: 40\r\n\r\nt".encode(), is_head)
+    found = lab.raw(
+        f"POST /sign-in HTTP/1.1\r\n{form}Content-Length: 40\r\n\r\nt".encode(), is_head
+    )
     assert found.startswith(b"HTTP/1.1 408")
 
 
@@ -75,7 +82,9 @@ def test_a_client_that_reads_nothing_is_closed(make):
     lab.start_limited(READ_SECONDS=2).filmed(25).keep(2)
     with asking(lab, "/api/clips/left/0.y4m", 4096) as client:
         client.recv(100)
-        lab.until(lambda: b"loop_page_connections_late_total 1.0" in lab.ask("/metrics").body, "end of it")
+        lab.until(
+            lambda: b"loop_page_connections_late_total 1.0" in lab.ask("/metrics").body, "end of it"
+        )
 
 
 def test_orders_that_wait_have_a_bound(make):
@@ -84,8 +93,14 @@ def test_orders_that_wait_have_a_bound(make):
     lab = make(page=False).start_limited(ORDERS=3, CHANGE_SECONDS=2).filmed()
     lab.order_done("!mute")
     with ThreadPoolExecutor(8) as pool:
-        found = [it.json()["error"] for it in pool.map(lambda _: lab.post("/api/keep", {"seconds": 1}), range(8))]
-    assert sum("Too many orders" in it for it in found) >= 4 and sum("hasn't answered" in it for it in found) >= 2
+        found = [
+            it.json()["error"]
+            for it in pool.map(lambda _: lab.post("/api/keep", {"seconds": 1}), range(8))
+        ]
+    assert (
+        sum("Too many orders" in it for it in found) >= 4
+        and sum("hasn't answered" in it for it in found) >= 2
+    )
 
 
 def test_a_film_that_is_too_large_is_refused_and_none_is_left(make):
@@ -102,13 +117,16 @@ def test_films_that_wait_have_a_bound_and_one_that_nobody_reads_ends(make):
     lab = make(page=False, cameras=[{"name": "left", "pattern": "640x480 YM12 10:1"}])
     # An ffmpeg that makes nothing before it is told to.
     (lab.folder / "ffmpeg").write_text(
-        f'#!/bin/sh\nwhile [ ! -e "{lab.folder}/go" ]; do printf x; sleep 0.1; done\nexec /usr/bin/ffmpeg "$@"\n'
+        f'#!/bin/sh\nwhile [ ! -e "{lab.folder}/go" ]; do printf x; sleep 0.1; done\nexec '
+        '/usr/bin/ffmpeg "$@"\n'
     )
     (lab.folder / "ffmpeg").chmod(0o755)
     bounds = lab.bounds | {"FILMS_WAITING": 2, "FILM_IDLE_SECONDS": 0.5}
     lab.start_page(bounds=bounds, PATH=f"{lab.folder}:{os.environ['PATH']}").filmed(40)
     clips = [lab.keep(second)["id"] for second in (3, 2, 1)]
-    with asking(lab, f"/api/clips/left/{clips[0]}.mp4", 4096), asking(lab, f"/api/clips/left/{clips[1]}.mp4", 4096):
+    with asking(lab, f"/api/clips/left/{clips[0]}.mp4", 4096), asking(
+        lab, f"/api/clips/left/{clips[1]}.mp4", 4096
+    ):
         lab.until(lambda: len(list(lab.folder.glob("loop_page.*/*.mp4"))) == 2, "two films")
         assert lab.ask(f"/api/clips/left/{clips[2]}.mp4").status == 503
     lab.until(lambda: not list(lab.folder.glob("loop_page.*/*.mp4")), "end of both")
@@ -138,7 +156,11 @@ def test_a_note_makes_room_by_those_whose_clips_are_gone_alone(make):
     lab.order(f"release left {clips[1]['id']}")
     lab.until(lambda: len(lab.camera()["clips"]) == 2, "release")
     lab.keep(note="new")
-    assert sorted(it["note"] for it in lab.ask("/api/clips").json()["clips"]) == ["new", "note 0", "note 2"]
+    assert sorted(it["note"] for it in lab.ask("/api/clips").json()["clips"]) == [
+        "new",
+        "note 0",
+        "note 2",
+    ]
 
 
 def test_a_note_is_on_the_disk_before_it_takes_the_old_ones_place(tmp_path, monkeypatch):
@@ -171,7 +193,10 @@ def test_a_note_is_on_the_disk_before_it_takes_the_old_ones_place(tmp_path, monk
     assert os.listdir(tmp_path) == ["notes"]
 
 
-@pytest.mark.parametrize("text", ['{"version": 2, "notes": {}}', '{"version": 1, "notes": []}', "[]", "{", "\xff", "[" * 9999])
+@pytest.mark.parametrize(
+    "text",
+    ['{"version": 2, "notes": {}}', '{"version": 1, "notes": []}', "[]", "{", "\xff", "[" * 9999],
+)
 def test_notes_that_cannot_be_read_are_never_written_over(tmp_path, text):
     from station_page.notes import Notes, NotesFault
 
@@ -264,7 +289,10 @@ def test_warnings_have_bounds_and_are_seen_one_by_one():
     assert alerts.queue.qsize() == limits.DELIVERIES and alerts.not_told == 20
     first, second = alerts.alerts[:2]
     assert alerts.seen(first.id) and not alerts.seen(first.id) and second in alerts.alerts
-    assert alerts.over("lost", second.camera) == second.text and alerts.over("lost", second.camera) is None
+    assert (
+        alerts.over("lost", second.camera) == second.text
+        and alerts.over("lost", second.camera) is None
+    )
     assert len(alerts.alerts) == limits.ALERTS - 2
 
 
@@ -275,7 +303,11 @@ def test_a_warning_is_told_once_while_its_cause_stands():
     assert alerts.queue.qsize() == 1 and alerts.alerts[0].times == 1
     alerts.seen(alerts.alerts[0].id)
     alerts.set("hangs", "left", "x")
-    assert not alerts.alerts and alerts.stands("lost", "hangs", camera="left") and not alerts.stands("hangs", camera="right")
+    assert (
+        not alerts.alerts
+        and alerts.stands("lost", "hangs", camera="left")
+        and not alerts.stands("hangs", camera="right")
+    )
     alerts.set("hangs", "left", "")
     alerts.set("hangs", "left", "again")
     assert [it.text for it in alerts.alerts] == ["again"] and alerts.queue.qsize() == 2
@@ -325,17 +357,31 @@ def test_a_camera_is_measured_rightly(make):
     (lab.folder / "left.loop").write_bytes(bytes(ring.image))
     lab.start_page()
     camera = lab.until(lambda: lab.camera().get("newest") and lab.camera(), "frames")
-    assert camera["seconds"] == pytest.approx(4.0) and camera["rate"] == pytest.approx(25) and camera["frames"] == 100
+    assert (
+        camera["seconds"] == pytest.approx(4.0)
+        and camera["rate"] == pytest.approx(25)
+        and camera["frames"] == 100
+    )
     assert camera["locked"] == pytest.approx(2 / 8) and camera["newest"] == [99, 99 * 40000]
     text = lab.ask("/metrics").body.decode()
-    assert 'loop_camera_good{camera="left"} 0.0' in text and 'loop_camera_clips{camera="left"} 1.0' in text
+    assert (
+        'loop_camera_good{camera="left"} 0.0' in text
+        and 'loop_camera_clips{camera="left"} 1.0' in text
+    )
     assert "loop_station_up 0.0" in text
 
 
 def test_cameras_never_show_one_anothers_frames(make):
-    lab = make(cameras=[{"name": "left", "pattern": "64x48 GREY 50:1"}, {"name": "right", "pattern": "64x48 YM12 50:1"}])
+    lab = make(
+        cameras=[
+            {"name": "left", "pattern": "64x48 GREY 50:1"},
+            {"name": "right", "pattern": "64x48 YM12 50:1"},
+        ]
+    )
     lab.filmed(20).filmed(20, "right")
-    pictures = [lab.ask(f"/api/cameras/{name}/frames/7.jpg").body for name in ("left", "right", "left")]
+    pictures = [
+        lab.ask(f"/api/cameras/{name}/frames/7.jpg").body for name in ("left", "right", "left")
+    ]
     assert pictures[0] == pictures[2] != pictures[1]
 
 
@@ -369,12 +415,18 @@ def test_a_picture_or_film_of_frames_that_were_made_anew_is_a_new_one(tmp_path):
 
     async def again():
         assert await pictures.jpeg(Source(), SimpleNamespace(number=7, time=5), None) == b"old"
-        for frame, width in ((SimpleNamespace(number=7, time=6), None), (SimpleNamespace(number=7, time=5), 160)):
+        for frame, width in (
+            (SimpleNamespace(number=7, time=6), None),
+            (SimpleNamespace(number=7, time=5), 160),
+        ):
             with pytest.raises(KeyError):
                 await pictures.jpeg(Source(), frame, width)
 
     asyncio.run(again())
-    tags = {Fetch("left", clip, None, ()).tag("mp4") for clip in (Clip(0, 1, 2, 0, 5, 6), Clip(0, 1, 2, 0, 7, 8), Clip(0, 1, 3, 0, 5, 9))}
+    tags = {
+        Fetch("left", clip, None, ()).tag("mp4")
+        for clip in (Clip(0, 1, 2, 0, 5, 6), Clip(0, 1, 2, 0, 7, 8), Clip(0, 1, 3, 0, 5, 9))
+    }
     assert len(tags) == 3
 
 
@@ -414,7 +466,9 @@ def test_after_a_station_has_ended_what_it_said_of_cameras_is_not_said_any_more(
     lab.until(lambda: ("absent", "left") in lab.alerts(), "absence")
     lab.end(lab.station)
     lab.until(lambda: lab.alerts() == [("station", None)], "the station's end alone")
-    assert "another program" not in lab.camera()["state"] and "the station doesn't run" in lab.until(
+    assert "another program" not in lab.camera()[
+        "state"
+    ] and "the station doesn't run" in lab.until(
         lambda: "No new frame" in lab.camera()["state"] and lab.camera()["state"], "state"
     )
 
@@ -431,10 +485,19 @@ def test_a_page_that_fails_at_something_says_so_in_words_and_goes_on(make):
     )
     lab.start_page(PYTHONPATH=str(lab.folder / "broken"))
     found = lab.ask("/api/clips")
-    assert found.status == 500 and "journal" in found.json()["error"] and b"secret" not in found.body
-    assert "default-src 'none'" in found.headers["Content-Security-Policy"] and lab.ask("/healthz").status == 200
+    assert (
+        found.status == 500 and "journal" in found.json()["error"] and b"secret" not in found.body
+    )
+    assert (
+        "default-src 'none'" in found.headers["Content-Security-Policy"]
+        and lab.ask("/healthz").status == 200
+    )
 
 
 def test_a_body_has_only_words_that_are_known(shared):
-    for path, body in (("release", {"camera": "left", "id": 0, "force": 1}), ("note", {"camera": "left", "id": 0, "note": "x", "all": 1}), ("seen", {"id": 1, "x": 2})):
+    for path, body in (
+        ("release", {"camera": "left", "id": 0, "force": 1}),
+        ("note", {"camera": "left", "id": 0, "note": "x", "all": 1}),
+        ("seen", {"id": 1, "x": 2}),
+    ):
         assert shared.ask(f"/api/{path}", "POST", json.dumps(body), OWN).status == 400

@@ -41,7 +41,11 @@ def test_a_note_is_of_its_store_its_clip_and_its_times_alone(notes):
     assert notes.of("store", clip()) == "mine"
     for other in (clip(1), clip(since=101), clip(until=201)):
         assert notes.of("store", other) == ""
-    assert notes.of("other store", clip()) == notes.of("other store", clip(1, tag=NUMBER, since=500)) == ""
+    assert (
+        notes.of("other store", clip())
+        == notes.of("other store", clip(1, tag=NUMBER, since=500))
+        == ""
+    )
     # A clip that grows has another id and another end.
     assert notes.of("store", clip(4, tag=NUMBER, since=500, until=900)) == "numbered"
     for other in (clip(1, tag=NUMBER, since=501), clip(1, tag=NUMBER + 1, since=500)):
@@ -74,7 +78,9 @@ def test_notes_make_room_by_those_whose_clips_are_gone_alone(notes, monkeypatch)
     assert sorted(notes.notes.values()) == ["new", "note 0", "note 2"]
 
 
-@pytest.mark.parametrize("text, line", [("a  b\nc\x1b[31m", "a b c [31m"), (" \t ", ""), ("ü" * 250, "ü" * 250)])
+@pytest.mark.parametrize(
+    "text, line", [("a  b\nc\x1b[31m", "a b c [31m"), (" \t ", ""), ("ü" * 250, "ü" * 250)]
+)
 def test_a_note_is_a_line(text, line):
     assert tidy(text) == line
 
@@ -105,15 +111,31 @@ def line(kind, **members):
 
 def test_a_keep_has_its_number_and_when_its_event_ends():
     found = kept.told("left", [clip()], NUMBER)
-    assert found.as_object()["event"] == NUMBER and found.as_object()["kept"] and found.as_object()["why"] == ""
-    on = laboratory_of().kept_of([kept_line("left", 0, 1, 5, NUMBER), line("event_begun", event=NUMBER, **{"from": "2026-11-22T15:37:55Z", "to": "2026-11-22T15:38:10Z"})])
+    assert (
+        found.as_object()["event"] == NUMBER
+        and found.as_object()["kept"]
+        and found.as_object()["why"] == ""
+    )
+    on = laboratory_of().kept_of(
+        [
+            kept_line("left", 0, 1, 5, NUMBER),
+            line(
+                "event_begun",
+                event=NUMBER,
+                **{"from": "2026-11-22T15:37:55Z", "to": "2026-11-22T15:38:10Z"},
+            ),
+        ]
+    )
     assert "It goes on until 2026-11-22T15:38:10" in on[0].sentence() and on[0].until
 
 
 def test_what_was_not_kept_says_why_and_whether_a_part_was():
     none = kept.not_kept(line("kept_none", camera="left", event=5), False)
     part = kept.not_kept(line("refused", camera="left", number=11, name="ClipTableFull"), True)
-    assert none.as_object()["kept"] is False and "no stored frame is of that time" in none.as_object()["why"]
+    assert (
+        none.as_object()["kept"] is False
+        and "no stored frame is of that time" in none.as_object()["why"]
+    )
     assert none.text.startswith("nothing was kept") and part.text.startswith("a part was kept")
 
 
@@ -132,7 +154,9 @@ def test_what_a_keep_lacks_is_told_with_its_holes_and_not_those_of_before():
 def test_an_event_ends_when_its_last_camera_does():
     heard = Heard()
     for until in ("1970-01-01T00:02:00Z", "1970-01-01T00:01:00Z"):
-        heard.take(line("event_begun", event=NUMBER, **{"from": "1970-01-01T00:00:00Z", "to": until}))
+        heard.take(
+            line("event_begun", event=NUMBER, **{"from": "1970-01-01T00:00:00Z", "to": until})
+        )
     assert heard.told(NUMBER).until == 120_000_000
 
 
@@ -144,7 +168,9 @@ def test_a_clip_of_an_event_that_never_grew_is_no_longer_one():
 
 def test_a_line_that_follows_some_that_are_none_is_read():
     told = []
-    it = SimpleNamespace(unread=0, told=SimpleNamespace(on_unread=lambda: told.append("unread")), take=told.append)
+    it = SimpleNamespace(
+        unread=0, told=SimpleNamespace(on_unread=lambda: told.append("unread")), take=told.append
+    )
     for raw in ["x", "x", '{"kind":"done"}', "x", "x", ""]:
         Orders.hear(it, raw)
     assert [getattr(one, "kind", one) for one in told] == ["done"]
@@ -152,13 +178,19 @@ def test_a_line_that_follows_some_that_are_none_is_read():
     assert told[-1] == "unread"
 
 
-# ------------------------------------------------------------------------ events whose end lies ahead
+# ---------------------------------------------------------------------- events whose end lies ahead
 
 
 def going_on():
     """What was heard of an event with a tag of yours that goes on."""
     heard = Heard()
-    heard.take(line("event_begun", event=NUMBER, **{"from": "1970-01-01T00:00:00Z", "to": "1970-01-01T00:02:00Z"}))
+    heard.take(
+        line(
+            "event_begun",
+            event=NUMBER,
+            **{"from": "1970-01-01T00:00:00Z", "to": "1970-01-01T00:02:00Z"},
+        )
+    )
     heard.take(kept_line("left", 0, 93, 217, NUMBER, tag=7))
     return heard
 
@@ -185,7 +217,12 @@ def test_a_note_goes_with_a_clip_that_grows_to_its_end(notes):
 def test_a_note_waits_until_its_clip_is_seen(notes):
     told = replace(clip(3, 93, 217), is_seen=False)
     clips, watched = [], SimpleNamespace(camera=SimpleNamespace(store="store"))
-    it = SimpleNamespace(notes=notes, heard=Heard(), cameras={"left": watched}, held=SimpleNamespace(clips_of=lambda name: clips))
+    it = SimpleNamespace(
+        notes=notes,
+        heard=Heard(),
+        cameras={"left": watched},
+        held=SimpleNamespace(clips_of=lambda name: clips),
+    )
     it.watched, noting = it.cameras.get, Noting(it)
     (kept,) = asyncio.run(noting.noted([Kept("left", True, "kept", [told])], "run 7"))
     assert "is written once" in kept.remark
@@ -199,8 +236,15 @@ def test_a_note_waits_until_its_clip_is_seen(notes):
 
 
 def test_a_note_that_somebody_wrote_meanwhile_stays(notes):
-    told, watched = replace(clip(3, 93, 217), is_seen=False), SimpleNamespace(camera=SimpleNamespace(store="store"))
-    it = SimpleNamespace(notes=notes, heard=Heard(), cameras={"left": watched}, held=SimpleNamespace(clips_of=lambda name: [clip(3, 93, 217)]))
+    told, watched = replace(clip(3, 93, 217), is_seen=False), SimpleNamespace(
+        camera=SimpleNamespace(store="store")
+    )
+    it = SimpleNamespace(
+        notes=notes,
+        heard=Heard(),
+        cameras={"left": watched},
+        held=SimpleNamespace(clips_of=lambda name: [clip(3, 93, 217)]),
+    )
     it.watched, noting = it.cameras.get, Noting(it)
     asyncio.run(noting.noted([Kept("left", True, "kept", [told])], "run 7"))
     noting.put([("left", clip(3, 93, 217))], "mine")
@@ -210,7 +254,12 @@ def test_a_note_that_somebody_wrote_meanwhile_stays(notes):
 
 def test_notes_that_wait_make_room(notes, monkeypatch):
     monkeypatch.setattr(limits, "NOTES_WAITING", 2)
-    it = SimpleNamespace(notes=notes, heard=Heard(), cameras={"left": None}, held=SimpleNamespace(clips_of=lambda name: []))
+    it = SimpleNamespace(
+        notes=notes,
+        heard=Heard(),
+        cameras={"left": None},
+        held=SimpleNamespace(clips_of=lambda name: []),
+    )
     noting = Noting(it)
     for id_ in range(4):
         told = replace(clip(id_, 93, 217), is_seen=False)
@@ -236,7 +285,9 @@ def test_a_clip_that_has_grown_is_released_by_the_id_that_it_has():
         async def nothing(*words, **more):
             return [is_released]
 
-        orders = SimpleNamespace(has_answers=True, begin=lambda order: given.append(order) or "waiting", answer=nothing)
+        orders = SimpleNamespace(
+            has_answers=True, begin=lambda order: given.append(order) or "waiting", answer=nothing
+        )
         it = SimpleNamespace(ordering=asyncio.Lock(), hurry=asyncio.Event())
         it.orders, it.look_at = orders, nothing
         it.watched = lambda name: SimpleNamespace(camera=SimpleNamespace(name=name))
@@ -250,7 +301,9 @@ def test_a_clip_that_has_grown_is_released_by_the_id_that_it_has():
 
 def test_an_answer_to_somebody_else_is_no_event():
     told = []
-    it = SimpleNamespace(waiting={}, told=SimpleNamespace(on_line=lambda line: None, on_event=told.append))
+    it = SimpleNamespace(
+        waiting={}, told=SimpleNamespace(on_line=lambda line: None, on_event=told.append)
+    )
     Orders.take(it, line("released", label="other", camera="left", id=1))
     Orders.take(it, line("released", camera="left", id=2))
     assert [one["id"] for one in told] == [2]

@@ -29,11 +29,19 @@ def test_each_format_and_size_is_a_picture_no_wider_than_asked(form, size, width
 
 @pytest.mark.parametrize(
     "form, luma, shown",
-    [(b"YM12", 16, 0), (b"YM12", 235, 255), (b"YM24", 128, 130), (b"GREY", 16, 16), (b"GREY", 235, 235)],
+    [
+        (b"YM12", 16, 0),
+        (b"YM12", 235, 255),
+        (b"YM24", 128, 130),
+        (b"GREY", 16, 16),
+        (b"GREY", 235, 235),
+    ],
 )
 def test_brightness_is_as_ffmpeg_takes_it(form, luma, shown):
     geometry = layout.geometry_of(16, 16, form, 25, 1, 2, 2)
-    whole = Image.open(io.BytesIO(pictures.png(geometry, frame(geometry, luma, 128)))).convert("RGB")
+    whole = Image.open(io.BytesIO(pictures.png(geometry, frame(geometry, luma, 128)))).convert(
+        "RGB"
+    )
     assert all(abs(it - shown) <= 1 for it in whole.getpixel((8, 8)))
 
 
@@ -42,7 +50,8 @@ def test_colours_are_in_their_places():
     geometry = layout.geometry_of(32, 16, b"YM12", 25, 1, 2, 2)
     luma = numpy.hstack([numpy.full((16, 16), 81), numpy.full((16, 16), 41)])
     blue, red = (
-        numpy.hstack([numpy.full((8, 8), one), numpy.full((8, 8), two)]) for one, two in ((90, 240), (240, 110))
+        numpy.hstack([numpy.full((8, 8), one), numpy.full((8, 8), two)])
+        for one, two in ((90, 240), (240, 110))
     )
     data = b"".join(plane.astype(numpy.uint8).tobytes() for plane in (luma, blue, red))
     whole = Image.open(io.BytesIO(pictures.png(geometry, data)))

@@ -42,7 +42,11 @@ def test_readings_of_a_store_that_grows_are_those_of_the_layout(tmp_path, seed):
 
 
 def test_a_store_that_is_formatted_anew_in_its_place_is_read_anew(tmp_path):
-    path, one, two = tmp_path / "a.loop", layout.Ring(4, 2, b"GREY", 3, 4), layout.Ring(4, 2, b"GREY", 3, 4)
+    path, one, two = (
+        tmp_path / "a.loop",
+        layout.Ring(4, 2, b"GREY", 3, 4),
+        layout.Ring(4, 2, b"GREY", 3, 4),
+    )
     two.time += 7_000_000
     for ring, count in ((one, 3), (two, 9)):
         for _ in range(count):
@@ -70,7 +74,13 @@ def test_frames_are_found_by_time_and_by_steps(tmp_path):
         ring.store()
     put(path, ring)
     reading = Reader(str(path)).read()[0]
-    assert [reading.at(moment).number for moment in (-1, 0, 79_999, 80_000, 10**9)] == [0, 0, 1, 2, 9]
+    assert [reading.at(moment).number for moment in (-1, 0, 79_999, 80_000, 10**9)] == [
+        0,
+        0,
+        1,
+        2,
+        9,
+    ]
     assert [reading.near(4, by).number for by in (-99, -1, 0, 3, 99)] == [0, 3, 4, 7, 9]
 
 
@@ -93,7 +103,11 @@ def test_what_is_no_store_is_refused_by_name(tmp_path, spoil, why):
 
 def test_a_folder_a_pipe_and_nothing_are_refused(tmp_path):
     os.mkfifo(tmp_path / "pipe")
-    for path, why in ((tmp_path, "not a file"), (tmp_path / "pipe", "not a file"), (tmp_path / "none", "missing")):
+    for path, why in (
+        (tmp_path, "not a file"),
+        (tmp_path / "pipe", "not a file"),
+        (tmp_path / "none", "missing"),
+    ):
         with pytest.raises(layout.Refused, match=why):
             Reader(str(path)).read()
 
@@ -124,7 +138,10 @@ def test_a_frame_is_never_that_of_another_block(tmp_path):
             reading, source = reader.read()
             for frame in reading.frames:
                 try:
-                    assert source.frame(frame.number) == bytes([frame.number % 256]) * ring.geometry.size
+                    assert (
+                        source.frame(frame.number)
+                        == bytes([frame.number % 256]) * ring.geometry.size
+                    )
                     read += 1
                 except Gone:
                     gone += 1
@@ -172,7 +189,8 @@ def store(ring, write):
     index, slot = ring.blocks.index(ring.next // slots), ring.next % slots
     write(
         ring.geometry.slot_at(index, slot),
-        layout.head(ring.next, ring.next, ring.next * 40000, size) + bytes([ring.next % 256]) * size,
+        layout.head(ring.next, ring.next, ring.next * 40000, size)
+        + bytes([ring.next % 256]) * size,
     )
     write(ring.geometry.segment_at(index) + layout.GATES_AT + slot, bytes([layout.OPEN]))
     ring.next += 1

@@ -13,7 +13,10 @@ from station_page.heard import Heard
 from station_page.reader import Clip, Reader
 from station_page.words import read_line
 
-TWO = [{"name": "left", "pattern": "64x48 YM12 100:1"}, {"name": "right", "pattern": "33x21 GREY 50:1"}]
+TWO = [
+    {"name": "left", "pattern": "64x48 YM12 100:1"},
+    {"name": "right", "pattern": "33x21 GREY 50:1"},
+]
 
 
 def test_a_camera_that_was_dead_before_the_page_began_is_warned_of(make):
@@ -27,7 +30,11 @@ def test_a_camera_that_was_dead_before_the_page_began_is_warned_of(make):
     assert "left: no frames come from its source" in told.read_text()
     lab.until(lambda: lab.alerts() == [("missing", "left")], "this warning alone")
     # Within ten seconds: the first poll comes at once, and nothing waits longer than this.
-    assert limits.PASSING_SECONDS + limits.ASK_SECONDS < 10 > limits.SILENT_SECONDS + limits.ASK_SECONDS
+    assert (
+        limits.PASSING_SECONDS + limits.ASK_SECONDS
+        < 10
+        > limits.SILENT_SECONDS + limits.ASK_SECONDS
+    )
 
 
 def test_a_camera_that_stood_still_before_the_page_began_is_warned_of_by_its_frames_alone(make):
@@ -56,8 +63,16 @@ def test_a_warning_whose_cause_is_over_leaves_and_says_so(make):
         (("other_geometry", frames), ("source_on", frames), "other"),
         (("source_unusable", {"why": "RateUnknown"}), ("source_on", frames), "unusable"),
         (("not_a_store", {"path": "x"}), ("store_open", {}), "not a store"),
-        (("store_open", {"held_micros": 5_000_000, "asked_micros": 9_000_000}), ("store_open", {}), "small"),
-        (("save_waits", clip | {"why": "MissingFolder"}), ("saved", clip | {"frames": 5}), "save waits"),
+        (
+            ("store_open", {"held_micros": 5_000_000, "asked_micros": 9_000_000}),
+            ("store_open", {}),
+            "small",
+        ),
+        (
+            ("save_waits", clip | {"why": "MissingFolder"}),
+            ("saved", clip | {"frames": 5}),
+            "save waits",
+        ),
     ]:
         lab.say(bad[0], camera="left", **bad[1])
         lab.until(lambda kind=kind: (kind, "left") in lab.alerts(), kind)
@@ -136,12 +151,16 @@ def test_an_absence_that_was_before_the_page_began_is_shown_warned_of_and_over(m
 
 def test_all_locked_is_said_as_that_before_it_stops_and_after(make):
     lab = make(
-        cameras=[{"name": "left", "pattern": "64x48 GREY 50:1", "segments": 3, "slots": 8}], as_it_is=True
+        cameras=[{"name": "left", "pattern": "64x48 GREY 50:1", "segments": 3, "slots": 8}],
+        as_it_is=True,
     )
     lab.filmed(24)
     lab.post("/api/keep", {"seconds": 60})
     lab.until(lambda: lab.camera()["kind"] == "locked", "all locked")
-    lab.until(lambda: "has stopped" in lab.camera()["state"] and ("locked", "left") in lab.alerts(), "stop")
+    lab.until(
+        lambda: "has stopped" in lab.camera()["state"] and ("locked", "left") in lab.alerts(),
+        "stop",
+    )
     lab.until(lambda: lab.alerts() == [("locked", "left")], "this warning alone")
     assert lab.camera()["short"] == "all locked"
     lab.post("/api/release", {"camera": "left", "id": 0})
@@ -167,7 +186,10 @@ def test_a_clock_that_is_set_back_or_ahead_changes_nothing(make):
         lab.until(lambda: lab.camera()["level"] == "good", "a camera that records")
         assert not lab.alerts(), wrong
     lab.order("!pause left")
-    lab.until(lambda: lab.camera()["level"] == "bad" and "No new frame for" in lab.camera()["state"], "warning")
+    lab.until(
+        lambda: lab.camera()["level"] == "bad" and "No new frame for" in lab.camera()["state"],
+        "warning",
+    )
     for wrong in ("-86400", "0", "86400"):
         lab.spoil("clock", wrong)
         lab.until(lambda wrong=wrong: clock_is(lab, wrong), "clock")
@@ -208,7 +230,12 @@ def test_a_disk_that_hangs_stops_the_pictures_and_keeps_of_no_other_camera(make)
     lab.until(lambda: lab.camera()["kind"] == "hangs", "hanging disk")
     lab.until(lambda: lab.camera("right")["level"] == "good", "other camera")
     # Many ask for what never comes, at once.
-    for kind in ["cameras/left/newest.jpg", "cameras/left/frames/5.jpg", "clips/left/0.y4m", "clips/left/0.zip"] * 10:
+    for kind in [
+        "cameras/left/newest.jpg",
+        "cameras/left/frames/5.jpg",
+        "clips/left/0.y4m",
+        "clips/left/0.zip",
+    ] * 10:
         ask_beside(lab, kind)
     newest.clear()
     lab.until(lambda: seen() and len(newest - {None}) > 2, "pictures")
@@ -220,10 +247,16 @@ def test_a_disk_that_hangs_stops_the_pictures_and_keeps_of_no_other_camera(make)
     found = lab.post("/api/keep", {"seconds": 1, "note": "both"}, timeout=LIMIT / 2)
     answers = {it["camera"]: it for it in found.json()["answers"]}
     assert found.status == 200
-    assert answers["right"]["kept"] and not answers["left"]["kept"] and "its disk hasn't answered" in answers["left"]["text"]
+    assert (
+        answers["right"]["kept"]
+        and not answers["left"]["kept"]
+        and "its disk hasn't answered" in answers["left"]["text"]
+    )
     lab.spoil("hangs", "")
     lab.until(lambda: lab.camera()["level"] == "good" and not lab.alerts(), "disk again")
-    assert {it["note"] for it in lab.ask("/api/clips").json()["clips"] if it["camera"] == "right"} == {"both", ""}
+    assert {
+        it["note"] for it in lab.ask("/api/clips").json()["clips"] if it["camera"] == "right"
+    } == {"both", ""}
 
 
 def ask_beside(lab, path):
@@ -250,8 +283,19 @@ def test_a_keep_tells_the_clip_that_the_station_told(monkeypatch):
     laboratory = laboratory_of(left=[old])
     for first, last in ((22, 121), (1, 67)):
         found = laboratory.kept_of([kept_line("left", 0, first, last)])[0]
-        assert (found.clips[0].first, found.clips[0].last, found.clips[0].is_seen) == (first, last, False)
-        assert "1970" not in found.text and f"from 2026-11-22T15:37:55.117000Z to 2026-11-22T15:38:00.077000Z, {last - first + 1} frames" in found.text
+        assert (found.clips[0].first, found.clips[0].last, found.clips[0].is_seen) == (
+            first,
+            last,
+            False,
+        )
+        assert (
+            "1970" not in found.text
+            and (
+                "from 2026-11-22T15:37:55.117000Z to 2026-11-22T15:38:00.077000Z, "
+                f"{last - first + 1} frames"
+            )
+            in found.text
+        )
     assert laboratory.kept_of([kept_line("left", 0, 0, 67)])[0].clips == [old]
 
 
@@ -260,9 +304,15 @@ def test_a_keep_tells_the_longer_clip_of_an_event_that_goes_on():
     number = 1_795_361_880_123_456
     other, longer = Clip(0, 0, 99, number - 1, 1, 2), Clip(3, 0, 99, number, 3, 4)
     laboratory = laboratory_of(left=[other, longer])
-    begun = read_line('{"kind":"event_begun","event":%d,"from":"2026-11-22T15:37:55Z","to":"2026-11-22T15:38:10.500Z"}' % number)
+    begun = read_line(
+        '{"kind":"event_begun","event":%d,"from":"2026-11-22T15:37:55Z",'
+        '"to":"2026-11-22T15:38:10.500Z"}' % number
+    )
     found = laboratory.kept_of([kept_line("left", 0, 0, 67, number), begun])[0]
-    assert found.clips == [longer] and "It goes on until 2026-11-22T15:38:10.500000Z." in found.sentence()
+    assert (
+        found.clips == [longer]
+        and "It goes on until 2026-11-22T15:38:10.500000Z." in found.sentence()
+    )
     assert found.as_object()["until_us"] == 1_795_361_890_500_000
 
 
@@ -273,9 +323,17 @@ def laboratory_of(**clips):
     from station_page.keeping import Keeping
 
     def reading(found):
-        return SimpleNamespace(clips=found, clip_of=lambda *it: next((one for one in found if (one.id, one.first, one.last) == it), None))
+        return SimpleNamespace(
+            clips=found,
+            clip_of=lambda *it: next(
+                (one for one in found if (one.id, one.first, one.last) == it), None
+            ),
+        )
 
-    found = SimpleNamespace(cameras={name: SimpleNamespace(reading=reading(it)) for name, it in clips.items()}, heard=Heard())
+    found = SimpleNamespace(
+        cameras={name: SimpleNamespace(reading=reading(it)) for name, it in clips.items()},
+        heard=Heard(),
+    )
     keeping = Keeping(found)
 
     def kept_of(lines):
@@ -288,8 +346,19 @@ def laboratory_of(**clips):
 
 def kept_line(camera, id_, first, last, event=5, **more):
     """The line of a clip that is kept."""
-    members = {"kind": "kept", "camera": camera, "id": id_, "first": first, "last": last, "event": event}
-    return read_line(json.dumps(members | {"from": "2026-11-22T15:37:55.117Z", "to": "2026-11-22T15:38:00.077Z"} | more))
+    members = {
+        "kind": "kept",
+        "camera": camera,
+        "id": id_,
+        "first": first,
+        "last": last,
+        "event": event,
+    }
+    return read_line(
+        json.dumps(
+            members | {"from": "2026-11-22T15:37:55.117Z", "to": "2026-11-22T15:38:00.077Z"} | more
+        )
+    )
 
 
 def test_a_note_is_written_once_its_clip_is_seen(make):
@@ -298,17 +367,29 @@ def test_a_note_is_written_once_its_clip_is_seen(make):
     lab.spoil("hangs", "left.loop")
     lab.until(lambda: lab.camera()["kind"] == "hangs", "hanging disk")
     lab.order("release left 0")
-    found = lab.post("/api/keep", {"camera": "left", "seconds": 1, "note": "new"}).json()["answers"][0]
+    found = lab.post("/api/keep", {"camera": "left", "seconds": 1, "note": "new"}).json()[
+        "answers"
+    ][0]
     assert found["kept"] and "note is written once" in found["text"] and "1970" not in found["text"]
-    assert sorted(json.loads((lab.folder / "loop_page.notes").read_text())["notes"].values()) == ["old"]
+    assert sorted(json.loads((lab.folder / "loop_page.notes").read_text())["notes"].values()) == [
+        "old"
+    ]
     lab.spoil("hangs", "")
-    lab.until(lambda: [it["note"] for it in lab.ask("/api/clips").json()["clips"]] == ["new"], "clip with its note")
+    lab.until(
+        lambda: [it["note"] for it in lab.ask("/api/clips").json()["clips"]] == ["new"],
+        "clip with its note",
+    )
 
 
 def test_a_release_names_the_clips_first_frame_to_the_station(make):
     lab = make().filmed()
     clip = lab.keep()
-    assert lab.post("/api/release", {"camera": "left", "id": clip["id"], "first": clip["first"] + 1}).status == 404
+    assert (
+        lab.post(
+            "/api/release", {"camera": "left", "id": clip["id"], "first": clip["first"] + 1}
+        ).status
+        == 404
+    )
     heard = lab.post("/api/release", {"camera": "left", "id": clip["id"], "first": clip["first"]})
     assert heard.status == 200 and lab.camera()["clips"] == []
     assert f"release left {clip['id']} {clip['first']}" in lab.ordered()
@@ -319,8 +400,15 @@ def test_a_release_that_the_station_refuses_is_said_to_be_refused(make):
     clip = lab.keep()
     lab.order("!saving left")
     found = lab.post("/api/release", {"camera": "left", "id": clip["id"], "first": clip["first"]})
-    assert found.status == 409 and "being saved" in found.json()["error"] and len(lab.camera()["clips"]) == 1
-    assert [it["kind"] for it in lab.journal()] == ["keep", "release"] and "refused" in lab.journal()[1]["text"]
+    assert (
+        found.status == 409
+        and "being saved" in found.json()["error"]
+        and len(lab.camera()["clips"]) == 1
+    )
+    assert [it["kind"] for it in lab.journal()] == [
+        "keep",
+        "release",
+    ] and "refused" in lab.journal()[1]["text"]
 
 
 def test_without_answers_a_release_that_was_not_done_is_said_to_be_none(make):
@@ -353,7 +441,9 @@ def test_two_who_release_one_clip_release_it_once(make):
     clip = lab.keep()
     body = {"camera": "left", "id": clip["id"], "first": clip["first"]}
     with ThreadPoolExecutor(6) as pool:
-        found = sorted(it.status for it in pool.map(lambda _: lab.post("/api/release", body), range(6)))
+        found = sorted(
+            it.status for it in pool.map(lambda _: lab.post("/api/release", body), range(6))
+        )
     assert found[0] == 200 and set(found[1:]) <= {404, 409}
     assert len(lab.told("released")) == 1
 
@@ -361,9 +451,14 @@ def test_two_who_release_one_clip_release_it_once(make):
 def test_a_keep_that_is_shorter_than_asked_says_so(make):
     lab = make().filmed(100)
     found = lab.post("/api/keep", {"camera": "left", "seconds": 600}).json()["answers"][0]
-    assert " of 10 min 0 s: no frames are held from " in found["text"] and found["lack"] in found["text"]
+    assert (
+        " of 10 min 0 s: no frames are held from " in found["text"]
+        and found["lack"] in found["text"]
+    )
     assert found["asked_us"] == 600_000_000 and 0 < found["held_us"] < 300_000_000
-    assert lab.post("/api/keep", {"camera": "left", "seconds": 1}).json()["answers"][0]["lack"] == ""
+    assert (
+        lab.post("/api/keep", {"camera": "left", "seconds": 1}).json()["answers"][0]["lack"] == ""
+    )
 
 
 def test_a_keep_over_a_hole_says_so(make):
@@ -375,10 +470,16 @@ def test_a_keep_over_a_hole_says_so(make):
     after = next(frame.time for frame in lab.stored() if frame.number == last.number + 1)
     span = {"from": last.time - 400_000, "to": after + 600_000}
     found = lab.post("/api/keep", {"camera": "left", **span}).json()["answers"][0]
-    assert found["kept"] and "no frames are held from " in found["lack"] and after - last.time >= 2_000_000
+    assert (
+        found["kept"]
+        and "no frames are held from " in found["lack"]
+        and after - last.time >= 2_000_000
+    )
     assert found["asked_us"] == after - last.time + 1_000_000 and found["held_us"] == 1_000_000
     (event,) = lab.ask("/api/events").json()["events"]
-    assert event["lacks"] == [{"camera": "left", "held_us": 1_000_000, "asked_us": found["asked_us"], "why": ""}]
+    assert event["lacks"] == [
+        {"camera": "left", "held_us": 1_000_000, "asked_us": found["asked_us"], "why": ""}
+    ]
 
 
 def test_a_keep_of_a_camera_that_stands_still_says_that_its_end_is_missing(make):
@@ -400,7 +501,9 @@ def test_what_a_keep_lacks_is_said_too_where_the_station_is_not_heard(make, afte
         lab.until(lambda: time.time() > last / 1e6 + 2, "two seconds")
 
     def is_said():
-        found = lab.post("/api/keep", {"camera": "left", "seconds": 600 if after else 1}).json()["answers"][0]
+        found = lab.post("/api/keep", {"camera": "left", "seconds": 600 if after else 1}).json()[
+            "answers"
+        ][0]
         assert found["kept"]
         return said in found["lack"] if said else found["lack"] == ""
 
@@ -424,9 +527,17 @@ def reading_of(tmp_path, waits):
     [
         (0, 3_960_000, ""),
         (-900_000, 4_000_000, ""),
-        (-9_000_000, 3_960_000, "That is 4.0 s of 13.0 s: the ring held nothing from before 00:00:00.0Z."),
+        (
+            -9_000_000,
+            3_960_000,
+            "That is 4.0 s of 13.0 s: the ring held nothing from before 00:00:00.0Z.",
+        ),
         (0, 9_000_000, "That is 4.0 s of 9.0 s: no frames came after 00:00:03.9Z."),
-        (-2_000_000, 9_000_000, "the ring held nothing from before 00:00:00.0Z, and no frames came after 00:00:03.9Z."),
+        (
+            -2_000_000,
+            9_000_000,
+            "the ring held nothing from before 00:00:00.0Z, and no frames came after 00:00:03.9Z.",
+        ),
     ],
 )
 def test_what_a_keep_lacks_at_its_ends(tmp_path, since, until, said):
@@ -436,11 +547,14 @@ def test_what_a_keep_lacks_at_its_ends(tmp_path, since, until, said):
 
 
 def test_what_a_keep_lacks_within(tmp_path):
-    reading = reading_of(tmp_path, [40_000] * 25 + [5_000_000] + [40_000] * 24 + [3_000_000] + [40_000] * 24)
+    reading = reading_of(
+        tmp_path, [40_000] * 25 + [5_000_000] + [40_000] * 24 + [3_000_000] + [40_000] * 24
+    )
     whole = Clip(0, 0, 74, 0, 0, reading.frames[-1].time)
     lack = spans.lack(reading, [whole], 0, whole.until)
     assert lack == (
-        "That is 3.0 s of 10.9 s: no frames came from 00:00:00.9Z to 00:00:05.9Z, from 00:00:06.9Z to 00:00:09.9Z."
+        "That is 3.0 s of 10.9 s: no frames came from 00:00:00.9Z to 00:00:05.9Z, from "
+        "00:00:06.9Z to 00:00:09.9Z."
     )
     # Two clips beside a hole say the same as one over it.
     parts = [Clip(0, 0, 24, 0, 0, 960_000), Clip(1, 25, 74, 0, 5_960_000, whole.until)]

@@ -84,7 +84,11 @@ class Set:
 
     def held(self):
         """The frames as (time, store, number), by their times."""
-        found = [(self.times[store, it], store, it) for store, ring in self.rings.items() for it in ring.held()]
+        found = [
+            (self.times[store, it], store, it)
+            for store, ring in self.rings.items()
+            for it in ring.held()
+        ]
         return sorted(found)
 
     def lock(self, store, first, last, tag):
@@ -137,20 +141,32 @@ def test_a_ring_holds_what_its_stores_hold_in_times_order(tmp_path, seed):
         for _ in range(5):
             place, by = choose.randrange(len(held)), choose.randint(-30, 30)
             moment, store, number = held[place]
-            assert named(ring.at(moment)) == named(ring.at(moment + 1)) == named(moments.at(moment)) == held[place]
+            assert (
+                named(ring.at(moment))
+                == named(ring.at(moment + 1))
+                == named(moments.at(moment))
+                == held[place]
+            )
             beside = held[min(max(place + by, 0), len(held) - 1)]
             assert named(ring.near(number, by, store)) == beside
-            assert moments.beside(moment, 1) == (times[place + 1] if place + 1 < len(held) else None)
+            assert moments.beside(moment, 1) == (
+                times[place + 1] if place + 1 < len(held) else None
+            )
             assert moments.beside(moment, -1) == (times[place - 1] if place else None)
             source = sources.of(store)
             whole = bytes((number + it) % 256 for it in range(ring.geometry.size))
             assert source.frame(number) == whole
         assert named(ring.at(0)) == held[0] and moments.at(held[0][0] - 1) is None
         # Whatever has no hole in time is one piece.
-        holes = sum(new - old > layout.longest_step(ring.geometry) for old, new in zip(times, times[1:]))
+        holes = sum(
+            new - old > layout.longest_step(ring.geometry) for old, new in zip(times, times[1:])
+        )
         pieces = ring.pieces()
         assert len(pieces) == holes + 1
-        assert ((pieces[0].since, pieces[0].store, pieces[0].first), (pieces[-1].until, pieces[-1].ends, pieces[-1].last)) == (held[0], held[-1])
+        assert (
+            (pieces[0].since, pieces[0].store, pieces[0].first),
+            (pieces[-1].until, pieces[-1].ends, pieces[-1].last),
+        ) == (held[0], held[-1])
 
 
 @pytest.mark.parametrize("seed", range(4))
@@ -166,21 +182,34 @@ def test_what_goes_next_is_what_the_next_block_removes(tmp_path, seed):
         ring, _ = reader.read()
         first, last, store, since, until = ring.removed_next()
         locked = {it for it, part in films.rings.items() for _ in part.clips}
-        assert (films.times[store, first], films.times[store, last]) == (since, until) and not ring.is_all_locked()
+        assert (films.times[store, first], films.times[store, last]) == (
+            since,
+            until,
+        ) and not ring.is_all_locked()
         assert locked or ring.next_store() == store
         films.store(2)
-        assert set(held) - set(films.held()) == {(films.times[store, it], store, it) for it in (first, last)}
+        assert set(held) - set(films.held()) == {
+            (films.times[store, it], store, it) for it in (first, last)
+        }
 
 
 def test_where_each_block_but_the_newest_of_each_store_is_locked_none_goes(tmp_path):
     films = Set(tmp_path, 2, 3, 2).store(8)
-    assert films.reader().read()[0].removed_next() is None and not films.reader().read()[0].is_all_locked()
+    assert (
+        films.reader().read()[0].removed_next() is None
+        and not films.reader().read()[0].is_all_locked()
+    )
     films.store(4)
     films.lock(0, 0, 3, 7)
-    assert films.reader().read()[0].removed_next()[2] == 1 and not films.reader().read()[0].is_all_locked()
+    assert (
+        films.reader().read()[0].removed_next()[2] == 1
+        and not films.reader().read()[0].is_all_locked()
+    )
     films.lock(1, 0, 3, 7)
     ring, _ = films.reader().read()
-    assert ring.removed_next() is None and ring.is_all_locked() and abs(ring.locked() - 4 / 6) < 1e-9
+    assert (
+        ring.removed_next() is None and ring.is_all_locked() and abs(ring.locked() - 4 / 6) < 1e-9
+    )
 
 
 def test_clips_have_the_ids_of_the_station_and_their_own_stores_numbers(tmp_path):
@@ -189,7 +218,12 @@ def test_clips_have_the_ids_of_the_station_and_their_own_stores_numbers(tmp_path
     ring, sources = films.reader().read()
     assert ids == [0, 64, 65, 128] == [clip.id for clip in ring.clips]
     clip = ring.clip(65)
-    assert (clip.first, clip.last, clip.since, clip.until) == (2, 5, films.times[1, 2], films.times[1, 5])
+    assert (clip.first, clip.last, clip.since, clip.until) == (
+        2,
+        5,
+        films.times[1, 2],
+        films.times[1, 5],
+    )
     assert [it.number for it in ring.part(65).frames_of(clip)] == [2, 3, 4, 5]
     assert ring.part(65).time_of(3) == films.times[1, 3] and ring.clip(66) is None
     assert ring.are_beside(64, 65) and not ring.are_beside(0, 64)
@@ -203,7 +237,11 @@ def test_a_store_alone_under_its_own_path_is_read_as_before(tmp_path):
     alone.store()
     (tmp_path / "left.loop").write_bytes(bytes(alone.image))
     reading, source = reader.read()
-    assert reading.stores is None and reading.newest() == reading.frames[0] and source.of(None) is source
+    assert (
+        reading.stores is None
+        and reading.newest() == reading.frames[0]
+        and source.of(None) is source
+    )
     assert reading.near(0, 0) == reading.newest() and reading.near(0, 0, 0) is None
     with pytest.raises(Gone):
         source.of(0)
@@ -214,7 +252,17 @@ def test_a_store_alone_under_its_own_path_is_read_as_before(tmp_path):
 def test_only_files_with_a_number_of_three_digits_below_256_are_a_cameras(tmp_path):
     films = Set(tmp_path, 1).store(3)
     image = bytes(films.rings[0].image)
-    for name in ("left.01.loop", "left.0001.loop", "left.256.loop", "left.001.loop.new", "left.x01.loop", "leftx001.loop", "right.001.loop", "left.٠٠١.loop", "left.001"):
+    for name in (
+        "left.01.loop",
+        "left.0001.loop",
+        "left.256.loop",
+        "left.001.loop.new",
+        "left.x01.loop",
+        "leftx001.loop",
+        "right.001.loop",
+        "left.٠٠١.loop",
+        "left.001",
+    ):
         (tmp_path / name).write_bytes(image)
     assert films.reader().read()[0].stores == (1, 1)
     (tmp_path / "left.255.loop").write_bytes(image)
@@ -232,7 +280,7 @@ def test_nothing_and_a_folder_are_refused_as_before(tmp_path):
             assert str(refused.value) == why
 
 
-# --------------------------------------------------------------- stores that come, go, or are spoilt
+# -------------------------------------------------------------- stores that come, go, or are spoilt
 
 
 def test_stores_join_and_leave_while_the_others_go_on(tmp_path):
@@ -251,7 +299,9 @@ def test_stores_join_and_leave_while_the_others_go_on(tmp_path):
     with pytest.raises(Gone):
         sources.of(0).frame(4)
     ring, sources = reader.read()
-    assert ring.stores == (1, 1) and {it.store for it in map(ring.at, range(BEGUN, films.time, PERIOD))} == {1}
+    assert ring.stores == (1, 1) and {
+        it.store for it in map(ring.at, range(BEGUN, films.time, PERIOD))
+    } == {1}
     assert ring.near(4, 0, 0) is None
     with pytest.raises(Gone):
         sources.of(0)
@@ -287,7 +337,9 @@ def test_one_that_cannot_be_used_is_named_and_the_others_go_on(tmp_path, spoilt)
         path.write_bytes(b"x" * 5000 * (spoilt == "none"))
     reader = films.reader()
     ring, _ = reader.read()
-    assert list(ring.faults()) == [str(path)] and all(ring.faults().values()) and ring.stores == (2, 2)
+    assert (
+        list(ring.faults()) == [str(path)] and all(ring.faults().values()) and ring.stores == (2, 2)
+    )
     assert {it.store for it in map(ring.at, (films.times[0, 4], films.time))} == {0, 2}
     if path.is_dir():
         path.rmdir()
@@ -316,16 +368,29 @@ def test_many_stores_are_shown_before_all_are_read_the_newest_first(tmp_path, mo
     assert seen == [((1, 4), [3]), ((2, 4), [2, 3]), ((3, 4), [1, 2, 3]), ((4, 4), [0, 1, 2, 3])]
 
 
-def test_a_store_that_was_not_changed_is_not_read_again_and_its_file_is_closed(tmp_path, monkeypatch):
+def test_a_store_that_was_not_changed_is_not_read_again_and_its_file_is_closed(
+    tmp_path, monkeypatch
+):
     monkeypatch.setattr(limits, "SETTLED_SECONDS", -1)
     films = Set(tmp_path, 3).store(40)
     reader, looks = films.reader(), []
     reader.read()
     for member in reader.members.values():
         plain = member.look
-        monkeypatch.setattr(member, "look", lambda stamp, number=member.number, plain=plain: (looks.append(number), plain(stamp)))
+        monkeypatch.setattr(
+            member,
+            "look",
+            lambda stamp, number=member.number, plain=plain: (looks.append(number), plain(stamp)),
+        )
     opened = os.listdir("/proc/self/fd")
-    assert sum(str(tmp_path) in os.readlink(f"/proc/self/fd/{it}") for it in opened if os.path.lexists(f"/proc/self/fd/{it}")) == 1
+    assert (
+        sum(
+            str(tmp_path) in os.readlink(f"/proc/self/fd/{it}")
+            for it in opened
+            if os.path.lexists(f"/proc/self/fd/{it}")
+        )
+        == 1
+    )
     for _ in range(3):
         reader.read()
     assert looks == []
@@ -379,18 +444,40 @@ def test_the_newest_picture_goes_on_where_several_stores_become_one_and_back(tmp
     assert asyncio.run(newest()) == (one, first)
 
 
-# ------------------------------------------------------------------------- what numbers alone can't say
+# --------------------------------------------------------------------- what numbers alone can't say
 
 
 def clip_in(camera, id_, first, since, tag=0, event=None):
     """A clip of 10 frames, as the laboratory lists it."""
-    found = {"camera": camera, "id": id_, "first": first, "last": first + 9, "event": event, "tag": tag, "order_tag": tag}
-    found |= {"frames": 10, "from_us": since, "to_us": since + 9 * PERIOD, "seconds": 0.4, "bytes": 1, "note": "", "fetched": False}
+    found = {
+        "camera": camera,
+        "id": id_,
+        "first": first,
+        "last": first + 9,
+        "event": event,
+        "tag": tag,
+        "order_tag": tag,
+    }
+    found |= {
+        "frames": 10,
+        "from_us": since,
+        "to_us": since + 9 * PERIOD,
+        "seconds": 0.4,
+        "bytes": 1,
+        "note": "",
+        "fetched": False,
+    }
     return found
 
 
 def test_clips_of_an_event_are_in_the_order_of_their_times_over_several_stores():
-    found = events_of([clip_in("left", 0, 300, 10, event=8), clip_in("left", 64, 0, 20, event=8), clip_in("left", 1, 200, 5, event=8)])
+    found = events_of(
+        [
+            clip_in("left", 0, 300, 10, event=8),
+            clip_in("left", 64, 0, 20, event=8),
+            clip_in("left", 1, 200, 5, event=8),
+        ]
+    )
     assert [(it["id"], it["first"]) for it in found[0]["clips"]] == [(1, 200), (0, 300), (64, 0)]
     # Of one store their numbers say it.
     found = events_of([clip_in("left", 0, 300, 10, event=8), clip_in("left", 1, 200, 50, event=8)])
@@ -406,8 +493,23 @@ def test_clips_of_two_stores_with_the_same_numbers_may_be_of_one_press():
 
 def test_what_a_clip_has_grown_to_is_in_its_own_store():
     heard = Heard()
-    begun = {"kind": "event_begun", "event": 8, "from": "1970-01-01T00:00:00Z", "to": "1970-01-01T00:01:00Z"}
-    kept = {"kind": "kept", "camera": "left", "id": 64, "first": 0, "last": 9, "from": begun["from"], "to": begun["to"], "event": 8, "tag": 7}
+    begun = {
+        "kind": "event_begun",
+        "event": 8,
+        "from": "1970-01-01T00:00:00Z",
+        "to": "1970-01-01T00:01:00Z",
+    }
+    kept = {
+        "kind": "kept",
+        "camera": "left",
+        "id": 64,
+        "first": 0,
+        "last": 9,
+        "from": begun["from"],
+        "to": begun["to"],
+        "event": 8,
+        "tag": 7,
+    }
     for line in (begun, kept):
         heard.take(read_line(json.dumps(line)))
     assert heard.number_of("left", Clip(65, 0, 19, 7, 1, 2)) == 8
@@ -430,7 +532,7 @@ def test_a_clip_that_has_grown_is_asked_for_in_its_own_store(tmp_path):
     assert held.longer(watched, 8) is None
 
 
-# ------------------------------------------------------------------------------------- over the page
+# ------------------------------------------------------------------------------------ over the page
 
 
 @contextlib.contextmanager
@@ -488,7 +590,11 @@ def lab(make, tmp_path):
 def test_the_state_of_a_camera_with_several_stores(lab):
     held, found = lab.films.held(), lab.camera()
     (_, first_store, first), (_, last_store, last) = held[0], held[-1]
-    assert found["newest"] == [last, held[-1][0], last_store] and found["oldest"] == [first, held[0][0], first_store]
+    assert found["newest"] == [last, held[-1][0], last_store] and found["oldest"] == [
+        first,
+        held[0][0],
+        first_store,
+    ]
     assert found["frames"] == len(held) and found["stores"] == [3, 3]
     first, last, store, since, until = found["removed_next"]
     assert (since, store, first) == held[0] and until == lab.films.times[store, last]
@@ -499,7 +605,11 @@ def test_frames_are_named_by_their_store_and_number(lab):
     held = lab.films.held()
     for place in (0, 7, len(held) - 1):
         moment, store, number = held[place]
-        for path in (f"frames/{store}.{number}.jpg", f"frames/{store}.{number}/picture", f"newest.jpg?number={store}.{number}"):
+        for path in (
+            f"frames/{store}.{number}.jpg",
+            f"frames/{store}.{number}/picture",
+            f"newest.jpg?number={store}.{number}",
+        ):
             found = lab.ask(f"/api/cameras/left/{path}")
             assert found.status == 200, found.body
             named = [found.headers[f"X-Frame-{it}"] for it in ("Time", "Store", "Number")]
@@ -512,10 +622,22 @@ def test_frames_are_named_by_their_store_and_number(lab):
         assert lab.ask(f"/api/cameras/left/frame?time={moment + 9}").json() == frame
         assert lab.ask(f"/api/cameras/left/frame?number={store}.{number}").json() == frame
     (_, store, number), (moment, other, next_) = held[2], held[13]
-    assert lab.ask(f"/api/cameras/left/frame?number={store}.{number}&by=11").json() == {"number": next_, "time": moment, "store": other}
+    assert lab.ask(f"/api/cameras/left/frame?number={store}.{number}&by=11").json() == {
+        "number": next_,
+        "time": moment,
+        "store": other,
+    }
     newest = lab.ask("/api/cameras/left/newest.jpg").headers
     assert (int(newest["X-Frame-Time"]), int(newest["X-Frame-Store"])) == held[-1][:2]
-    for path, status in (("frames/4.jpg", 404), ("frames/9.4.jpg", 404), ("frames/0.999.jpg", 404), ("frames/999.4.jpg", 400), ("frame?number=1.2.3", 400), ("frame?number=4", 404), ("frames/4/value?x=0&y=0", 404)):
+    for path, status in (
+        ("frames/4.jpg", 404),
+        ("frames/9.4.jpg", 404),
+        ("frames/0.999.jpg", 404),
+        ("frames/999.4.jpg", 400),
+        ("frame?number=1.2.3", 400),
+        ("frame?number=4", 404),
+        ("frames/4/value?x=0&y=0", 404),
+    ):
         assert lab.ask(f"/api/cameras/left/{path}").status == status, path
 
 
@@ -540,16 +662,34 @@ def test_clips_are_fetched_noted_and_released_by_the_stations_ids(lab):
     with answering(lab, films) as given:
         held = films.held()
         runs = [(store, [it for _, at, it in held[6:16] if at == store]) for store in range(3)]
-        clips = [(films.lock(store, them[0], them[-1], number), store, them) for store, them in runs if them]
+        clips = [
+            (films.lock(store, them[0], them[-1], number), store, them)
+            for store, them in runs
+            if them
+        ]
         assert len(clips) == 2
-        (event,) = lab.until(lambda: [it for it in lab.ask("/api/events").json()["events"] if len(it["clips"]) == 2], "event")
-        assert event["number"] == number and (event["from_us"], event["to_us"]) == (held[6][0], held[15][0])
+        (event,) = lab.until(
+            lambda: [it for it in lab.ask("/api/events").json()["events"] if len(it["clips"]) == 2],
+            "event",
+        )
+        assert event["number"] == number and (event["from_us"], event["to_us"]) == (
+            held[6][0],
+            held[15][0],
+        )
         for id_, store, them in clips:
             found = lab.ask(f"/api/clips/left/{id_}.y4m")
             assert found.status == 200 and found.body == films.text(store, them[0], them[-1])
-            lines = lab.ask(f"/api/clips/left/{id_}.csv?first={them[0]}").body.decode().split("\r\n")[1:-1]
-            assert [tuple(map(int, it.split(",")[:2])) for it in lines] == [(it, films.times[store, it]) for it in them]
-            assert lab.ask(f"/api/clips/left/{id_}.jpg").headers["X-Frame-Number"] == str(them[len(them) // 2])
+            lines = (
+                lab.ask(f"/api/clips/left/{id_}.csv?first={them[0]}")
+                .body.decode()
+                .split("\r\n")[1:-1]
+            )
+            assert [tuple(map(int, it.split(",")[:2])) for it in lines] == [
+                (it, films.times[store, it]) for it in them
+            ]
+            assert lab.ask(f"/api/clips/left/{id_}.jpg").headers["X-Frame-Number"] == str(
+                them[len(them) // 2]
+            )
             assert lab.ask(f"/api/clips/left/{id_}.csv?first={them[0] + 1}").status == 404
         found = lab.ask(f"/api/event.zip?clips={event['key']}&what=y4m,png")
         with zipfile.ZipFile(io.BytesIO(found.body)) as archive:
@@ -562,7 +702,9 @@ def test_clips_are_fetched_noted_and_released_by_the_stations_ids(lab):
         assert {it["note"] for it in lab.ask("/api/clips").json()["clips"]} == {"run 7"}
         assert lab.post("/api/event/release", {"clips": named}).status == 200
         assert lab.ask("/api/clips").json()["clips"] == []
-        assert sorted(it for it in given if it != "status") == sorted(f"release left {it['id']} {it['first']}" for it in named)
+        assert sorted(it for it in given if it != "status") == sorted(
+            f"release left {it['id']} {it['first']}" for it in named
+        )
 
 
 def test_a_keep_is_told_with_the_clips_of_all_stores(lab):
@@ -573,7 +715,14 @@ def test_a_keep_is_told_with_the_clips_of_all_stores(lab):
         for store in range(3):
             if them := [it for _, at, it in films.held()[-10:] if at == store]:
                 id_ = films.lock(store, them[0], them[-1], number)
-                told = {"kind": "kept", "camera": "left", "id": id_, "first": them[0], "last": them[-1], "event": number}
+                told = {
+                    "kind": "kept",
+                    "camera": "left",
+                    "id": id_,
+                    "first": them[0],
+                    "last": them[-1],
+                    "event": number,
+                }
                 yield told | {word: "2026-11-22T15:38:00Z" for word in ("from", "to")}
 
     films.keep = keep
@@ -583,13 +732,19 @@ def test_a_keep_is_told_with_the_clips_of_all_stores(lab):
         clips = answer.json()["answers"][0]["clips"]
     held = films.held()[-10:]
     assert len(clips) == len({store for _, store, _ in held})
-    assert min(it["from_us"] for it in clips) == held[0][0] and max(it["to_us"] for it in clips) == held[-1][0]
+    assert (
+        min(it["from_us"] for it in clips) == held[0][0]
+        and max(it["to_us"] for it in clips) == held[-1][0]
+    )
     assert {it["note"] for it in lab.ask("/api/clips").json()["clips"]} == {"run 8"}
 
 
 def test_a_camera_records_while_others_of_its_stores_are_made_and_says_which_cannot_be_used(lab):
     with answering(lab, lab.films), open(lab.folder / "answers", "w") as answers:
-        for line in ({"kind": "making", "path": "left.003.loop", "percent": 25}, {"kind": "one_absent", "path": "left.004.loop", "why": "Busy"}):
+        for line in (
+            {"kind": "making", "path": "left.003.loop", "percent": 25},
+            {"kind": "one_absent", "path": "left.004.loop", "why": "Busy"},
+        ):
             answers.write(json.dumps(line | {"camera": "left"}) + "\n")
         answers.flush()
         lab.until(lambda: ("one absent", "left") in lab.alerts(), "warning")
@@ -612,7 +767,10 @@ def test_a_store_that_is_moved_away_or_spoilt_is_told_and_the_rest_is_shown(lab)
     assert str(films.paths[1]) in text and lab.camera()["stores"] == [1, 1]
     films.paths[1].unlink()
     films.put(0)
-    lab.until(lambda: lab.camera()["stores"] == [2, 2] and ("one absent", "left") not in lab.alerts(), "store again")
+    lab.until(
+        lambda: lab.camera()["stores"] == [2, 2] and ("one absent", "left") not in lab.alerts(),
+        "store again",
+    )
     assert len(lab.ask("/api/clips").json()["clips"]) == 1
     for path in films.paths.values():
         path.unlink(missing_ok=True)
@@ -626,11 +784,16 @@ def test_as_long_as_not_all_is_read_no_program_is_told_that_these_are_all_clips(
     (lab.folder / "spoilt" / "sitecustomize.py").write_text(SPOILT)
     lab.spoil("hangs", "left.000.loop")
     os.utime(films.paths[0], (1000, 1000))
-    lab.start_page(bounds=lab.bounds | {"RING_SECONDS": -1, "DISK_SECONDS": 1}, PYTHONPATH=str(lab.folder / "spoilt"))
+    lab.start_page(
+        bounds=lab.bounds | {"RING_SECONDS": -1, "DISK_SECONDS": 1},
+        PYTHONPATH=str(lab.folder / "spoilt"),
+    )
     found = lab.until(lambda: (it := lab.camera()).get("stores") == [2, 3] and it, "two of three")
     assert "clips" not in found
     lab.spoil("hangs", "")
-    assert lab.until(lambda: (it := lab.camera()).get("stores") == [3, 3] and it, "all")["clips"] == []
+    assert (
+        lab.until(lambda: (it := lab.camera()).get("stores") == [3, 3] and it, "all")["clips"] == []
+    )
 
 
 def test_another_stations_page_gives_frames_and_clips_of_several_stores_on(lab, tmp_path):
@@ -640,14 +803,22 @@ def test_another_stations_page_gives_frames_and_clips_of_several_stores_on(lab, 
     settings_of(hub.folder, ("north", lab.port))
     try:
         hub.start_page("--settings", "page.toml")
-        state = hub.until(lambda: next((it for it in hub.status()["cameras"] if it.get("newest")), None), "camera")
+        state = hub.until(
+            lambda: next((it for it in hub.status()["cameras"] if it.get("newest")), None), "camera"
+        )
         assert state["name"] == "north:left" and state["stores"] == [3, 3]
         _, store, number = films.held()[7]
         found = hub.ask(f"/api/cameras/north%3Aleft/frames/{store}.{number}.jpg")
-        assert (found.status, found.headers["X-Frame-Store"], found.headers["X-Frame-Number"]) == (200, str(store), str(number))
+        assert (found.status, found.headers["X-Frame-Store"], found.headers["X-Frame-Number"]) == (
+            200,
+            str(store),
+            str(number),
+        )
         first = films.rings[1].held()[0]
         id_ = films.lock(1, first, first, 7)
         lab.until(lambda: lab.ask("/api/clips").json()["clips"], "clip")
-        assert id_ == 64 and hub.ask(f"/api/clips/north%3Aleft/{id_}.y4m").body == films.text(1, first, first)
+        assert id_ == 64 and hub.ask(f"/api/clips/north%3Aleft/{id_}.y4m").body == films.text(
+            1, first, first
+        )
     finally:
         hub.close()

@@ -40,7 +40,10 @@ def closed(tmp_path_factory):
     ],
 )
 def test_a_change_comes_from_the_page_itself(shared, headers, status):
-    headers = {key: f"http://127.0.0.1:{shared.port}" if value == "OWN" else value for key, value in headers.items()}
+    headers = {
+        key: f"http://127.0.0.1:{shared.port}" if value == "OWN" else value
+        for key, value in headers.items()
+    }
     for path in ("/api/keep", "/api/release", "/api/note", "/api/seen"):
         found = shared.post(path, {"more": 1}, headers)
         assert found.status == status, path
@@ -71,7 +74,9 @@ def test_each_answer_forbids_code_of_elsewhere(shared):
             "default-src 'none'" in headers["Content-Security-Policy"]
             and "unsafe" not in headers["Content-Security-Policy"]
         )
-        assert headers["X-Content-Type-Options"] == "nosniff" and headers["X-Frame-Options"] == "DENY"
+        assert (
+            headers["X-Content-Type-Options"] == "nosniff" and headers["X-Frame-Options"] == "DENY"
+        )
 
 
 def test_the_page_has_no_code_or_style_within_its_text_and_no_address_of_elsewhere():
@@ -80,7 +85,9 @@ def test_the_page_has_no_code_or_style_within_its_text_and_no_address_of_elsewhe
         text = (folder / name).read_text()
         assert not re.search(r"<script(?![^>]*src=)|\son\w+=|\sstyle=|<style", text)
     for path in folder.iterdir():
-        assert set(re.findall(r"https?://[^\s\"']+", path.read_text())) <= {"http://www.w3.org/2000/svg"}, path
+        assert set(re.findall(r"https?://[^\s\"']+", path.read_text())) <= {
+            "http://www.w3.org/2000/svg"
+        }, path
 
 
 def test_no_text_of_others_becomes_code():
@@ -88,7 +95,8 @@ def test_no_text_of_others_becomes_code():
     folder = PROGRAM.resolve().parent / "station_page" / "static"
     for path in folder.glob("*.js"):
         assert not re.search(
-            r"innerHTML|outerHTML|insertAdjacentHTML|document\.write|eval\(|new Function", path.read_text()
+            r"innerHTML|outerHTML|insertAdjacentHTML|document\.write|eval\(|new Function",
+            path.read_text(),
         ), path
 
 
@@ -107,7 +115,14 @@ def test_no_text_of_others_becomes_code():
 )
 def test_without_the_token_nothing_is_answered(closed, path):
     assert closed.ask(path).status in (401, 429)
-    for word in ("Bearer wrong", "Bearer", "Basic " + TOKEN, TOKEN, "Bearer " + TOKEN[:-1], "Bearer " + TOKEN + "x"):
+    for word in (
+        "Bearer wrong",
+        "Bearer",
+        "Basic " + TOKEN,
+        TOKEN,
+        "Bearer " + TOKEN[:-1],
+        "Bearer " + TOKEN + "x",
+    ):
         assert closed.ask(path, headers={"Authorization": word}).status in (401, 429)
     assert closed.post("/api/keep", {"seconds": 1}).status in (401, 429)
 
@@ -116,9 +131,15 @@ def test_the_token_lets_an_instrument_in(make):
     lab = make(page=False)
     lab.start_page("--token", token_in(lab.folder))
     bearer = {"Authorization": f"Bearer {TOKEN}", "Content-Type": "application/json"}
-    lab.until(lambda: json.loads(lab.ask("/api/status", headers=bearer).body)["cameras"][0].get("newest"), "frames")
+    lab.until(
+        lambda: json.loads(lab.ask("/api/status", headers=bearer).body)["cameras"][0].get("newest"),
+        "frames",
+    )
     assert lab.post("/api/keep", {"seconds": 1}, bearer).status == 200
-    assert lab.post("/api/keep", {"seconds": 1}, bearer | {"Origin": "http://evil.example"}).status == 403
+    assert (
+        lab.post("/api/keep", {"seconds": 1}, bearer | {"Origin": "http://evil.example"}).status
+        == 403
+    )
     assert lab.ask("/healthz").body == b"ok\n"
     assert lab.ask("/").headers["Location"] == "/sign-in"
 
@@ -126,12 +147,25 @@ def test_the_token_lets_an_instrument_in(make):
 def test_a_person_signs_in_with_a_cookie_and_out_again(make):
     lab = make(page=False)
     lab.start_page("--token", token_in(lab.folder))
-    form = {"Content-Type": "application/x-www-form-urlencoded", "Origin": f"http://127.0.0.1:{lab.port}"}
+    form = {
+        "Content-Type": "application/x-www-form-urlencoded",
+        "Origin": f"http://127.0.0.1:{lab.port}",
+    }
     assert lab.ask("/sign-in", "POST", "token=wrong", form).status == 403
-    assert lab.ask("/sign-in", "POST", f"token={TOKEN}", form | {"Origin": "http://evil.example"}).status == 403
+    assert (
+        lab.ask(
+            "/sign-in", "POST", f"token={TOKEN}", form | {"Origin": "http://evil.example"}
+        ).status
+        == 403
+    )
     found = lab.ask("/sign-in", "POST", f"token={TOKEN}", form)
     cookie = found.headers["Set-Cookie"]
-    assert found.status == 303 and "HttpOnly" in cookie and "SameSite=Strict" in cookie and TOKEN not in cookie
+    assert (
+        found.status == 303
+        and "HttpOnly" in cookie
+        and "SameSite=Strict" in cookie
+        and TOKEN not in cookie
+    )
     inside = {"Cookie": cookie.split(";")[0]}
     assert lab.ask("/", headers=inside).status == 200
     assert lab.post("/api/keep", {"more": 1}, inside | JSON).status == 403
@@ -144,8 +178,13 @@ def test_a_person_signs_in_with_a_cookie_and_out_again(make):
 def test_many_wrong_tokens_have_to_wait(make):
     lab = make(page=False)
     lab.start_page("--token", token_in(lab.folder))
-    found = [lab.ask("/api/status", headers={"Authorization": f"Bearer wrong{place}"}) for place in range(25)]
-    assert [it.status for it in found] == [401] * 20 + [429] * 5 and found[-1].headers["Retry-After"]
+    found = [
+        lab.ask("/api/status", headers={"Authorization": f"Bearer wrong{place}"})
+        for place in range(25)
+    ]
+    assert [it.status for it in found] == [401] * 20 + [429] * 5 and found[-1].headers[
+        "Retry-After"
+    ]
     assert lab.ask("/healthz").status == 200
 
 
@@ -164,10 +203,21 @@ def test_many_wrong_tokens_have_to_wait(make):
 )
 def test_wrong_settings_are_told_and_nothing_is_served(make, words, said):
     lab = make(station=False, page=False)
-    for name, text in {"short": "abc", "unknown": "colour = 1", "wrong": 'on_alert = "mail"', "broken": "= ="}.items():
+    for name, text in {
+        "short": "abc",
+        "unknown": "colour = 1",
+        "wrong": 'on_alert = "mail"',
+        "broken": "= =",
+    }.items():
         (lab.folder / name).write_text(text)
         (lab.folder / name).chmod(0o600)
-    done = subprocess.run([PROGRAM, "station.toml", *words], cwd=lab.folder, capture_output=True, text=True, timeout=LIMIT)
+    done = subprocess.run(
+        [PROGRAM, "station.toml", *words],
+        cwd=lab.folder,
+        capture_output=True,
+        text=True,
+        timeout=LIMIT,
+    )
     assert done.returncode == 1 and said in done.stderr and "Traceback" not in done.stderr
 
 
@@ -183,7 +233,9 @@ def test_wrong_settings_are_told_and_nothing_is_served(make, words, said):
 )
 def test_wrong_configurations_are_told(tmp_path, text, said):
     (tmp_path / "station.toml").write_text(text)
-    done = subprocess.run([PROGRAM, "station.toml"], cwd=tmp_path, capture_output=True, text=True, timeout=LIMIT)
+    done = subprocess.run(
+        [PROGRAM, "station.toml"], cwd=tmp_path, capture_output=True, text=True, timeout=LIMIT
+    )
     assert done.returncode == 1 and said in done.stderr
 
 
@@ -231,7 +283,17 @@ def test_no_path_of_a_request_reaches_a_file(shared, path):
 
 @pytest.mark.parametrize(
     "body",
-    ["", "{", "[]", "null", '"x"', "[" * 5000, '{"seconds": NaN}', "\xff\xfe", '{"seconds": 1' + "0" * 5000 + "}"],
+    [
+        "",
+        "{",
+        "[]",
+        "null",
+        '"x"',
+        "[" * 5000,
+        '{"seconds": NaN}',
+        "\xff\xfe",
+        '{"seconds": 1' + "0" * 5000 + "}",
+    ],
 )
 def test_a_body_that_is_no_object_is_refused(shared, body):
     assert shared.ask("/api/keep", "POST", body.encode("latin-1"), OWN).status == 400
@@ -250,7 +312,8 @@ def test_a_body_that_is_too_large_is_refused(shared):
         b"POST /api/keep HTTP/1.1\r\nHost: localhost\r\nContent-Length: -5\r\n\r\n",
         b"POST /api/keep HTTP/1.1\r\nHost: localhost\r\nContent-Length: x\r\n\r\n",
         b"GET / HTTP/1.1\r\nHost: localhost\r\nX: " + b"a" * 70000 + b"\r\n\r\n",
-        b"POST /api/keep HTTP/1.1\r\nHost: localhost\r\nContent-Length: 3\r\nTransfer-Encoding: chunked\r\n\r\nzz\r\n",
+        b"POST /api/keep HTTP/1.1\r\nHost: localhost\r\nContent-Length: 3\r\nTransfer-Encoding: "
+        b"chunked\r\n\r\nzz\r\n",
     ],
 )
 def test_requests_that_are_none_are_answered_or_closed(shared, data):
@@ -309,7 +372,9 @@ def test_the_page_ends_when_it_is_told_whoever_is_connected(make):
     assert held[0].recv(100).startswith(b"HTTP/1.1 200")
     lab.page.send_signal(signal.SIGTERM)
     assert lab.page.wait(LIMIT) == 0 and not [
-        name for name in os.listdir(lab.folder) if name.startswith("loop_page.") and name != "loop_page.notes"
+        name
+        for name in os.listdir(lab.folder)
+        if name.startswith("loop_page.") and name != "loop_page.notes"
     ]
     for client in held:
         client.close()

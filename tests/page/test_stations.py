@@ -90,7 +90,9 @@ def kept_by(hub, count, note):
     answer = hub.post("/api/keep", {"seconds": 2, "note": note})
     assert answer.status == 200, answer.body
     found = hub.until(
-        lambda: [it for it in noted(hub, note) if len(it["cameras"]) == count and it["until_us"] is None],
+        lambda: [
+            it for it in noted(hub, note) if len(it["cameras"]) == count and it["until_us"] is None
+        ],
         f"event of {count} cameras",
     )
     return answer.json()["answers"], found[0]
@@ -124,7 +126,10 @@ def test_one_press_keeps_the_same_span_on_all_and_is_one_event(three):
     hub, north, south = three
     answers, event = kept_by(hub, 5, "run 7")
     assert sorted(it["camera"] for it in answers if it["kept"]) == sorted(names_of(hub))
-    orders = [re.findall(r"^keep from (\S+) to (\S+)", (it.folder / "ordered").read_text(), re.M)[-1] for it in three]
+    orders = [
+        re.findall(r"^keep from (\S+) to (\S+)", (it.folder / "ordered").read_text(), re.M)[-1]
+        for it in three
+    ]
     assert len(set(orders)) == 1
     assert len(noted(hub, "run 7")) == 1 and len(event["clips"]) == 5
     for one in (north, south):
@@ -139,7 +144,12 @@ def test_one_press_keeps_the_same_span_on_all_and_is_one_event(three):
 def test_a_range_and_one_camera_alone_are_kept_where_they_are(three):
     hub, north, south = three
     moment = north.camera("top")["newest"][1]
-    body = {"camera": "north:top", "from": moment - 2_000_000, "to": moment - 1_000_000, "note": "alone"}
+    body = {
+        "camera": "north:top",
+        "from": moment - 2_000_000,
+        "to": moment - 1_000_000,
+        "note": "alone",
+    }
     assert [it["camera"] for it in hub.post("/api/keep", body).json()["answers"]] == ["north:top"]
     (event,) = hub.until(lambda: noted(hub, "alone"), "event")
     assert event["cameras"] == ["north:top"] and not noted(south, "alone")
@@ -148,7 +158,9 @@ def test_a_range_and_one_camera_alone_are_kept_where_they_are(three):
     assert hub.post("/api/keep", {"camera": "north:none", "seconds": 1}).status == 409
     answer = hub.post("/api/keep", {"camera": "left", "seconds": 1}).json()["answers"][0]
     assert answer["camera"] == "left" and answer["kept"]
-    assert hub.post("/api/release", {"camera": "left", "id": answer["clips"][0]["id"]}).status == 200
+    assert (
+        hub.post("/api/release", {"camera": "left", "id": answer["clips"][0]["id"]}).status == 200
+    )
 
 
 def test_a_program_beside_it_asks_for_its_own_station_alone(three):
@@ -173,7 +185,11 @@ def test_a_note_and_a_release_reach_each_station(three):
         one.until(lambda: noted(one, "later"), "note")
     one = next(it for it in clips if it["camera"] == "south:top")
     assert hub.post("/api/note", one | {"note": "this one"}).status == 200
-    south.until(lambda: {it["note"] for it in south.ask("/api/clips").json()["clips"]} >= {"later", "this one"}, "notes")
+    south.until(
+        lambda: {it["note"] for it in south.ask("/api/clips").json()["clips"]}
+        >= {"later", "this one"},
+        "notes",
+    )
     assert hub.post("/api/release", one).status == 200
     answer = hub.post("/api/event/release", {"clips": [it for it in clips if it != one]})
     assert answer.status == 200, answer.body
@@ -190,14 +206,31 @@ def test_files_of_other_stations_come_as_they_are_there(three):
     text = north.text_of("top", clip)
     assert hub.ask(path).body == text
     part = hub.ask(path, headers={"Range": "bytes=10-19"})
-    assert (part.status, part.body, part.headers["Content-Range"]) == (206, text[10:20], f"bytes 10-19/{len(text)}")
+    assert (part.status, part.body, part.headers["Content-Range"]) == (
+        206,
+        text[10:20],
+        f"bytes 10-19/{len(text)}",
+    )
     assert hub.ask(path.replace("north", "east")).status == 404
     newest = hub.ask("/api/cameras/north%3Aleft/newest.jpg")
-    assert newest.status == 200 and newest.body[:2] == b"\xff\xd8" and int(newest.headers["X-Frame-Number"]) >= 30
+    assert (
+        newest.status == 200
+        and newest.body[:2] == b"\xff\xd8"
+        and int(newest.headers["X-Frame-Number"]) >= 30
+    )
     let_go(hub, event)
-    for key in ("north:left/../../metrics.0.0", "north:..%2Fx.0.0", "east:left.0.0", "none.0.0~north:left.0.0"):
+    for key in (
+        "north:left/../../metrics.0.0",
+        "north:..%2Fx.0.0",
+        "east:left.0.0",
+        "none.0.0~north:left.0.0",
+    ):
         assert hub.ask(f"/api/event.zip?clips={key}&what=csv").status == 404
-    for wrong in ("north:left/../../healthz", "north:left/frames/x.jpg", "north:..%2F..%2Fhealthz/newest.jpg"):
+    for wrong in (
+        "north:left/../../healthz",
+        "north:left/frames/x.jpg",
+        "north:..%2F..%2Fhealthz/newest.jpg",
+    ):
         assert hub.ask(f"/api/cameras/{wrong}").status == 404
 
 
@@ -210,7 +243,9 @@ def test_one_zip_has_the_files_of_all_stations(three):
     assert found.testzip() is None
     names = {it.split("/")[1] for it in found.namelist()}
     cameras = ("left", "north_left", "north_top", "south_left", "south_top")
-    assert names == {"event.txt"} | {f"{it}.{kind}" for it in cameras for kind in ("y4m", "csv", "png.zip")}
+    assert names == {"event.txt"} | {
+        f"{it}.{kind}" for it in cameras for kind in ("y4m", "csv", "png.zip")
+    }
     clip = next(it for it in event["clips"] if it["camera"] == "north:top")
     (name,) = [it for it in found.namelist() if it.endswith("north_top.y4m")]
     assert found.read(name) == north.text_of("top", clip)
@@ -238,7 +273,10 @@ def test_a_step_is_the_next_frame_of_whichever_station_has_it(three):
     moment = north.camera("left")["oldest"][1] + 1_000_000
     asked = {"cameras": ["north:left", "south:left"], "moment": moment, "by": 1}
     after = hub.post("/api/step", asked).json()["moment"]
-    wanted = min(it.post("/api/step", {"cameras": ["left"], "moment": moment, "by": 1}).json()["moment"] for it in (north, south))
+    wanted = min(
+        it.post("/api/step", {"cameras": ["left"], "moment": moment, "by": 1}).json()["moment"]
+        for it in (north, south)
+    )
     assert after == wanted > moment
     before = hub.post("/api/step", asked | {"moment": after, "by": -1}).json()["moment"]
     assert before <= moment < after
@@ -247,12 +285,14 @@ def test_a_step_is_the_next_frame_of_whichever_station_has_it(three):
 def test_warnings_of_all_stations_are_seen_at_their_own(three):
     hub, north, _ = three
     north.say("given_up", camera="top", frames=3, since="2026-11-22T15:38:00.123Z")
-    alert = hub.until(lambda: [it for it in hub.status()["alerts"] if it["camera"] == "north:top"], "warning")[0]
+    alert = hub.until(
+        lambda: [it for it in hub.status()["alerts"] if it["camera"] == "north:top"], "warning"
+    )[0]
     assert hub.post("/api/seen", {"ids": [alert["id"]]}).status == 200
     assert not north.alerts()
 
 
-# ------------------------------------------------------------------------- a station that isn't there
+# ----------------------------------------------------------------------- a station that isn't there
 
 
 def test_a_station_that_does_not_answer_is_said_and_holds_up_no_other(own_three):
@@ -262,10 +302,17 @@ def test_a_station_that_does_not_answer_is_said_and_holds_up_no_other(own_three)
         hub.until(lambda: station_of(hub, "north")["level"] == "bad", "word of it")
         hub.until(lambda: ("away", "north") in hub.alerts(), "warning")
         cameras = {it["name"]: it for it in hub.status()["cameras"]}
-        assert cameras["north:left"]["kind"] == "away" and "hasn't answered" in cameras["north:left"]["state"]
+        assert (
+            cameras["north:left"]["kind"] == "away"
+            and "hasn't answered" in cameras["north:left"]["state"]
+        )
         assert cameras["south:left"]["kind"] != "away"
         answers, event = kept_by(hub, 3, note)
-        assert sorted(it["camera"] for it in answers if it["kept"]) == ["left", "south:left", "south:top"]
+        assert sorted(it["camera"] for it in answers if it["kept"]) == [
+            "left",
+            "south:left",
+            "south:top",
+        ]
         (refused,) = [it for it in answers if not it["kept"]]
         assert refused["camera"] == "north" and refused["text"]
         north.page.send_signal(signal.SIGCONT)
@@ -279,8 +326,11 @@ def test_a_wrong_token_is_said_and_the_right_one_lets_in(make, tmp_path):
     wrong = tmp_path / "wrong"
     wrong.mkdir()
     hub = make(page=False, cameras=[LEFT])
-    settings_of(hub.folder, ("one", other.port, f'token = "{token_in(tmp_path)}"'),
-                ("two", other.port, f'token = "{token_in(wrong, TOKEN[::-1])}"'))
+    settings_of(
+        hub.folder,
+        ("one", other.port, f'token = "{token_in(tmp_path)}"'),
+        ("two", other.port, f'token = "{token_in(wrong, TOKEN[::-1])}"'),
+    )
     hub.start_page("--settings", "page.toml")
     hub.until(lambda: "one:left" in names_of(hub), "camera")
     hub.until(lambda: "wants another token" in station_of(hub, "two")["text"], "word of it")
@@ -296,26 +346,61 @@ def test_what_is_no_page_is_said(make):
         for _ in range(2):
             client, _ = server.accept()
             client.recv(65536)
-            client.sendall(b"HTTP/1.1 200 OK\r\nContent-Length: 28\r\n\r\n" + b"\0\0\0\x05\0\0\0\x0bhello" + b"and no JSON" + b"....")
+            client.sendall(
+                b"HTTP/1.1 200 OK\r\nContent-Length: 28\r\n\r\n"
+                + b"\0\0\0\x05\0\0\0\x0bhello"
+                + b"and no JSON"
+                + b"...."
+            )
             client.close()
     hub.until(lambda: station_of(hub, "odd")["level"] == "bad", "word of it")
     assert hub.post("/api/keep", {"seconds": 1}).status == 200
 
 
 EVENT = {
-    "key": "left.0.0", "number": None, "from_us": 0, "to_us": 1, "seconds": 1.0, "bytes": 1, "tag": 0, "until_us": None,
+    "key": "left.0.0",
+    "number": None,
+    "from_us": 0,
+    "to_us": 1,
+    "seconds": 1.0,
+    "bytes": 1,
+    "tag": 0,
+    "until_us": None,
     "clips": [{"camera": "left", "id": 0, "first": 0, "from_us": 0, "to_us": 1, "frames": 2}],
-    "cameras": ["left"], "note": "", "fetched": False, "lacks": [],
+    "cameras": ["left"],
+    "note": "",
+    "fetched": False,
+    "lacks": [],
 }
 
 
 @pytest.mark.parametrize(
     "kind, told",
     [
-        ("state", {}), ("state", []), ("state", {"cameras": [{}], "alerts": []}), ("state", {"cameras": [7], "alerts": []}),
-        ("state", {"cameras": [{"name": "left", "after": "1"}], "alerts": []}), ("state", {"cameras": [], "alerts": [{"id": "1", "text": ""}]}),
-        ("more", {"cameras": {"left": 1}}), ("more", {"cameras": []}), ("events", [{}]), ("events", 7), ("events", [EVENT | {"clips": []}]),
-        *(("events", [EVENT | {word: "1"}]) for word in ("from_us", "to_us", "seconds", "bytes", "tag", "number", "until_us", "fetched")),
+        ("state", {}),
+        ("state", []),
+        ("state", {"cameras": [{}], "alerts": []}),
+        ("state", {"cameras": [7], "alerts": []}),
+        ("state", {"cameras": [{"name": "left", "after": "1"}], "alerts": []}),
+        ("state", {"cameras": [], "alerts": [{"id": "1", "text": ""}]}),
+        ("more", {"cameras": {"left": 1}}),
+        ("more", {"cameras": []}),
+        ("events", [{}]),
+        ("events", 7),
+        ("events", [EVENT | {"clips": []}]),
+        *(
+            ("events", [EVENT | {word: "1"}])
+            for word in (
+                "from_us",
+                "to_us",
+                "seconds",
+                "bytes",
+                "tag",
+                "number",
+                "until_us",
+                "fetched",
+            )
+        ),
         *(("events", [{it: to for it, to in EVENT.items() if it != word}]) for word in EVENT),
     ],
 )
@@ -329,7 +414,11 @@ def test_what_another_station_says_is_taken_whole_or_not_at_all(kind, told):
 def test_what_another_station_says_is_taken():
     other = Other(OtherStation("north", "http://127.0.0.1:1", None))
     state = {"cameras": [{"name": "left"}], "alerts": [{"id": 3, "text": "dark", "camera": "left"}]}
-    for kind, told in (("state", state), ("events", [EVENT]), ("more", {"cameras": {"left": {"advice": ""}}})):
+    for kind, told in (
+        ("state", state),
+        ("events", [EVENT]),
+        ("more", {"cameras": {"left": {"advice": ""}}}),
+    ):
         other.take(kind, json.dumps(told).encode())
     found = state_of({"cameras": [], "alerts": []}, [other])
     assert [it["name"] for it in found["cameras"]] == ["north:left"]
@@ -338,7 +427,7 @@ def test_what_another_station_says_is_taken():
     assert joined([("north", event_of(other, EVENT))], Presses(9))[0]["key"] == "north:left.0.0"
 
 
-# -------------------------------------------------------------------------------------------- clocks
+# ------------------------------------------------------------------------------------------- clocks
 
 
 def test_a_page_without_cameras_of_its_own_keeps_at_the_others(make):
@@ -364,7 +453,7 @@ def test_a_page_without_cameras_of_its_own_keeps_at_the_others(make):
 def test_a_page_without_any_camera_is_refused(make):
     hub = make(page=False, station=False)
     hub.config = None
-    (hub.folder / "page.toml").write_text("notes = \"notes\"\n")
+    (hub.folder / "page.toml").write_text('notes = "notes"\n')
     run = hub.begin(*hub.program({}), "--settings", "page.toml")
     assert "[[station]]" in run.communicate(timeout=LIMIT)[0] and run.returncode == 1
 
@@ -378,10 +467,16 @@ def test_a_clock_that_is_off_is_warned_of_and_one_that_is_not_is_not(make):
     hub.start_page("--settings", "page.toml")
     hub.until(lambda: ("clock", "north") in hub.alerts(), "warning")
     found = station_of(hub, "north")
-    assert abs(found["offset_us"] - 3_000_000) <= found["error_us"] + 1000 and "ahead of this one" in found["text"]
+    assert (
+        abs(found["offset_us"] - 3_000_000) <= found["error_us"] + 1000
+        and "ahead of this one" in found["text"]
+    )
     hub.until(lambda: station_of(hub, "south")["offset_us"] is not None, "measure")
     other = station_of(hub, "south")
-    assert abs(other["offset_us"]) <= other["error_us"] + 1000 and ("clock", "south") not in hub.alerts()
+    assert (
+        abs(other["offset_us"]) <= other["error_us"] + 1000
+        and ("clock", "south") not in hub.alerts()
+    )
     north.spoil("clock", "0")
     hub.until(lambda: ("clock", "north") not in hub.alerts(), "end of the warning")
 
@@ -405,15 +500,26 @@ def test_a_clock_is_off_only_where_that_is_certain():
     assert behind.is_off()
 
 
-# -------------------------------------------------------------------------------------------- events
+# ------------------------------------------------------------------------------------------- events
 
 
 def event(camera, since, until, number=None, tag=0):
     """An event of one clip."""
     clip = {"camera": camera, "id": 0, "first": 0, "from_us": since, "to_us": until, "frames": 101}
     return {
-        "key": f"{camera}.0.0", "number": number, "from_us": since, "to_us": until, "tag": tag, "seconds": 1.0,
-        "cameras": [camera], "bytes": 1, "note": "", "fetched": False, "until_us": None, "lacks": [], "clips": [clip],
+        "key": f"{camera}.0.0",
+        "number": number,
+        "from_us": since,
+        "to_us": until,
+        "tag": tag,
+        "seconds": 1.0,
+        "cameras": [camera],
+        "bytes": 1,
+        "note": "",
+        "fetched": False,
+        "until_us": None,
+        "lacks": [],
+        "clips": [clip],
     }
 
 
@@ -427,7 +533,11 @@ def test_events_of_one_span_are_one_and_others_are_not():
     near = [("", event("a", 0, 10 * second)), ("n", event("n:a", 50_000, 10 * second + 200_000))]
     assert cameras_of(near) == [["a", "n:a"]]
     assert are_near(near[0][1], near[1][1])
-    for other in (event("n:a", 2 * second, 10 * second), event("n:a", 0, 12 * second), event("n:a", 0, 10 * second, tag=7)):
+    for other in (
+        event("n:a", 2 * second, 10 * second),
+        event("n:a", 0, 12 * second),
+        event("n:a", 0, 10 * second, tag=7),
+    ):
         assert cameras_of([near[0], ("n", other)]) == [["a"], ["n:a"]]
     # Two of one station are two, however near.
     assert cameras_of([near[0], ("", event("b", 0, 10 * second))]) == [["a"], ["b"]]
@@ -436,7 +546,11 @@ def test_events_of_one_span_are_one_and_others_are_not():
 def test_a_press_of_this_page_is_one_event_by_its_numbers_whatever_the_times():
     presses = Presses(9)
     presses.add([("", 5), ("n", 6)])
-    far = [("", event("a", 0, 10**7, 5)), ("n", event("n:a", 10**8, 10**9, 6)), ("s", event("s:a", 0, 10**7, 9))]
+    far = [
+        ("", event("a", 0, 10**7, 5)),
+        ("n", event("n:a", 10**8, 10**9, 6)),
+        ("s", event("s:a", 0, 10**7, 9)),
+    ]
     assert cameras_of(far, presses) == [["a", "n:a"], ["s:a"]]
     presses = Presses(2)
     for number in range(5):
@@ -451,7 +565,11 @@ def test_presses_are_known_after_a_restart(tmp_path, caplog):
         presses.add([("", number), ("n", 10 + number)])
     presses.add([("", 9)])
     again = Presses(4, path)
-    assert again.of("n", 12) == ("", 2) and again.of("", 1) == ("", 1) and again.of("", 0) is again.of("", 9) is None
+    assert (
+        again.of("n", 12) == ("", 2)
+        and again.of("", 1) == ("", 1)
+        and again.of("", 0) is again.of("", 9) is None
+    )
     # One that was cut, or is something else, is told, and made anew.
     for text in ("{", "[]", '{"presses": [[1]]}', '{"presses": 5}'):
         (tmp_path / "presses").write_text(text)
@@ -466,7 +584,7 @@ def test_presses_are_known_after_a_restart(tmp_path, caplog):
     assert nowhere.of("n", 6) == ("", 5) and "can't be written" in caplog.text
 
 
-# ------------------------------------------------------------------------------------------- settings
+# ----------------------------------------------------------------------------------------- settings
 
 
 @pytest.mark.parametrize(
@@ -486,8 +604,13 @@ def test_a_wrong_station_is_refused_by_name(table, said):
 
 
 def test_stations_have_names_of_their_own():
-    found = stations_of([{"url": "http://north.lab:8080/"}, {"url": "https://10.0.0.2"}], "page.toml")
-    assert [(it.name, it.url) for it in found] == [("north-lab", "http://north.lab:8080"), ("10-0-0-2", "https://10.0.0.2")]
+    found = stations_of(
+        [{"url": "http://north.lab:8080/"}, {"url": "https://10.0.0.2"}], "page.toml"
+    )
+    assert [(it.name, it.url) for it in found] == [
+        ("north-lab", "http://north.lab:8080"),
+        ("10-0-0-2", "https://10.0.0.2"),
+    ]
     with pytest.raises(BadSettings, match="is another one's"):
         stations_of([{"url": "http://x:1/"}, {"url": "http://x:2/"}], "page.toml")
     with pytest.raises(BadSettings, match="at most 16"):

@@ -6,19 +6,46 @@ from pathlib import Path
 import pytest
 from station_page import words
 
-STATION = (Path(__file__).resolve().parent.parent.parent / "docs" / "station.md").read_text(encoding="utf-8")
-STATUS = {"kind": "status", "camera": "left", "stored": 191, "given_up": 2, "waiting": 3, "behind_micros": 449_000, "room": 12, "faults": 1, "source": "on"}
+STATION = (Path(__file__).resolve().parent.parent.parent / "docs" / "station.md").read_text(
+    encoding="utf-8"
+)
+STATUS = {
+    "kind": "status",
+    "camera": "left",
+    "stored": 191,
+    "given_up": 2,
+    "waiting": 3,
+    "behind_micros": 449_000,
+    "room": 12,
+    "faults": 1,
+    "source": "on",
+}
 
 
 def line_of(kind, **members):
     """A line of the station, read."""
-    return words.read_line(json.dumps({"time": "2026-11-22T15:38:00.123Z", "kind": kind, "camera": "left"} | members))
+    return words.read_line(
+        json.dumps({"time": "2026-11-22T15:38:00.123Z", "kind": kind, "camera": "left"} | members)
+    )
 
 
 def test_a_line_is_read_with_and_without_a_label():
-    kept = {"id": 0, "first": 93, "last": 217, "from": "2026-11-22T15:37:55.117Z", "to": "2026-11-22T15:38:00.077Z", "event": 1795361880123456}
+    kept = {
+        "id": 0,
+        "first": 93,
+        "last": 217,
+        "from": "2026-11-22T15:37:55.117Z",
+        "to": "2026-11-22T15:38:00.077Z",
+        "event": 1795361880123456,
+    }
     found = line_of("kept", label="a-1", tag=7, **kept)
-    assert (found.label, found.kind, found.camera, found["first"], found["tag"]) == ("a-1", "kept", "left", 93, 7)
+    assert (found.label, found.kind, found.camera, found["first"], found["tag"]) == (
+        "a-1",
+        "kept",
+        "left",
+        93,
+        7,
+    )
     assert (found["from"], found["to"]) == (1795361875117000, 1795361880077000)
     found = line_of("kept", **kept)
     assert (found.label, found["tag"]) == (None, None)
@@ -89,7 +116,12 @@ def test_the_page_reads_no_member_that_a_kind_has_not(kind):
 
 def test_each_reason_that_the_station_may_name_has_a_sentence():
     tables = STATION.split("| WHY | What it is |\n|---|---|\n")[1:]
-    named = {word for table in tables for row in table.split("\n\n")[0].splitlines() for word in re.findall(r"`(\w+)", row.split(" | ")[0])}
+    named = {
+        word
+        for table in tables
+        for row in table.split("\n\n")[0].splitlines()
+        for word in re.findall(r"`(\w+)", row.split(" | ")[0])
+    }
     assert {"Busy", "CannotWrite"} <= named and named <= set(words.WHY)
     unusable = re.search(r"no store may have its frames: (.*?): change", STATION)[1]
     assert set(re.findall(r"`(\w+)`", unusable)) <= set(words.WHY)
@@ -106,12 +138,30 @@ SINCE = {"since": "2026-11-22T15:38:00.123Z"}
         ("source_missing", {}, "missing", True, "plugged in"),
         ("source_unusable", {"why": "RateUnknown"}, "unusable", True, "says no rate"),
         ("other_geometry", FRAMES, "other", True, "320x240 GREY 30:1"),
-        ("source_on", {**FRAMES, "bits": 12}, "source", False, "320x240 GREY 30:1, 12 bits a sample"),
+        (
+            "source_on",
+            {**FRAMES, "bits": 12},
+            "source",
+            False,
+            "320x240 GREY 30:1, 12 bits a sample",
+        ),
         ("times_back", {}, "times", True, "go back"),
         ("no_times", {}, "times", True, "says no times"),
-        ("frames_gap", {"micros": 120_000, "at": "2026-11-22T15:38:00.123Z"}, "gap", True, "0.1 s before 2026"),
+        (
+            "frames_gap",
+            {"micros": 120_000, "at": "2026-11-22T15:38:00.123Z"},
+            "gap",
+            True,
+            "0.1 s before 2026",
+        ),
         ("store_open", {}, "open", False, "open"),
-        ("store_open", {"held_micros": 30_800_000, "asked_micros": 300_000_000}, "small", True, "30.8 s of 300.0 s"),
+        (
+            "store_open",
+            {"held_micros": 30_800_000, "asked_micros": 300_000_000},
+            "small",
+            True,
+            "30.8 s of 300.0 s",
+        ),
         ("store_absent", {"why": "NoRoom"}, "absent", True, "disk is full"),
         ("store_absent", {"why": "TooManyFrames 10.9"}, "absent", True, "10.9 minutes fit"),
         ("store_absent", {"why": "NoStore"}, "absent", True, "plugged in"),
@@ -122,15 +172,51 @@ SINCE = {"since": "2026-11-22T15:38:00.123Z"}
         ("room_again", {}, "room", False, "room"),
         ("behind", {"micros": 1_449_000}, "behind", True, "1.4 s"),
         ("caught_up", {}, "caught up", False, "wait"),
-        ("waited", {"micros": 3_200_000, **SINCE}, "waited", True, "3.2 s since 2026-11-22T15:38:00.123000Z"),
-        ("too_slow", {"micros": 250_000, "frames_a_second": 16}, "too slow", True, "16 frames a second"),
+        (
+            "waited",
+            {"micros": 3_200_000, **SINCE},
+            "waited",
+            True,
+            "3.2 s since 2026-11-22T15:38:00.123000Z",
+        ),
+        (
+            "too_slow",
+            {"micros": 250_000, "frames_a_second": 16},
+            "too slow",
+            True,
+            "16 frames a second",
+        ),
         ("not_a_store", {"path": "left.loop"}, "not a store", True, "left.loop isn't a store"),
-        ("saved", {"id": 3, "path": "a b.y4m", "frames": 125}, "saved", False, "clip 3 was saved as a b.y4m, 125"),
-        ("not_saved", {"id": 3, "path": "a b.y4m", "why": "CannotWrite"}, "not saved", True, "a b.y4m: the disk is full"),
-        ("save_waits", {"id": 3, "path": "a b.y4m", "why": "MissingFolder"}, "save waits", True, "folder isn't there"),
+        (
+            "saved",
+            {"id": 3, "path": "a b.y4m", "frames": 125},
+            "saved",
+            False,
+            "clip 3 was saved as a b.y4m, 125",
+        ),
+        (
+            "not_saved",
+            {"id": 3, "path": "a b.y4m", "why": "CannotWrite"},
+            "not saved",
+            True,
+            "a b.y4m: the disk is full",
+        ),
+        (
+            "save_waits",
+            {"id": 3, "path": "a b.y4m", "why": "MissingFolder"},
+            "save waits",
+            True,
+            "folder isn't there",
+        ),
         ("released", {"id": 3}, "released", False, "clip 3"),
         ("event_whole", {"event": 1795361880123456}, "whole", False, "2026-11-22T15:38:00.123456Z"),
-        ("event_not_whole", {"event": 1795361880123456, "why": "Gaps"}, "not whole", True, "frames of that time are missing"),
+        (
+            "event_not_whole",
+            {"event": 1795361880123456, "why": "Gaps"},
+            "not whole",
+            True,
+            "frames of that time are missing",
+        ),
     ],
 )
 def test_each_event_has_a_sentence(line, members, kind, is_bad, said):
@@ -138,7 +224,13 @@ def test_each_event_has_a_sentence(line, members, kind, is_bad, said):
     assert (event.kind, event.camera, event.is_bad) == (kind, "left", is_bad) and said in event.text
 
 
-@pytest.mark.parametrize("line, members, said", [("stood_still", {"micros": 3_200_000, **SINCE}, "3.2 s since"), ("dropped_lines", {"lines": 7}, "7 lines")])
+@pytest.mark.parametrize(
+    "line, members, said",
+    [
+        ("stood_still", {"micros": 3_200_000, **SINCE}, "3.2 s since"),
+        ("dropped_lines", {"lines": 7}, "7 lines"),
+    ],
+)
 def test_what_concerns_no_camera_is_told_of_none(line, members, said):
     event = words.event_of(line_of(line, **members))
     assert event.camera is None and event.is_bad and said in event.text
