@@ -7,13 +7,14 @@ page gives, and prints what docs/station.md says.
 It films a pendulum into each camera's store of the configuration, in the size, format and rate of
 `pattern`. Beside the station's orders it takes `!print LINE`, which prints a line of JSON, and
 `!raw LINE`, which writes one as it is; `!pause CAMERA` and `!go CAMERA`, which stop and start its
-frames; `!mute`, after which nothing is answered any more; `!absent CAMERA WHY` and `!there CAMERA`,
-between which it has no store; `!source CAMERA WORDS`, which its status then says; `!behind CAMERA
-SECONDS`, the same; `!making CAMERA PERCENT`; `!end CAMERA`, which ends its events that go on;
-`!hang CAMERA`, after which it answers no keep, whose answer never ends; and `!saving CAMERA`, whose clips can't be released. A camera's `scene` is what
-it films: a `pendulum`, also `warm` or `cold`, or a dark `beam`. What it prints is JSON everywhere,
-unless the configuration says otherwise of the answers; then it has words there that the page
-doesn't read. The orders that it was given are in the file `ordered`."""
+frames; `!mute`, after which nothing is answered any more; `!absent CAMERA WHY` and `!there
+CAMERA`, between which it has no store; `!source CAMERA WORDS`, which its status then says;
+`!behind CAMERA SECONDS`, the same; `!making CAMERA PERCENT`; `!end CAMERA`, which ends its events
+that go on; `!hang CAMERA`, after which it answers no keep, whose answer never ends; and `!saving
+CAMERA`, whose clips can't be released. A camera's `scene` is what it films: a `pendulum`, also
+`warm` or `cold`, or a dark `beam`. What it prints is JSON everywhere, unless the configuration
+says otherwise of the answers; then it has words there that the page doesn't read. The orders that
+it was given are in the file `ordered`."""
 import datetime
 import json
 import math

@@ -5,8 +5,8 @@
 
 Each is a copy of python/ with one change of one place. The tests that need no page run over it
 first, and then those that it names. It prints a line for each body, and ends with 1 where one
-survives that isn't among those that README.md names. They are of the code that reads the station's lines, of
-events by number, of notes, of keeps and of several stores."""
+survives that isn't among those that README.md names. They are of the code that reads the station's
+lines, of events by number, of notes, of keeps and of several stores."""
 import os
 import shutil
 import subprocess
