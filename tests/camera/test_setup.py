@@ -313,7 +313,7 @@ def test_what_can_not_be_is_refused_and_nothing_is_written(laboratory, capsys, m
 
 
 def test_a_device_is_set_up_by_its_modes(laboratory, capsys, monkeypatch):
-    modes = [v4l2.Mode("yuyv422", 640, 480, ["30", "15"]), v4l2.Mode("y12", 320, 240, [])]
+    modes = [v4l2.Mode("YUYV", 640, 480, ["30", "15"]), v4l2.Mode("Y12", 320, 240, [])]
     monkeypatch.setattr(v4l2, "devices", lambda: [v4l2.Found("/dev/video7", "A webcam", modes)])
     given = [
         "--source",
@@ -327,13 +327,15 @@ def test_a_device_is_set_up_by_its_modes(laboratory, capsys, monkeypatch):
     ]
     assert laboratory.run(*given, "--camera", "web") == 0
     assert (laboratory.etc / "web.camera").read_text() == (
-        "DEVICE=/dev/video7\nDEVICE_FORMAT=yuyv422\nSIZE=640x480\nRATE=30\nSTORE_FORMAT=yuv420p\n"
+        "DEVICE=/dev/video7\nDEVICE_FORMAT=YUYV\nSIZE=640x480\nRATE=30\n"
     )
-    assert laboratory.run(*given, "--camera", "deep", "--format", "y12") == 0
+    assert laboratory.run(*given, "--camera", "deep", "--format", "Y12") == 0
     assert (
         laboratory.etc / "deep.camera"
-    ).read_text() == "DEVICE=/dev/video7\nDEVICE_FORMAT=y12\nSIZE=320x240\nRATE=30\n"
+    ).read_text() == "DEVICE=/dev/video7\nDEVICE_FORMAT=Y12\nSIZE=320x240\nRATE=30\n"
     assert [it["name"] for it in laboratory.config()["camera"]] == ["web", "deep"]
+    # Its frames have the kernel's times.
+    assert {it["times_from"] for it in laboratory.config()["camera"]} == {"source"}
     capsys.readouterr()
 
 

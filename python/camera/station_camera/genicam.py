@@ -15,6 +15,8 @@ from gi.repository import Aravis, GLib  # noqa: E402
 from . import samples  # noqa: E402
 from .clock import Clock  # noqa: E402
 from .counts import Counts, Lost  # noqa: E402
+from .faults import Gone, Refused  # noqa: E402
+from .text import BadFrames, Form  # noqa: E402
 from .words import Wanted  # noqa: E402
 
 # Aravis' own camera without hardware, whose frames have known pixels.
@@ -37,14 +39,6 @@ LATCHES = (
     ("TimestampLatch", "TimestampLatchValue", None),
     ("GevTimestampControlLatch", "GevTimestampValue", "GevTimestampTickFrequency"),
 )
-
-
-class Gone(Exception):
-    """The camera has gone, or doesn't answer."""
-
-
-class Refused(Exception):
-    """The camera doesn't take what the file asks for."""
 
 
 class Found(NamedTuple):
@@ -294,6 +288,37 @@ class Camera:
         return Clock(
             self.wanted.clock, self.tell, None if self.wanted.clock == "arrival" else self.latch()
         )
+
+    def form(self, _picture: Picture | None = None) -> Form:
+        """What its frames become."""
+        format, wanted = self.format, self.wanted
+        bits = 8 if wanted.bits else format.bits
+        plain = "gray" if bits == 8 else f"gray{bits}le"
+        colour = wanted.store_format or (plain if format.is_samples() else "yuv420p")
+        form = Form(self.width, self.height, colour, self.rate)
+        if format.is_samples() and not self.ffmpeg(form) and colour != plain:
+            raise BadFrames(
+                f"STORE_FORMAT={colour}: {format.name} gives {plain}"
+                + (", or gray by BITS=8" if colour == "gray" else "")
+            )
+        form.check()
+        return form
+
+    def ffmpeg(self, form: Form) -> str | None:
+        """ffmpeg's word for what it makes into the store's frames, or None where they are such."""
+        is_grey = self.format.is_grey() or self.format.is_bayer() and form.kind() == "gray"
+        return None if is_grey else self.format.ffmpeg
+
+    def pixels(self, it: Picture, _form: Form, is_for_ffmpeg: bool) -> list[Any]:
+        """The bytes of a frame, in pieces."""
+        given = self.format, it.data, it.width, it.height, it.padding
+        if is_for_ffmpeg:
+            return [samples.full(*given)]
+        return [samples.frame(*given, to_8=self.wanted.bits == 8)]
+
+    def what(self) -> str:
+        """What it gives, in words."""
+        return f"{self.format.name}, {self.buffers()} buffers"
 
     def buffers(self) -> int:
         """How many buffers there are."""

@@ -11,7 +11,7 @@ from fractions import Fraction
 from pathlib import Path
 from typing import Any, NamedTuple
 
-from . import disk, found, pictures, samples, services, v4l2, words, written
+from . import disk, found, pictures, planes, services, words, written
 from .ask import Ask, Stopped
 from .found import Offer
 from .text import BadFrames, Form
@@ -146,8 +146,13 @@ class Setup:
         given = self.given
         key = "FORMAT" if it.kind == "genicam" else "DEVICE_FORMAT"
         first = old.get(key) or it.format
+        if it.kind == "device" and first:
+            # A file of before has ffmpeg's word for a format.
+            first = planes.WORDS.get(first.lower(), first)
         at = it.formats.index(first) if first in it.formats else 0
         format = given.format or it.formats[self.ask.one_of("Formats:", it.formats, at)]
+        if it.kind == "device":
+            format = planes.WORDS.get(format.lower(), format)
         if format not in it.formats:
             raise Stopped(f"--format {format}: it gives {' '.join(it.formats)}")
         if it.kind == "genicam":
@@ -195,13 +200,12 @@ class Setup:
             self.given.rate,
             self._wrong_rate,
         )
-        stored = None if format in v4l2.DEEP else v4l2.STORED.get(format, "yuv420p")
         return {
             "DEVICE": it.word,
             "DEVICE_FORMAT": format,
             "SIZE": size,
             "RATE": rate,
-            "STORE_FORMAT": self.given.store_format or old.get("STORE_FORMAT") or stored,
+            "STORE_FORMAT": self.given.store_format or old.get("STORE_FORMAT"),
             "BITS": self.given.bits or old.get("BITS"),
         }
 
@@ -410,7 +414,7 @@ class Setup:
         form = form or expected(wanted)
         form.check()
         minutes = self.minutes(form)
-        is_timed = offer.kind == "genicam" and wanted.clock != "arrival"
+        is_timed = wanted.clock != "arrival"
         text, store = self.station(name, minutes, is_timed)
         self._write(file, made)
         self.old_store(store, form, minutes)
@@ -448,21 +452,17 @@ def expected(wanted: words.Wanted) -> Form:
     if size is None or wanted.rate is None:
         raise Stopped("without a picture the size and the rate have to be given")
     if wanted.device:
-        bits = v4l2.DEEP.get(wanted.device_format, 8)
-        plain = wanted.store_format or "yuv420p"
+        lay = planes.lay_of(wanted.device_format or "")
+        # What a JPEG has only a picture tells.
+        plain, bits = lay.colour or "yuv422p", lay.bits
     else:
-        format = samples.format_of(wanted.format)
-        bits = format.bits
-        plain = wanted.store_format or ("gray" if format.is_samples() else "yuv420p")
-    deep = (
-        bits > 8
-        and not wanted.bits
-        and plain == "gray"
-        or wanted.device
-        and bits > 8
-        and not wanted.bits
-    )
-    return Form(size.width, size.height, f"gray{bits}le" if deep else plain, wanted.rate)
+        from . import samples
+
+        format = samples.format_of(wanted.format or "")
+        plain, bits = planes.grey(format.bits) if format.is_samples() else "yuv420p", format.bits
+    if wanted.bits and bits > 8:
+        plain = "gray"
+    return Form(size.width, size.height, wanted.store_format or plain, wanted.rate)
 
 
 def main(given_words: list[str], doc: str, ask: Ask | None = None) -> int:

@@ -92,10 +92,12 @@ class Text:
         """Writes the first line."""
         self._write([form.header()])
 
-    def frame(self, pixels, micros: int | None = None) -> None:
-        """Writes a frame, with the time of the camera where there is one, since 1970."""
-        line = b"FRAME\n" if micros is None else b"FRAME Xt=%d\n" % micros
-        self._write([line, pixels])
+    def frame(self, pieces: list, micros: int | None = None, number: int | None = None) -> None:
+        """Writes a frame, with the time of the camera, since 1970, and its number, where there are
+        such."""
+        time = "" if micros is None else f" Xt={micros}"
+        own = "" if number is None else f" Xn={number}"
+        self._write([f"FRAME{time}{own}\n".encode(), *pieces])
 
     def _write(self, pieces: list) -> None:
         """Writes all bytes of these pieces."""
