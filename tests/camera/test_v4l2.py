@@ -7,6 +7,7 @@ import re
 import shutil
 import subprocess
 import sys
+import time
 from fractions import Fraction
 from pathlib import Path
 
@@ -790,6 +791,27 @@ def test_so_many_frames_end_it(camera, stand_in):
     stand_in.write_text("")
     it = camera(f"DEVICE={stand_in}\nDEVICE_FORMAT=YUYV\nSIZE=8x4\nRATE=50\n", "--frames", "5")
     assert it.wait() == 0 and len(it.text()[1]) == 5
+
+
+def test_a_camera_that_is_there_waits_for_a_reader_of_its_pipe(camera, stand_in, tmp_path):
+    os.mkfifo(tmp_path / "pipe")
+    stand_in.write_text("")
+    words = "--to", "pipe", "--frames", "3"
+    it = camera(f"DEVICE={stand_in}\nDEVICE_FORMAT=YUYV\nSIZE=8x4\nRATE=50\n", *words)
+    time.sleep(0.5)
+    assert it.run.poll() is None and it.told() == ""
+    # The first frame that it takes is the camera's first.
+    assert len(parsed((tmp_path / "pipe").read_bytes())[1]) == 3 and it.wait() == 0
+    assert it.log()[0][0] == 0
+
+
+def test_a_signal_ends_the_wait_for_a_reader(camera, stand_in, tmp_path):
+    os.mkfifo(tmp_path / "pipe")
+    it = camera(f"DEVICE={stand_in}\nDEVICE_FORMAT=YUYV\nSIZE=8x4\nRATE=50\n", "--to", "pipe")
+    it.says("waiting for")
+    stand_in.write_text("")
+    time.sleep(1.5)
+    assert it.stop() == 0 and "ended: 0 frames given on" in it.told()
 
 
 def test_a_device_that_is_none_is_told(camera):

@@ -102,6 +102,8 @@ class Film:
         """Films until the camera goes."""
         camera = self.kind.open()
         try:
+            if not self.out.open(self.asked):
+                return
             with contextlib.closing(Stream(self, camera)) as stream:
                 with contextlib.closing(camera.film(self.counts, self.asked)) as pictures:
                     for it in pictures:

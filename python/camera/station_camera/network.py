@@ -35,8 +35,10 @@ def ffmpeg_words(wanted: Wanted) -> list[str]:
     ]
 
 
-def film(wanted: Wanted, out: Text, tell: Callable[[str], None]) -> None:
+def film(wanted: Wanted, out: Text, tell: Callable[[str], None], asked: Callable[[], bool]) -> None:
     """Becomes ffmpeg over a source."""
+    if not out.open(asked):
+        return
     command = ffmpeg_words(wanted)
     tell(
         f"filming {wanted.source} by ffmpeg: it has no numbers, so what is lost isn't counted, and "

@@ -1,7 +1,6 @@
 """The program loop_camera: its words, and a camera from its file to the text."""
 from __future__ import annotations
 
-import os
 import signal
 import sys
 from pathlib import Path
@@ -132,12 +131,10 @@ def film(given: Options, tell, calls: Any = None) -> int:
         return 1
     asked = Asked()
     try:
-        # A pipe waits here for its reader.
-        out = Text(
-            os.open(given.to, os.O_WRONLY | os.O_CREAT | os.O_TRUNC, 0o644) if given.to else 1
-        )
+        out = Text(None, given.to) if given.to else Text(1)
         if wanted.source:
-            network.film(wanted, out, tell)
+            network.film(wanted, out, tell, asked)
+            return 0
         kind = OfGenicam(wanted, tell) if wanted.genicam else OfLinux(wanted, tell, calls)
         Film(kind, out, tell, asked, given.frames, given.log).run()
     except Ended:
