@@ -3,6 +3,7 @@ from __future__ import annotations
 
 import contextlib
 import gc
+import socket
 import time
 from fractions import Fraction
 from typing import Any, Callable, Iterator, NamedTuple
@@ -29,6 +30,8 @@ BUFFER_ROOM, BUFFERS_LEAST, BUFFERS_MOST = 256_000_000, 8, 200
 POLL, SILENCE, STUCK = 0.2, 2.0, 10.0
 # How often the clocks are compared.
 CLOCK_EVERY = 60.0
+# What the socket of GigE Vision is to hold while nobody looks at it: some frames, within these.
+SOCKET_FRAMES, SOCKET_LEAST, SOCKET_MOST = 4, 4_000_000, 32_000_000
 OK = Aravis.BufferStatus.SUCCESS
 # The names that streams have for what they count. Those of GigE Vision count packets.
 COUNTED = {"resent": "n_resent_packets", "missing": "n_missing_packets"}
@@ -340,6 +343,8 @@ class Camera:
             stream = self.camera.create_stream(None, None)
         if stream is None:
             raise Gone("it gives no stream")
+        if self.camera.is_gv_device():
+            widen(stream, self.payload, self.tell)
         try:
             for _ in range(self.buffers()):
                 stream.push_buffer(Aravis.Buffer.new_allocate(self.payload))
@@ -406,6 +411,33 @@ class Camera:
             padding,
             data,
         )
+
+
+def widen(
+    stream: Any,
+    payload: int,
+    tell: Callable[[str], None],
+    allowed: Callable[[int], int] | None = None,
+) -> None:
+    """Gives the socket of a stream room for some frames, and says where the system doesn't allow
+    that. Without it Aravis leaves the socket as large as the system makes any."""
+    wanted = max(SOCKET_LEAST, min(SOCKET_MOST, SOCKET_FRAMES * payload))
+    stream.set_property("socket-buffer", Aravis.GvStreamSocketBuffer.FIXED)
+    stream.set_property("socket-buffer-size", wanted)
+    has = (allowed or socket_room)(wanted)
+    if has < wanted:
+        tell(
+            f"the network's buffer has {has} bytes, of {wanted} that are wanted, so packets may be "
+            "lost: sudo sysctl net.core.rmem_max=33554432"
+        )
+
+
+def socket_room(wanted: int) -> int:
+    """How much of a socket's buffer the system allows, of so much."""
+    with socket.socket(socket.AF_INET, socket.SOCK_DGRAM) as it:
+        it.setsockopt(socket.SOL_SOCKET, socket.SO_RCVBUF, wanted)
+        # The kernel doubles what it is asked for, for its own needs.
+        return it.getsockopt(socket.SOL_SOCKET, socket.SO_RCVBUF) // 2
 
 
 def counts_of(stream: Any) -> dict[str, int]:
