@@ -7,12 +7,14 @@ import sys
 import tempfile
 import time
 import tomllib
+import traceback
 from fractions import Fraction
 from pathlib import Path
 from typing import Any, NamedTuple
 
 from . import disk, found, pictures, planes, services, words, written
 from .ask import Ask, Stopped
+from .faults import Failed, Refused
 from .found import Offer
 from .text import BadFrames, Form
 from .words import BadFile
@@ -233,8 +235,8 @@ class Setup:
         folder = Path(self.given.folder or tempfile.mkdtemp(prefix="loop_setup."))
         folder.chmod(0o755) if not self.given.folder else folder.mkdir(parents=True, exist_ok=True)
         try:
-            taken = pictures.take(content, name, folder)
-        except pictures.Failed as fault:
+            taken = pictures.take(content, name, folder, self.is_real())
+        except Failed as fault:
             if stops:
                 services.run("start", unit)
             raise Stopped(f"{name}: {fault}") from None
@@ -243,13 +245,30 @@ class Setup:
             f"a picture is in {taken.path}: {taken.form.width}x{taken.form.height} "
             f"{taken.form.colour}{came}"
         )
+        if taken.missed:
+            self.tell(f"while it was taken: {taken.missed}")
         return taken.form
+
+    def is_real(self) -> bool:
+        """Whether this is no trial: then what is tried is tried as the services' users."""
+        return self.given.root == "/"
+
+    def measured(self) -> disk.Disk:
+        """The disk of the stores, as the station's user finds it."""
+        own = pictures.user_of("loop_station") if self.is_real() else {}
+        try:
+            return disk.measured_by(self.paths.stores, own)
+        except PermissionError:
+            raise Stopped(
+                f"the station's user can't write into {self.paths.stores}: "
+                f"sudo chown loop_station:loop_station {self.paths.stores}"
+            ) from None
 
     def minutes(self, form: Form) -> float:
         """How much the store is to hold."""
         self.paths.stores.mkdir(parents=True, exist_ok=True)
         self.tell(f"measuring the disk of {self.paths.stores}")
-        it = disk.measured(self.paths.stores)
+        it = self.measured()
         self.tell(
             f"it writes {it.bandwidth / 1e6:.0f} MB a second, a sync takes {it.sync:.1f} ms "
             f"({it.worst:.0f} at most), "
@@ -475,22 +494,28 @@ def main(given_words: list[str], doc: str, ask: Ask | None = None) -> int:
     def tell(line: str) -> None:
         print(line, flush=True)
 
-    if given.list:
-        from .program import list_all
-
-        return list_all(given.fake)
-    if os.geteuid() and given.root == "/":
-        print(
-            "loop_setup: it writes into /etc/lapyrei and starts services: sudo loop_setup",
-            file=sys.stderr,
-        )
-        return 1
     try:
+        if given.list:
+            from .program import list_all
+
+            return list_all(given.fake)
+        if os.geteuid() and given.root == "/":
+            raise Stopped("it writes into /etc/lapyrei and starts services: sudo loop_setup")
         Setup(given, ask or Ask(given.yes), tell).run()
-    except (Stopped, services.Failed, BadFile, BadFrames, OSError) as fault:
+    except (Stopped, Failed, services.Failed, Refused, BadFile, BadFrames, OSError) as fault:
         print(f"loop_setup: {fault}", file=sys.stderr)
         return 1
     except KeyboardInterrupt:
         print("\nloop_setup: ended", file=sys.stderr)
         return 1
+    except Exception as fault:
+        print(f"loop_setup: {own_fault(fault)}", file=sys.stderr)
+        return 1
     return 0
+
+
+def own_fault(fault: Exception) -> str:
+    """A fault of this program, in one sentence: what nobody has thought of."""
+    place = traceback.extract_tb(fault.__traceback__)[-1]
+    where = f"{os.path.basename(place.filename)}:{place.lineno}"
+    return f"a fault of its own, which is to be told: {type(fault).__name__}: {fault} ({where})"
