@@ -426,6 +426,7 @@ def test_every_buffer_is_given_back(tmp_path):
         (dict(faults={"S_FMT": errno.EINVAL}), "DEVICE_FORMAT=YUYV\n", "DEVICE_FORMAT=YUYV: "),
         (dict(faults={"open": errno.EACCES}), "", "the user has to be in the group video"),
         (dict(faults={"STREAMON": errno.EPIPE}), "", "it doesn't begin: Broken pipe"),
+        (dict(faults={"STREAMON": errno.ENOSPC}), "", "its USB has no room left"),
         (dict(), "CONTROL_gain=3\n", "CONTROL_gain=3: the device has no such control"),
     ],
 )
@@ -689,7 +690,7 @@ def test_a_camera_that_is_plugged_in_again_is_found_by_the_name_that_stays(tmp_p
     assert it.says(f"^waiting for {folder}/usb-cam: it isn't there$") and len(it.frames) == 4
 
 
-@pytest.mark.parametrize("fault", [errno.EIO, errno.EINVAL, errno.ENODEV])
+@pytest.mark.parametrize("fault", [errno.EIO, errno.EINVAL, errno.EPIPE, errno.ENODEV])
 def test_a_stream_that_fails_begins_anew(tmp_path, monkeypatch, fault):
     class Fails(Device):
         def wait(self, descriptor, seconds):

@@ -39,6 +39,7 @@ WHY = {
     errno.ENODEV: "it has gone",
     errno.ENOENT: "it isn't there",
     errno.ENXIO: "it isn't there",
+    errno.ENOSPC: "its USB has no room left: choose fewer or smaller frames, or MJPG, or another port",
 }
 # Inputs without a signal.
 NO_SIGNAL = (errno.ENOLINK, errno.ENOLCK, errno.ERANGE)
@@ -489,7 +490,7 @@ class Camera:
         except OSError as fault:
             if fault.errno in (errno.EAGAIN, errno.EINTR):
                 return None
-            if fault.errno == errno.EINVAL:
+            if fault.errno in (errno.EINVAL, errno.EPIPE):
                 raise Gone("it gives no more frames") from None
             raise said(self.path, fault) from None
         return it, memory
