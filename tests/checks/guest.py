@@ -2,11 +2,13 @@
 
 Its clock counts the guest's instructions, so a busy machine makes it slow and doesn't change what
 it sees: nothing is late in it. Packages are fetched once, below /var/tmp; nothing is installed."""
+import ctypes
 import glob
 import lzma
 import os
 import re
 import shutil
+import signal
 import subprocess
 import sys
 import time
@@ -14,13 +16,12 @@ from pathlib import Path
 
 # Below which the packages lie, unpacked.
 KEPT = Path(os.environ.get("LAPYREI_GUEST", f"/var/tmp/lapyrei-guest-{os.getuid()}"))
+LIBC, PARENT_DEATH = ctypes.CDLL(None), 1
 WANTED = ["qemu-system-x86", "busybox-static"]
 BASE = ["virtio_pci", "virtio_blk", "virtio_console", "ext4", "crc32c_generic"]
 PYTHON, LIBRARY = "/usr/bin/python3.11", "/usr/lib/python3.11"
 # What Python has there isn't needed.
-UNUSED = (
-    "test __pycache__ idlelib lib2to3 distutils ensurepip config-* pydoc_data sqlite3 turtledemo"
-)
+UNUSED = "test idlelib lib2to3 distutils ensurepip config-* pydoc_data sqlite3 turtledemo"
 # How many nanoseconds an instruction of the guest takes, as a power of two.
 SHIFT = 2
 INIT = """#!/bin/busybox sh
@@ -129,6 +130,8 @@ def tree(root, work, programs, libraries):
     unused = shutil.ignore_patterns(*UNUSED.split())
     shutil.copytree(LIBRARY, root / LIBRARY[1:], ignore=unused, symlinks=True)
     shutil.copytree(work, root / "work", symlinks=True)
+    # Nothing is compiled in the guest, where that takes seconds.
+    told(PYTHON, "-m", "compileall", "-q", root / "work")
     needed = {os.path.realpath(it) for it in libraries}
     for it in [PYTHON, *programs, *libraries, *glob.glob(f"{LIBRARY}/lib-dynload/*.so")]:
         words = ["ldd", os.path.realpath(it)]
@@ -157,7 +160,7 @@ def words_of(folder, memory):
         str(root / "usr/bin/qemu-system-x86_64"),
         *(word for it in firmware for word in ("-L", it)),
         *("-accel", "tcg", "-icount", f"shift={SHIFT},sleep=off", "-rtc", "clock=vm"),
-        *("-cpu", "max", "-smp", "1", "-m", str(memory), "-nodefaults", "-no-user-config"),
+        *("-cpu", "Nehalem", "-smp", "1", "-m", str(memory), "-nodefaults", "-no-user-config"),
         *("-display", "none", "-no-reboot", "-kernel", kernel, "-initrd", f"{folder}/initrd"),
         *("-append", "console=ttyS0 quiet panic=-1 mitigations=off nokaslr random.trust_cpu=on"),
         *("-serial", f"file:{folder}/console", "-device", "virtio-serial-pci"),
@@ -195,6 +198,8 @@ def run(folder, work, options, programs=(), libraries=(), seconds=3600, memory=9
             stdin=subprocess.DEVNULL,
             stdout=said,
             stderr=said,
+            # It ends with the check, however that ends.
+            preexec_fn=lambda: LIBC.prctl(PARENT_DEATH, signal.SIGKILL),
         )
     try:
         shown(machine, folder / "told", seconds)

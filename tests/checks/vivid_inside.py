@@ -1,6 +1,6 @@
 """What vivid_check does in its guest: films the kernel's driver vivid by loop_camera, in each way
-that `plan` names, and leaves the texts, what was said, and what the witness noted in /out. It judges
-nothing.
+that `plan` names, and leaves the texts, what was said, and what the witness noted in /out. It
+judges nothing.
 
 video0 is a webcam, video1 one whose planes lie in several buffers, video2 a tuner, which gives
 fields."""
@@ -13,10 +13,6 @@ import time
 from pathlib import Path
 
 WORK, OUT = Path("/work"), Path("/out")
-sys.path[1:1] = [str(WORK / "true/python/camera"), str(WORK / "true/tools")]
-from station_camera import controls, v4l2
-from station_camera import videodev as v
-
 PATIENCE = 120
 BY_ID = Path("/dev/v4l/by-id/usb-vivid")
 DRIVER = Path("/sys/bus/platform/drivers/vivid")
@@ -36,16 +32,14 @@ def until(what, holds):
 class Film:
     """loop_camera over a file, into a text or a pipe."""
 
-    def __init__(self, variant, name, file, *words, to=None, raw=False):
+    def __init__(self, variant, name, file, to=None):
         self.place = OUT / variant / name
         self.place.mkdir(parents=True)
         (self.place / "left.camera").write_text(file)
         environment = dict(os.environ, LD_PRELOAD="/lib/witness.so")
         environment["WITNESS"] = str(self.place / "witness")
-        if raw:
-            environment["WITNESS_RAW"] = str(self.place / "raw")
         program = WORK / variant / "python/camera/loop_camera"
-        words = ["left.camera", "--to", to or "text", "--log", "log", *words]
+        words = ["left.camera", "--to", to or "text", "--log", "log"]
         with open(self.place / "said", "wb") as said:
             self.run = subprocess.Popen(
                 ["/bin/python3", "-B", str(program), *words],
@@ -81,38 +75,76 @@ class Film:
 
 
 class Knobs:
-    """The driver's own controls, by which it drops frames and marks them as faulty."""
+    """The driver's own controls, by which it drops frames and marks them as faulty. They are set by
+    the true loop_camera's modules."""
 
     def __init__(self, path):
-        self.handle = v4l2.Handle(path, v.Calls())
+        sys.path[1:1] = [str(WORK / "true/python/camera"), str(WORK / "true/tools")]
+        from station_camera import controls, v4l2, videodev
+
+        self.controls, self.handle = controls, v4l2.Handle(path, videodev.Calls())
 
     def set(self, **values):
         """Sets some."""
         words = [(name, str(value)) for name, value in values.items()]
-        controls.settle(self.handle.raw, words, print)
+        self.controls.settle(self.handle.raw, words, print)
 
     def press(self, name):
         """Presses a button."""
-        controls.settle(self.handle.raw, [(name, "")], print)
+        self.controls.settle(self.handle.raw, [(name, "")], print)
 
 
 def formats(variant, given):
     """Three frames of each format, of one buffer and of several."""
-    for device, words in given.items():
-        for word in words:
-            file = f"DEVICE=/dev/{device}\nDEVICE_FORMAT={word}\nSIZE=320x180\nRATE=10\n"
-            Film(variant, f"{device}-{word}", file, "--frames", "3", raw=True).end()
+    size = "SIZE=320x180\nRATE=10\n"
+    several(
+        variant,
+        [
+            (f"{device}-{word}", f"DEVICE=/dev/{device}\nDEVICE_FORMAT={word}\n{size}")
+            for device, words in given.items()
+            for word in words
+        ],
+    )
 
 
 def refusals(variant, _):
     """What the driver doesn't take."""
-    for name, file in (
-        ("format", "DEVICE=/dev/video0\nDEVICE_FORMAT=MJPG\nSIZE=320x180\nRATE=10\n"),
-        ("size", "DEVICE=/dev/video0\nDEVICE_FORMAT=GREY\nSIZE=333x181\nRATE=10\n"),
-        ("fields", "DEVICE=/dev/video2\nDEVICE_FORMAT=GREY\n"),
-        ("control", "DEVICE=/dev/video0\nRATE=10\nCONTROL_brightness=256\n"),
-    ):
-        Film(variant, name, file).end()
+    several(
+        variant,
+        [
+            ("format", "DEVICE=/dev/video0\nDEVICE_FORMAT=MJPG\nSIZE=320x180\nRATE=10\n"),
+            ("size", "DEVICE=/dev/video0\nDEVICE_FORMAT=GREY\nSIZE=333x181\nRATE=10\n"),
+            ("fields", "DEVICE=/dev/video2\nDEVICE_FORMAT=GREY\n"),
+            ("control", "DEVICE=/dev/video0\nRATE=10\nCONTROL_brightness=256\n"),
+        ],
+    )
+
+
+def several(variant, films):
+    """Three frames of each film, all by one process: a start of Python takes long here."""
+    environment = dict(os.environ, LD_PRELOAD="/lib/witness.so")
+    words = ["/bin/python3", "-B", __file__, "films", variant]
+    run = subprocess.Popen(words, env=environment, stdin=subprocess.PIPE)
+    run.communicate(json.dumps(films).encode(), timeout=4 * PATIENCE)
+
+
+def films_inside(variant):
+    """The same, in that process."""
+    sys.path[1:1] = [str(WORK / variant / "python/camera"), str(WORK / variant / "tools")]
+    from station_camera import program
+
+    shown = sys.stderr
+    for name, file in json.load(sys.stdin):
+        place = OUT / variant / name
+        place.mkdir(parents=True)
+        os.chdir(place)
+        Path("left.camera").write_text(file)
+        # The witness asks for these at each frame.
+        os.environ.update(WITNESS=str(place / "witness"), WITNESS_RAW=str(place / "raw"))
+        with open("said", "w") as sys.stderr:
+            status = program.main(["left.camera", "--to", "text", "--frames", "3"], "")
+        sys.stderr = shown
+        Path("status").write_text(str(status))
 
 
 GREY = "DEVICE_FORMAT=GREY\nSIZE=320x180\nRATE=20\n"
@@ -191,9 +223,7 @@ def station(variant, _):
         run = subprocess.Popen(
             ["/bin/loop_station", "station.toml"], cwd=place, stdin=subprocess.PIPE, stdout=told
         )
-    film = Film(
-        variant, "filmed", "DEVICE=/dev/video0\n" + GREY, to=str(place / "left.y4m"), raw=False
-    )
+    film = Film(variant, "filmed", "DEVICE=/dev/video0\n" + GREY, to=str(place / "left.y4m"))
     film.count(60)
     film.stop()
     time.sleep(2)
@@ -224,4 +254,4 @@ def main():
 
 
 if __name__ == "__main__":
-    main()
+    films_inside(sys.argv[2]) if sys.argv[1:2] == ["films"] else main()
