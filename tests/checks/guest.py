@@ -162,7 +162,7 @@ def words_of(folder, memory):
         *("-accel", "tcg", "-icount", f"shift={SHIFT},sleep=off", "-rtc", "clock=vm"),
         *("-cpu", "Nehalem", "-smp", "1", "-m", str(memory), "-nodefaults", "-no-user-config"),
         *("-display", "none", "-no-reboot", "-kernel", kernel, "-initrd", f"{folder}/initrd"),
-        *("-append", "console=ttyS0 quiet panic=-1 mitigations=off nokaslr random.trust_cpu=on"),
+        *("-append", "console=ttyS0 panic=-1 mitigations=off nokaslr random.trust_cpu=on"),
         *("-serial", f"file:{folder}/console", "-device", "virtio-serial-pci"),
         *("-chardev", f"file,id=c0,path={folder}/told", "-device", "virtserialport,chardev=c0"),
         *disks,
@@ -222,7 +222,8 @@ def shown(machine, path, seconds):
         if is_over:
             break
         if time.monotonic() > end:
-            raise Failed(f"the guest doesn't end within {seconds} s")
+            console = (path.parent / "console").read_text(errors="replace")
+            raise Failed(f"the guest doesn't end within {seconds} s: {console[-2000:]}")
         time.sleep(0.3)
     if machine.returncode:
         said = (path.parent / "qemu").read_text(errors="replace")
