@@ -53,7 +53,8 @@ class OfLinux:
     clock_every = v4l2.CLOCK_EVERY
 
     def __init__(self, wanted: Wanted, tell: Callable[[str], None], calls: Any = None) -> None:
-        self.wanted, self.tell, self.calls, self.word = wanted, tell, calls, wanted.device
+        self.wanted, self.tell, self.calls = wanted, tell, calls
+        self.word = wanted.device or ""
 
     def open(self) -> Any:
         """The camera, opened and set."""

@@ -173,7 +173,8 @@ class Handle:
     """An open device, and what is asked of it."""
 
     def __init__(self, path: str, calls: v.Calls) -> None:
-        self.path, self.calls, self.maps, self.is_on = path, calls, [], False
+        self.path, self.calls, self.is_on = path, calls, False
+        self.maps: list[list[Any]] = []
         try:
             self.descriptor = calls.open(path)
         except OSError as fault:
