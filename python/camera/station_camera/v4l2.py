@@ -39,7 +39,7 @@ WHY = {
     errno.ENODEV: "it has gone",
     errno.ENOENT: "it isn't there",
     errno.ENXIO: "it isn't there",
-    errno.ENOSPC: "its USB has no room left: choose fewer or smaller frames, or MJPG, or another port",
+    errno.ENOSPC: "its USB has no room left: choose fewer or smaller frames, MJPG, or another port",
 }
 # Inputs without a signal.
 NO_SIGNAL = (errno.ENOLINK, errno.ENOLCK, errno.ERANGE)
