@@ -34,9 +34,9 @@ def until(what, holds, seconds=PATIENCE):
     return answer
 
 
-def parsed(data):
+def parsed(data, numbers=None):
     """The header of a text, its frames that are whole, each as its time and bytes, and the bytes
-    that are left. It shares nothing with what writes."""
+    that are left; the words of each line go to `numbers`. It shares nothing with what writes."""
     line, _, rest = data.partition(b"\n")
     words = line.decode().split(" ")
     assert words[0] == "YUV4MPEG2"
@@ -52,9 +52,11 @@ def parsed(data):
         line, end, after = rest.partition(b"\n")
         if not end or len(after) < size:
             return given, frames, rest
-        found = re.fullmatch(rb"FRAME(?: Xt=(\d+))?", line)
+        found = re.fullmatch(rb"FRAME((?: Xt=(\d+))?(?: Xn=\d+)?)", line)
         assert found, line[:80]
-        frames.append((int(found[1]) if found[1] else None, after[:size]))
+        if numbers:
+            numbers(found)
+        frames.append((int(found[2]) if found[2] else None, after[:size]))
         rest = after[size:]
 
 

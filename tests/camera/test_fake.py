@@ -109,9 +109,7 @@ def test_colours_are_made_by_ffmpeg_and_keep_their_times(camera, format, asked, 
 )
 def test_what_the_camera_does_not_take_is_refused_by_its_word(more, says):
     def opened():
-        return program.form_of(
-            genicam.Camera(words.wanted(f"GENICAM=Fake_1\n{more}\n"), lambda _: None)
-        )
+        return genicam.Camera(words.wanted(f"GENICAM=Fake_1\n{more}\n"), lambda _: None).form()
 
     if says is None:
         assert opened().bytes_of_frame() == 2 * 2048 * 2048

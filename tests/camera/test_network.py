@@ -1,8 +1,13 @@
 """loop_camera over a camera that speaks GigE Vision on loopback: lost packets, a camera that
 goes."""
 import zlib
+from pathlib import Path
 
+import conftest
+import pytest
 import test_fake
+
+from station_camera import genicam, words
 
 # Few packets a frame: a busy machine loses few.
 HEAD = "REGION=40x30\nRATE=50\nFORMAT=Mono16\nCLOCK=ptp\n"
@@ -11,6 +16,62 @@ HEAD = "REGION=40x30\nRATE=50\nFORMAT=Mono16\nCLOCK=ptp\n"
 def of(network, more=""):
     """The text of a file for it."""
     return f"GENICAM={network.serial}\n{HEAD}{more}"
+
+
+class Stream:
+    """What a stream is told."""
+
+    def __init__(self):
+        self.has = {}
+
+    def set_property(self, name, value):
+        self.has[name] = value
+
+
+@pytest.mark.parametrize(
+    "payload,wanted", [(640 * 480, 4_000_000), (5_000_000, 20_000_000), (16_000_000, 32_000_000)]
+)
+def test_the_socket_has_room_for_some_frames(payload, wanted):
+    stream, told = Stream(), []
+    genicam.widen(stream, payload, told.append, lambda asked: asked)
+    assert stream.has["socket-buffer-size"] == wanted and told == []
+    assert stream.has["socket-buffer"] == genicam.Aravis.GvStreamSocketBuffer.FIXED
+
+
+def test_a_system_that_allows_no_such_room_is_told():
+    told = []
+    genicam.widen(Stream(), 1, told.append, lambda _: 212_992)
+    (line,) = told
+    assert "has 212992 bytes, of 4000000" in line
+    command = "net.core.rmem_max=33554432"
+    assert line.endswith(f"sudo sysctl {command}")
+    # What the package sets at the boot is the same.
+    shipped = (conftest.TOP / "packaging/sysctl.conf").read_text().splitlines()[-1]
+    assert shipped.replace(" ", "") == command
+
+
+def test_the_system_says_what_it_allows():
+    most = int(Path("/proc/sys/net/core/rmem_max").read_text())
+    assert genicam.socket_room(1 << 30) == most and genicam.socket_room(100_000) == 100_000
+
+
+def test_a_stream_of_the_network_takes_it(network):
+    network.start()
+    wanted = words.wanted(of(network))
+    told = []
+    camera = conftest.until("the camera is there", lambda: opened(wanted, told))
+    stream = camera.camera.create_stream(None, None)
+    genicam.widen(stream, camera.payload, told.append)
+    assert stream.get_property("socket-buffer-size") == 4_000_000
+    camera.close()
+
+
+def opened(wanted, told):
+    """The camera, once it is there."""
+    try:
+        return genicam.Camera(wanted, told.append)
+    except genicam.Gone:
+        return None
 
 
 def whole(it):

@@ -1,9 +1,19 @@
 """loop_setup, over Aravis' camera without hardware, with a systemd and a station that stand in."""
 import functools
+import grp
+import os
+import pwd
+import re
+import shutil
+import subprocess
+import sys
+import tempfile
 import tomllib
 from fractions import Fraction
+from pathlib import Path
 from types import SimpleNamespace
 
+import conftest
 import pytest
 
 from station_camera import disk, found, genicam, pictures, services, setup, v4l2, words, written
@@ -313,7 +323,7 @@ def test_what_can_not_be_is_refused_and_nothing_is_written(laboratory, capsys, m
 
 
 def test_a_device_is_set_up_by_its_modes(laboratory, capsys, monkeypatch):
-    modes = [v4l2.Mode("yuyv422", 640, 480, ["30", "15"]), v4l2.Mode("y12", 320, 240, [])]
+    modes = [v4l2.Mode("YUYV", 640, 480, ["30", "15"]), v4l2.Mode("Y12", 320, 240, [])]
     monkeypatch.setattr(v4l2, "devices", lambda: [v4l2.Found("/dev/video7", "A webcam", modes)])
     given = [
         "--source",
@@ -327,14 +337,119 @@ def test_a_device_is_set_up_by_its_modes(laboratory, capsys, monkeypatch):
     ]
     assert laboratory.run(*given, "--camera", "web") == 0
     assert (laboratory.etc / "web.camera").read_text() == (
-        "DEVICE=/dev/video7\nDEVICE_FORMAT=yuyv422\nSIZE=640x480\nRATE=30\nSTORE_FORMAT=yuv420p\n"
+        "DEVICE=/dev/video7\nDEVICE_FORMAT=YUYV\nSIZE=640x480\nRATE=30\n"
     )
-    assert laboratory.run(*given, "--camera", "deep", "--format", "y12") == 0
+    assert laboratory.run(*given, "--camera", "deep", "--format", "Y12") == 0
     assert (
         laboratory.etc / "deep.camera"
-    ).read_text() == "DEVICE=/dev/video7\nDEVICE_FORMAT=y12\nSIZE=320x240\nRATE=30\n"
+    ).read_text() == "DEVICE=/dev/video7\nDEVICE_FORMAT=Y12\nSIZE=320x240\nRATE=30\n"
     assert [it["name"] for it in laboratory.config()["camera"]] == ["web", "deep"]
+    # Its frames have the kernel's times.
+    assert {it["times_from"] for it in laboratory.config()["camera"]} == {"source"}
     capsys.readouterr()
+
+
+# What a machine may lack: each is a module that isn't there.
+LACKS = {
+    "gi": "raise ImportError('No module named gi')",
+    "gi without Aravis": "def require_version(*_):\n    raise ValueError('not available')",
+    "numpy": "raise ImportError('No module named numpy')",
+}
+
+
+def lacking(folder, *names):
+    """An environment in which modules are missing, and no program is on the path."""
+    for name in names:
+        (folder / f"{name.split()[0]}.py").write_text(LACKS[name])
+    return {**os.environ, "PYTHONPATH": str(folder), "PATH": str(folder)}
+
+
+@pytest.mark.parametrize("names", [["gi", "numpy"], ["gi without Aravis"], ["numpy"]])
+@pytest.mark.parametrize("given", [["--list"], ["--root", "root", "--yes", "--source", "none"]])
+def test_what_is_missing_is_told_in_one_sentence(tmp_path, names, given):
+    done = subprocess.run(
+        [sys.executable, conftest.SETUP, *given],
+        cwd=tmp_path,
+        env=lacking(tmp_path, *names),
+        stdin=subprocess.DEVNULL,
+        capture_output=True,
+        text=True,
+    )
+    said = done.stdout + done.stderr
+    assert "Traceback" not in said and done.returncode == (given != ["--list"]), said
+    assert said.count("sudo apt install python3-gi gir1.2-aravis-0.8 python3-numpy") == 1
+
+
+def test_a_fault_of_its_own_is_one_sentence(laboratory, capsys, monkeypatch):
+    monkeypatch.setattr(found, "offers", lambda *_: 1 / 0)
+    assert laboratory.run("--yes") == 1
+    said = capsys.readouterr().err
+    assert said.startswith("loop_setup: a fault of its own, which is to be told: ZeroDivisionError")
+    assert said.count("\n") == 1 and re.search(r"\(test_setup.py:\d+\)$", said)
+
+
+def test_incomplete_frames_are_told(laboratory, capsys, monkeypatch):
+    taken = pictures.Taken(
+        Form(64, 48, "gray", Fraction(25)), 24.0, laboratory.root / "a.png", "2 frames incomplete"
+    )
+    monkeypatch.setattr(pictures, "take", lambda *_: taken)
+    assert laboratory.run(*FAKE, "--minutes", "1", "--no-page", "--yes") == 0
+    assert "while it was taken: 2 frames incomplete\n" in capsys.readouterr().out
+
+
+def test_what_loop_camera_counted_is_read():
+    end = "left: ended: 9 frames given on, 1 frame incomplete and dropped, 3 packets missing"
+    assert pictures.missed_in(["left: so", end]) == (
+        "1 frame incomplete and dropped, 3 packets missing"
+    )
+    assert pictures.missed_in(["left: ended: 9 frames given on"]) == "" == pictures.missed_in([])
+
+
+@pytest.fixture
+def nobody(tmp_path):
+    """Another user, who reads what is tried, and a folder of nobody's."""
+    if os.geteuid():
+        pytest.skip("only root takes another user")
+    readable = subprocess.run(
+        [sys.executable, "-c", f"open({pictures.__file__!r}); open({str(pictures.PROGRAM)!r})"],
+        capture_output=True,
+        **pictures.user_of("nobody"),
+    )
+    if readable.returncode:
+        pytest.skip("nobody reads these sources")
+    return "nobody"
+
+
+def test_a_picture_is_taken_as_the_services_user(tmp_path, monkeypatch, nobody):
+    monkeypatch.setattr(pictures, "USER", nobody)
+    monkeypatch.setattr(pictures, "MEASURED", 0.2)
+    program = tmp_path / "loop_camera"
+    program.write_text(
+        "import os, sys\nsys.stderr.write(open(sys.argv[1]).read())\n"
+        "sys.stderr.write(f'{os.getuid()} {os.getgroups()} no more\\n')\n"
+    )
+    with tempfile.TemporaryDirectory() as place:
+        os.chmod(place, 0o755)
+        monkeypatch.setattr(pictures, "PROGRAM", shutil.copy(program, place))
+        with pytest.raises(pictures.Failed) as fault:
+            pictures.take("GENICAM=1\n", "left", tmp_path, True)
+    video = grp.getgrnam("video").gr_gid
+    said = re.fullmatch(r"no picture came: (\d+) \[(.*)\] no more", str(fault.value))
+    assert int(said[1]) == pwd.getpwnam(nobody).pw_uid and str(video) in said[2].split(", ")
+
+
+def test_the_disk_is_measured_as_the_stations_user(tmp_path, nobody):
+    own = pictures.user_of(nobody)
+    with tempfile.TemporaryDirectory() as place:
+        with pytest.raises(PermissionError):
+            disk.measured_by(Path(place), own)
+        os.chmod(place, 0o777)
+        found = disk.measured_by(Path(place), own)
+    assert found.bandwidth > 0 and found.free > 0 and found == disk.Disk(*found)
+
+
+def test_nobody_else_is_taken_where_there_is_no_such_user():
+    assert pictures.user_of("no_such_user") == {}
 
 
 def test_other_words_are_status_2(laboratory, capsys):

@@ -21,7 +21,7 @@ def test_a_text_is_read_back(tmp_path):
         out = text.Text(file.fileno())
         out.header(form)
         for micros, data in frames:
-            out.frame(data, micros)
+            out.frame([data], micros)
     head, found, rest = parsed(path.read_bytes())
     assert head == {"W": "3", "H": "5", "F": "30000:1001", "I": "p", "A": "0:0", "C": "422p10"}
     assert found == frames and rest == b""
@@ -57,7 +57,7 @@ def test_a_slow_reader_gets_all_of_a_frame():
     data = os.urandom(form.bytes_of_frame())
     out = text.Text(put)
     out.header(form)
-    out.frame(data, 5)
+    out.frame([data], 5)
     os.close(put)
     thread.join()
     os.close(take)

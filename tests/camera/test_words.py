@@ -48,6 +48,23 @@ def test_a_camera_of_genicam_has_all_its_words():
 def test_what_is_left_out_stays_as_the_camera_has_it():
     it = words.wanted(GENICAM)
     assert it == words.Wanted(genicam="12345")
+    assert words.wanted("DEVICE=/dev/video0") == words.Wanted(device="/dev/video0")
+
+
+def test_controls_of_a_device_are_in_the_files_order():
+    it = words.wanted(DEVICE + "CONTROL_gain=3\nCONTROL_auto_exposure=1\nBUFFERS=6\nCLOCK=arrival")
+    assert it.controls == [("gain", "3"), ("auto_exposure", "1")]
+    assert (it.buffers, it.clock) == (6, "arrival")
+
+
+def test_a_network_camera_has_an_address():
+    it = words.wanted("SOURCE=rtsp://10.0.0.9/live\nSIZE=64x48\nRATE=25\nSTORE_FORMAT=yuv420p")
+    assert (it.source, it.region.width, it.rate, it.store_format) == (
+        "rtsp://10.0.0.9/live",
+        64,
+        25,
+        "yuv420p",
+    )
 
 
 @pytest.mark.parametrize(
@@ -77,7 +94,13 @@ def test_what_is_left_out_stays_as_the_camera_has_it():
         (GENICAM + "SIZE=64x48", "SIZE isn't a word beside GENICAM"),
         (DEVICE + "EXPOSURE=3", "EXPOSURE isn't a word beside DEVICE"),
         (DEVICE + "FEATURE_Gain=3", "FEATURE_Gain isn't a word beside DEVICE"),
-        ("DEVICE=/dev/video0\nSIZE=64x48\nRATE=3", "DEVICE_FORMAT is missing"),
+        (DEVICE + "CLOCK=ptp", "CLOCK=ptp isn't one of tied, arrival"),
+        (DEVICE.replace("480", "480+1+1"), "isn't a size, such as 640x480$"),
+        (DEVICE + "CONTROL_=3", "CONTROL_ has no name of a control"),
+        (DEVICE + "SOURCE=rtsp://a/", "either GENICAM"),
+        (GENICAM + "CONTROL_gain=3", "CONTROL_gain isn't a word beside GENICAM"),
+        ("SOURCE=rtsp://a/\nBITS=8", "BITS isn't a word beside SOURCE"),
+        ("SOURCE=rtsp://a/\nCONTROL_gain=3", "CONTROL_gain isn't a word beside SOURCE"),
     ],
 )
 def test_what_can_not_be_is_refused_by_its_key(text, says):

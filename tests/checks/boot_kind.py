@@ -8,7 +8,7 @@ KIND = Kind(
     ["LOOP_STATION"],
     (
         "runs the commands of the services as their users, and ends cameras, devices and the"
-        " station (root; ffmpeg)"
+        " station (root)"
     ),
     [
         Wrong(
@@ -25,7 +25,7 @@ KIND = Kind(
                     "packaging/loop_camera@.service", "Restart=always", "Restart=no"
                 )
             },
-            says="ffmpeg was killed: .*not within",
+            says="loop_camera was killed: .*not within",
         ),
         Wrong(
             "a station whose stop doesn't wait for its end",

@@ -15,7 +15,7 @@ VARYING = (
 ELSEWHERE = (
     (r"apt install", "changes the machine", None),
     (r"^tools/install", "proves and builds for an hour, and changes the machine", None),
-    (r"/dev/v(ideo|4l)", "needs a camera", None),
+    (r"/dev/v(ideo|4l)|^loop_camera --list", "needs a camera", None),
     (r"\bsudo (reboot|tee|systemctl|journalctl)", "needs root, and a systemd that runs", None),
     (r"ffplay", "needs a screen", None),
     (r"gst-launch", "needs a screen and GStreamer", None),

@@ -1,12 +1,18 @@
 """Cameras beside the station: loop_camera and loop_setup.
 
 words     the file NAME.camera
-samples   pixel formats of GenICam, packed ones taken apart
-text      YUV4MPEG2 with the camera's times
+film      a camera of either kind, from its file to the text
+text      YUV4MPEG2 with the camera's times and numbers
 clock     the camera's clock, tied to the system's
 counts    what was incomplete, resent and lost, told once a second at most
+colours   Bayer, RGB and other planes made into those of the store, by ffmpeg
 genicam   cameras by Aravis
-colours   Bayer and RGB made into YUV, by ffmpeg
-v4l2      cameras of Linux, by ffmpeg and v4l2-ctl
+samples   pixel formats of GenICam, packed ones taken apart
+v4l2      cameras of Linux, by the kernel's own calls
+videodev  these calls, and their structures
+planes    pixel formats of V4L2 made into planes; jpeg takes JPEG apart
+controls  exposure, gain and all others of a V4L2 device, by name
+network   network cameras and films, by ffmpeg
+needed    what only some cameras need; faults, what may be wrong with one
 setup     what loop_setup does, with ask, disk, found, pictures, services and written
 """

@@ -20,7 +20,8 @@ READS = 9
 
 class Clock:
     """A camera's clock, tied or to be tied by its first frame. `latch` reads it, where the camera
-    can."""
+    can. `owner` says whose it is; one that `is_followed` is the kernel's, which runs as the
+    system's does, so only a step of that one parts them."""
 
     def __init__(
         self,
@@ -28,12 +29,15 @@ class Clock:
         tell: Callable[[str], None],
         latch: Callable[[], int] | None = None,
         now: Callable[[], int] = time.time_ns,
+        owner: str = "camera",
+        is_followed: bool = False,
     ) -> None:
         self.mode, self.tell, self.latch, self.now = mode, tell, latch, now
+        self.owner, self.is_followed = owner, is_followed
         self.offset: int | None = None
         self.told_drift = DRIFT
         if mode != "arrival" and latch:
-            self._tie(*self._read(), "read from the camera")
+            self._tie(*self._read(), f"read from the {owner}")
 
     def _read(self) -> tuple[int, int]:
         """The difference of the clocks, by the quickest of some readings, and how uncertain it
@@ -55,14 +59,16 @@ class Clock:
             if abs(offset - whole) <= PTP_NEAR:
                 self.offset = whole
                 self.tell(
-                    f"times are the camera's, by PTP: {-whole // SECOND} s ahead of the "
+                    f"times are the {self.owner}'s, by PTP: {-whole // SECOND} s ahead of the "
                     f"system's clock"
                 )
                 return
-            self.tell("the camera's clock isn't set by PTP: it is tied to the system's instead")
+            self.tell(
+                f"the {self.owner}'s clock isn't set by PTP: it is tied to the system's instead"
+            )
         self.offset = offset
         self.tell(
-            f"times are the camera's, tied to the system's clock: plus {offset // 1000} us, "
+            f"times are the {self.owner}'s, tied to the system's clock: plus {offset // 1000} us, "
             f"{how}{exact}"
         )
 
@@ -80,11 +86,25 @@ class Clock:
         if self.offset is None or self.mode == "ptp" or stamp <= 0:
             return
         apart = (self._read()[0] if self.latch else arrival - stamp) - self.offset
+        if self.is_followed:
+            self._follow(apart)
+            return
         if abs(apart) >= self.told_drift:
             side = "behind" if apart > 0 else "ahead"
             self.tell(
-                f"the camera's clock is {abs(apart) // 1_000_000} ms {side} since the start: start "
-                "the service again, or set the clocks by PTP"
+                f"the {self.owner}'s clock is {abs(apart) // 1_000_000} ms {side} since the start: "
+                "start the service again, or set the clocks by PTP"
             )
             while self.told_drift <= abs(apart):
                 self.told_drift *= 2
+
+    def _follow(self, step: int) -> None:
+        """Follows a step of the system's clock, which the kernel's other one doesn't make: the
+        clock was set, as after a boot."""
+        if abs(step) < DRIFT:
+            return
+        self.offset += step
+        side = "later" if step > 0 else "earlier"
+        self.tell(
+            f"the system's clock was set: times are {abs(step) // 1_000_000} ms {side} from here on"
+        )

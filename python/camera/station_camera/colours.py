@@ -7,16 +7,13 @@ import subprocess
 import threading
 from typing import Callable
 
+from .faults import Failed
 from .text import Form
 
 
-class Failed(Exception):
-    """ffmpeg doesn't run, or has ended."""
-
-
 class Converter:
-    """ffmpeg between a camera's frames and what takes them: `take(pixels, micros)`, which is called
-    from a thread of its own."""
+    """ffmpeg between a camera's frames and what takes them: `take(pieces, micros, number)`, which
+    is called from a thread of its own."""
 
     def __init__(self, ffmpeg_format: str, form: Form, take: Callable) -> None:
         self.form, self.take, self.fault = form, take, None
@@ -67,14 +64,15 @@ class Converter:
         self.thread = threading.Thread(target=self._read, daemon=True)
         self.thread.start()
 
-    def give(self, pixels, micros: int | None) -> None:
+    def give(self, pieces: list, micros: int | None, number: int | None) -> None:
         """Gives a frame to ffmpeg."""
         self.check()
-        self.times.put(micros)
-        rest = memoryview(pixels).cast("B")
+        self.times.put((micros, number))
         try:
-            while rest:
-                rest = rest[self.run.stdin.write(rest) :]
+            for piece in pieces:
+                rest = memoryview(piece).cast("B")
+                while rest:
+                    rest = rest[self.run.stdin.write(rest) :]
         except BrokenPipeError:
             self.thread.join(5)
             self.check()
@@ -90,7 +88,7 @@ class Converter:
         size = self.form.bytes_of_frame()
         try:
             while (frame := self._frame(size)) is not None:
-                self.take(frame, self.times.get())
+                self.take([frame], *self.times.get())
             self.fault = Failed(f"ffmpeg has ended with status {self.run.wait()}")
         except Exception as fault:
             self.fault = fault

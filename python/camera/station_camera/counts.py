@@ -52,6 +52,33 @@ class Lost:
         return max(0, step - 1)
 
 
+class Numbers:
+    """How many frames are missing, by the kernel's numbers of 32 bits, which begin at a start of
+    the stream, and go round."""
+
+    AROUND, MOST = 1 << 32, 65535
+
+    def __init__(self, tell: Callable[[str], None]) -> None:
+        self.tell, self.is_counted = tell, True
+        self.last: int | None = None
+
+    def before(self, number: int) -> int:
+        """How many frames are missing before this one. Numbers that go back, or jump further than
+        any camera loses, begin anew: that says nothing, and is told."""
+        last, self.last = self.last, number
+        if last is None:
+            return 0
+        missing = (number - last - 1) % self.AROUND
+        if missing <= self.MOST:
+            return missing
+        if number != last:
+            self.tell(f"numbers began anew: {number} after {last}")
+        elif self.is_counted:
+            self.is_counted = False
+            self.tell("the driver gives frames the same number: what it loses isn't known")
+        return 0
+
+
 class Counts:
     """Counts since the start, and what of them was told."""
 

@@ -1,19 +1,24 @@
 """The disk below the stores, measured; and what a store takes of it."""
 from __future__ import annotations
 
+import json
 import os
 import shutil
+import subprocess
+import sys
 import tempfile
 import time
 from fractions import Fraction
 from pathlib import Path
-from typing import NamedTuple
+from typing import Any, NamedTuple
 
 from .text import Form
 
 # What is written for the measurement, and for how long at most.
 PIECE, MOST, SECONDS = 4 << 20, 256 << 20, 3.0
 SYNCS = 20
+# How a child says that it may not write there.
+NOT_PERMITTED = 77
 # The station's rule for a store: its segments and slots, the slots where frames have at most so
 # many bytes and the store has 16 segments, and the bytes that aren't pixels.
 SLOTS, SEGMENTS_MOST, SLOTS_MOST = 64, 64, 256
@@ -50,6 +55,31 @@ def measured(folder: Path) -> Disk:
             os.fdatasync(file.fileno())
             times.append(1000 * (time.monotonic() - before))
     return Disk(bandwidth, sorted(times)[SYNCS // 2], max(times), room)
+
+
+def measured_by(folder: Path, user: dict[str, Any]) -> Disk:
+    """Measures it as another user, by the words that a process takes for one; or as this one."""
+    if not user:
+        return measured(folder)
+    place, words = str(Path(__file__).resolve().parents[1]), "json, sys; sys.path.insert(1, "
+    code = (
+        f"import {words}{place!r})\nfrom pathlib import Path\nfrom station_camera import disk\n"
+        "try:\n    print(json.dumps(disk.measured(Path(sys.argv[1]))))\n"
+        f"except PermissionError:\n    sys.exit({NOT_PERMITTED})"
+    )
+    done = subprocess.run(
+        [sys.executable, "-B", "-c", code, str(folder)],
+        cwd="/",
+        stdin=subprocess.DEVNULL,
+        capture_output=True,
+        text=True,
+        **user,
+    )
+    if done.returncode == NOT_PERMITTED:
+        raise PermissionError(f"{folder}: not permitted")
+    if done.returncode:
+        raise OSError(f"{folder} can't be measured: {done.stderr.strip().splitlines()[-1:]}")
+    return Disk(*json.loads(done.stdout))
 
 
 def store_bytes(form: Form, minutes: float) -> int | None:

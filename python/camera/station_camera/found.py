@@ -3,9 +3,8 @@ from __future__ import annotations
 
 from typing import NamedTuple
 
-from . import samples, v4l2
-
-KNOWN = "Mono8 Mono10 Mono12 Mono16"
+from . import needed, v4l2
+from .faults import Failed
 
 
 class Offer(NamedTuple):
@@ -49,7 +48,9 @@ def of_genicam(it) -> Offer:
 
 
 def is_read(name: str) -> bool:
-    """Whether loop_camera reads a format."""
+    """Whether loop_camera reads a format of GenICam."""
+    from . import samples
+
     try:
         samples.format_of(name)
         return True
@@ -64,20 +65,14 @@ def of_device(it: v4l2.Found) -> Offer:
     for mode in it.modes:
         sizes.setdefault(mode.format, []).append((mode.width, mode.height))
         rates[mode.format, mode.width, mode.height] = mode.rates
-    return Offer("device", it.device, it.name, list(sizes), sizes, rates)
+    return Offer("device", it.device, it.name, list(sizes), sizes, rates, why=it.why)
 
 
 def offers(fake: bool, tell) -> list[Offer]:
     """Every camera that is found. What a kind lacks is told."""
     found = []
     try:
-        from . import genicam
-
-        found += map(of_genicam, genicam.cameras(fake))
-    except (ImportError, ValueError) as fault:
-        tell(f"GenICam cameras aren't looked for: {fault}")
-    try:
-        found += map(of_device, v4l2.devices())
-    except v4l2.Failed as fault:
-        tell(f"V4L2 cameras aren't looked for: {fault}")
-    return found
+        found += map(of_genicam, needed.genicam().cameras(fake))
+    except Failed as fault:
+        tell(str(fault))
+    return [*found, *map(of_device, v4l2.devices())]

@@ -3,6 +3,7 @@ from __future__ import annotations
 
 import contextlib
 import gc
+import socket
 import time
 from fractions import Fraction
 from typing import Any, Callable, Iterator, NamedTuple
@@ -15,6 +16,8 @@ from gi.repository import Aravis, GLib  # noqa: E402
 from . import samples  # noqa: E402
 from .clock import Clock  # noqa: E402
 from .counts import Counts, Lost  # noqa: E402
+from .faults import Gone, Refused  # noqa: E402
+from .text import BadFrames, Form  # noqa: E402
 from .words import Wanted  # noqa: E402
 
 # Aravis' own camera without hardware, whose frames have known pixels.
@@ -27,6 +30,8 @@ BUFFER_ROOM, BUFFERS_LEAST, BUFFERS_MOST = 256_000_000, 8, 200
 POLL, SILENCE, STUCK = 0.2, 2.0, 10.0
 # How often the clocks are compared.
 CLOCK_EVERY = 60.0
+# What the socket of GigE Vision is to hold while nobody looks at it: some frames, within these.
+SOCKET_FRAMES, SOCKET_LEAST, SOCKET_MOST = 4, 4_000_000, 32_000_000
 OK = Aravis.BufferStatus.SUCCESS
 # The names that streams have for what they count. Those of GigE Vision count packets.
 COUNTED = {"resent": "n_resent_packets", "missing": "n_missing_packets"}
@@ -37,14 +42,6 @@ LATCHES = (
     ("TimestampLatch", "TimestampLatchValue", None),
     ("GevTimestampControlLatch", "GevTimestampValue", "GevTimestampTickFrequency"),
 )
-
-
-class Gone(Exception):
-    """The camera has gone, or doesn't answer."""
-
-
-class Refused(Exception):
-    """The camera doesn't take what the file asks for."""
 
 
 class Found(NamedTuple):
@@ -295,6 +292,37 @@ class Camera:
             self.wanted.clock, self.tell, None if self.wanted.clock == "arrival" else self.latch()
         )
 
+    def form(self, _picture: Picture | None = None) -> Form:
+        """What its frames become."""
+        format, wanted = self.format, self.wanted
+        bits = 8 if wanted.bits else format.bits
+        plain = "gray" if bits == 8 else f"gray{bits}le"
+        colour = wanted.store_format or (plain if format.is_samples() else "yuv420p")
+        form = Form(self.width, self.height, colour, self.rate)
+        if format.is_samples() and not self.ffmpeg(form) and colour != plain:
+            raise BadFrames(
+                f"STORE_FORMAT={colour}: {format.name} gives {plain}"
+                + (", or gray by BITS=8" if colour == "gray" else "")
+            )
+        form.check()
+        return form
+
+    def ffmpeg(self, form: Form) -> str | None:
+        """ffmpeg's word for what it makes into the store's frames, or None where they are such."""
+        is_grey = self.format.is_grey() or self.format.is_bayer() and form.kind() == "gray"
+        return None if is_grey else self.format.ffmpeg
+
+    def pixels(self, it: Picture, _form: Form, is_for_ffmpeg: bool) -> list[Any]:
+        """The bytes of a frame, in pieces."""
+        given = self.format, it.data, it.width, it.height, it.padding
+        if is_for_ffmpeg:
+            return [samples.full(*given)]
+        return [samples.frame(*given, to_8=self.wanted.bits == 8)]
+
+    def what(self) -> str:
+        """What it gives, in words."""
+        return f"{self.format.name}, {self.buffers()} buffers"
+
     def buffers(self) -> int:
         """How many buffers there are."""
         return self.wanted.buffers or max(
@@ -315,6 +343,8 @@ class Camera:
             stream = self.camera.create_stream(None, None)
         if stream is None:
             raise Gone("it gives no stream")
+        if self.camera.is_gv_device():
+            widen(stream, self.payload, self.tell)
         try:
             for _ in range(self.buffers()):
                 stream.push_buffer(Aravis.Buffer.new_allocate(self.payload))
@@ -381,6 +411,33 @@ class Camera:
             padding,
             data,
         )
+
+
+def widen(
+    stream: Any,
+    payload: int,
+    tell: Callable[[str], None],
+    allowed: Callable[[int], int] | None = None,
+) -> None:
+    """Gives the socket of a stream room for some frames, and says where the system doesn't allow
+    that. Without it Aravis leaves the socket as large as the system makes any."""
+    wanted = max(SOCKET_LEAST, min(SOCKET_MOST, SOCKET_FRAMES * payload))
+    stream.set_property("socket-buffer", Aravis.GvStreamSocketBuffer.FIXED)
+    stream.set_property("socket-buffer-size", wanted)
+    has = (allowed or socket_room)(wanted)
+    if has < wanted:
+        tell(
+            f"the network's buffer has {has} bytes, of {wanted} that are wanted, so packets may be "
+            "lost: sudo sysctl net.core.rmem_max=33554432"
+        )
+
+
+def socket_room(wanted: int) -> int:
+    """How much of a socket's buffer the system allows, of so much."""
+    with socket.socket(socket.AF_INET, socket.SOCK_DGRAM) as it:
+        it.setsockopt(socket.SOL_SOCKET, socket.SO_RCVBUF, wanted)
+        # The kernel doubles what it is asked for, for its own needs.
+        return it.getsockopt(socket.SOL_SOCKET, socket.SO_RCVBUF) // 2
 
 
 def counts_of(stream: Any) -> dict[str, int]:

@@ -1,29 +1,15 @@
 """The program loop_camera: its words, and a camera from its file to the text."""
 from __future__ import annotations
 
-import contextlib
-import os
 import signal
 import sys
-import time
-import zlib
 from pathlib import Path
 from typing import Any, NamedTuple
 
-from . import v4l2, words
-from .counts import Counts
-from .text import BadFrames, Form, NobodyReads, Text
-from .words import Wanted
-
-AGAIN = 1.0
-NEEDED = (
-    "python3-gi gir1.2-aravis-0.8 python3-numpy: sudo apt install python3-gi gir1.2-aravis-0.8 "
-    "python3-numpy"
-)
-
-
-class Ended(Exception):
-    """So many frames as were asked for were given."""
+from . import needed, network, v4l2, words
+from .faults import Failed, Refused
+from .film import Ended, Film, OfGenicam, OfLinux
+from .text import BadFrames, NobodyReads, Text
 
 
 class Options(NamedTuple):
@@ -76,184 +62,47 @@ class Asked:
         return self.is_so
 
 
-class Log:
-    """A line a frame, for checks."""
-
-    def __init__(self, path: str | None) -> None:
-        self.file = open(path, "a", encoding="ascii", buffering=1) if path else None
-
-    def write(self, picture: Any, micros: int | None) -> None:
-        """Writes what a frame was."""
-        if self.file:
-            self.file.write(
-                f"{picture.number} {picture.stamp} {micros or 0} {zlib.crc32(picture.data)}\n"
-            )
-
-
-def form_of(camera: Any) -> Form:
-    """What the frames of a camera become."""
-    format, wanted = camera.format, camera.wanted
-    bits = 8 if wanted.bits else format.bits
-    plain = "gray" if bits == 8 else f"gray{bits}le"
-    colour = wanted.store_format or (plain if format.is_samples() else "yuv420p")
-    if format.is_samples() and not converts(camera) and colour != plain:
-        raise BadFrames(
-            f"STORE_FORMAT={colour}: {format.name} gives {plain}"
-            + (", or gray by BITS=8" if colour == "gray" else "")
-        )
-    form = Form(camera.width, camera.height, colour, camera.rate)
-    form.check()
-    return form
-
-
-def converts(camera: Any) -> bool:
-    """Whether ffmpeg makes the frames into what is asked for."""
-    format, colour = camera.format, camera.wanted.store_format
-    return (
-        not format.is_samples()
-        or format.is_bayer()
-        and bool(colour)
-        and not colour.startswith("gray")
-    )
-
-
-class Film:
-    """A GenICam camera from its file to the text: again and again, whenever it comes back."""
-
-    def __init__(self, wanted: Wanted, given: Options, out: Text, tell, asked: Asked) -> None:
-        self.wanted, self.given, self.out, self.tell, self.asked = wanted, given, out, tell, asked
-        self.counts, self.log, self.form, self.last = Counts(tell), Log(given.log), None, ""
-
-    def run(self) -> None:
-        """Films until somebody asks for the end."""
-        from . import genicam
-
-        try:
-            while not self.asked():
-                try:
-                    self._once(genicam)
-                except genicam.Gone as fault:
-                    self._wait(str(fault))
-        finally:
-            self.counts.end()
-
-    def _wait(self, why: str) -> None:
-        """Waits a moment for the camera; says so once for each cause."""
-        if why != self.last:
-            self.tell(f"waiting for {self.wanted.genicam}: {why}")
-            self.last = why
-        end = time.monotonic() + AGAIN
-        while time.monotonic() < end and not self.asked():
-            time.sleep(0.05)
-
-    def _once(self, genicam: Any) -> None:
-        """Films until the camera goes."""
-        from . import samples
-
-        camera = genicam.Camera(self.wanted, self.tell)
-        try:
-            self._film(camera, samples, genicam.CLOCK_EVERY)
-        finally:
-            camera.close()
-
-    def _film(self, camera: Any, samples: Any, clock_every: float) -> None:
-        """Films with a camera that was opened."""
-        form = form_of(camera)
-        if self.form not in (None, form):
-            # Another header is for another text: the service starts this program again.
-            raise BadFrames(f"its frames are {shown(form)} now, and were {shown(self.form)}")
-        clock, looked = camera.clock(), time.monotonic()
-        what = f"{shown(form)} of {camera.format.name}, {camera.buffers()} buffers"
-        self.tell(f"filming {self.wanted.genicam}: {what}")
-        self.last = ""
-        if self.form is None:
-            self.form = form
-            self.out.header(form)
-        with_ffmpeg = converts(camera)
-        make = samples.full if with_ffmpeg else samples.frame
-        shift = {} if with_ffmpeg else {"to_8": self.wanted.bits == 8}
-        give, end = self._sink(camera, form, with_ffmpeg)
-        try:
-            with contextlib.closing(camera.film(self.counts, self.asked)) as pictures:
-                for it in pictures:
-                    micros = clock.micros(it.stamp, it.arrival)
-                    self.log.write(it, micros)
-                    give(
-                        make(camera.format, it.data, it.width, it.height, it.padding, **shift),
-                        micros,
-                    )
-                    self._count()
-                    if time.monotonic() > looked + clock_every:
-                        clock.look(it.stamp, it.arrival)
-                        looked = time.monotonic()
-        finally:
-            end()
-
-    def _sink(self, camera: Any, form: Form, with_ffmpeg: bool):
-        """What takes frames, and what ends it."""
-        if not with_ffmpeg:
-            return self.out.frame, lambda: None
-        from .colours import Converter
-
-        converter = Converter(camera.format.ffmpeg, form, self.out.frame)
-        return converter.give, converter.end
-
-    def _count(self) -> None:
-        self.counts.frames += 1
-        if self.counts.frames == self.given.frames:
-            raise Ended
-
-
-def shown(form: Form) -> str:
-    """What frames are, in words."""
-    return f"{form.width}x{form.height} {form.colour} {float(form.rate):g} a second"
-
-
-def film_device(wanted: Wanted, out: Text, given: Options, tell, asked: Asked) -> None:
-    """A V4L2 camera: it is waited for, and filmed until it goes."""
-    if not v4l2.wait_for(wanted.device, tell, asked):
-        return
-    if v4l2.is_deep(wanted):
-        v4l2.film_deep(wanted, out, tell, asked)
-        if not asked():
-            raise v4l2.Failed(f"{wanted.device} has gone")
-        return
-    command = v4l2.ffmpeg_words(wanted)
-    os.dup2(out.descriptor, 1)
-    signal.signal(signal.SIGPIPE, signal.SIG_DFL)
-    try:
-        os.execvp(command[0], command)
-    except FileNotFoundError:
-        raise v4l2.Failed("ffmpeg isn't installed: sudo apt install ffmpeg") from None
-
-
 def list_all(fake: bool) -> int:
     """Prints every camera that is found."""
-    from . import genicam
-
-    found = genicam.cameras(fake)
-    for it in found:
-        print(f"GENICAM={it.serial}  {it.name}  {it.protocol} {it.address}".rstrip())
-        if it.why:
-            print(f"    doesn't answer: {it.why}")
-            continue
-        print(f"    {' '.join(it.formats)}")
-        print(
-            f"    largest {it.largest[0]}x{it.largest[1]}; now {it.size[0]}x{it.size[1]} "
-            f"{it.format}" + (f" {it.rate:g} a second of {it.most:g} at most" if it.most else "")
-        )
-    devices = []
+    found: list[Any] = []
     try:
-        devices = v4l2.devices()
-    except v4l2.Failed as fault:
-        print(f"loop_camera: {fault}", file=sys.stderr)
+        found = needed.genicam().cameras(fake)
+    except Failed as fault:
+        print(fault, file=sys.stderr)
+    for it in found:
+        print("\n    ".join(lines_of_genicam(it)))
+    devices = v4l2.devices()
     for it in devices:
-        print(f"DEVICE={it.device}  {it.name}")
-        for mode in it.modes:
-            print(f"    {mode.format} {mode.width}x{mode.height} {' '.join(mode.rates)} a second")
+        print("\n    ".join(lines_of_device(it)))
     if not found and not devices:
         print("no camera is found")
     return 0
+
+
+def lines_of_genicam(it: Any) -> list[str]:
+    """What a camera of GenICam says of itself."""
+    first = f"GENICAM={it.serial}  {it.name}  {it.protocol} {it.address}".rstrip()
+    if it.why:
+        return [first, f"doesn't answer: {it.why}"]
+    now = f"now {it.size[0]}x{it.size[1]} {it.format}"
+    rate = f" {it.rate:g} a second of {it.most:g} at most" if it.most else ""
+    return [
+        first,
+        " ".join(it.formats),
+        f"largest {it.largest[0]}x{it.largest[1]}; {now}{rate}",
+    ]
+
+
+def lines_of_device(it: v4l2.Found) -> list[str]:
+    """What a device of V4L2 says of itself."""
+    modes = [
+        f"{mode.format} {mode.width}x{mode.height} {' '.join(mode.rates)} a second".replace(
+            "  ", " "
+        )
+        for mode in it.modes
+    ]
+    controls = [f"CONTROL_{line}" for line in it.controls]
+    return [f"DEVICE={it.device}  {it.name}", *([it.why] if it.why else []), *modes, *controls]
 
 
 def main(given: list[str], doc: str) -> int:
@@ -267,22 +116,13 @@ def main(given: list[str], doc: str) -> int:
     def tell(line: str) -> None:
         print(f"{name}: {line}" if name else line, file=sys.stderr, flush=True)
 
-    try:
-        return list_all(wants.fake) if wants.list else film(wants, tell)
-    except ImportError as fault:
-        # gi.require_version says ValueError where the library is missing.
-        tell(f"{fault}: it needs {NEEDED}")
-    except ValueError as fault:
-        if "Aravis" not in str(fault):
-            raise
-        tell(f"Aravis isn't installed: it needs {NEEDED}")
-    return 1
+    return list_all(wants.fake) if wants.list else film(wants, tell)
 
 
-def film(given: Options, tell) -> int:
+def film(given: Options, tell, calls: Any = None) -> int:
     """Films a camera; returns the status."""
     try:
-        wanted = words.wanted(Path(given.file).read_text(encoding="utf-8"))
+        wanted = words.wanted(Path(given.file or "").read_text(encoding="utf-8"))
     except (OSError, UnicodeDecodeError) as fault:
         tell(f"{given.file}: {getattr(fault, 'strerror', None) or fault}")
         return 1
@@ -291,22 +131,15 @@ def film(given: Options, tell) -> int:
         return 1
     asked = Asked()
     try:
-        # A pipe waits here for its reader.
-        out = Text(
-            os.open(given.to, os.O_WRONLY | os.O_CREAT | os.O_TRUNC, 0o644) if given.to else 1
-        )
-        if wanted.device:
-            film_device(wanted, out, given, tell, asked)
-        else:
-            Film(wanted, given, out, tell, asked).run()
+        out = Text(None, given.to) if given.to else Text(1)
+        if wanted.source:
+            network.film(wanted, out, tell, asked)
+            return 0
+        kind = OfGenicam(wanted, tell) if wanted.genicam else OfLinux(wanted, tell, calls)
+        Film(kind, out, tell, asked, given.frames, given.log).run()
     except Ended:
         return 0
-    except (NobodyReads, BadFrames, v4l2.Failed, OSError) as fault:
-        tell(str(fault))
-        return 1
-    except Exception as fault:
-        if type(fault).__name__ not in ("Refused", "Failed"):
-            raise
+    except (NobodyReads, BadFrames, Refused, Failed, OSError) as fault:
         tell(str(fault))
         return 1
     return 0

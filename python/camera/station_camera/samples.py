@@ -8,6 +8,8 @@ from typing import NamedTuple
 
 import numpy as np
 
+from .faults import Shorter
+
 GREY = re.compile(r"(Mono|Bayer(?:BG|GB|GR|RG))(8|10|12|14|16)(p|Packed)?")
 # ffmpeg's words for colours that aren't grey samples, and for Bayer's orders.
 COLOUR = {
@@ -33,10 +35,6 @@ SIZES = {"rgb24": 3, "bgr24": 3, "yuyv422": 2, "uyvy422": 2}
 
 class UnknownFormat(Exception):
     """A pixel format that this program doesn't read."""
-
-
-class Shorter(Exception):
-    """A buffer has fewer bytes than its frame."""
 
 
 class Format(NamedTuple):
@@ -128,6 +126,21 @@ def unpack_pairs(data: np.ndarray, bits: int, count: int) -> np.ndarray:
     out[:, 0] = rows[:, 0] << low | rows[:, 1] & mask
     out[:, 1] = rows[:, 2] << low | rows[:, 1] >> 4 & mask
     return out.reshape(-1)[:count]
+
+
+def unpack_mipi(rows: np.ndarray, bits: int, width: int) -> np.ndarray:
+    """Samples of V4L2's packed formats, as MIPI has them: the upper 8 bits of some samples, a byte
+    each, and then the lower bits of these, the first one's lowest. Each of `rows` begins anew."""
+    size, low = {10: 4, 12: 2, 14: 4}[bits], bits - 8
+    step, groups = size * bits // 8, -(-width // size)
+    whole = np.zeros((len(rows), groups * step), np.uint8)
+    whole[:, : rows.shape[1]] = rows[:, : groups * step]
+    parts = whole.reshape(len(rows), groups, step).astype(np.uint32)
+    rest = sum(parts[:, :, size + n] << 8 * n for n in range(step - size))
+    out = np.empty((len(rows), groups, size), np.uint16)
+    for number in range(size):
+        out[:, :, number] = parts[:, :, number] << low | rest >> low * number & (1 << low) - 1
+    return np.ascontiguousarray(out.reshape(len(rows), -1)[:, :width]).reshape(-1)
 
 
 def unpack(form: Format, data: np.ndarray, count: int) -> np.ndarray:

@@ -7,12 +7,14 @@ import sys
 import tempfile
 import time
 import tomllib
+import traceback
 from fractions import Fraction
 from pathlib import Path
 from typing import Any, NamedTuple
 
-from . import disk, found, pictures, samples, services, v4l2, words, written
+from . import disk, found, pictures, planes, services, words, written
 from .ask import Ask, Stopped
+from .faults import Failed, Refused
 from .found import Offer
 from .text import BadFrames, Form
 from .words import BadFile
@@ -146,8 +148,13 @@ class Setup:
         given = self.given
         key = "FORMAT" if it.kind == "genicam" else "DEVICE_FORMAT"
         first = old.get(key) or it.format
+        if it.kind == "device" and first:
+            # A file of before has ffmpeg's word for a format.
+            first = planes.WORDS.get(first.lower(), first)
         at = it.formats.index(first) if first in it.formats else 0
         format = given.format or it.formats[self.ask.one_of("Formats:", it.formats, at)]
+        if it.kind == "device":
+            format = planes.WORDS.get(format.lower(), format)
         if format not in it.formats:
             raise Stopped(f"--format {format}: it gives {' '.join(it.formats)}")
         if it.kind == "genicam":
@@ -195,13 +202,12 @@ class Setup:
             self.given.rate,
             self._wrong_rate,
         )
-        stored = None if format in v4l2.DEEP else v4l2.STORED.get(format, "yuv420p")
         return {
             "DEVICE": it.word,
             "DEVICE_FORMAT": format,
             "SIZE": size,
             "RATE": rate,
-            "STORE_FORMAT": self.given.store_format or old.get("STORE_FORMAT") or stored,
+            "STORE_FORMAT": self.given.store_format or old.get("STORE_FORMAT"),
             "BITS": self.given.bits or old.get("BITS"),
         }
 
@@ -229,8 +235,8 @@ class Setup:
         folder = Path(self.given.folder or tempfile.mkdtemp(prefix="loop_setup."))
         folder.chmod(0o755) if not self.given.folder else folder.mkdir(parents=True, exist_ok=True)
         try:
-            taken = pictures.take(content, name, folder)
-        except pictures.Failed as fault:
+            taken = pictures.take(content, name, folder, self.is_real())
+        except Failed as fault:
             if stops:
                 services.run("start", unit)
             raise Stopped(f"{name}: {fault}") from None
@@ -239,13 +245,30 @@ class Setup:
             f"a picture is in {taken.path}: {taken.form.width}x{taken.form.height} "
             f"{taken.form.colour}{came}"
         )
+        if taken.missed:
+            self.tell(f"while it was taken: {taken.missed}")
         return taken.form
+
+    def is_real(self) -> bool:
+        """Whether this is no trial: then what is tried is tried as the services' users."""
+        return self.given.root == "/"
+
+    def measured(self) -> disk.Disk:
+        """The disk of the stores, as the station's user finds it."""
+        own = pictures.user_of("loop_station") if self.is_real() else {}
+        try:
+            return disk.measured_by(self.paths.stores, own)
+        except PermissionError:
+            raise Stopped(
+                f"the station's user can't write into {self.paths.stores}: "
+                f"sudo chown loop_station:loop_station {self.paths.stores}"
+            ) from None
 
     def minutes(self, form: Form) -> float:
         """How much the store is to hold."""
         self.paths.stores.mkdir(parents=True, exist_ok=True)
         self.tell(f"measuring the disk of {self.paths.stores}")
-        it = disk.measured(self.paths.stores)
+        it = self.measured()
         self.tell(
             f"it writes {it.bandwidth / 1e6:.0f} MB a second, a sync takes {it.sync:.1f} ms "
             f"({it.worst:.0f} at most), "
@@ -410,7 +433,7 @@ class Setup:
         form = form or expected(wanted)
         form.check()
         minutes = self.minutes(form)
-        is_timed = offer.kind == "genicam" and wanted.clock != "arrival"
+        is_timed = wanted.clock != "arrival"
         text, store = self.station(name, minutes, is_timed)
         self._write(file, made)
         self.old_store(store, form, minutes)
@@ -448,21 +471,17 @@ def expected(wanted: words.Wanted) -> Form:
     if size is None or wanted.rate is None:
         raise Stopped("without a picture the size and the rate have to be given")
     if wanted.device:
-        bits = v4l2.DEEP.get(wanted.device_format, 8)
-        plain = wanted.store_format or "yuv420p"
+        lay = planes.lay_of(wanted.device_format or "")
+        # What a JPEG has only a picture tells.
+        plain, bits = lay.colour or "yuv422p", lay.bits
     else:
-        format = samples.format_of(wanted.format)
-        bits = format.bits
-        plain = wanted.store_format or ("gray" if format.is_samples() else "yuv420p")
-    deep = (
-        bits > 8
-        and not wanted.bits
-        and plain == "gray"
-        or wanted.device
-        and bits > 8
-        and not wanted.bits
-    )
-    return Form(size.width, size.height, f"gray{bits}le" if deep else plain, wanted.rate)
+        from . import samples
+
+        format = samples.format_of(wanted.format or "")
+        plain, bits = planes.grey(format.bits) if format.is_samples() else "yuv420p", format.bits
+    if wanted.bits and bits > 8:
+        plain = "gray"
+    return Form(size.width, size.height, wanted.store_format or plain, wanted.rate)
 
 
 def main(given_words: list[str], doc: str, ask: Ask | None = None) -> int:
@@ -475,22 +494,28 @@ def main(given_words: list[str], doc: str, ask: Ask | None = None) -> int:
     def tell(line: str) -> None:
         print(line, flush=True)
 
-    if given.list:
-        from .program import list_all
-
-        return list_all(given.fake)
-    if os.geteuid() and given.root == "/":
-        print(
-            "loop_setup: it writes into /etc/lapyrei and starts services: sudo loop_setup",
-            file=sys.stderr,
-        )
-        return 1
     try:
+        if given.list:
+            from .program import list_all
+
+            return list_all(given.fake)
+        if os.geteuid() and given.root == "/":
+            raise Stopped("it writes into /etc/lapyrei and starts services: sudo loop_setup")
         Setup(given, ask or Ask(given.yes), tell).run()
-    except (Stopped, services.Failed, BadFile, BadFrames, OSError) as fault:
+    except (Stopped, Failed, services.Failed, Refused, BadFile, BadFrames, OSError) as fault:
         print(f"loop_setup: {fault}", file=sys.stderr)
         return 1
     except KeyboardInterrupt:
         print("\nloop_setup: ended", file=sys.stderr)
         return 1
+    except Exception as fault:
+        print(f"loop_setup: {own_fault(fault)}", file=sys.stderr)
+        return 1
     return 0
+
+
+def own_fault(fault: Exception) -> str:
+    """A fault of this program, in one sentence: what nobody has thought of."""
+    place = traceback.extract_tb(fault.__traceback__)[-1]
+    where = f"{os.path.basename(place.filename)}:{place.lineno}"
+    return f"a fault of its own, which is to be told: {type(fault).__name__}: {fault} ({where})"

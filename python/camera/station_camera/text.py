@@ -5,12 +5,15 @@ from __future__ import annotations
 import errno
 import fcntl
 import os
+import time
 from fractions import Fraction
-from typing import NamedTuple
+from typing import Callable, NamedTuple
 
 # The largest pipe that every user may have.
 PIPE = 1 << 20
 SET_PIPE_SIZE = 1031
+# How often a pipe's reader is looked for.
+READER = 0.1
 # The words of ffmpeg for what a store may hold, and YUV4MPEG2's.
 COLOURS = {"gray": "mono", "yuv420p": "420jpeg", "yuv422p": "422", "yuv444p": "444"}
 for _bits in (9, 10, 12, 14, 16):
@@ -78,10 +81,35 @@ class Form(NamedTuple):
 
 
 class Text:
-    """A text that is written to a descriptor. A frame is written whole, or the reader has gone."""
+    """A text that is written to a descriptor, or to a path, which is opened later. A frame is
+    written whole, or the reader has gone."""
 
-    def __init__(self, descriptor: int) -> None:
-        self.descriptor = descriptor
+    def __init__(self, descriptor: int | None, path: str | None = None) -> None:
+        self.descriptor, self.path = descriptor, path
+        if descriptor is not None:
+            self._widen(descriptor)
+
+    def open(self, asked: Callable[[], bool]) -> bool:
+        """Waits for a pipe's reader; False where somebody asks for the end meanwhile."""
+        while self.descriptor is None:
+            try:
+                flags = os.O_WRONLY | os.O_CREAT | os.O_TRUNC | os.O_NONBLOCK
+                found = os.open(self.path or "", flags, 0o644)
+            except OSError as fault:
+                if fault.errno != errno.ENXIO:
+                    raise
+                # Nobody reads it yet.
+                if asked():
+                    return False
+                time.sleep(READER)
+                continue
+            os.set_blocking(found, True)
+            self._widen(found)
+            self.descriptor = found
+        return True
+
+    def _widen(self, descriptor: int) -> None:
+        """Makes a pipe as large as may be."""
         try:
             fcntl.fcntl(descriptor, SET_PIPE_SIZE, PIPE)
         except OSError:
@@ -92,10 +120,12 @@ class Text:
         """Writes the first line."""
         self._write([form.header()])
 
-    def frame(self, pixels, micros: int | None = None) -> None:
-        """Writes a frame, with the time of the camera where there is one, since 1970."""
-        line = b"FRAME\n" if micros is None else b"FRAME Xt=%d\n" % micros
-        self._write([line, pixels])
+    def frame(self, pieces: list, micros: int | None = None, number: int | None = None) -> None:
+        """Writes a frame, with the time of the camera, since 1970, and its number, where there are
+        such."""
+        time = "" if micros is None else f" Xt={micros}"
+        own = "" if number is None else f" Xn={number}"
+        self._write([f"FRAME{time}{own}\n".encode(), *pieces])
 
     def _write(self, pieces: list) -> None:
         """Writes all bytes of these pieces."""

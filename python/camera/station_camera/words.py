@@ -25,11 +25,17 @@ KEYS = (
     "DEVICE",
     "DEVICE_FORMAT",
     "SIZE",
+    "SOURCE",
 )
-GENICAM_ONLY = {"REGION", "FORMAT", "EXPOSURE", "GAIN", "TRIGGER", "PACKET", "CLOCK", "BUFFERS"}
-V4L2_ONLY = {"DEVICE", "DEVICE_FORMAT", "SIZE"}
+# What names a camera, and which words may stand beside it, with those of any feature or control.
+KINDS = {
+    "GENICAM": "REGION FORMAT EXPOSURE GAIN RATE TRIGGER PACKET BITS STORE_FORMAT CLOCK BUFFERS",
+    "DEVICE": "DEVICE_FORMAT SIZE RATE BITS STORE_FORMAT CLOCK BUFFERS",
+    "SOURCE": "SIZE RATE STORE_FORMAT",
+}
 CLOCKS = ("tied", "ptp", "arrival")
-FEATURE = "FEATURE_"
+FEATURE, CONTROL = "FEATURE_", "CONTROL_"
+OPEN_ENDED = {"GENICAM": FEATURE, "DEVICE": CONTROL}
 # GenICam's names of features.
 FEATURE_NAME = re.compile(r"[A-Za-z_][A-Za-z0-9_]{0,99}")
 
@@ -67,7 +73,9 @@ class Wanted:
     features: list[tuple[str, str]] = field(default_factory=list)
     device: str | None = None
     device_format: str | None = None
-    # As the file has it: ffmpeg reads rates in words of its own too.
+    controls: list[tuple[str, str]] = field(default_factory=list)
+    source: str | None = None
+    # As the file has it.
     rate_word: str | None = None
 
 
@@ -82,7 +90,7 @@ def lines_of(content: str) -> dict[str, str]:
         key = key.strip()
         if not sign or not re.fullmatch(r"[A-Za-z_][A-Za-z0-9_]*", key):
             raise BadFile(f"line {number} isn't KEY=VALUE: {line}")
-        if key not in KEYS and not key.startswith(FEATURE):
+        if key not in KEYS and not key.startswith((FEATURE, CONTROL)):
             raise BadFile(f"line {number}: {key} isn't a word of this file")
         if key in found:
             raise BadFile(f"line {number}: {key} is there twice")
@@ -141,13 +149,17 @@ def one_of(
 def wanted(content: str) -> Wanted:
     """What a file asks for. What can't be is refused by its key."""
     found = lines_of(content)
-    kinds = [key for key in ("GENICAM", "DEVICE") if found.get(key)]
+    kinds = [key for key in KINDS if found.get(key)]
     if len(kinds) != 1:
-        raise BadFile("it wants either GENICAM, the serial number of a camera, or DEVICE, a path")
-    other = V4L2_ONLY if kinds == ["GENICAM"] else GENICAM_ONLY
+        raise BadFile(
+            "it wants either GENICAM, the serial number of a camera, or DEVICE, a path, or SOURCE, "
+            "the address of a network camera"
+        )
+    kind = kinds[0]
     for key in found:
-        if key in other or key.startswith(FEATURE) and kinds == ["DEVICE"]:
-            raise BadFile(f"{key} isn't a word beside {kinds[0]}")
+        is_open = kind in OPEN_ENDED and key.startswith(OPEN_ENDED[kind])
+        if key not in (kind, *KINDS[kind].split()) and not is_open:
+            raise BadFile(f"{key} isn't a word beside {kind}")
     bits = found.get("BITS")
     if bits not in (None, "8"):
         raise BadFile(f"BITS={bits} isn't 8; left out, samples stay as they are")
@@ -160,22 +172,26 @@ def wanted(content: str) -> Wanted:
         rate=rate_of(found["RATE"]) if "RATE" in found else None,
         rate_word=found.get("RATE"),
     )
-    return of_genicam(found, common, buffers) if kinds == ["GENICAM"] else of_device(found, common)
+    count = int(buffers) if buffers else None
+    if kind == "SOURCE":
+        return of_source(found, common)
+    return (of_genicam if kind == "GENICAM" else of_device)(found, common, count)
 
 
-def of_genicam(found: dict[str, str], common: Wanted, buffers: float | None) -> Wanted:
+def named(found: dict[str, str], start: str, of: str) -> list[tuple[str, str]]:
+    """What is set by its name, in the file's order."""
+    those = [(key.removeprefix(start), it) for key, it in found.items() if key.startswith(start)]
+    for name, _ in those:
+        if not FEATURE_NAME.fullmatch(name):
+            raise BadFile(f"{start}{name} has no name of a {of}")
+    return those
+
+
+def of_genicam(found: dict[str, str], common: Wanted, buffers: int | None) -> Wanted:
     """What the file of a GenICam camera asks for."""
     packet = found.get("PACKET")
     if packet is not None and packet != "auto" and not re.fullmatch(r"\d{3,5}", packet):
         raise BadFile(f"PACKET={packet} isn't a number of bytes, such as 8000, nor auto")
-    features = [
-        (key.removeprefix(FEATURE), value)
-        for key, value in found.items()
-        if key.startswith(FEATURE)
-    ]
-    for name, _ in features:
-        if not FEATURE_NAME.fullmatch(name):
-            raise BadFile(f"{FEATURE}{name} has no name of a feature")
     return Wanted(
         **{
             **common.__dict__,
@@ -187,22 +203,37 @@ def of_genicam(found: dict[str, str], common: Wanted, buffers: float | None) -> 
             "trigger": found.get("TRIGGER"),
             "packet": int(packet) if packet and packet != "auto" else packet,
             "clock": one_of(found, "CLOCK", CLOCKS, "tied"),
-            "buffers": int(buffers) if buffers else None,
-            "features": features,
+            "buffers": buffers,
+            "features": named(found, FEATURE, "feature"),
         }
     )
 
 
-def of_device(found: dict[str, str], common: Wanted) -> Wanted:
+def size_in(found: dict[str, str]) -> Region | None:
+    """The size, where it is there. It has no place."""
+    if "SIZE" not in found:
+        return None
+    region = region_of(found["SIZE"], "SIZE")
+    if region.at:
+        raise BadFile(f"SIZE={found['SIZE']} isn't a size, such as 640x480")
+    return region
+
+
+def of_device(found: dict[str, str], common: Wanted, buffers: int | None) -> Wanted:
     """What the file of a V4L2 camera asks for."""
-    for key in ("DEVICE_FORMAT", "SIZE", "RATE"):
-        if not found.get(key):
-            raise BadFile(f"{key} is missing beside DEVICE")
     return Wanted(
         **{
             **common.__dict__,
             "device": found["DEVICE"],
-            "device_format": found["DEVICE_FORMAT"],
-            "region": region_of(found["SIZE"], "SIZE"),
+            "device_format": found.get("DEVICE_FORMAT") or None,
+            "region": size_in(found),
+            "clock": one_of(found, "CLOCK", ("tied", "arrival"), "tied"),
+            "buffers": buffers,
+            "controls": named(found, CONTROL, "control"),
         }
     )
+
+
+def of_source(found: dict[str, str], common: Wanted) -> Wanted:
+    """What the file of a network camera, or of a film, asks for."""
+    return Wanted(**{**common.__dict__, "source": found["SOURCE"], "region": size_in(found)})

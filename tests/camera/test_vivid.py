@@ -1,0 +1,61 @@
+"""The judge of vivid_check, over a device that stands in: it passes the true loop_camera, and finds
+each form of it that is wrong, but those that only the guest shows."""
+import importlib.machinery
+import importlib.util
+import os
+import subprocess
+import sys
+from pathlib import Path
+
+import pytest
+from conftest import TOP
+
+HERE = Path(__file__).resolve().parent
+# They want a reader that stands still, and a device that becomes another.
+IN_THE_GUEST = ("slow", "unplugged")
+# What tells most of all formats.
+WORDS = "GREY Y12 YUYV UYVY NV12 NV21 YU12 YV12 422P RG10 NM12 YM24".split()
+
+
+def check_of(name):
+    """A check, as a module."""
+    sys.path[1:1] = [str(TOP / "tests/checks"), str(TOP / "tools")]
+    loader = importlib.machinery.SourceFileLoader(name, str(TOP / "tests/checks" / name))
+    spec = importlib.util.spec_from_loader(name, loader)
+    found = importlib.util.module_from_spec(spec)
+    loader.exec_module(found)
+    return found
+
+
+CHECK = check_of("vivid_check")
+
+
+def filmed(folder, change=None):
+    """What a form of loop_camera leaves."""
+    CHECK.copied(folder / "form", change)
+    environment = dict(os.environ, LOOP_CAMERA=str(folder / "form/python/camera/loop_camera"))
+    words = [sys.executable, "-B", HERE / "witnessed.py", folder / "left", *WORDS]
+    subprocess.run(words, env=environment, check=True)
+    return folder / "left"
+
+
+def test_the_true_form_passes(tmp_path):
+    left = filmed(tmp_path)
+    assert CHECK.judge_formats(left, {"video0": WORDS}).startswith(f"{len(WORDS)} formats")
+    assert CHECK.judge_numbers(left, None) == "35 frames; 3 lost and 2 faulty ones are counted"
+
+
+@pytest.mark.parametrize(
+    "name", [it for it, (*_, step) in CHECK.WRONG.items() if step not in IN_THE_GUEST]
+)
+def test_a_wrong_form_is_found(tmp_path, name):
+    step = CHECK.WRONG[name][3]
+    left = filmed(tmp_path, CHECK.WRONG[name])
+    with pytest.raises(CHECK.Found):
+        CHECK.JUDGES[step](left, {"video0": WORDS})
+
+
+def test_times_of_arrival_are_found(tmp_path):
+    left = filmed(tmp_path, CHECK.WRONG["times of arrival"])
+    with pytest.raises(CHECK.Found, match="and the kernel's is"):
+        CHECK.judge_numbers(left, None)

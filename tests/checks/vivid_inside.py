@@ -1,0 +1,257 @@
+"""What vivid_check does in its guest: films the kernel's driver vivid by loop_camera, in each way
+that `plan` names, and leaves the texts, what was said, and what the witness noted in /out. It
+judges nothing.
+
+video0 is a webcam, video1 one whose planes lie in several buffers, video2 a tuner, which gives
+fields."""
+import json
+import os
+import signal
+import subprocess
+import sys
+import time
+from pathlib import Path
+
+WORK, OUT = Path("/work"), Path("/out")
+PATIENCE = 120
+BY_ID = Path("/dev/v4l/by-id/usb-vivid")
+DRIVER = Path("/sys/bus/platform/drivers/vivid")
+
+
+def until(what, holds):
+    """Waits until something holds."""
+    end = time.monotonic() + PATIENCE
+    while not (answer := holds()):
+        if time.monotonic() > end:
+            print(f"{what}: not within {PATIENCE} s", flush=True)
+            return None
+        time.sleep(0.05)
+    return answer
+
+
+class Film:
+    """loop_camera over a file, into a text or a pipe."""
+
+    def __init__(self, variant, name, file, to=None):
+        self.place = OUT / variant / name
+        self.place.mkdir(parents=True)
+        (self.place / "left.camera").write_text(file)
+        environment = dict(os.environ, LD_PRELOAD="/lib/witness.so")
+        environment["WITNESS"] = str(self.place / "witness")
+        program = WORK / variant / "python/camera/loop_camera"
+        words = ["left.camera", "--to", to or "text", "--log", "log"]
+        with open(self.place / "said", "wb") as said:
+            self.run = subprocess.Popen(
+                ["/bin/python3", "-B", str(program), *words],
+                cwd=self.place,
+                env=environment,
+                stdin=subprocess.DEVNULL,
+                stderr=said,
+            )
+
+    def count(self, least):
+        """Waits for so many frames."""
+
+        def enough():
+            path = self.place / "log"
+            count = path.read_bytes().count(b"\n") if path.exists() else 0
+            return count >= least or self.run.poll() is not None
+
+        until(f"{self.place}: {least} frames", enough)
+
+    def says(self, words):
+        """Waits until it has said something."""
+        path = self.place / "said"
+        until(f"{self.place} says {words}", lambda: words in path.read_text())
+
+    def stop(self):
+        """Ends it."""
+        self.run.send_signal(signal.SIGTERM)
+        self.end()
+
+    def end(self):
+        """Waits for its end, and notes its status."""
+        (self.place / "status").write_text(str(self.run.wait(PATIENCE)))
+
+
+class Knobs:
+    """The driver's own controls, by which it drops frames and marks them as faulty. They are set by
+    the true loop_camera's modules."""
+
+    def __init__(self, path):
+        sys.path[1:1] = [str(WORK / "true/python/camera"), str(WORK / "true/tools")]
+        from station_camera import controls, v4l2, videodev
+
+        self.controls, self.handle = controls, v4l2.Handle(path, videodev.Calls())
+
+    def set(self, **values):
+        """Sets some."""
+        words = [(name, str(value)) for name, value in values.items()]
+        self.controls.settle(self.handle.raw, words, print)
+
+    def press(self, name):
+        """Presses a button."""
+        self.controls.settle(self.handle.raw, [(name, "")], print)
+
+
+def formats(variant, given):
+    """Three frames of each format, of one buffer and of several."""
+    size = "SIZE=320x180\nRATE=10\n"
+    several(
+        variant,
+        [
+            (f"{device}-{word}", f"DEVICE=/dev/{device}\nDEVICE_FORMAT={word}\n{size}")
+            for device, words in given.items()
+            for word in words
+        ],
+    )
+
+
+def refusals(variant, _):
+    """What the driver doesn't take."""
+    several(
+        variant,
+        [
+            ("format", "DEVICE=/dev/video0\nDEVICE_FORMAT=MJPG\nSIZE=320x180\nRATE=10\n"),
+            ("size", "DEVICE=/dev/video0\nDEVICE_FORMAT=GREY\nSIZE=333x181\nRATE=10\n"),
+            ("fields", "DEVICE=/dev/video2\nDEVICE_FORMAT=GREY\n"),
+            ("control", "DEVICE=/dev/video0\nRATE=10\nCONTROL_brightness=256\n"),
+        ],
+    )
+
+
+def several(variant, films):
+    """Three frames of each film, all by one process: a start of Python takes long here."""
+    environment = dict(os.environ, LD_PRELOAD="/lib/witness.so")
+    words = ["/bin/python3", "-B", __file__, "films", variant]
+    run = subprocess.Popen(words, env=environment, stdin=subprocess.PIPE)
+    run.communicate(json.dumps(films).encode(), timeout=4 * PATIENCE)
+
+
+def films_inside(variant):
+    """The same, in that process."""
+    sys.path[1:1] = [str(WORK / variant / "python/camera"), str(WORK / variant / "tools")]
+    from station_camera import program
+
+    shown = sys.stderr
+    for name, file in json.load(sys.stdin):
+        place = OUT / variant / name
+        place.mkdir(parents=True)
+        os.chdir(place)
+        Path("left.camera").write_text(file)
+        # The witness asks for these at each frame.
+        os.environ.update(WITNESS=str(place / "witness"), WITNESS_RAW=str(place / "raw"))
+        with open("said", "w") as sys.stderr:
+            status = program.main(["left.camera", "--to", "text", "--frames", "3"], "")
+        sys.stderr = shown
+        Path("status").write_text(str(status))
+
+
+GREY = "DEVICE_FORMAT=GREY\nSIZE=320x180\nRATE=20\n"
+
+
+def numbers(variant, _):
+    """Frames dropped and marked as faulty by the driver, and numbers that go round."""
+    knobs = Knobs("/dev/video0")
+    knobs.set(wrap_sequence_number=1)
+    it = Film(variant, "numbers", "DEVICE=/dev/video0\nCONTROL_brightness=90\n" + GREY)
+    it.count(10)
+    for _ in range(3):
+        knobs.press("inject_v4l2_buf_flag_error")
+        time.sleep(0.4)
+    knobs.set(percentage_of_dropped_buffers=30)
+    it.count(40)
+    knobs.set(percentage_of_dropped_buffers=0)
+    it.count(130)
+    it.stop()
+    knobs.set(wrap_sequence_number=0)
+    knobs.handle.close()
+
+
+def slow(variant, _):
+    """A reader that stands still for two seconds, of frames that no pipe holds."""
+    pipe = OUT / "pipe"
+    os.mkfifo(pipe)
+    file = "DEVICE=/dev/video0\nDEVICE_FORMAT=GREY\nSIZE=640x360\nRATE=10\n"
+    it = Film(variant, "slow", file, to=str(pipe))
+    with open(pipe, "rb") as taken, open(it.place / "text", "wb") as text:
+        for pause in (0, 2.0, 0):
+            for _ in range(12):
+                text.write(taken.read(640 * 360))
+            time.sleep(pause)
+        it.run.send_signal(signal.SIGTERM)
+        while piece := taken.read(1 << 16):
+            text.write(piece)
+    it.end()
+    pipe.unlink()
+
+
+def unplugged(variant, _):
+    """The device is unplugged while somebody has it open, so it comes back as another one."""
+    BY_ID.parent.mkdir(parents=True, exist_ok=True)
+    BY_ID.unlink(missing_ok=True)
+    BY_ID.symlink_to("/dev/video0")
+    it = Film(variant, "unplugged", "DEVICE=/dev/video0\n" + GREY)
+    it.count(20)
+    held = os.open("/dev/video0", os.O_RDWR)
+    before = {path.name for path in Path("/dev").glob("video*")}
+    (DRIVER / "unbind").write_text("vivid.0")
+    it.says("it has gone")
+    (DRIVER / "bind").write_text("vivid.0")
+    new = until("it is there again", lambda: {p.name for p in Path("/dev").glob("video*")} - before)
+    (it.place / "became").write_text(" ".join(new or ()))
+    BY_ID.unlink()
+    BY_ID.symlink_to(f"/dev/{sorted(new or ['none'])[0]}")
+    it.count(45) if variant == "true" else time.sleep(4)
+    it.stop()
+    os.close(held)
+    # As it was, for the next one.
+    (DRIVER / "unbind").write_text("vivid.0")
+    (DRIVER / "bind").write_text("vivid.0")
+
+
+def station(variant, _):
+    """loop_station stores what loop_camera films."""
+    place = OUT / variant / "station"
+    place.mkdir(parents=True)
+    os.mkfifo(place / "left.y4m")
+    (place / "station.toml").write_text(
+        '[[camera]]\nname = "left"\nsource = "left.y4m"\nstore = "left.loop"\nbytes = 8000000\n'
+        'times_from = "source"\n'
+    )
+    with open(place / "told", "wb") as told:
+        run = subprocess.Popen(
+            ["/bin/loop_station", "station.toml"], cwd=place, stdin=subprocess.PIPE, stdout=told
+        )
+    film = Film(variant, "filmed", "DEVICE=/dev/video0\n" + GREY, to=str(place / "left.y4m"))
+    film.count(60)
+    film.stop()
+    time.sleep(2)
+    run.communicate(b"stop\n", timeout=PATIENCE)
+    (place / "left.y4m").unlink()
+
+
+def listed(variant, _):
+    """What is there."""
+    program = WORK / variant / "python/camera/loop_camera"
+    done = subprocess.run(["/bin/python3", "-B", program, "--list"], capture_output=True, text=True)
+    (OUT / "list").write_text(done.stdout + done.stderr)
+
+
+STEPS = {it.__name__: it for it in (listed, formats, refusals, numbers, slow, unplugged, station)}
+
+
+def main():
+    """Does what the plan says: for each form of loop_camera, its steps."""
+    for variant, steps in json.loads((WORK / "plan").read_text()):
+        for name, words in steps.items():
+            print(f"    {variant}: {name}", flush=True)
+            try:
+                STEPS[name](variant, words)
+            except Exception as fault:
+                # What is missing then, the judge finds.
+                print(f"{variant}: {name}: {type(fault).__name__}: {fault}", flush=True)
+
+
+if __name__ == "__main__":
+    films_inside(sys.argv[2]) if sys.argv[1:2] == ["films"] else main()
