@@ -12,25 +12,14 @@
 //! - `station`: lines and configurations of loop_station.
 #![tactic(auto)]
 
-#[cfg(test)]
 mod asserts;
-#[cfg(test)]
 mod ends;
-#[cfg(test)]
 mod even;
-#[cfg(test)]
 mod large;
-#[cfg(test)]
 mod memory;
-#[cfg(test)]
 mod parts;
-#[cfg(test)]
 mod ran;
-#[cfg(test)]
 mod station;
-#[cfg(test)]
 mod targets;
-#[cfg(test)]
 mod waits;
-#[cfg(test)]
 mod words;

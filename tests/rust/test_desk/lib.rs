@@ -8,15 +8,9 @@
 //! - `asserts`: assertions that are cheap to prove.
 #![tactic(auto)]
 
-#[cfg(test)]
 mod asserts;
-#[cfg(test)]
 mod common;
-#[cfg(test)]
 mod device;
-#[cfg(test)]
 mod growths;
-#[cfg(test)]
 mod stops;
-#[cfg(test)]
 mod text;

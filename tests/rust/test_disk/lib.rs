@@ -10,25 +10,14 @@
 //!   cheap to prove.
 #![tactic(auto)]
 
-#[cfg(test)]
 mod ahead;
-#[cfg(test)]
 mod asserts;
-#[cfg(test)]
 mod calls;
-#[cfg(test)]
 mod crashing;
-#[cfg(test)]
 mod faults;
-#[cfg(test)]
 mod faulty;
-#[cfg(test)]
 mod files;
-#[cfg(test)]
 mod memory;
-#[cfg(test)]
 mod overlay;
-#[cfg(test)]
 mod paths;
-#[cfg(test)]
 mod places;

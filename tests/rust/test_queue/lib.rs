@@ -13,32 +13,18 @@
 //! - `asserts`: assertions that are cheap to prove.
 #![tactic(auto)]
 
-#[cfg(test)]
 mod asserts;
 pub mod boxes;
-#[cfg(test)]
 mod budget;
-#[cfg(test)]
 mod claimed;
-#[cfg(test)]
 mod common;
-#[cfg(test)]
 mod listed;
-#[cfg(test)]
 mod lists;
-#[cfg(test)]
 mod pages;
-#[cfg(test)]
 mod planes;
-#[cfg(test)]
 mod refusals;
-#[cfg(test)]
 mod rounds;
-#[cfg(test)]
 mod sources;
-#[cfg(test)]
 mod supplies;
-#[cfg(test)]
 mod threads;
-#[cfg(test)]
 mod ticks;

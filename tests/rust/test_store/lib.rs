@@ -16,33 +16,18 @@
 //! - `asserts`: assertions that are cheap to prove.
 #![tactic(auto)]
 
-#[cfg(test)]
 mod asserts;
-#[cfg(test)]
 mod common;
-#[cfg(test)]
 mod deep;
-#[cfg(test)]
 mod exporting;
-#[cfg(test)]
 mod fakes;
-#[cfg(test)]
 mod layout;
-#[cfg(test)]
 mod looks;
-#[cfg(test)]
 mod memory;
-#[cfg(test)]
 mod names;
-#[cfg(test)]
 mod reading;
-#[cfg(test)]
 mod real;
-#[cfg(test)]
 mod ring;
-#[cfg(test)]
 mod tables;
-#[cfg(test)]
 mod upgrade;
-#[cfg(test)]
 mod writing;
