@@ -157,7 +157,8 @@ def test_a_disk_that_does_not_answer_holds_up_no_other_camera(monkeypatch):
     import types
 
     import layout
-    from station_page import laboratory, limits
+    from station_page import limits, standing
+    from station_page import watched as looks
 
     monkeypatch.setattr(limits, "DISK_SECONDS", 0.1)
     let_go = threading.Event()
@@ -168,15 +169,15 @@ def test_a_disk_that_does_not_answer_holds_up_no_other_camera(monkeypatch):
 
     async def look():
         reader = types.SimpleNamespace(read=hang)
-        watched = laboratory.Watched(types.SimpleNamespace(name="left"), reader)
+        watched = looks.Watched(types.SimpleNamespace(name="left"), reader)
         watched.begin()
         while not watched.hangs():
-            await laboratory.settle([watched])
+            await looks.settle([watched])
         # Nobody waits for it again.
         watched.begin()
         with pytest.raises(StopIteration):
-            laboratory.settle([watched]).send(None)
-        state = laboratory.Laboratory.camera_state(types.SimpleNamespace(), watched)
+            looks.settle([watched]).send(None)
+        state = standing.Standing(None).camera_state(watched)
         let_go.set()
         await watched.looking
         return state, watched.hangs(), watched.why

@@ -298,8 +298,8 @@ def test_a_camera_that_gives_fewer_frames_than_it_ought_to_is_one_to_look_at(tmp
     from types import SimpleNamespace
 
     import layout
-    from station_page.laboratory import Laboratory
     from station_page.reader import Reader
+    from station_page.standing import Standing
     from station_page.watched import Watched
 
     for wait, level in ((40_000, "good"), (49_000, "good"), (52_000, "warn")):
@@ -310,9 +310,8 @@ def test_a_camera_that_gives_fewer_frames_than_it_ought_to_is_one_to_look_at(tmp
         watched = Watched(SimpleNamespace(name="left"), Reader(str(tmp_path / "a.loop")))
         watched.look()
         watched.has_moved = True
-        laboratory = SimpleNamespace(orders=SimpleNamespace(has_answers=True), source_of=lambda watched: "on")
-        laboratory.recording_state = lambda *words: Laboratory.recording_state(laboratory, *words)
-        assert Laboratory.camera_state(laboratory, watched)[0] == level, wait
+        standing = Standing(SimpleNamespace(orders=SimpleNamespace(has_answers=True)))
+        assert standing.camera_state(watched)[0] == level, wait
 
 
 def test_a_camera_is_measured_rightly(make):

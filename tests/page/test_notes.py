@@ -1,6 +1,5 @@
 """Notes, keeps in sentences and events that go on, without a page."""
 import asyncio
-import collections
 import json
 from dataclasses import replace
 from types import SimpleNamespace
@@ -8,8 +7,8 @@ from types import SimpleNamespace
 import pytest
 from station_page import kept, limits, spans
 from station_page.heard import Heard
+from station_page.held import Held
 from station_page.kept import Kept
-from station_page.laboratory import Laboratory
 from station_page.notes import Notes, NotesFault, tidy
 from station_page.noting import Noting
 from station_page.orders import NoStation, Orders, Waiting
@@ -169,7 +168,7 @@ def test_a_note_goes_with_a_clip_that_grows_to_its_end(notes):
     clips, heard = [clip(0, 93, 217, until=2)], going_on()
     watched = SimpleNamespace(camera=SimpleNamespace(store="store"))
     it = SimpleNamespace(notes=notes, heard=heard, cameras={"left": watched})
-    it.clips_of, it.watched = lambda name: clips, it.cameras.get
+    it.held, it.watched = SimpleNamespace(clips_of=lambda name: clips), it.cameras.get
     noting = Noting(it)
     noting.put([("left", clips[0])], "run 7")
     for number, until in ((1, 3), (0, 4)):
@@ -186,7 +185,7 @@ def test_a_note_goes_with_a_clip_that_grows_to_its_end(notes):
 def test_a_note_waits_until_its_clip_is_seen(notes):
     told = replace(clip(3, 93, 217), is_seen=False)
     clips, watched = [], SimpleNamespace(camera=SimpleNamespace(store="store"))
-    it = SimpleNamespace(notes=notes, heard=Heard(), cameras={"left": watched}, clips_of=lambda name: clips)
+    it = SimpleNamespace(notes=notes, heard=Heard(), cameras={"left": watched}, held=SimpleNamespace(clips_of=lambda name: clips))
     it.watched, noting = it.cameras.get, Noting(it)
     (kept,) = asyncio.run(noting.noted([Kept("left", True, "kept", [told])], "run 7"))
     assert "is written once" in kept.remark
@@ -201,7 +200,7 @@ def test_a_note_waits_until_its_clip_is_seen(notes):
 
 def test_a_note_that_somebody_wrote_meanwhile_stays(notes):
     told, watched = replace(clip(3, 93, 217), is_seen=False), SimpleNamespace(camera=SimpleNamespace(store="store"))
-    it = SimpleNamespace(notes=notes, heard=Heard(), cameras={"left": watched}, clips_of=lambda name: [clip(3, 93, 217)])
+    it = SimpleNamespace(notes=notes, heard=Heard(), cameras={"left": watched}, held=SimpleNamespace(clips_of=lambda name: [clip(3, 93, 217)]))
     it.watched, noting = it.cameras.get, Noting(it)
     asyncio.run(noting.noted([Kept("left", True, "kept", [told])], "run 7"))
     noting.put([("left", clip(3, 93, 217))], "mine")
@@ -211,7 +210,7 @@ def test_a_note_that_somebody_wrote_meanwhile_stays(notes):
 
 def test_notes_that_wait_make_room(notes, monkeypatch):
     monkeypatch.setattr(limits, "NOTES_WAITING", 2)
-    it = SimpleNamespace(notes=notes, heard=Heard(), cameras={"left": None}, clips_of=lambda name: [])
+    it = SimpleNamespace(notes=notes, heard=Heard(), cameras={"left": None}, held=SimpleNamespace(clips_of=lambda name: []))
     noting = Noting(it)
     for id_ in range(4):
         told = replace(clip(id_, 93, 217), is_seen=False)
@@ -221,11 +220,13 @@ def test_notes_that_wait_make_room(notes, monkeypatch):
 
 def test_a_clip_that_has_grown_is_the_only_one_of_its_first_frame():
     clips = [clip(1, 93, 300), clip(2, 94, 300)]
-    it = SimpleNamespace(heard=going_on(), clips_of=lambda name: clips)
-    watched = SimpleNamespace(camera=SimpleNamespace(name="left"))
-    assert Laboratory.longer(it, watched, 93) is clips[0] and Laboratory.longer(it, watched, 95) is None
+    watched = SimpleNamespace(
+        camera=SimpleNamespace(name="left"), reading=SimpleNamespace(clips=clips)
+    )
+    held = Held(SimpleNamespace(heard=going_on(), cameras={"left": watched}))
+    assert held.longer(watched, 93) is clips[0] and held.longer(watched, 95) is None
     clips.append(clip(3, 93, 350))
-    assert Laboratory.longer(it, watched, 93) is None
+    assert held.longer(watched, 93) is None
 
 
 def test_a_clip_that_has_grown_is_released_by_the_id_that_it_has():
@@ -236,11 +237,12 @@ def test_a_clip_that_has_grown_is_released_by_the_id_that_it_has():
             return [is_released]
 
         orders = SimpleNamespace(has_answers=True, begin=lambda order: given.append(order) or "waiting", answer=nothing)
-        it = SimpleNamespace(fetching=collections.Counter(), releasing=set(), ordering=asyncio.Lock(), hurry=asyncio.Event())
+        it = SimpleNamespace(ordering=asyncio.Lock(), hurry=asyncio.Event())
         it.orders, it.look_at = orders, nothing
         it.watched = lambda name: SimpleNamespace(camera=SimpleNamespace(name=name))
-        it.clip = lambda *words: (None, None, None, clip(1, 93, 300))
-        return await Laboratory.release(it, "left", 0, 93), it.releasing
+        held = Held(it)
+        held.clip = lambda *words: (None, None, None, clip(1, 93, 300))
+        return await held.release("left", 0, 93), held.releasing
 
     said, releasing = asyncio.run(release())
     assert given == ["release left 1 93"] and "clip 1 is released" in said and not releasing

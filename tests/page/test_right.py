@@ -270,18 +270,18 @@ def laboratory_of(**clips):
     """What judges the lines of a keep, over stores with these clips."""
     from types import SimpleNamespace
 
-    from station_page.laboratory import Laboratory
+    from station_page.keeping import Keeping
 
     def reading(found):
         return SimpleNamespace(clips=found, clip_of=lambda *it: next((one for one in found if (one.id, one.first, one.last) == it), None))
 
     found = SimpleNamespace(cameras={name: SimpleNamespace(reading=reading(it)) for name, it in clips.items()}, heard=Heard())
-    found.clip_told = lambda *it: Laboratory.clip_told(found, *it)
+    keeping = Keeping(found)
 
     def kept_of(lines):
         for line in lines:
             found.heard.take(line)
-        return Laboratory.kept_of(found, lines)
+        return keeping.kept_of(lines)
 
     return SimpleNamespace(kept_of=kept_of)
 

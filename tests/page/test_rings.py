@@ -16,7 +16,7 @@ from station_page import limits
 from station_page.eye import Eye, Moments
 from station_page.events import events_of
 from station_page.heard import Heard
-from station_page.laboratory import Laboratory as Judged
+from station_page.held import Held
 from station_page.reader import Clip, Gone, Reader
 from station_page.rings import Lent, Stores
 from station_page.watched import Watched
@@ -421,11 +421,13 @@ def test_a_clip_that_has_grown_is_asked_for_in_its_own_store(tmp_path):
     ring, _ = films.reader().read()
     told = types.SimpleNamespace(until=1)
     heard = types.SimpleNamespace(told=lambda number: told, number_of=lambda name, clip: clip.tag)
-    it, watched = types.SimpleNamespace(heard=heard, clips_of=lambda name: ring.clips), Watched(types.SimpleNamespace(name="left"), None)
+    watched = Watched(types.SimpleNamespace(name="left"), None)
+    watched.reading = ring
+    held = Held(types.SimpleNamespace(heard=heard, cameras={"left": watched}))
     for id_, last in ((2, 22), (66, 14)):
-        found = Judged.longer(it, watched, 8, lambda clip: ring.are_beside(clip.id, id_))
+        found = held.longer(watched, 8, lambda clip: ring.are_beside(clip.id, id_))
         assert (found.id // 64, found.last) == (id_ // 64, last)
-    assert Judged.longer(it, watched, 8) is None
+    assert held.longer(watched, 8) is None
 
 
 # ------------------------------------------------------------------------------------- over the page

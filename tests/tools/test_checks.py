@@ -31,7 +31,7 @@ def test_each_kind_has_its_file(tool):
 
 
 def test_what_a_wrong_copy_changes_is_in_its_file(tmp_path):
-    for name, kind in kinds.KINDS.items():
+    for name, kind in kinds.kinds().items():
         for place, wrong in enumerate(kind.wrong):
             for word, make in wrong.given.items():
                 folder = tmp_path / f"{name}-{place}-{word}"

@@ -28,7 +28,11 @@ stands on it.
     together    what several stations say, as one
     stations    several stations in one console
     advice      what to do where a camera isn't well
-    laboratory  all of these together: how each camera stands
+    warned      what is warned of, and what is over
+    standing    how station and cameras stand, in words and numbers
+    keeping     orders that keep, and what became of them
+    held        clips: listed, fetched, released
+    laboratory  all of these together, looked at without end
     guard       which connections and requests are let in
     asked       what stands in a request, within its bounds
     server      the addresses

@@ -63,7 +63,7 @@ class Console:
         for all pages, where something has been seen anew."""
         laboratory = self.laboratory
         if self.told[0] != laboratory.version:
-            clips = laboratory.clips(), laboratory.heard.version
+            clips = laboratory.held.clips(), laboratory.heard.version
             if clips != self.clips:
                 self.clips = clips
                 found = events_of(clips[0], laboratory.heard)
@@ -86,7 +86,7 @@ class Console:
         """What the console shows of each camera beside its state."""
         found = {}
         for name, watched in self.laboratory.cameras.items():
-            *_, kind, _ = self.laboratory.camera_state(watched)
+            *_, kind, _ = self.laboratory.shown.camera_state(watched)
             found[name] = {"advice": advice_for(kind), "source": watched.camera.source}
             if watched.reading:
                 found[name] |= room_of(watched.reading)
@@ -190,7 +190,7 @@ class Console:
     async def events(self, request: web.Request) -> web.Response:
         """All events."""
         await self.laboratory.fresh()
-        found = events_of(self.laboratory.clips(), self.laboratory.heard)
+        found = events_of(self.laboratory.held.clips(), self.laboratory.heard)
         return web.json_response({"events": found})
 
     def clips_in(self, found: object) -> list[tuple[str, int, int]]:
@@ -215,7 +215,8 @@ class Console:
         if not isinstance(body.get("note"), str):
             raise Unfit(400, "note isn't a text.")
         named = self.clips_in(body.get("clips"))
-        found = [(name, self.laboratory.clip(name, id_, first)[-1]) for name, id_, first in named]
+        held = self.laboratory.held
+        found = [(name, held.clip(name, id_, first)[-1]) for name, id_, first in named]
 
         order = f"{clip_words(named)}: {body['note'][: limits.NOTE_BYTES]}"
         work = asyncio.to_thread(self.laboratory.noting.put, found, body["note"])
@@ -235,7 +236,7 @@ class Console:
     async def release_all(self, clips: list[tuple[str, int, int]]) -> str:
         """Releases clips, and says what became of that; Unfit where one stays."""
         told = await asyncio.gather(
-            *(self.laboratory.release(name, id_, first) for name, id_, first in clips),
+            *(self.laboratory.held.release(name, id_, first) for name, id_, first in clips),
             return_exceptions=True,
         )
         faults = [it for it in told if isinstance(it, BaseException)]
@@ -268,13 +269,13 @@ class Console:
             wanted.append((name, number, number_in(first, limits.NUMBERS_END, "first")))
         if page.fetches[EVENTS] >= limits.EVENT_FETCHES:
             raise Unfit(503, "Too many events are being fetched. Try again in a minute.")
-        fetches = [self.laboratory.fetch(*it) for it in wanted]
+        fetches = [self.laboratory.held.fetch(*it) for it in wanted]
         if not {"mp4", "y4m"}.isdisjoint(parts):
             for fetch in fetches:
                 fetch.bits()
         notes = {
             clip["note"]: None
-            for clip in self.laboratory.clips()
+            for clip in self.laboratory.held.clips()
             if clip["note"] and any((clip["camera"], clip["id"]) == it[:2] for it in wanted)
         }
         bundle = Bundle(fetches, parts, "; ".join(notes))
@@ -294,12 +295,13 @@ class Console:
         with ExitStack() as stack:
             stack.callback(self.ended, named, bundle.progress)
             for fetch in bundle.fetches:
-                stack.enter_context(self.laboratory.busy(fetch.camera, fetch.clip.id))
+                stack.enter_context(self.laboratory.held.busy(fetch.camera, fetch.clip.id))
 
             def film_of(fetch):
                 """The film of a clip, read until the zip is sent."""
                 store = self.laboratory.cameras[fetch.camera].camera.store
-                film = films.film(store, fetch, self.laboratory.busy(fetch.camera, fetch.clip.id))
+                is_busy = self.laboratory.held.busy(fetch.camera, fetch.clip.id)
+                film = films.film(store, fetch, is_busy)
                 stack.enter_context(films.reading(film))
                 return film
 

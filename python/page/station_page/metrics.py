@@ -30,7 +30,7 @@ class Collector:
 
     def collect(self) -> Iterator[Metric]:
         """All numbers."""
-        standing = self.laboratory.standing()
+        standing = self.laboratory.shown.standing()
         for word, name, text in CAMERA:
             yield self.family(
                 GaugeMetricFamily,

@@ -56,7 +56,7 @@ class Noting:
         keys = {
             key_of(watched.camera.store, it)
             for name, watched in laboratory.cameras.items()
-            for it in laboratory.clips_of(name)
+            for it in laboratory.held.clips_of(name)
         }
         laboratory.notes.put(
             [(laboratory.watched(name).camera.store, clip) for name, clip in clips],
@@ -93,7 +93,7 @@ class Noting:
         """A clip that was told, as its store shows it: itself, or what it has grown to."""
         longer = [
             it
-            for it in self.laboratory.clips_of(name)
+            for it in self.laboratory.held.clips_of(name)
             if (it.first, it.tag) == (clip.first, clip.tag)
             and it.last >= clip.last
             and it.is_beside(clip.id)
@@ -112,7 +112,7 @@ class Noting:
             is_open = laboratory.heard.told(number).goes_on(name)
             clips = [
                 clip
-                for clip in laboratory.clips_of(name)
+                for clip in laboratory.held.clips_of(name)
                 if laboratory.heard.number_of(name, clip) == number
             ]
             lacking = [

@@ -20,12 +20,13 @@ from .console import Console
 from .films import FilmFault, Text, csv_of, zip_stream
 from .guard import COOKIE, HEADERS, OPEN, Connection, Gate, bearer_of, session_word
 from .journal import Expected, PlainFormatter
-from .laboratory import Laboratory, for_programs
+from .laboratory import Laboratory
 from .notes import NotesFault
 from .orders import NoStation
 from .push import whole
 from .reader import Gone, store_in
 from .settings import BadSettings, Settings, read_settings
+from .standing import for_programs
 from .stations import Stations
 from .words import Unfit
 from .workers import DRAWING, NO_ANSWER
@@ -362,7 +363,7 @@ class Page:
     async def status(self, request: web.Request) -> web.Response:
         """How all stands, once."""
         await self.laboratory.fresh()
-        standing = self.laboratory.standing()
+        standing = self.laboratory.shown.standing()
         for camera in standing["cameras"]:
             for_programs(camera)
         return web.json_response(standing)
@@ -370,7 +371,7 @@ class Page:
     async def clips(self, request: web.Request) -> web.Response:
         """All clips."""
         await self.laboratory.fresh()
-        clips = self.laboratory.clips()
+        clips = self.laboratory.held.clips()
         for clip in clips:
             del clip["order_tag"]
         return web.json_response({"clips": clips})
@@ -476,7 +477,7 @@ class Page:
             request,
             "keep",
             keep_words(camera, seconds, span, note),
-            self.laboratory.keep(camera, seconds, span, note),
+            self.laboratory.keeping.keep(camera, seconds, span, note),
         )
         is_kept = any(one.is_kept for one in kept)
         return web.json_response(
@@ -507,7 +508,7 @@ class Page:
         if "last" in body or "tag" in body:
             exactly = tuple(whole(body.get(it), 0, 2**64 - 1, it) for it in ("last", "tag"))
         text = await self.change(
-            request, "release", order, self.laboratory.release(camera, id_, first, exactly)
+            request, "release", order, self.laboratory.held.release(camera, id_, first, exactly)
         )
         return web.json_response({"text": text})
 
@@ -516,7 +517,7 @@ class Page:
         body, camera, id_, first = await self.of_clip(request, {"note"})
         if not isinstance(body.get("note"), str):
             raise Unfit(400, "note isn't a text.")
-        *_, clip = self.laboratory.clip(camera, id_, first)
+        *_, clip = self.laboratory.held.clip(camera, id_, first)
         work = asyncio.to_thread(self.laboratory.noting.put, [(camera, clip)], body["note"])
         await self.change(
             request, "note", f"clip {id_} of {camera}: {body['note'][: limits.NOTE_BYTES]}", work
@@ -564,7 +565,7 @@ class Page:
             request.match_info["kind"],
         )
         await self.laboratory.fresh()
-        fetch = self.laboratory.fetch(
+        fetch = self.laboratory.held.fetch(
             camera, id_, number_in(request.query.get("first"), limits.NUMBERS_END, "first")
         )
         if kind == "jpg":
@@ -577,7 +578,7 @@ class Page:
             raise Unfit(503, "Too many clips are being fetched. Try again in a minute.")
         self.fetches[camera] += 1
         try:
-            with self.laboratory.busy(camera, id_):
+            with self.laboratory.held.busy(camera, id_):
                 return await getattr(self, f"fetch_{kind}")(request, fetch)
         finally:
             self.fetches[camera] -= 1
@@ -651,7 +652,7 @@ class Page:
     async def fetch_mp4(self, request: web.Request, fetch) -> web.StreamResponse:
         """A film: as it is made, or, once it is, any range of it."""
         films, store = self.laboratory.films, self.laboratory.cameras[fetch.camera].camera.store
-        film = films.film(store, fetch, self.laboratory.busy(fetch.camera, fetch.clip.id))
+        film = films.film(store, fetch, self.laboratory.held.busy(fetch.camera, fetch.clip.id))
         with films.reading(film):
             if (
                 not film.is_done

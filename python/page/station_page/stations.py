@@ -18,11 +18,11 @@ from .bundle import PARTS, Progress, entry, parts_in, stamp
 from .console import EVENTS, VIEW
 from .events import events_of
 from .films import Gathered
-from .laboratory import for_programs
 from .orders import NoStation
 from .others import Other
 from .push import Stream, message, view_of, whole
 from .settings import OtherStation
+from .standing import for_programs
 from .together import (
     ALERTS,
     MARK,
@@ -192,7 +192,7 @@ class Stations:
                     text = found["text"] if found["level"] == level else ""
                     # What is said of how long isn't said anew each second.
                     if not (text and self.laboratory.alerts.stands(kind, camera=other.name)):
-                        self.laboratory.set(kind, other.name, text)
+                        self.laboratory.warned.set(kind, other.name, text)
             await asyncio.sleep(limits.AGAIN_SECONDS)
 
     async def close(self) -> None:
@@ -240,7 +240,7 @@ class Stations:
         if is_of_this(request):
             return await self.page.status(request)
         await self.laboratory.fresh()
-        found = state_of(self.laboratory.standing(), self.others)
+        found = state_of(self.laboratory.shown.standing(), self.others)
         for camera in found["cameras"]:
             for_programs(camera)
         return web.json_response(found)
@@ -248,7 +248,7 @@ class Stations:
     async def clips(self, request: web.Request) -> web.Response:
         """All clips."""
         await self.laboratory.fresh()
-        clips = self.laboratory.clips()
+        clips = self.laboratory.held.clips()
         for clip in clips:
             del clip["order_tag"]
         told = await asyncio.gather(
@@ -268,7 +268,7 @@ class Stations:
         if is_of_this(request):
             return await self.console.events(request)
         await self.laboratory.fresh()
-        own = events_of(self.laboratory.clips(), self.laboratory.heard)
+        own = events_of(self.laboratory.held.clips(), self.laboratory.heard)
         return web.json_response({"events": self.joined(own)})
 
     # -------------------------------------------------------------------------------- open pages
@@ -373,7 +373,7 @@ class Stations:
         camera, seconds, span, note = await self.page.asked_keep(request)
         if camera is not None and self.other_of(camera) is None:
             return await self.page.keep(request)
-        cameras = state_of(self.laboratory.standing(), self.others)["cameras"]
+        cameras = state_of(self.laboratory.shown.standing(), self.others)["cameras"]
         if camera is not None:
             cameras = [it for it in cameras if it["name"] == camera]
         span = span_of(seconds, span, cameras)
@@ -427,7 +427,7 @@ class Stations:
     async def keep_here(self, span: tuple[int, int], note: str) -> list[dict]:
         """Keeps at this page's own station."""
         try:
-            kept = await self.laboratory.keep(None, None, span, note)
+            kept = await self.laboratory.keeping.keep(None, None, span, note)
         except (Unfit, NoStation) as fault:
             return [refused(None, str(fault))]
         return [it.as_object() for it in kept]
