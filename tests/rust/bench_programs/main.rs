@@ -28,7 +28,6 @@
 //! number after each group once it is stored. Each byte of frame N is (N % 251 + RUN % 251 * 7) % 251;
 //!
 //! Without a word it does nothing, since what it measures is never the same twice.
-#![tactic(auto)]
 
 mod store;
 mod words;

@@ -4,11 +4,8 @@
 //! - `common`: events and replies as rows of tables, and lanes and desks over images;
 //! - `growths`: each growth is refused in turn;
 //! - `stops`: what a power loss within a lane's run leaves is opened; `text`: what a lane recorded becomes a text;
-//! - `device`: what a device's ticks become, through the queue, the lane and the store, as a text;
-//! - `asserts`: assertions that are cheap to prove.
-#![tactic(auto)]
+//! - `device`: what a device's ticks become, through the queue, the lane and the store, as a text.
 
-mod asserts;
 mod common;
 mod device;
 mod growths;

@@ -11,7 +11,6 @@
 //!   the input where the program's word is `lists`;
 //! - `session` keeps the list of a case. `lists` repeats it as one list, `stops` over a disk that is stopped at each
 //!   moment, `failing` over one that fails each call; `shown` prints what a disk holds.
-#![tactic(auto)]
 
 mod camera;
 mod case;

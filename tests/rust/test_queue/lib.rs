@@ -7,14 +7,11 @@
 //! - `rounds`: buffers are queued, filled and dequeued, with ample memory and with each growth refused;
 //! - `refusals`: what a refused request hands back, and which pages are free again; `supplies`: the same by ioctls;
 //!   `lists`: by a list of events;
-//! - `boxes`: a frame on its way through a queue of boxes, with a contract as a crate above the queue would write it;
+//! - `boxes`: a frame on its way through a queue of boxes;
 //! - `listed`: a source that returns what its list has; `ticks`: what a device's ticks do to a queue, with the pattern,
-//!   with that source, and with an input that is cut; `sources`: what sources return;
-//! - `asserts`: assertions that are cheap to prove.
-#![tactic(auto)]
+//!   with that source, and with an input that is cut; `sources`: what sources return.
 
-mod asserts;
-pub mod boxes;
+mod boxes;
 mod budget;
 mod claimed;
 mod common;

@@ -14,7 +14,6 @@
 //!
 //! `data/version1.loop` is a store that the program wrote before there was version 2 of the layout: seven frames of its
 //! pattern by `record`, then `lock 2 2`, `lock 6 6`, `lock 3 6` and `unlock 1`.
-#![tactic(auto)]
 
 mod acts;
 mod case;
