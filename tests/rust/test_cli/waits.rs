@@ -56,6 +56,7 @@ fn each_input_comes_to(rt: &impl Abort, alloc: Global, rows: &[(u32, bool, &str,
     }
 }
 
+// At -O2: two million lines take minutes with the check of addresses.
 #[test]
 fn inputs_that_fail_or_are_too_long_end_the_run(rt: HostRuntime) {
     each_input_comes_to(&rt, rt.alloc(), &INPUTS);
