@@ -54,6 +54,12 @@ def _begun(words, **how):
         return process
 
 
+def _end_late(group, late):
+    """Ends a group of processes whose time is over."""
+    late.set()
+    kill(group)
+
+
 def run(words, cwd=None, env=None, given=None, limit=None):
     """Runs a program to its end, with a file or nothing as its input, at most so many seconds of
     the clock."""
@@ -61,7 +67,7 @@ def run(words, cwd=None, env=None, given=None, limit=None):
     with tempfile.TemporaryFile() as out, tempfile.TemporaryFile() as err, \
             open(given or os.devnull, "rb") as stdin:
         process = _begun(words, cwd=cwd, env=env, stdin=stdin, stdout=out, stderr=err)
-        timer = threading.Timer(limit or 0, lambda: (late.set(), kill(process.pid)))
+        timer = threading.Timer(limit or 0, _end_late, (process.pid, late))
         if limit:
             timer.start()
         try:
@@ -78,8 +84,9 @@ def run(words, cwd=None, env=None, given=None, limit=None):
             raise Stopped
         for it in (out, err):
             it.seek(0)
-        texts = [it.read().decode(errors="replace") for it in (out, err)]
-    return Ended(process.returncode, *texts, used.ru_utime + used.ru_stime, late.is_set())
+        printed, told = (it.read().decode(errors="replace") for it in (out, err))
+    seconds = used.ru_utime + used.ru_stime
+    return Ended(process.returncode, printed, told, seconds, late.is_set())
 
 
 def free_gigabytes():

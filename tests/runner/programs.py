@@ -116,7 +116,8 @@ def lines_of(tests):
 
 def joined(lists):
     """Lists of tests, each of a crate, joined as their lines let them."""
-    found, lines = [], 0
+    found: list[list[Test]] = []
+    lines = 0
     for tests in lists:
         more = lines_of(tests)
         lines += more
@@ -128,7 +129,7 @@ def joined(lists):
 
 def lists_of(tests):
     """The tests of each program."""
-    own, rest = [], {level: [] for level in unproved.LEVELS}
+    own, rest = [], {level: list[list[Test]]() for level in unproved.LEVELS}
     for crate in dict.fromkeys(it.crate for it in tests):
         of_crate = [it for it in tests if it.crate == crate]
         if unproved.is_program(crate):

@@ -58,8 +58,8 @@ def named(text, program):
     places = [it for it, _ in of_program]
     names = [of_program[bisect(places, it - 1) - 1][1] for it in frames]
     names = [re.sub(r"<\d+'.*", "", it).removesuffix("::") for it in names]
-    kind = re.search(r"AddressSanitizer: ([\w-]+)", text)
-    kind = kind[1] if kind else "a fault"
+    told = re.search(r"AddressSanitizer: ([\w-]+)", text)
+    kind = told[1] if told else "a fault"
     if kind == "ILL":
         kind = "a check of bounds, overflow or a cast (or an unreachable place)"
     before = text[:text.index("==")].replace("AddressSanitizer:DEADLYSIGNAL", "").strip()
@@ -115,14 +115,31 @@ def run_test(test, program, limit):
     return Result(test, "\n".join(said), ended.seconds)
 
 
+class Compilers:
+    """Lets as many compile at once as the memory that is free lets, and one always."""
+
+    def __init__(self):
+        self.running, self.turn = 0, threading.Condition()
+
+    def __enter__(self):
+        with self.turn:
+            # What runs grows on: half of its memory isn't taken yet.
+            while self.running and processes.free_gigabytes() < COMPILING * (1 + self.running / 2):
+                self.turn.wait(2)
+            self.running += 1
+
+    def __exit__(self, *_):
+        with self.turn:
+            self.running -= 1
+            self.turn.notify_all()
+
+
 class Run:
     """Groups of tests under way: what is told of them, and what has failed."""
 
     def __init__(self, jobs, limit, goes_on):
-        free = int(processes.free_gigabytes() / COMPILING)
         self.limit, self.goes_on = limit, goes_on
-        self.slots = threading.Semaphore(jobs)
-        self.compilers = threading.Semaphore(max(1, min(jobs, free)))
+        self.slots, self.compilers = threading.Semaphore(jobs), Compilers()
         self.tests = ThreadPoolExecutor(jobs)
         self.lock = threading.Lock()
         self.results, self.left, self.seconds = [], [], 0.0

@@ -19,8 +19,8 @@ import programs
 from unproved import RUST, TOP
 
 # What begins an item at the outermost level of a file, and its name.
-ITEM = re.compile(r"^(?:pub(?:\(\w+\))? )?(?:unsafe )?(?:fn|const|static|struct|enum|type|trait|impl"
-                  r"(?:<[^{]*?>)?(?: [^{]*? for)?) (?:mut )?(\w+)", re.M)
+ITEM = re.compile(r"^(?:pub(?:\(\w+\))? )?(?:unsafe )?(?:fn|const|static|struct|enum|type|trait|"
+                  r"impl(?:<[^{]*?>)?(?: [^{]*? for)?) (\w+)", re.M)
 # The columns of a line that are shown.
 COLUMNS = 110
 
