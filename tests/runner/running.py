@@ -18,6 +18,7 @@ from unproved import RUST, TOP
 
 # The memory that one compilation takes at most, in gigabytes.
 COMPILING = 2.7
+NOT_COMPILED = "was not compiled"
 # What the sanitizer tells of a place in a program.
 FRAME = re.compile(r"^ *frame 0x([0-9a-f]+) \(BuildId: \w+\)$", re.M)
 
@@ -174,15 +175,18 @@ class Run:
         if program:
             results = list(self.tests.map(lambda it: self._test(it, program), group.tests))
         elif said:
-            results = [Result(it, said if it == group.tests[0] else "was not compiled", 0)
-                       for it in group.tests]
+            results = [Result(it, NOT_COMPILED, 0) for it in group.tests]
         else:
             results = []
             self.left.append(group)
         with self.lock:
             self.results += results
             self.seconds += sum(it.seconds for it in results)
-            if results:
+            if said:
+                lines = ["\n    ".join(said.split("\n"))]
+                print(f"{' '.join(group.crates)} ({group.program.level}): not compiled", *lines,
+                      sep="\n    ", flush=True)
+            elif results:
                 tell(group, results)
         return results
 

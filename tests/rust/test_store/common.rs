@@ -116,7 +116,7 @@ pub(crate) fn held<D: Disk + Drop, A: Allocator>(
 ) -> Result<Vec<u64>, StoreFault> {
     let numbers = store.frames(alloc)?;
     for number in &numbers {
-        so!(rt; store.holds(*number));
+        assert!(rt; store.holds(*number));
         reads(rt, alloc, store, *number, u64::from(again <= *number))?;
     }
     let next = numbers.last().map_or(0, |last| last.wrapping_add(1));
@@ -134,7 +134,7 @@ fn is_not_held<D: Disk + Drop, A: Allocator>(
     store: &mut Store<D, A>,
     number: u64,
 ) {
-    so!(rt; !store.holds(number));
+    assert!(rt; !store.holds(number));
     assert_eq!(rt;
         read(rt, alloc, store, number).err(),
         Some(StoreFault::NotHeld)

@@ -50,8 +50,8 @@ fn is_left(rt: &impl Abort, alloc: Global, image: &[u8], beneath: MemDisk) -> Re
     let mut store = opens(rt, alloc, OverlayDisk::new(alloc, beneath));
     is_tried(rt, alloc, &mut store)?;
     let tried = store.into_disk();
-    so!(rt; tried.written() > 1);
-    so!(rt; tried.into_inner().bytes() == image);
+    assert!(rt; tried.written() > 1);
+    assert!(rt; tried.into_inner().bytes() == image);
     Ok(())
 }
 

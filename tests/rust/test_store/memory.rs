@@ -89,7 +89,7 @@ fn is_refused(
         panic!(rt; "it is opened, and {keep} blocks are kept")
     };
     assert_eq!(rt; (refused.fault, memory.left()), (fault, 0), "{keep:?}");
-    so!(rt; refused.disk.bytes() == image, keep);
+    assert!(rt; refused.disk.bytes() == image, "{keep:?}");
 }
 
 // Opens an image with this many of the newest blocks kept, where each growth is refused in turn.
