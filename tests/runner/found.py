@@ -8,6 +8,7 @@ sys.path.insert(1, str(Path(__file__).resolve().parents[2] / "tools"))
 import unproved
 from unproved import RUST, TOP
 
+CASES = TOP / "tests/cases"
 # The comments and attributes of a test, and its name.
 TEST = re.compile(r"^((?:(?:///?|#\[).*\n)*)fn (\w+)\(", re.M)
 # What a test's comment begins a line with that is too slow with the sanitizer.
@@ -54,10 +55,17 @@ def tests_in(path):
             yield Test(f"{module}::{it[2]}", path, line, level)
 
 
+def cases_of(crate):
+    """The file that a program reads as its input, if any: the word after its name in the table."""
+    head = re.search(rf"^{crate} (\S+):", (RUST / "crates").read_text(), re.M)
+    return CASES / head[1] if head else None
+
+
 def tests_of(crate):
-    """The tests of a crate."""
+    """The tests of a crate. A program is one where it reads cases, or has to print something."""
     if unproved.is_program(crate):
-        return [Test(crate, RUST / crate / "main.rs", 1, "fast")]
+        is_test = cases_of(crate) or (RUST / crate / "stdout").exists()
+        return [Test(crate, RUST / crate / "main.rs", 1, "fast")] if is_test else []
     return [it for path in sorted((RUST / crate).rglob("*.rs")) for it in tests_in(path)]
 
 

@@ -8,7 +8,6 @@ import unproved
 from found import Test
 from unproved import RUST, TOP
 
-CASES = TOP / "tests/cases"
 # The lines of tests in one program. More take more memory: these 2.5 GB.
 LINES = 9000
 
@@ -77,13 +76,6 @@ def words_of(crate):
     """The words that a program is run with: the lines of its `args`."""
     args = RUST / crate / "args"
     return args.read_text().split("\n")[:-1] if args.exists() else []
-
-
-def cases_of(crate):
-    """The file that a program reads as its input, if any."""
-    head = re.search(rf"^{crate} (\S+):", (RUST / "crates").read_text(), re.M)
-    given = CASES / head[1] if head else RUST / crate / "stdin"
-    return given if given.exists() else None
 
 
 def group_of(tests, changed):

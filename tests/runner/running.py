@@ -13,7 +13,8 @@ from typing import NamedTuple
 
 import processes
 import unproved
-from programs import cases_of, origin, words_of
+from found import cases_of
+from programs import origin, words_of
 from unproved import RUST, TOP
 
 # The memory that one compilation takes at most, in gigabytes.

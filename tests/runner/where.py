@@ -15,7 +15,6 @@ sys.path[1:1] = [str(HERE), str(HERE.parent / "wrong"), str(HERE.parents[1] / "t
 import about
 import edits
 import found
-import programs
 from unproved import RUST, TOP
 
 # What begins an item at the outermost level of a file, and its name.
@@ -60,7 +59,7 @@ def rows(word):
 
 def cases(word):
     """The lines of cases that have a word."""
-    for path in sorted(programs.CASES.iterdir()):
+    for path in sorted(found.CASES.iterdir()):
         for number, line in enumerate(path.read_text().split("\n"), 1):
             if word.search(line) and not line.startswith("#"):
                 line = re.sub(r"  +", "  ", line)
