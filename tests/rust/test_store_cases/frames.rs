@@ -1,4 +1,4 @@
-//! Frames of a pattern, and calls of a store that check their preconditions first.
+//! Frames of a pattern, and calls of a store that look first whether they may be made.
 
 use anyhow::{Error, Result, anyhow};
 use loop_disk::Disk;
