@@ -1,5 +1,5 @@
-"""The programs that tests are compiled in: crates of tests are modules of few programs, and one
-with a `main` is a program by itself."""
+"""The programs that tests are compiled in: crates of tests are modules of few programs, and those
+with a `main` of one more."""
 import re
 from pathlib import Path
 from typing import NamedTuple
@@ -61,9 +61,7 @@ def laid_out(crate, wanted, changed=None):
     paths = [RUST / crate / "lib.rs", *(it for name in wanted for it in files[name])]
     found = {}
     for path in paths:
-        text = re.sub(r"\bcrate::", f"crate::{crate}::", path.read_text())
-        text = re.sub(r"^#!\[.*\]$", "", text, flags=re.M)
-        inner = path.relative_to(RUST).with_suffix(".rt")
+        inner, text = path.relative_to(RUST).with_suffix(".rt"), unproved.as_module(crate, path)
         if path.name == "lib.rs":
             text = re.sub(r"^(?:pub )?mod (\w+);$",
                           lambda it: it[0] if it[1] in wanted else "", text, flags=re.M)
@@ -82,7 +80,7 @@ def group_of(tests, changed):
     """Tests in a program, with what they need of their crates and libraries. Files that are changed
     have other texts."""
     if unproved.is_program(tests[0].crate):
-        program = unproved.program(tests[0].crate)
+        program = unproved.program(tests[0].crate) if len(tests) == 1 else unproved.joined()
         return Group(tests, program._replace(files={**program.files, **changed}))
     files, uses = {}, []
     crates = list(dict.fromkeys(it.crate for it in tests))
@@ -120,16 +118,14 @@ def joined(lists):
 
 
 def lists_of(tests):
-    """The tests of each program."""
-    own, rest = [], {level: list[list[Test]]() for level in unproved.LEVELS}
-    for crate in dict.fromkeys(it.crate for it in tests):
-        of_crate = [it for it in tests if it.crate == crate]
-        if unproved.is_program(crate):
-            own.append(of_crate)
-            continue
-        for level, those in rest.items():
-            those += [[it for it in of_crate if it.level == level]]
-    return own + [it for those in rest.values() for it in joined(filter(None, those))]
+    """The tests of each program: those that have a `main`, then others by their level."""
+    programs = [it for it in tests if unproved.is_program(it.crate)]
+    found = [programs] if programs else []
+    for level in unproved.LEVELS:
+        those = [it for it in tests if it.level == level and it not in programs]
+        crates = dict.fromkeys(it.crate for it in those)
+        found += joined([it for it in those if it.crate == crate] for crate in crates)
+    return found
 
 
 def groups(tests, changed=None):

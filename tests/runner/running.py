@@ -107,6 +107,7 @@ def run_test(test, program, limit):
     is_program = unproved.is_program(test.crate)
     with unproved.room() as room:
         if is_program:
+            program = program.with_name(test.crate)
             words, given = words_of(test.crate), cases_of(test.crate)
             copy_data(test.crate, room)
         env = {**os.environ, "TMPDIR": str(room)}
