@@ -1,8 +1,9 @@
 //! What the tests share: events and replies as rows of tables, and lanes and desks over images.
 
-use loop_desk::{Desk, DeskLimits, Hand, Lane, LaneEvent, LaneFault, LaneReply, lane_run};
+use loop_desk::{Desk, DeskLimits, Hand, LaneFault};
 use loop_disk::{Disk, MemDisk};
 use loop_ioctl::{BufferMemory, BufferType, Ioctl, IoctlReply, QueueEvent, QueueReply};
+use loop_lane::{Lane, LaneEvent, LaneReply, lane_run};
 use loop_pages::{PageHold, PageLedger};
 use loop_plane::{FdTable, Memory, MmapPlane, PlaneMemory};
 use loop_record::{Frame, Geometry, PixelFormat};

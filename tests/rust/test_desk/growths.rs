@@ -3,8 +3,9 @@
 use crate::common::Call::*;
 use crate::common::Told::{Count, Done, Fault, Flushed, Frame, Index, Number, Refused};
 use crate::common::*;
-use loop_desk::{Desk, Lane, LaneEvent, lane_run};
+use loop_desk::Desk;
 use loop_disk::Disk;
+use loop_lane::{Lane, LaneEvent, lane_run};
 use loop_plane::{MmapPlane, PlaneMemory};
 use loop_record::{Span, Times};
 use loop_store::{Store, StoreFault};

@@ -3,9 +3,8 @@
 use crate::common::Call::*;
 use crate::common::Told::{Count, Done, Fault, Flushed, Index, Number};
 use crate::common::*;
-use loop_desk::{Lane, LaneEvent};
 use loop_disk::{Disk, MemDisk};
-use loop_lane_text::record_and_export;
+use loop_lane::{Lane, LaneEvent, record_and_export};
 use loop_plane::{MmapPlane, PlaneMemory};
 use loop_store::StoreFault;
 use std::alloc::Allocator;

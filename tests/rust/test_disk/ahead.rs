@@ -1,7 +1,7 @@
 // The disk that reads ahead, where memory is refused.
 
 use crate::calls::{Call, plays, read_at, write_at};
-use loop_ahead::AheadDisk;
+use loop_file::AheadDisk;
 use loop_disk::{Disk, MemDisk};
 use std::alloc::Allocator;
 use std::process::Abort;

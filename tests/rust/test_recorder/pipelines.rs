@@ -5,7 +5,7 @@ use crate::common::*;
 use loop_capture::{Device, Pattern, Tick};
 use loop_desk::{Desk, Flushed, Hand, LaneFault};
 use loop_disk::{Disk, FuseDisk, MemDisk};
-use loop_lane_text::{LostFrames, film_and_export};
+use loop_lane::{LostFrames, film_and_export};
 use loop_pipeline::{
     Back, Begun, Brought, Camera, CameraEnd, Front, Guide, Link, LostFrame, Noting, Outcome, Seat,
     Shot, TakeOutcome, Visits, end, film_all, film_camera, heap_start, new_queue, start_queue,
