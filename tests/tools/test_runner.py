@@ -47,7 +47,8 @@ def rust(tmp_path, monkeypatch):
             "test_b/ring_more.rs": "use crate::{ring_more};\n#[test]\nfn b(rt: HostRuntime) {}\n",
             "cases/main.rs": "fn main(rt: HostRuntime) {}\n",
             "shown/main.rs": "fn main(rt: HostRuntime) {}\n",
-            "crates": "test_a: loop_disk loop_ring\ntest_b:\ncases some.cases: anyhow\nshown:\n"}.items():
+            "crates": "test_a: loop_disk loop_ring\ntest_b:\n"
+                      "cases some.cases: anyhow\nshown:\n"}.items():
         (tmp_path / "tests/rust" / path).parent.mkdir(parents=True, exist_ok=True)
         (tmp_path / "tests/rust" / path).write_text(text)
     place = tmp_path / "tests/rust"
