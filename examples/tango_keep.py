@@ -10,8 +10,19 @@ import json
 import urllib.error
 import urllib.request
 
+from lapyrei import answers
 from tango import AttrWriteType, DevState
 from tango.server import Device, attribute, command, device_property
+
+
+class NoRedirect(urllib.request.HTTPRedirectHandler):
+    """Follows no redirect: the token would go with it."""
+
+    def redirect_request(self, *_words):
+        return None
+
+
+OPENER = urllib.request.build_opener(urllib.request.ProxyHandler({}), NoRedirect())
 
 
 class LapyreiKeep(Device):
@@ -31,24 +42,29 @@ class LapyreiKeep(Device):
     def write_note(self, words):
         self.words = words
 
-    def ask(self, path, body=None):
+    def ask(self, path, shape, body=None):
         head = {"X-Loop-Page": "1", "Content-Type": "application/json"}
         if self.token:
             head["Authorization"] = f"Bearer {open(self.token).readline().strip()}"
         data = None if body is None else json.dumps(body).encode()
+        asked = urllib.request.Request(self.page + path, data, head)
         try:
-            return json.load(urllib.request.urlopen(
-                urllib.request.Request(self.page + path, data, head), timeout=25))
+            with OPENER.open(asked, timeout=25) as answer:
+                return answers.answer_in(answer.read(answers.BYTES + 1), shape)
         except urllib.error.HTTPError as fault:
-            return json.load(fault)
+            with fault:
+                found = answers.answer_in(fault.read(answers.BYTES + 1), answers.REFUSAL)
+            if "answers" in found:
+                answers.KEPT(found)
+            return found
 
     @command(dtype_in=int, dtype_out=str)
     def Keep(self, seconds):
-        found = self.ask("/api/keep", {"seconds": seconds, "note": self.words})
-        return found.get("error") or " ".join(it["text"] for it in found["answers"])
+        found = self.ask("/api/keep", answers.KEPT, {"seconds": seconds, "note": self.words})
+        return found.get("error") or " ".join(it["text"] for it in found.get("answers", []))
 
     def dev_state(self):
-        level = self.ask("/api/status")["station"][0]
+        level = self.ask("/api/status", answers.STATUS).get("station", ["bad"])[0]
         return DevState.ON if level == "good" else DevState.ALARM
 
 

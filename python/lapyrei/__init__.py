@@ -18,9 +18,9 @@ picture is of two frames. `create`, and `open` with the mode "r+", write by the 
 program has the store open; where one has, the station's orders lock. What is refused is a class of
 `lapyrei.errors`. docs/python.md has more.
 
-The parts `layout`, `files`, `times`, `events`, `errors` and `library` need nothing but Python, and
-the tools stand on them; the others are loaded when they are first asked for, since they need
-numpy."""
+The parts `layout`, `files`, `times`, `events`, `errors`, `library` and `answers` need nothing but
+Python, and the tools stand on them; the others are loaded when they are first asked for, since they
+need numpy."""
 from __future__ import annotations
 
 import importlib

@@ -3,7 +3,7 @@ from fractions import Fraction
 
 import pytest
 
-from station_camera import words
+from station_camera import words, written
 
 GENICAM = "GENICAM=12345\n"
 DEVICE = "DEVICE=/dev/video0\nDEVICE_FORMAT=yuyv422\nSIZE=640x480\nRATE=30\n"
@@ -83,3 +83,18 @@ def test_what_is_left_out_stays_as_the_camera_has_it():
 def test_what_can_not_be_is_refused_by_its_key(text, says):
     with pytest.raises(words.BadFile, match=says.replace("=", "=")):
         words.wanted(text)
+
+
+def test_what_an_old_file_says_stays_for_the_same_camera_alone():
+    old = "GENICAM=one\n# mine\nFEATURE_GainAuto=Off\nGAIN=2\n"
+    values = {"GENICAM": "one", "RATE": 30.0, "GAIN": None}
+    assert written.camera_file(values, old) == (
+        "GENICAM=one\n# mine\nFEATURE_GainAuto=Off\nRATE=30\n"
+    )
+    for other in ({"GENICAM": "two"}, {"GENICAM": "on"}, {"GENICAM": "one1"}, {"DEVICE": "one"}):
+        text = written.camera_file(other | {"RATE": 30.0}, old)
+        assert "FEATURE" not in text and "GAIN" not in text and "mine" not in text
+        assert text == f"{next(iter(other))}={next(iter(other.values()))}\nRATE=30\n"
+    device = "DEVICE=/dev/video0\nFEATURE_X=1\n"
+    assert "FEATURE" in written.camera_file({"DEVICE": "/dev/video0"}, device)
+    assert "FEATURE" not in written.camera_file({"DEVICE": "/dev/video1"}, device)

@@ -9,12 +9,12 @@ KIND = Kind(
     "kills loop_archive and the server amid copies of 200 events, fills its disk, slows it",
     [
         Wrong(
-            "a loop_archive that releases what it hasn't sent",
+            "a loop_archive that releases what its place has lost",
             given={
                 "LOOP_ARCHIVE": changed_links(
                     "archive.py",
-                    "                if not is_there:\n",
-                    "                if 0:\n",
+                    "        if asked is None:\n",
+                    "        if 0:\n",
                 )
             },
             words=["3"],

@@ -22,17 +22,20 @@ sys.dont_write_bytecode = True
 sys.path[1:1] = [str(SEVERAL), str(TOP / "python")]
 
 
-def of_page():
-    """What the page's tests share: Laboratory, a folder with a station and a page."""
-    name = "page_tests"
+def of_page(part):
+    """What the page's tests share: Laboratory, a folder with a station and a page; and a page that
+    says anything."""
+    name = f"page_{part}"
     if name not in sys.modules:
-        spec = importlib.util.spec_from_file_location(name, TOP / "tests/page/conftest.py")
+        path = TOP / f"tests/page/{part}.py"
+        spec = importlib.util.spec_from_file_location(name, path)
         sys.modules[name] = importlib.util.module_from_spec(spec)
         spec.loader.exec_module(sys.modules[name])
     return sys.modules[name]
 
 
-Laboratory = of_page().Laboratory
+Laboratory = of_page("conftest").Laboratory
+neighbour = of_page("neighbour")
 import layout  # noqa: E402,F401  That of the tools, which the page's tests make known.
 # Rings that hold minutes, of small pictures.
 CAMERAS = [
@@ -246,6 +249,20 @@ def listeners():
         listener.close()
 
 
+def neighbours():
+    """Makes pages that say anything, and ends them."""
+    made = []
+
+    def one():
+        made.append(neighbour.Neighbour())
+        return made[-1]
+
+    yield one
+    for it in made:
+        it.close()
+
+
+make_neighbour = pytest.fixture(neighbours, name="make_neighbour")
 make_station = pytest.fixture(stations_in, name="make_station")
 begin = pytest.fixture(programs_in, name="begin")
 make_broker = pytest.fixture(brokers_in, name="make_broker")

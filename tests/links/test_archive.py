@@ -12,14 +12,16 @@ import stat
 import sys
 import threading
 import time
+import types
 from pathlib import Path
 
 import conftest
 import pytest
-from conftest import SEVERAL
+from conftest import SEVERAL, neighbour
 
 sys.path.insert(1, str(SEVERAL))
 from station_links import archive as program
+from station_links import threads
 from station_links.settings import BadSettings
 
 # A ring of minutes, so that nothing that a test keeps is overwritten on a slow machine.
@@ -305,6 +307,321 @@ def test_a_copy_that_changes_with_its_name_is_never_released(station, dav, make,
     assert clips_of(station) and not archive.told()["archived"]
 
 
+# ------------------------------------------------------------ what a place has before each release
+
+
+def told_of(archive, words):
+    """Waits until a loop_archive has said something."""
+    return until(lambda: words in archive.run.printed(), words)
+
+
+def archived_first(station, make, **words):
+    """A clip that is archived, and held: by a loop_archive that has ended."""
+    station.keep(1, note="the only one")
+    archive = make(**words).start().has(1)
+    archive.run.end(signal.SIGTERM)
+    return archive
+
+
+def test_what_the_place_has_lost_is_archived_again_and_only_then_released(station, dav, make, tmp_path):
+    archive = archived_first(station, make)
+    (text,) = dav.files().values()
+    shutil.rmtree(dav.folder / "kept")
+    # As long as it can't be copied it isn't released.
+    full = spoilt(tmp_path / "full", "copyto", "echo 'no space left on device' >&2; exit 1")
+    archive.start(path=full, release="archived")
+    told_of(archive, "hasn't left_")
+    until(lambda: "no space left" in archive.camera()["fault"], "fault")
+    assert clips_of(station) and not archive.told()["archived"]
+    archive.run.end()
+    archive.start(release="archived")
+    until(lambda: not clips_of(station), "release")
+    assert list(dav.files().values()) == [text] and len(archive.told()["archived"]) == 1
+
+
+def test_another_place_is_archived_to_before_a_release(station, dav, make):
+    archive = archived_first(station, make)
+    archive.start(archive=dav.place()[:-4] + "other", release="archived")
+    until(lambda: not clips_of(station), "release")
+    (name,) = [path.parent.name for path in (dav.folder / "other").glob("*/*.y4m")]
+    assert f"{name}.y4m" in dav.files() and "lost" not in archive.run.printed()
+
+
+@pytest.mark.parametrize("kind", ["y4m", "csv", "json"])
+def test_what_was_changed_in_the_place_is_archived_beside_it(station, dav, make, kind):
+    archive = archived_first(station, make)
+    (path,) = (dav.folder / "kept").glob(f"*/*.{kind}")
+    before = dav.files()
+    # Of the same length: checksums alone tell.
+    path.write_bytes(path.read_bytes()[:-2] + b"xx")
+    archive.start(release="archived")
+    until(lambda: not clips_of(station), "release")
+    told_of(archive, "lost left")
+    again = {name: text for name, text in dav.files().items() if name.endswith("-2.y4m")}
+    assert list(again.values()) == list(before.values())
+
+
+@pytest.mark.parametrize("kind", ["y4m", "csv", "json"])
+def test_what_a_place_with_checksums_lacks_is_archived_again(station, dav, make, tmp_path, kind):
+    """A folder of this machine, which has checksums, is asked for these."""
+    place = tmp_path / "disk"
+    archive = archived_first(station, make, archive=str(place))
+    (path,) = place.glob(f"*/*.{kind}")
+    text = path.read_bytes()
+    path.unlink()
+    archive.start(release="archived")
+    until(lambda: not clips_of(station), "release")
+    told_of(archive, "lost left")
+    (name,) = place.glob("*/*.y4m")
+    told_of(archive, f"{name.stem} is in the archive by sha256\n")
+    assert archive.told()["archived"][-1]["asked"] == "sha256"
+    if kind != "json":
+        assert path.read_bytes() == text
+
+
+def test_how_a_place_without_checksums_was_asked_is_said(station, dav, make):
+    station.keep(1)
+    archive = make(release="archived").start()
+    told_of(archive, "is in the archive by sha256, read back\n")
+    until(lambda: [it["asked"] for it in archive.told()["archived"]] == [program.READ_BACK], "word")
+
+
+def test_a_place_that_does_not_answer_releases_nothing(station, dav, make):
+    archive = archived_first(station, make)
+    dav.run.end(signal.SIGKILL)
+    archive.start(release="archived")
+    until(lambda: archive.camera()["fault"], "fault")
+    assert clips_of(station) and len(archive.told()["archived"]) == 1
+    dav.start()
+    until(lambda: not clips_of(station), "release")
+    assert len(dav.files()) == 1
+
+
+def asked_of(monkeypatch, tmp_path, listed, hashes=("sha256",), read="", kinds=program.KINDS):
+    """How a place is found that lists its files so."""
+    files = {kind: {"bytes": 3, "sha256": kind * 16, "sha1": "1", "md5": "2"} for kind in kinds}
+
+    def run(self, verb, *words, is_told=True):
+        asked.append(verb)
+        found = {"backend": {"Features": {}, "Hashes": list(hashes)}, "lsjson": listed}
+        return 0, read if verb == "hashsum" else json.dumps(found[verb]), ""
+
+    asked = []
+    monkeypatch.setattr(program.Rclone, "run", run)
+    rclone = program.Rclone.__new__(program.Rclone)
+    rclone.features = {}
+    return rclone.as_sent("lab:x", "clip", files), asked
+
+
+def listed_as(**more):
+    """Three files as rclone lists them, by checksum."""
+    return [
+        {"Name": f"clip.{kind}", "Size": 3, "Hashes": {"sha256": kind * 16}} | more.get(kind, {})
+        for kind in program.KINDS
+    ]
+
+
+def read_as(**more):
+    """Three files as rclone reads them back; a checksum has 64 letters."""
+    lines = {kind: (kind * 22)[:64] for kind in program.KINDS} | more
+    return "".join(f"{digest}  clip.{kind}\n" for kind, digest in lines.items())
+
+
+def test_a_place_is_asked_by_lengths_and_checksums(monkeypatch, tmp_path):
+    assert asked_of(monkeypatch, tmp_path, listed_as())[0] == "sha256"
+    wrong = (
+        listed_as()[:2], [], listed_as(csv={"Size": 4}),
+        listed_as(json={"Hashes": {"sha256": "y4m" * 16}}), listed_as(y4m={"Name": "clip.y4"}),
+    )
+    for listed in wrong:
+        assert asked_of(monkeypatch, tmp_path, listed)[0] is None
+    # Without an entry's checksums nothing is known of it.
+    assert asked_of(monkeypatch, tmp_path, listed_as(), kinds=("y4m",))[0] is None
+    # The best checksum that a place has is asked for.
+    sha1 = [it | {"Hashes": {"sha1": "1"}} for it in listed_as()]
+    assert asked_of(monkeypatch, tmp_path, sha1, ("md5", "sha1"))[0] == "sha1"
+
+
+def test_a_place_without_a_checksum_of_each_file_is_read_back(monkeypatch, tmp_path):
+    lacks = listed_as(y4m={"Hashes": {}}), [it | {"Hashes": None} for it in listed_as()]
+    for listed in lacks:
+        found, asked = asked_of(monkeypatch, tmp_path, listed, read="")
+        assert found is None and asked[-1] == "hashsum"
+    for hashes in ((), ("crc32",)):
+        assert asked_of(monkeypatch, tmp_path, listed_as(), hashes, read="")[1][-1] == "hashsum"
+    monkeypatch.setattr(program, "KINDS", ("y4m", "csv", "json"))
+    files = {kind: {"bytes": 3, "sha256": (kind * 22)[:64]} for kind in program.KINDS}
+    rclone = program.Rclone.__new__(program.Rclone)
+    for text, wanted in ((read_as(), program.READ_BACK), (read_as(csv="0" * 64), None),
+                         (read_as().replace("clip.json", "clip.jso"), None)):
+        monkeypatch.setattr(program.Rclone, "run", lambda *_, text=text, **__: (0, text, ""))
+        assert rclone.read_back("lab:x", "clip", files) == wanted
+
+
+# -------------------------------------------------------------------------------- a page that lies
+
+
+@pytest.fixture
+def lying(make_neighbour, begin, tmp_path):
+    """A loop_archive beside a page that says what a test gives; its place is a folder."""
+
+    def one(clip=None, **answers):
+        page = make_neighbour()
+        own = neighbour.CLIP | {"first": 0, "last": 1} | (clip or {})
+        page.answers |= {
+            "/api/status": neighbour.STATE, "/api/clips": {"clips": [own]},
+            "/api/events": {"events": []},
+            "/api/clips/left/0.y4m": (b"frames", 200, "video/x-yuv4mpeg2"),
+            "/api/clips/left/0.csv": (b"number,time\n0,1\n1,2\n", 200, "text/csv"),
+        } | answers
+        folder = tmp_path / "spooler"
+        folder.mkdir()
+        station = types.SimpleNamespace(folder=folder, port=page.port)
+        spool = str(folder / "spool")
+        return page, Archive(station, begin, archive=str(tmp_path / "disk"), spool=spool).start()
+
+    return one
+
+
+@pytest.mark.parametrize(
+    "clip, said",
+    [
+        ({"camera": "../../OUT/x"}, "clips[0].camera isn't a camera's name"),
+        ({"camera": "/tmp/x"}, "clips[0].camera isn't a camera's name"),
+        ({"id": "0"}, "clips[0].id isn't a whole number"),
+        ({"first": "0"}, "clips[0].first isn't a whole number"),
+        ({"from_us": 10**30}, "has a number of more than 20 digits"),
+        ({"from_us": 10**18, "to_us": 10**18}, "clips[0].from_us isn't a whole number"),
+        ({"last": -1}, "clips[0].last isn't a whole number"),
+        ({"note": 5}, "clips[0].note isn't a text"),
+        ({"tag": float("nan")}, "isn't finite: NaN"),
+    ],
+    ids=range(9),
+)
+def test_a_page_that_lies_is_told_and_nothing_is_written(lying, tmp_path, clip, said):
+    page, archive = lying(clip)
+    until(lambda: said in archive.told()["fault"], "fault")
+    assert "is unusable: /api/clips" in archive.told()["fault"]
+    written = [it for it in tmp_path.rglob("*") if "OUT" in it.name or it.name == "x"]
+    assert not written and not (tmp_path / "disk").exists()
+    # Once it says what can be used, all goes on.
+    page.answers["/api/clips"] = {"clips": [neighbour.CLIP | {"first": 0, "last": 1}]}
+    archive.has(1)
+    assert [it.read_bytes() for it in (tmp_path / "disk").glob("*/*.y4m")] == [b"frames"]
+
+
+def test_a_page_whose_answer_is_deep_or_has_no_end_is_told(lying):
+    page, archive = lying()
+    for body, said in ((b"[" * 200_000, "deeper than 32"), (b" " * 9_000_000, "more than 8388608")):
+        page.answers["/api/clips"] = body
+        until(lambda said=said: said in archive.told()["fault"], said)
+    page.answers["/api/events"] = 5
+    until(lambda: "/api/events: it isn't an object" in archive.told()["fault"], "fault")
+
+
+@pytest.fixture
+def held_until_released(lying, begin, tmp_path):
+    """A clip that is archived to a folder, and held until somebody releases it."""
+    page, archive = lying()
+    own = page.answers["/api/clips"]
+    page.answers["/api/clips"] = lambda: {"clips": []} if released_by(page) else own
+    archive.has(1).run.end(signal.SIGTERM)
+    return page, archive, tmp_path / "disk"
+
+
+def released_by(page):
+    """Whether a page was asked for a release."""
+    return [path for path, _ in page.asked if path == "/api/release"]
+
+
+@pytest.mark.parametrize("kind", program.KINDS)
+def test_nothing_is_released_that_its_place_has_not(held_until_released, kind):
+    page, archive, disk = held_until_released
+    (path,) = disk.glob(f"*/*.{kind}")
+    path.write_bytes(path.read_bytes()[:-1] + b"x")
+    archive.start(release="archived")
+    until(lambda: released_by(page), "release")
+    archive.run.end(signal.SIGTERM)
+    folders = [{it.suffix for it in folder.iterdir()} for folder in disk.glob("left_*")]
+    assert folders == [{".y4m", ".csv", ".json"}] * 2 and "lost left" in archive.run.printed()
+    assert [it.read_bytes() for it in disk.glob("*-2/*.y4m")] == [b"frames"]
+
+
+def test_a_clip_is_archived_to_a_place_of_another_name_before_its_release(held_until_released):
+    page, archive, disk = held_until_released
+    archive.start(release="archived", archive=str(disk.parent / "other"))
+    until(lambda: released_by(page), "release")
+    assert [it.read_bytes() for it in disk.parent.glob("other/*/*.y4m")] == [b"frames"]
+    told_of(archive, "released left 0 0..1")
+    assert len(released_by(page)) == 1
+
+
+def test_frames_that_are_none_of_the_clip_are_not_archived(lying, tmp_path):
+    page, archive = lying({"last": 2**60})
+    until(lambda: "gives other frames" in archive.camera()["fault"], "fault")
+    page.answers["/api/clips"] = {"clips": [neighbour.CLIP | {"first": 0, "last": 1}]}
+    for table in (b"n\n0,1\n", b"n\n0,1\n2,2\n", b"n\n0,1\n1,2\n2,3\n", b"n\nx,1\n1,2\n"):
+        page.answers["/api/clips/left/0.csv"] = table, 200, "text/csv"
+        seen = len(page.asked)
+        until(lambda seen=seen: [path for path, _ in page.asked[seen:] if ".csv" in path], "try")
+        assert not list((tmp_path / "disk").glob("*/*"))
+    page.answers["/api/clips/left/0.csv"] = b"n\n0,1\n1,2\n" + b"x" * 10_000, 200, "text/csv"
+    until(lambda: "of 600 at most" in archive.camera()["fault"], "fault")
+
+
+# ------------------------------------------------------------------------------- threads that end
+
+
+def test_a_thread_that_ends_is_told_and_started_again():
+    told, over, tries = [], threading.Event(), []
+
+    def work():
+        tries.append(1)
+        if len(tries) < 3:
+            raise KeyError("a secret")
+
+    thread = threads.kept_running("left", work, over, told.append)
+    thread.join(60)
+    assert len(tries) == 3 and len(told) == 2
+    assert re.fullmatch(r"the thread left has ended: KeyError in test_archive.py:\d+. It is started "
+                        "again", told[0])
+    # One that is to end isn't started again.
+    over.set()
+    threads.kept_running("right", work, over, told.append).join(60)
+    assert len(tries) == 3
+
+
+def test_a_cameras_thread_that_ends_archives_nevertheless(lying, monkeypatch, tmp_path):
+    """What it does next can't be found, at first."""
+    page, archive = lying()
+    archive.has(1).run.end()
+    settings = program.read_settings(str(archive.path))
+    plain, faults = program.Camera.next_work, [KeyError("x"), TypeError("y")]
+
+    def next_work(self):
+        if faults:
+            raise faults.pop()
+        return plain(self)
+
+    told = []
+    monkeypatch.setattr(program.Camera, "next_work", next_work)
+    monkeypatch.setattr(program, "tell", told.append)
+    monkeypatch.setattr(threads, "PAUSE_SECONDS", 0.01)
+    (tmp_path / "spooler" / "archive.json").unlink()
+    it = program.Archive(settings)
+    thread = threading.Thread(target=it.run, daemon=True)
+    thread.start()
+    until(lambda: any(line.startswith("archived left") for line in told), "archived clip")
+    it.stop.set()
+    thread.join(60)
+    assert len([line for line in told if "the thread left has ended" in line]) == 2
+
+
+def test_a_name_that_is_none_is_no_camera():
+    with pytest.raises(program.Fault, match="isn't a camera's name"):
+        program.Camera("../x", program.Place("lab:x", False), None)
+
+
 class Locking(http.server.BaseHTTPRequestHandler):
     """Stands before a server that takes its time: a folder that is being made is locked, and
     whoever would make it too is refused, as WebDAV has it."""
@@ -456,7 +773,7 @@ def test_a_release_that_a_look_has_seen_first_stays_one(tmp_path):
     """The look's thread may ask the page between a release and its entry in the state."""
     clip = program.Clip("left", 3, 0, 9, 7, 7, 1_000_000, 2_000_000)
     state = program.State(tmp_path / "archive.json")
-    state.change(None, program.Archived(clip, clip.front(), "lab:x", 10, "00", 1.0))
+    state.change(None, program.Archived(clip, clip.front(), "lab:x", 10, "00", 1.0, {}))
     entry = state.entry(clip)
     state.archived[0] = program.replace(entry, is_released=True)
     noted = program.replace(clip, note="late")

@@ -50,11 +50,12 @@ class FakeBroker:
     """A broker that is there or not, and what was given to it."""
 
     def __init__(self):
-        self.generation, self.is_up, self.given = 1, True, []
+        self.generation, self.is_up, self.given, self.is_full = 1, True, [], False
 
     def publish(self, topic, found, retain=False):
         """Gives it a message."""
         self.given.append((topic, found, retain))
+        return None if self.is_full else len(self.given)
 
 
 def test_a_state_is_told_when_it_changes_and_to_each_broker():
@@ -70,6 +71,13 @@ def test_a_state_is_told_when_it_changes_and_to_each_broker():
     states.set("t", {"time": 5, "room": 2, "frames": 3})
     assert [found["time"] for _, found, _ in broker.given] == [1, 3, 5]
     assert all(retain for *_, retain in broker.given)
+    # One that found no room is told again.
+    broker.is_full = True
+    states.set("t", {"room": 9})
+    broker.is_full = False
+    states.set("t", {"room": 9})
+    states.set("t", {"room": 9})
+    assert [found for _, found, _ in broker.given[3:]] == [{"room": 9}] * 2
 
 
 @pytest.mark.parametrize(

@@ -56,6 +56,11 @@ def test_a_secret_is_its_owners(tmp_path):
     path.chmod(0o644)
     with pytest.raises(BadSettings, match="others may read"):
         secret_in(str(path), "token")
+    # Who may write it gives it away as well: of the group, too.
+    for mode in (0o660, 0o620, 0o604, 0o602, 0o666):
+        path.chmod(mode)
+        with pytest.raises(BadSettings, match="others may read or write"):
+            secret_in(str(path), "token")
     path.chmod(0o640)
     assert secret_in(str(path), "token") == "word"
     path.write_text("\n")

@@ -3,11 +3,12 @@ import os
 import socket
 import sys
 import threading
+import time
 import types
 
 import pytest
 from conftest import free_port, layout, pty_pair, put, put_all, until
-from station_links import levels, settings, sources, triggers
+from station_links import journal, levels, senders, settings, sources, triggers
 
 SECOND = 1_000_000
 
@@ -133,9 +134,7 @@ def look():
 
 def test_a_packet_fires(look):
     port = free_port(socket.SOCK_DGRAM)
-    it = look("udp", listen=f"127.0.0.1:{port}", match="^fire", **{"from": ["127.0.0.0/8"]})
-    away = f"127.0.0.1:{free_port(socket.SOCK_DGRAM)}"
-    other = look("udp", listen=away, **{"from": ["10.0.0.1"]})
+    it = look("udp", listen=f"127.0.0.1:{port}", match="fire*", **{"from": ["127.0.0.0/8"]})
     with socket.socket(socket.AF_INET, socket.SOCK_DGRAM) as sender:
         def send(raw, to):
             sender.sendto(raw, ("127.0.0.1", to))
@@ -147,11 +146,94 @@ def test_a_packet_fires(look):
             send(raw, port)
         until(lambda: "fire 2" in it.texts()[-1], "cause")
         assert len([text for text in it.texts() if "fire 2" in text]) == 1
-        assert all("fire" in text for text in it.texts()[count:])
-        for _ in range(3):
-            send(b"fire", other.source.port)
+        assert all("'fire" in text for text in it.texts()[count:])
     assert it.texts()[0] == "UDP from 127.0.0.1 'fire 1'"
-    assert not other.source.senders[0].overlaps(it.source.senders[0]) and not other.fired
+
+
+def test_packets_are_taken_from_those_alone_who_may_send_them(look):
+    """One who may comes last: what the others sent was looked at by then."""
+    port = free_port(socket.SOCK_DGRAM)
+    it = look("udp", listen=f"127.0.0.1:{port}", **{"from": ["127.0.0.8", "127.0.1.0/24"]})
+    every = look("udp", listen=f"127.0.0.1:{free_port(socket.SOCK_DGRAM)}")
+
+    def send(sender, text, to):
+        with socket.socket(socket.AF_INET, socket.SOCK_DGRAM) as one:
+            one.bind((sender, 0))
+            one.sendto(text.encode(), ("127.0.0.1", to.source.port))
+
+    until(lambda: send("127.0.0.8", "begun", it) or it.fired, "cause")
+    until(lambda: send("127.0.0.1", "begun", every) or every.fired, "cause")
+    count = len(it.fired)
+    for sender in ("127.0.0.1", "127.0.0.9", "127.0.2.1", "127.0.1.200"):
+        send(sender, f"by {sender}", it)
+    until(lambda: "127.0.1.200" in it.texts()[-1], "cause")
+    assert [text for text in it.texts()[count:] if "begun" not in text] == [
+        "UDP from 127.0.1.200 'by 127.0.1.200'"
+    ]
+    send("127.0.0.9", "by anybody", every)
+    until(lambda: "by anybody" in every.texts()[-1], "cause")
+
+
+def test_an_address_of_ipv4_is_the_same_by_ipv6():
+    words = {"listen": "[::]:1", "from": ["10.0.0.0/8", "fe80::/10"]}
+    source = sources.Udp(settings.Words(words, "t"))
+    assert source.may_send("::ffff:10.1.2.3") and source.may_send("fe80::1%eth0")
+    assert not source.may_send("::ffff:11.1.2.3") and not source.may_send("::1")
+
+
+@pytest.mark.parametrize(
+    "pattern, text, is_one",
+    [
+        ("fire*", "fire 1\r\n", True), ("fire*", "no fire", False), ("*fire", "no fire\n", True),
+        ("fire", "fire\0\n", True), ("fire", "fires", False), ("FIRE", "fire", False),
+        ("*b*b*", "a b", False), ("*b*b*", "a b b", True), ("shot ?", "shot 7", True),
+        ("shot [0-9]", "shot x", False), ("$GP*", "$GPRMC,1", True), ("[^]a", "^a", True),
+        (["go", "stop"], "stop", True), (["go", "stop"], "wait", False), ("*", "", True),
+    ],
+)
+def test_a_pattern_is_a_word_with_stars(pattern, text, is_one):
+    found = sources.pattern_in(settings.Words({"match": pattern}, "t"))
+    assert found.match(text.encode()) == is_one
+
+
+@pytest.mark.parametrize(
+    "pattern", ["*a" * 99 + "*b", "*?a" * 60 + "b", "a*" * 99 + "b", "*[ab]" * 39 + "c"]
+)
+def test_no_pattern_takes_long(pattern):
+    found = sources.pattern_in(settings.Words({"match": pattern}, "t"))
+    begun = time.monotonic()
+    assert not found.match(b"a" * 65_000) and time.monotonic() - begun < 2
+
+
+def test_each_sender_has_its_turn():
+    it = senders.Senders()
+    for number in range(100):
+        it.put("loud", number)
+    it.put("quiet", 0)
+    assert [it.take() for _ in range(3)] == [("loud", 36), ("quiet", 0), ("loud", 37)]
+    assert it.lost() == {"loud": 36} and it.lost() == {}
+    for number in range(70):
+        it.put(f"one {number}", number)
+    assert it.lost() == {"loud": 62, **{f"one {n}": 1 for n in range(6)}}
+    assert len([it.take() for _ in range(64)]) == 64 and it.take() is None
+
+
+def test_one_line_a_second_says_all():
+    told = []
+    it = journal.Journal(told.append)
+    it.next = time.monotonic() + 3600
+    for number in range(50):
+        it.add("shot", f"packet {number}")
+    it.add("door", "rose")
+    assert not told
+    it.next = 0.0
+    it.flush()
+    it.flush()
+    assert told == ["shot 50, door 1 times; the last ones: shot: packet 49; door: rose"]
+    it.add("shot", "packet 50")
+    it.add("shot", "packet 51")
+    it.flush(is_last=True)
+    assert told[1:] == ["shot: 2 times, the last one: packet 51"]
 
 
 def test_an_address_that_is_taken_is_a_fault(look):
@@ -164,7 +246,7 @@ def test_an_address_that_is_taken_is_a_fault(look):
 
 def test_a_line_of_a_serial_line_fires(look):
     near, far, path = pty_pair()
-    it = look("serial", device=path, baud=115200, match="SHOT")
+    it = look("serial", device=path, baud=115200, match="SHOT*")
     # What came before it was opened is passed over.
 
     def fired():
@@ -352,7 +434,13 @@ PICTURE = A + 'kind = "picture"\nstore = "x"\n'
         (A + 'kind = "udp"', "listen is missing"),
         (A + 'kind = "udp"\nlisten = "x:1"', "'x' does not appear to be"),
         (A + 'kind = "udp"\nlisten = "127.0.0.1:0"', "listen isn't"),
-        (UDP + 'match = "("', "match isn't"),
+        (UDP + 'match = "^fire"', "match isn't a pattern, but a regular expression: write fire"),
+        (UDP + 'match = "(a+)+$"', "match isn't a pattern, but a regular"),
+        (UDP + 'match = ".*x"', "match isn't a pattern, but a regular"),
+        (UDP + 'match = []', "match isn't a pattern of at most"),
+        (UDP + f'match = "{"x" * 201}"', "match isn't a pattern of at most"),
+        (UDP + 'from = []', "from isn't a list of one address"),
+        (UDP + 'from = ["x"]', "'x' does not appear to be"),
         (UDP + 'before = 0', "before isn't"),
         (A + 'kind = "gpio"\nline = 1\nedge = "up"', "edge isn't one of"),
         (A + 'kind = "serial"\ndevice = "x"\nbuad = 1', "unknown words: buad"),

@@ -57,7 +57,7 @@ def udp(**more):
 def test_a_packet_and_a_serial_line_keep_with_their_cause(bench, trigger):
     near, far, path = pty_pair()
     serial = '[[trigger]]\nname = "plc"\nkind = "serial"\nbefore = 2\nafter = 0\ncamera = "left"\n'
-    program = trigger(udp() + f'{serial}device = "{path}"\nmatch = "GO"\n')
+    program = trigger(udp() + f'{serial}device = "{path}"\nmatch = "GO*"\n')
     packets(program, "one")
     event = until(lambda: bench.events("UDP from 127.0.0.1 'one'"), "event")[0]
     assert event["note"].startswith("shot: ") and event["cameras"] == ["left", "right"]

@@ -321,7 +321,7 @@ EVENT = {
 )
 def test_what_another_station_says_is_taken_whole_or_not_at_all(kind, told):
     other = Other(OtherStation("north", "http://127.0.0.1:1", None))
-    with pytest.raises(Unfit, match="isn't a station's page"):
+    with pytest.raises(Unfit, match=f"north is unusable: its {kind}: "):
         other.take(kind, json.dumps(told).encode())
     assert (other.state, other.more, other.events) == (None, {}, [])
 

@@ -9,12 +9,15 @@ note where people look.
     broker      an MQTT broker, which is waited for
     bridge      loop_mqtt: a station at a broker
     asked       what an order by MQTT asks for
-    doing       keeps that are given to a page, once
-    told        what is remembered over a restart: orders, and what was told
+    doing       keeps that are given to a page, once, each within its hour
+    told        what is remembered over a restart: orders, what was told and what is to be told
     standing    states that a broker remembers, and that of the archive
     triggers    loop_trigger: what happens beside a station keeps
     levels      levels that stay, and causes that are gathered
     sources     GPIO lines, serial lines, packets, topics and pictures
+    senders     a queue for each sender
+    journal     lines that anybody may cause, one a second
+    threads     threads that are started again where they end
     archive     loop_archive: clips go elsewhere, and are compared
     archive_page  what the archive asks a page
 """

@@ -1,5 +1,6 @@
 """Saved events in another place: each clip that a station keeps is copied by rclone, compared
-there, and only then released, where that is wished.
+there, and only then released, where that is wished. Before each release the place is asked again
+whether it has the clip as it was sent; one that it hasn't is archived anew.
 
 A clip comes from the station's page byte for byte, with the times of its frames and its note. It
 goes into a folder of its own below `.incoming`, is compared there with what was sent, and then the
@@ -23,13 +24,17 @@ import sys
 import tempfile
 import threading
 import time
-import traceback
+from collections.abc import Callable
 from dataclasses import asdict, dataclass, replace
 from pathlib import Path
 from urllib.parse import quote
 
-from .archive_page import Page, PageFault
-from .settings import BadSettings, Words, secret_in, words_of
+from lapyrei import answers
+
+from .archive_page import Page
+from .pages import PageFault
+from .settings import NAME, BadSettings, Words, secret_in, words_of
+from .threads import kept_running, place_of
 
 # How often the page is asked what is kept, and how often the state is written where nothing
 # changes, so that whoever reads it sees that this program runs.
@@ -45,6 +50,13 @@ REMEMBERED = 500
 # Below what a copy arrives, and the files of each clip.
 INCOMING = ".incoming"
 KINDS = ("y4m", "csv", "json")
+# The checksums by which a place is asked, the best one first, by rclone's names and Python's.
+HASHES = ("sha256", "sha1", "md5")
+READ_BACK = "sha256, read back"
+# A line of the table of times is shorter.
+LINE_BYTES = 200
+# The bytes of the state, and of what rclone lists of a clip's folder.
+STATE_BYTES, LISTED_BYTES = 64 * 1024 * 1024, 1 << 20
 # What rclone does itself about a network that fails: little, since this program tries again.
 PATIENT = ["--retries", "1", "--low-level-retries", "2", "--contimeout", "15s", "--timeout", "60s"]
 # A clip's three files need one folder, and WebDAV locks a folder while somebody makes it: of three
@@ -130,7 +142,11 @@ class Archived:
     bytes: int
     sha256: str
     time: float
+    # Of each of its files, by kind, how long it is and its checksums.
+    files: dict[str, dict]
     is_released: bool = False
+    # How the place was asked before the release.
+    asked: str = ""
 
     def as_object(self) -> dict:
         """For JSON. The place isn't told: rclone's words for one may have a password in them."""
@@ -166,12 +182,69 @@ def clip_of(found: dict) -> Clip:
     )
 
 
+def clip_in(found: dict) -> Clip:
+    """A clip of the state."""
+    CLIP(found)
+    return Clip(**{word: found[word] for word in Clip.__dataclass_fields__})
+
+
 def archived_of(found: dict, places: dict[str, str]) -> Archived:
     """An entry of the state, and the place where it is, by its name."""
-    clip = Clip(**{word: found[word] for word in Clip.__dataclass_fields__})
+    ENTRY(found)
     told = [it for it in Archived.__dataclass_fields__ if it not in ("clip", "archive")]
     archive = places.get(found["name"], "")
-    return Archived(clip, archive=archive, **{word: found[word] for word in told})
+    more = {word: found[word] for word in told if word in found}
+    return Archived(clip_in(found), archive=archive, **more)
+
+
+# The state's words.
+CLIP = answers.table(
+    {
+        "camera": answers.OWN_CAMERA,
+        "id": answers.ID,
+        "first": answers.COUNT,
+        "last": answers.COUNT,
+        "tag": answers.COUNT,
+        "event": answers.maybe(answers.COUNT),
+        "since": answers.MOMENT,
+        "until": answers.MOMENT,
+        "note": answers.TEXT,
+    }
+)
+FILE = answers.table({"bytes": answers.COUNT} | dict.fromkeys(HASHES, answers.TEXT))
+ENTRY = answers.table(
+    {
+        "name": answers.text(r"[A-Za-z0-9_:-]{1,200}", "a folder's name"),
+        "bytes": answers.COUNT,
+        "sha256": answers.TEXT,
+        "time": answers.TIME,
+        "files": answers.table(dict.fromkeys(KINDS, FILE)),
+        "is_released": answers.flag,
+    },
+    {"asked": answers.TEXT},
+)
+# What rclone says that a place can, and a file as it lists it.
+FEATURES = answers.table(
+    {"Features": answers.table({})}, {"Hashes": answers.maybe(answers.each(answers.TEXT, 100))}
+)
+LISTED = answers.each(
+    answers.table(
+        {"Name": answers.TEXT, "Size": answers.whole(-1)},
+        {"Hashes": answers.maybe(answers.named(answers.TEXT, answers.TEXT))},
+    ),
+    1000,
+)
+
+
+def digests_of(path: Path) -> dict:
+    """How long a file is, and its checksums."""
+    found = {kind: hashlib.new(kind) for kind in HASHES}
+    with open(path, "rb") as file:
+        while piece := file.read(1 << 20):
+            for digest in found.values():
+                digest.update(piece)
+        count = file.tell()
+    return {"bytes": count} | {kind: digest.hexdigest() for kind, digest in found.items()}
 
 
 # --------------------------------------------------------------------------------------- settings
@@ -256,7 +329,10 @@ class Rclone:
         remote = archive.split(f"/{INCOMING}")[0]
         if remote not in self.features:
             _, answer, _ = self.run("backend", "features", remote)
-            self.features[remote] = json.loads(answer)
+            try:
+                self.features[remote] = answers.answer_in(answer.encode(), FEATURES)
+            except answers.Unusable as fault:
+                raise Fault(f"rclone backend features: {fault}") from None
         return self.features[remote]
 
     def has(self, archive: str, name: str) -> bool:
@@ -265,6 +341,51 @@ class Rclone:
         if status not in (0, 3, 4):
             raise Fault(f"rclone lsjson: {last_line(said) or f'status {status}'}")
         return status == 0
+
+    def as_sent(self, archive: str, name: str, files: dict[str, dict]) -> str | None:
+        """Asks a place for a clip's files, which have lengths and checksums by kind: by which
+        checksum they are those that were sent; none where they aren't, or aren't there."""
+        if set(files) != set(KINDS):
+            return None
+        known = self.can(archive).get("Hashes") or []
+        kind = next((it for it in HASHES if it in known), None)
+        words = ["--hash", "--hash-type", kind] if kind else []
+        listed = self.listed(f"{archive}/{name}", *words)
+        for ending, sent in files.items():
+            found = listed.get(f"{name}.{ending}")
+            if found is None or found["Size"] not in (-1, sent["bytes"]):
+                return None
+        told = {
+            ending: (listed[f"{name}.{ending}"].get("Hashes") or {}).get(kind) for ending in files
+        }
+        if kind and all(told.values()):
+            is_same_ = all(told[ending] == sent[kind] for ending, sent in files.items())
+            return kind if is_same_ else None
+        return self.read_back(archive, name, files)
+
+    def listed(self, place: str, *words: str) -> dict[str, dict]:
+        """The files of a folder by their names; none where it isn't there."""
+        status, answer, said = self.run("lsjson", "--files-only", *words, place, is_told=False)
+        if status == 3:
+            return {}
+        if status:
+            raise Fault(f"rclone lsjson: {last_line(said) or f'status {status}'}")
+        try:
+            found = answers.answer_in(answer.encode(), LISTED, LISTED_BYTES)
+        except answers.Unusable as fault:
+            raise Fault(f"rclone lsjson: {fault}") from None
+        return {it["Name"]: it for it in found}
+
+    def read_back(self, archive: str, name: str, files: dict[str, dict]) -> str | None:
+        """The same by all bytes of the files, which are read back: of a place without
+        checksums."""
+        words = ["hashsum", "sha256", "--download", f"{archive}/{name}"]
+        _, answer, _ = self.run(*words)
+        found = {line[66:]: line[:64] for line in answer.splitlines()}
+        is_same_ = all(
+            found.get(f"{name}.{ending}") == sent["sha256"] for ending, sent in files.items()
+        )
+        return READ_BACK if is_same_ else None
 
     def is_equal(self, sent: "Sent", place: str, names: list[str], is_quick: bool = False) -> bool:
         """Whether files of a place are those that were sent."""
@@ -311,8 +432,10 @@ def last_line(said: str) -> str:
 class State:
     """What is archived and what waits, in a file that is replaced whole. One program has it."""
 
-    def __init__(self, path: Path) -> None:
-        self.path, self.lock = path, threading.RLock()
+    def __init__(
+        self, path: Path, place_of: Callable[[str], Place | None] = lambda camera: None
+    ) -> None:
+        self.path, self.lock, self.place_of = path, threading.RLock(), place_of
         self.archived: list[Archived] = []
         # How many clips of a camera were archived, and since when each one waits.
         self.counts: dict[str, int] = {}
@@ -333,30 +456,43 @@ class State:
     def load(self) -> None:
         """Reads the file. One that can't be read is moved aside: what it said is compared anew."""
         try:
-            found = json.loads(self.path.read_text(encoding="utf-8"))
+            found = answers.value_in(self.path.read_bytes(), STATE_BYTES)
             with contextlib.suppress(FileNotFoundError):
-                self.places = json.loads(Path(f"{self.path}.places").read_text(encoding="utf-8"))
+                places_ = Path(f"{self.path}.places").read_bytes()
+                self.places = answers.value_in(places_, STATE_BYTES)
                 self.begun = [str(it) for it in self.places["begun"]]
             places = self.places.get("archives", {})
             self.archived = [archived_of(it, places) for it in found["archived"]]
             self.counts = {it["name"]: int(it["archived"]) for it in found["cameras"]}
-            self.since = [
-                (Clip(**{word: it[word] for word in Clip.__dataclass_fields__}), it["waits_since"])
-                for it in found["waiting"]
-            ]
+            self.since = [(clip_in(it), float(it["waits_since"])) for it in found["waiting"]]
         except FileNotFoundError:
             return
-        except (ValueError, KeyError, TypeError, OSError) as fault:
+        except (ValueError, KeyError, TypeError, AttributeError, OSError) as fault:
             aside = f"{self.path}.unread"
             os.replace(self.path, aside)
             self.archived, self.counts, self.since, self.begun = [], {}, [], []
             tell(f"{self.path} can't be read ({fault!r}), and is now {aside}: all is compared anew")
 
     def entry(self, clip: Clip) -> Archived | None:
-        """The entry of a clip that is held."""
+        """The entry of a clip that is held, in the place where it has to be."""
+        place = self.place_of(clip.camera)
         return next(
-            (it for it in self.archived if not it.is_released and is_same(it.clip, clip)), None
+            (
+                it
+                for it in self.archived
+                if not it.is_released
+                and is_same(it.clip, clip)
+                and (place is None or it.archive == place.archive)
+            ),
+            None,
         )
+
+    def lose(self, entry: Archived) -> None:
+        """The place hasn't a clip any more: it is as if it had never been archived."""
+        with self.lock:
+            key = entry.name, entry.archive
+            self.archived = [it for it in self.archived if (it.name, it.archive) != key]
+            self.write()
 
     def change(self, old: Archived | None, new: Archived) -> None:
         """An entry comes, or takes another one's place."""
@@ -444,17 +580,28 @@ class Sent:
         path.write_text("".join(f"{name}\n" for name in names), encoding="utf-8")
         return path
 
+    def digests(self) -> dict[str, dict]:
+        """Of each file, by kind, how long it is and its checksums."""
+        return {kind: digests_of(self.folder / f"{self.name}.{kind}") for kind in KINDS}
+
 
 class Camera:
     """A camera's clips, one after the other. A place that doesn't answer holds up no other
     camera."""
 
     def __init__(self, name: str, place: Place, all_: "Archive") -> None:
+        if not NAME.fullmatch(name):
+            # It becomes a part of paths.
+            raise Fault(f"{name[:40]!r} isn't a camera's name")
         self.name, self.place, self.all = name, place, all_
         self.state, self.rclone, self.page = all_.state, all_.rclone, all_.page
         self.fault, self.told_fault, self.faults = "", "", 0
         self.failed: list[tuple[Clip, int]] = []
-        self.thread = threading.Thread(target=self.run, name=name, daemon=True)
+        self.thread: threading.Thread | None = None
+
+    def start(self) -> None:
+        """Begins to work."""
+        self.thread = kept_running(self.name, self.run, self.all.stop, tell)
 
     def run(self) -> None:
         """Works until the program ends."""
@@ -508,8 +655,9 @@ class Camera:
                 sent, is_there = self.named(clip, sent)
                 if not is_there:
                     self.send(sent)
+            files = sent.digests()
         new = Archived(
-            clip, sent.name, self.place.archive, sent.bytes, sent.sha256, time.time()
+            clip, sent.name, self.place.archive, sent.bytes, sent.sha256, time.time(), files
         )
         self.state.change(None, new)
         tell(f"archived {clip.words()} as {sent.name}")
@@ -530,18 +678,19 @@ class Camera:
         """Fetches a clip's files from the page: its frames, their times, and what it is."""
         name, path = clip.front(), f"/api/clips/{quote(clip.camera)}/{clip.id}"
         digest, count = hashlib.sha256(), 0
+        free = shutil.disk_usage(folder).free
         with open(folder / f"{name}.y4m", "wb") as file:
-            for piece in self.page.pieces(f"{path}.y4m?first={clip.first}"):
+            for piece in self.page.pieces(f"{path}.y4m?first={clip.first}", free):
                 if self.all.stop.is_set():
                     raise Stopped
                 file.write(piece)
                 digest.update(piece)
                 count += len(piece)
+        most = LINE_BYTES * (clip.last - clip.first + 2)
         with open(folder / f"{name}.csv", "wb") as file:
-            table = b"".join(self.page.pieces(f"{path}.csv?first={clip.first}"))
-            file.write(table)
-        numbers = [int(line.split(b",")[0]) for line in table.splitlines()[1:]]
-        if numbers != list(range(clip.first, clip.last + 1)):
+            for piece in self.page.pieces(f"{path}.csv?first={clip.first}", min(most, free)):
+                file.write(piece)
+        if not has_numbers(folder / f"{name}.csv", clip.first, clip.last):
             # It was released meanwhile, and another one has its id.
             raise Fault("the page gives other frames by now")
         sent = Sent(folder, name, count, digest.hexdigest())
@@ -603,18 +752,39 @@ class Camera:
                 self.rclone.run("moveto", f"{place}/{name}", f"{there}/{name}", "--ignore-times")
                 if not self.rclone.is_equal(sent, there, [name]):
                     raise Fault("the note in the archive isn't what was sent")
-        self.state.change(entry, replace(entry, clip=clip))
+            files = entry.files | {"json": digests_of(folder / name)}
+        self.state.change(entry, replace(entry, clip=clip, files=files))
 
     def release(self, clip: Clip, entry: Archived) -> None:
-        """Releases a clip that is archived: as it is held now, and as it was compared."""
-        held, _ = self.page.look()
+        """Releases a clip that is archived: as it is held now, and as the place has it now."""
+        with self.all.lock_of(entry.archive):
+            asked = self.rclone.as_sent(entry.archive, entry.name, entry.files)
+        if asked is None:
+            self.state.lose(entry)
+            why = f"the archive hasn't {entry.name} any more as it was sent"
+            tell(f"lost {clip.words()}: {why}. It is archived again")
+            self.all.look()
+            return
+        held, _ = self.page.held()
         if not any(is_same(it, clip) and it.note == entry.clip.note for it in held):
             self.all.look()
             return
         self.page.release(clip.camera, clip.id, clip.first, clip.last, clip.tag)
-        self.state.change(entry, replace(entry, is_released=True))
-        tell(f"released {clip.words()}")
+        self.state.change(entry, replace(entry, is_released=True, asked=asked))
+        tell(f"released {clip.words()}: {entry.name} is in the archive by {asked}")
         self.all.look()
+
+
+def has_numbers(path: Path, first: int, last: int) -> bool:
+    """Whether a table has a line for each of some frames, in their order, and no other."""
+    number = first
+    with open(path, "rb") as file:
+        file.readline(LINE_BYTES)
+        while line := file.readline(LINE_BYTES):
+            if line.split(b",")[0] != str(number).encode():
+                return False
+            number += 1
+    return number == last + 1
 
 
 def iso(microseconds: int) -> str:
@@ -633,7 +803,7 @@ class Archive:
         self.settings, self.stop = settings, threading.Event()
         self.changed = threading.Condition()
         settings.spool.mkdir(parents=True, exist_ok=True)
-        self.state = State(settings.state)
+        self.state = State(settings.state, settings.place_of)
         # What a program left that was killed.
         for left in settings.spool.iterdir():
             if left.is_dir():
@@ -658,8 +828,7 @@ class Archive:
     def why(self, fault: Exception) -> str:
         """What is told of a fault: no word of a place that may have a password in it."""
         if not isinstance(fault, (Fault, PageFault, OSError)):
-            last = traceback.extract_tb(fault.__traceback__)[-1]
-            return f"{type(fault).__name__} in {os.path.basename(last.filename)}:{last.lineno}"
+            return place_of(fault)
         said, known = str(fault), [self.settings.place, *self.settings.places.values()]
         for archive in [it.archive for it in known if it] + list(self.archives()):
             said = hidden(said, archive)
@@ -741,7 +910,7 @@ class Archive:
     def look(self) -> None:
         """Asks the page what is held."""
         try:
-            (held, read), fault = self.page.look(), ""
+            (held, read), fault = self.page.held(), ""
         except PageFault as found:
             held, read, fault = [], set(), str(found)
         with self.changed:
@@ -783,7 +952,7 @@ class Archive:
             place = self.settings.place_of(name)
             assert place is not None
             self.cameras[name] = Camera(name, place, self)
-            self.cameras[name].thread.start()
+            self.cameras[name].start()
 
     def show(self) -> None:
         """Writes how all stands, where that has changed or is old."""
@@ -816,12 +985,13 @@ class Archive:
 
     def run(self) -> None:
         """Works until it is told to end."""
-        threading.Thread(target=self.clean, daemon=True).start()
+        kept_running("that removes what was left", self.clean, self.stop, tell)
         while not self.stop.is_set():
             self.look()
             self.stop.wait(LOOK_SECONDS)
         for camera in self.cameras.values():
-            camera.thread.join(5)
+            if camera.thread:
+                camera.thread.join(5)
 
 
 def main(path: str) -> int:

@@ -3,6 +3,8 @@ import json
 import re
 from dataclasses import dataclass
 
+from lapyrei import answers
+
 from .moments import moment_in
 from .settings import NAME
 
@@ -51,9 +53,9 @@ def keep_in(raw: bytes) -> Keep:
     if len(raw) > BYTES:
         raise Refused("TooLong", f"an order has at most {BYTES} bytes")
     try:
-        found = json.loads(raw)
-    except (ValueError, RecursionError):
-        raise Refused("NotJson", "an order is an object of JSON") from None
+        found = answers.value_in(raw, BYTES)
+    except answers.Unusable as fault:
+        raise Refused("NotJson", f"an order is an object of JSON: {fault}") from None
     if not isinstance(found, dict):
         raise Refused("NotJson", "an order is an object of JSON")
     id_ = found.get("id")

@@ -1,18 +1,18 @@
 """loop_mqtt: a station at an MQTT broker. Orders come from there and are given to the station's
 page; what the page shows is published: states, what happened, and what was kept."""
 import json
-import queue
 import threading
 import time
 from dataclasses import dataclass, replace
 
 from . import asked, moments
 from .broker import TOPIC, Broker, BrokerWords, broker_words
-from .doing import Doer, page_words, span_of
+from .doing import Doer, page_words, span_of, waiting_of
 from .pages import Page, PageFault
 from .settings import BadSettings, Words, words_of
 from .standing import States, archive_in
-from .told import Memory
+from .threads import kept_running
+from .told import EVENTS, Full, Memory
 
 # So long an event has to be seen unchanged before it is told: its note and the clips of other
 # cameras come a moment later.
@@ -60,22 +60,22 @@ class Bridge:
         self.words, self.tell = words, tell
         self.base = f"{words.prefix}/{words.station}"
         self.page = words.page
-        self.memory = Memory(words.state, tell)
-        # What an earlier run has left to do.
-        self.left = self.memory.open_orders()
+        self.memory = Memory(words.state, tell, answered)
         topics = [f"{words.prefix}/all/keep", f"{self.base}/keep"]
         self.broker = Broker(words.broker, f"lapyrei-{words.station}", topics, self.take, tell)
         self.states, self.lock = States(self.broker), threading.Lock()
-        self.orders: queue.Queue[tuple[asked.Keep, bool]] = queue.Queue()
         self.over, self.page_fault = threading.Event(), ""
-        self.doer = Doer(self.page, self.over)
+        self.doer = Doer(self.page, self.over, self.waits, self.done)
+        # What an earlier run has left to do.
+        for id_, order in self.memory.open_orders():
+            self.give(asked.keep_of(id_, order.words), order.came)
         # What is on its way to the broker, by the numbers of its messages: the keys by which it is
-        # known.
-        self.flying: dict[int, list[str]] = {}
-        # Since when each event is as it is; which warnings and news were seen.
+        # known, or an event's number.
+        self.flying: dict[int, list] = {}
+        # Since when each event is as it is; which warnings were seen, also by an earlier run.
         self.events: dict[tuple, tuple[dict, float]] = {}
-        self.alerts: dict[tuple, dict] | None = None
-        self.news = time.time()
+        self.alerts = {(it["kind"], it["camera"]): it for it in self.memory.get("alerts", [])}
+        self.memory.put("news", self.memory.get("news", time.time()))
 
     # ---------------------------------------------------------------------------------- in general
 
@@ -83,8 +83,8 @@ class Bridge:
         """Works until it is stopped."""
         self.broker.will(f"{self.base}/state", self.state("offline", "loop_mqtt has no broker."))
         self.broker.start()
-        for work in (self.settle, self.work):
-            threading.Thread(target=work, daemon=True).start()
+        for name, work in (("that writes down", self.settle), ("that keeps", self.doer.run)):
+            kept_running(name, work, self.over, self.tell)
         while not self.over.is_set():
             self.look()
             self.over.wait(self.words.look)
@@ -95,8 +95,9 @@ class Bridge:
         if self.broker.is_up:
             found = self.state("offline", "loop_mqtt was stopped.")
             with self.lock:
-                info = self.broker.publish(f"{self.base}/state", found, retain=True)
-                self.flying[info.mid] = []
+                mid = self.broker.publish(f"{self.base}/state", found, retain=True)
+                if mid is not None:
+                    self.flying[mid] = []
             end = time.monotonic() + 2
             while self.flying and time.monotonic() < end:
                 time.sleep(0.02)
@@ -119,9 +120,9 @@ class Bridge:
                 key in flying or self.memory.is_told(key) for key in keys
             ):
                 return
-            info = self.broker.publish(f"{self.base}/{topic}", found)
-            if not info.rc:
-                self.flying[info.mid] = keys
+            mid = self.broker.publish(f"{self.base}/{topic}", found)
+            if mid is not None:
+                self.flying[mid] = keys
 
     def settle(self) -> None:
         """Writes down what the broker acknowledges, at once. It may be more than what has to be
@@ -129,9 +130,11 @@ class Bridge:
         while True:
             mid = self.broker.acknowledged.get()
             with self.lock:
-                if keys := self.flying.get(mid):
+                keys = self.flying.pop(mid, [])
+                if numbers := [it for it in keys if isinstance(it, int)]:
+                    self.memory.event_told(numbers[0])
+                elif keys:
                     self.memory.add(keys)
-                self.flying.pop(mid, None)
 
     # -------------------------------------------------------------------------------------- orders
 
@@ -139,7 +142,7 @@ class Bridge:
         """An order has come. It is written down before it is acknowledged."""
         try:
             keep = asked.keep_in(payload)
-            is_new, words, answer = self.memory.begin(keep.id, keep.words())
+            is_new, words, answer = self.begin(keep)
             if words != keep.words():
                 text = "an order of this id asked for something else. Give each its own id"
                 raise asked.Refused("IdTaken", text, keep.id)
@@ -148,37 +151,32 @@ class Bridge:
             self.broker.publish(f"{self.base}/answers", found | {"text": f"{fault}."})
             return
         if is_new:
-            self.orders.put((keep, False))
+            self.give(keep)
         elif answer:
             self.broker.publish(f"{self.base}/answers", json.loads(answer) | {"again": True})
 
-    def work(self) -> None:
-        """Does the orders, one after the other: first those that an earlier run has left."""
-        for id_, words in self.left:
-            if not self.over.is_set():
-                self.do(asked.keep_of(id_, words), True)
-        while not self.over.is_set():
-            try:
-                keep, is_again = self.orders.get(timeout=0.2)
-            except queue.Empty:
-                continue
-            self.do(keep, is_again)
+    def begin(self, keep: asked.Keep) -> tuple[bool, str, str | None]:
+        """Writes an order down, or refuses it where too many wait."""
+        try:
+            return self.memory.begin(keep.id, keep.words())
+        except Full as fault:
+            text = f"{fault}, and no other one is taken. Start the page, or wait an hour"
+            raise asked.Refused("TooMany", text, keep.id) from None
 
-    def do(self, keep: asked.Keep, is_again: bool) -> None:
-        """Does an order, and answers it."""
-        found = self.doer.do(
-            replace(keep, note=keep.note or "MQTT"),
-            is_again,
-            lambda why: self.answer(keep, {"waits": True, "text": why}),
-        )
-        if found:
-            found = self.dressed({"id": keep.id} | found)
-            self.memory.answer(keep.id, json.dumps(found))
-            self.tell_once([f"answer {keep.id}"], "answers", found)
+    def give(self, keep: asked.Keep, came: float | None = None) -> None:
+        """Gives an order to be done."""
+        self.doer.add(waiting_of(replace(keep, note=keep.note or "MQTT"), came))
 
-    def answer(self, keep: asked.Keep, found: dict) -> None:
-        """Answers an order before it is done."""
-        self.broker.publish(f"{self.base}/answers", self.dressed({"id": keep.id} | found))
+    def waits(self, keep: asked.Keep, why: str) -> None:
+        """An order waits."""
+        found = self.dressed({"id": keep.id, "waits": True, "text": why})
+        self.broker.publish(f"{self.base}/answers", found)
+
+    def done(self, keep: asked.Keep, found: dict) -> None:
+        """An order is done: it is answered."""
+        found = self.dressed({"id": keep.id} | found)
+        self.memory.answer(keep.id, json.dumps(found))
+        self.tell_once([answered(keep.id)], "answers", found)
 
     # --------------------------------------------------------------------------------------- looks
 
@@ -192,11 +190,12 @@ class Bridge:
             self.page_fault = ""
         except PageFault as fault:
             self.show_fault(str(fault))
-        except (KeyError, TypeError, ValueError, AttributeError) as fault:
+        except Exception as fault:
             self.show_fault(f"The page's answer can't be read: {fault!r}. Are both of one version?")
         for id_, answer in self.memory.answers():
-            if not self.memory.is_told(f"answer {id_}"):
-                self.tell_once([f"answer {id_}"], "answers", json.loads(answer))
+            if not self.memory.is_told(answered(id_)):
+                self.tell_once([answered(id_)], "answers", json.loads(answer))
+        self.tell_events()
         self.show_archive()
 
     def show_fault(self, text: str) -> None:
@@ -219,7 +218,7 @@ class Bridge:
     def show_events(self, status: dict) -> None:
         """What happened: warnings that came, came again or are over, and good news."""
         now = {(it["kind"], it["camera"]): it for it in status["alerts"]}
-        before = self.alerts or {}
+        before = self.alerts
         for key, alert in now.items():
             had = before.get(key)
             if not had or (had["times"], had["time"]) != (alert["times"], alert["time"]):
@@ -227,18 +226,39 @@ class Bridge:
         for key in before.keys() - now.keys():
             self.event(time.time(), before[key] | {"is_bad": True, "is_over": True})
         self.alerts = now
+        self.memory.put("alerts", list(now.values()))
         for news in status["news"]:
-            if news["time"] > self.news:
-                self.news = news["time"]
+            if news["time"] > self.memory.get("news", 0.0):
                 found = {"kind": "news", "camera": None, "text": news["text"]}
                 self.event(news["time"], found | {"is_bad": False, "is_over": False})
+                self.memory.put("news", news["time"])
 
     def event(self, moment: float, found: dict) -> None:
-        """Publishes something that happened. It waits for a broker that isn't there."""
+        """Something happened: it is written down, and told once the broker is there."""
         words = ("kind", "camera", "text", "times", "is_bad", "is_over")
         told = {word: found[word] for word in words if word in found}
         told = self.dressed({"time": moments.iso(int(moment * 1e6))} | told)
-        self.broker.publish(f"{self.base}/events", told)
+        if not self.memory.add_event(told) and self.memory.get("dropped", 0) == 1:
+            self.tell(f"{EVENTS} events wait for the broker: further ones are counted alone")
+
+    def tell_events(self) -> None:
+        """Publishes the events that wait. How many found no room is an event too."""
+        with self.lock:
+            flying = {key for ones in self.flying.values() for key in ones}
+            for number, found in self.memory.waiting_events() if self.broker.is_up else []:
+                if number in flying:
+                    continue
+                mid = self.broker.publish(f"{self.base}/events", found)
+                if mid is None:
+                    break
+                self.flying[mid] = [number]
+        dropped = self.memory.get("dropped", 0)
+        if dropped and len(self.memory.events) < EVENTS:
+            text = f"{dropped} events weren't told: {EVENTS} waited for the broker."
+            self.memory.put("dropped", 0)
+            self.tell(text)
+            found = {"kind": "dropped", "camera": None, "text": text}
+            self.event(time.time(), found | {"is_bad": True, "is_over": False})
 
     def show_kept(self, events: list[dict]) -> None:
         """Tells each event that was kept, once it is over and settled: the oldest first."""
@@ -265,6 +285,11 @@ class Bridge:
         for clip in found["archived"]:
             one = clip if isinstance(clip, dict) else {"clip": clip}
             self.tell_once([archived_key(one)], "archived", self.dressed(one))
+
+
+def answered(id_: str) -> str:
+    """By what the answer to an order is known."""
+    return f"answer {id_}"
 
 
 def archived_key(clip: dict) -> str:

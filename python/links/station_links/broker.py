@@ -140,17 +140,19 @@ class Broker:
         except Exception as fault:
             self.tell(f"a message on {message.topic} wasn't taken: {fault!r}")
 
-    def publish(self, topic: str, found: dict, retain: bool = False) -> mqtt.MQTTMessageInfo:
-        """Sends an object, which arrives at least once. It waits where there is no broker."""
+    def publish(self, topic: str, found: dict, retain: bool = False) -> int | None:
+        """Sends an object, which arrives at least once, and answers its number. It waits where
+        there is no broker; where too many wait, there is no number, and it isn't sent."""
         info = self.client.publish(topic, json.dumps(found), qos=1, retain=retain)
-        if info.rc == mqtt.MQTT_ERR_NO_CONN:
-            # It waits, and goes with the next connection.
-            info.rc = mqtt.MQTT_ERR_SUCCESS
         if info.rc == mqtt.MQTT_ERR_QUEUE_SIZE:
             self.dropped += 1
             if self.dropped == 1:
-                self.tell(f"{WAITING} messages wait for the broker: further ones are dropped")
-        return info
+                self.tell(f"{WAITING} messages wait for the broker: no other one finds room")
+            return None
+        if self.dropped:
+            self.tell(f"there is room for messages again: {self.dropped} found none")
+            self.dropped = 0
+        return info.mid
 
     def stop(self) -> None:
         """Leaves the broker."""

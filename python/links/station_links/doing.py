@@ -3,6 +3,7 @@ what was asked for is done once: it is looked for by the mark in its note, where
 lost."""
 import threading
 import time
+from dataclasses import dataclass
 
 from . import moments
 from .asked import Keep
@@ -28,44 +29,103 @@ class NotNow(Exception):
     """Why a keep waits, in a sentence."""
 
 
+@dataclass
+class Waiting:
+    """A keep that is to be given: whether it may have been done before, when its hour is over by a
+    clock that is never set back, and whether somebody was told that it waits."""
+
+    keep: Keep
+    is_again: bool
+    end: float
+    is_told: bool = False
+
+    def is_late(self) -> bool:
+        """Whether it has waited an hour."""
+        return time.monotonic() >= self.end
+
+
+def waiting_of(keep: Keep, came: float | None = None) -> Waiting:
+    """A keep with an hour of its own: a new one, or one that came at a time of day, of which an
+    earlier run may have done it."""
+    age = 0.0 if came is None else min(max(0.0, time.time() - came), PATIENCE_SECONDS)
+    return Waiting(keep, came is not None, time.monotonic() + PATIENCE_SECONDS - age)
+
+
 class Doer:
-    """Gives keeps to a page, until `over` is set."""
+    """Gives keeps to a page, one after the other, until `over` is set. A page that isn't there is
+    waited for, and each keep waits an hour at most, by its own clock. `on_wait(keep, why)` is told
+    once that a keep waits, and `on_done(keep, found)` what became of it, as an object."""
 
-    def __init__(self, page: Page, over: threading.Event) -> None:
+    def __init__(self, page: Page, over: threading.Event, on_wait, on_done) -> None:
         self.page, self.over = page, over
+        self.on_wait, self.on_done = on_wait, on_done
+        self.line: list[Waiting] = []
+        self.lock, self.new = threading.Lock(), threading.Event()
 
-    def do(self, keep: Keep, is_again: bool, on_wait) -> dict | None:
-        """What became of a keep, as an object; None where the program ends before. `is_again` says
-        that it may have been done before a restart. `on_wait` is told once that it waits, and
-        why."""
-        end, waits = time.monotonic() + PATIENCE_SECONDS, False
+    def add(self, waiting: Waiting) -> None:
+        """A keep comes behind those that wait."""
+        with self.lock:
+            self.line.append(waiting)
+        self.new.set()
+
+    def run(self) -> None:
+        """Does what comes."""
         while not self.over.is_set():
-            try:
-                return self.kept(keep, is_again)
-            except (PageFault, NotNow) as fault:
-                # The page may have done it, and been lost before its answer came.
-                is_again = is_again or isinstance(fault, PageFault)
-                if time.monotonic() > end:
-                    return {"kept": False, "refused": "NoPage", "text": str(fault)}
-                if not waits:
-                    waits = True
-                    on_wait(str(fault))
-                self.over.wait(TRY_SECONDS)
-            except Exception as fault:
-                # An answer that isn't a page's, or a fault of ours: the next keep is done.
-                return {"kept": False, "refused": "Failed", "text": repr(fault)}
+            self.new.clear()
+            self.round()
+            self.new.wait(TRY_SECONDS)
+
+    def round(self) -> None:
+        """Tries each keep that waits, the oldest first. Where the page isn't there for one it isn't
+        for those behind it either: of these only the hour is looked at."""
+        why = ""
+        with self.lock:
+            line = list(self.line)
+        for it in line:
+            if self.over.is_set():
+                return
+            found, why = self.tried(it, why)
+            if found:
+                with self.lock:
+                    self.line.remove(it)
+                self.on_done(it.keep, found)
+            elif not it.is_told:
+                it.is_told = True
+                self.on_wait(it.keep, why)
+
+    def tried(self, it: Waiting, why: str) -> tuple[dict | None, str]:
+        """What became of a keep, or None where it waits; and why the page isn't there."""
+        is_late = it.is_late()
+        try:
+            if why and not is_late:
+                return None, why
+            if is_late:
+                return (None if why else self.done_before(it)) or too_late(it, why), why
+            return self.kept(it), why
+        except (PageFault, NotNow) as fault:
+            # The page may have done it, and been lost before its answer came.
+            it.is_again = it.is_again or isinstance(fault, PageFault)
+            return (too_late(it, str(fault)) if is_late else None), str(fault)
+        except Exception as fault:
+            # A fault of ours: the next keep is done.
+            return {"kept": False, "refused": "Failed", "text": repr(fault)}, why
+
+    def done_before(self, it: Waiting) -> dict | None:
+        """What became of a keep that may have been done before, by the mark in an event's note."""
+        for event in self.page.events() if it.is_again else []:
+            if it.keep.mark() in event["note"]:
+                return kept_before(event)
         return None
 
-    def kept(self, keep: Keep, is_again: bool) -> dict:
+    def kept(self, it: Waiting) -> dict:
         """What became of a keep."""
-        if is_again:
-            for event in self.page.events():
-                if keep.mark() in event["note"]:
-                    return kept_before(event)
+        if found := self.done_before(it):
+            return found
         self.must_run()
+        keep = it.keep
         note = f"{keep.note} {keep.mark()}".strip()
         status, found = self.page.keep(keep.since, keep.until, note, keep.camera)
-        if status in (200, 409) and "answers" in found:
+        if "answers" in found:
             return kept_of(found)
         why = str(found.get("error", f"status {status}"))
         if status in WAITED_FOR:
@@ -80,6 +140,13 @@ class Doer:
         level, text = self.page.status()["station"]
         if level == "bad":
             raise NotNow(text)
+
+
+def too_late(it: Waiting, why: str) -> dict:
+    """That a keep has waited an hour."""
+    text = f"It has waited an hour. {why}".strip()
+    text += " It may have been kept." * it.is_again
+    return {"kept": False, "refused": "NoPage", "text": text}
 
 
 def kept_before(event: dict) -> dict:

@@ -3,6 +3,7 @@ of a camera. Each source reads in a thread of its own until `over` is set, and c
 `fire(moment, text)` with a time of day in microseconds. Where it can't read it raises Fault, and is
 begun again."""
 import errno
+import fnmatch
 import ipaddress
 import os
 import re
@@ -10,11 +11,20 @@ import socket
 import time
 
 from .levels import Level
+from .senders import Senders
 from .settings import BadSettings, Words
 
 # How long a source waits for something before it looks whether it is over.
 WAIT_SECONDS = 0.2
 LINE_BYTES = 1000
+# What of a packet or a message is looked at, how many patterns there may be, and their letters.
+MATCHED_BYTES = 4096
+PATTERNS, PATTERN_LETTERS = 16, 200
+# How many packets are taken from the system before one of each sender's turn is looked at, and what
+# the system holds of them.
+TAKEN, RECEIVE_BYTES = 256, 4 * 1024 * 1024
+# What a regular expression has, and a pattern hardly: such files are of an older loop_trigger.
+REGULAR = re.compile(r"\^.*|.+\$|.*(\.[*+]|\\|\(\?).*", re.DOTALL)
 
 
 class Fault(Exception):
@@ -26,13 +36,42 @@ def now() -> int:
     return time.time_ns() // 1000
 
 
-def pattern_in(words: Words) -> re.Pattern | None:
-    """What a text has to have somewhere; any text where it is left out."""
-    text = words.text("match", None)
-    try:
-        return None if text is None else re.compile(text)
-    except (re.error, RecursionError) as fault:
-        raise words.bad("match", f"a regular expression: {fault}") from None
+class Patterns:
+    """What a text has to be, all of it, but for spaces and line ends at its end: a word, in which
+    `*` is any text, `?` any sign and `[abc]` one of some. One of several patterns suffices. A match
+    takes as long as the text and the pattern together, whatever they are."""
+
+    def __init__(self, texts: list[str]) -> None:
+        self.forms = [re.compile(fnmatch.translate(it)) for it in texts]
+
+    def match(self, raw: bytes) -> bool:
+        """Whether a text is one of these."""
+        text = raw[:MATCHED_BYTES].decode(errors="replace").rstrip(" \t\r\n\0")
+        return any(form.match(text) for form in self.forms)
+
+
+def pattern_in(words: Words) -> Patterns | None:
+    """What a text has to be; any text where it is left out."""
+    what = (
+        f"a pattern of at most {PATTERN_LETTERS} letters, or a list of 1 to {PATTERNS}: * is any "
+        f"text, ? any sign, [abc] one of these"
+    )
+    found = words.take("match", None, are_patterns, what)
+    if found is None:
+        return None
+    texts = [found] if isinstance(found, str) else found
+    if any(REGULAR.fullmatch(it) for it in texts):
+        old = "a pattern, but a regular expression: write fire* for ^fire, *fire* for fire, and [^]"
+        raise words.bad("match", f"{old} where such a sign itself is meant")
+    return Patterns(texts)
+
+
+def are_patterns(found: object) -> bool:
+    """Whether something is a pattern, or a list of such."""
+    texts = found if isinstance(found, list) else [found]
+    return 1 <= len(texts) <= PATTERNS and all(
+        isinstance(it, str) and 1 <= len(it) <= PATTERN_LETTERS for it in texts
+    )
 
 
 def quoted(raw: bytes) -> str:
@@ -129,57 +168,75 @@ class Serial:
 
     def came(self, text: bytes, fire) -> None:
         """A line."""
-        found = text.decode(errors="replace")
-        if text and (self.pattern is None or self.pattern.search(found)):
+        if text and (self.pattern is None or self.pattern.match(text)):
             fire(now(), f"{os.path.basename(self.device)} says {quoted(text)}")
 
 
 class Udp:
-    """A UDP packet."""
+    """A UDP packet, from those who may send one."""
 
     package = None
 
     def __init__(self, words: Words) -> None:
         text = words.text("listen", ..., r"\S+:\d{1,5}", "an address such as 127.0.0.1:9000")
         host, _, port = text.rpartition(":")
+        given = words.take("from", None, are_texts, "a list of one address or network at least")
         try:
             self.host = ipaddress.ip_address(host.strip("[]"))
-            self.senders = [
-                ipaddress.ip_network(it) for it in words.take(
-                    "from", [], lambda it: isinstance(it, list) and
-                    all(isinstance(one, str) for one in it), "a list of addresses or networks"
-                )
-            ]
+            self.allowed = None if given is None else [ipaddress.ip_network(it) for it in given]
         except ValueError as fault:
             raise BadSettings(f"{words.where}: {fault}") from None
         if not 1 <= int(port) <= 65535:
             raise words.bad("listen", "an address with a port from 1 to 65535")
-        self.port, self.pattern = int(port), pattern_in(words)
+        self.port, self.pattern, self.senders = int(port), pattern_in(words), Senders()
 
     def run(self, fire, over) -> None:
         """Reads packets."""
         family = socket.AF_INET6 if self.host.version == 6 else socket.AF_INET
         with socket.socket(family, socket.SOCK_DGRAM) as it:
             try:
+                it.setsockopt(socket.SOL_SOCKET, socket.SO_RCVBUF, RECEIVE_BYTES)
                 it.bind((str(self.host), self.port))
-                it.settimeout(WAIT_SECONDS)
                 while not over.is_set():
-                    try:
-                        raw, (sender, *_) = it.recvfrom(65536)
-                    except TimeoutError:
-                        continue
-                    self.came(raw, sender, fire)
+                    self.receive(it)
+                    if found := self.senders.take():
+                        self.came(*found, fire)
             except OSError as fault:
                 more = ". Another program has it" * (fault.errno == errno.EADDRINUSE)
                 raise Fault(f"{self.host} {self.port}: {fault.strerror}{more}") from None
 
-    def came(self, raw: bytes, sender: str, fire) -> None:
-        """A packet."""
+    def receive(self, socket_: socket.socket) -> None:
+        """Takes what has come, into the queue of its sender; waits where nothing waits there."""
+        for number in range(TAKEN):
+            is_waited_for = number == 0 and not self.senders.queues
+            socket_.settimeout(WAIT_SECONDS if is_waited_for else 0)
+            try:
+                raw, (sender, *_) = socket_.recvfrom(65536)
+            except (TimeoutError, BlockingIOError):
+                return
+            if self.may_send(sender):
+                self.senders.put(sender, (raw[:MATCHED_BYTES], now()))
+
+    def may_send(self, sender: str) -> bool:
+        """Whether packets of an address are taken. One of IPv4 may come as one of IPv6."""
         address = ipaddress.ip_address(sender.partition("%")[0])
-        if self.senders and not any(address in network for network in self.senders):
-            return
-        if self.pattern is None or self.pattern.search(raw.decode(errors="replace")):
-            fire(now(), f"UDP from {sender} {quoted(raw)}")
+        address = getattr(address, "ipv4_mapped", None) or address
+        return self.allowed is None or any(address in network for network in self.allowed)
+
+    def came(self, sender: str, packet: tuple[bytes, int], fire) -> None:
+        """A packet's turn has come."""
+        raw, moment = packet
+        if self.pattern is None or self.pattern.match(raw):
+            fire(moment, f"UDP from {sender} {quoted(raw)}")
+
+    def lost(self) -> dict[str, int]:
+        """How many packets were dropped since this was asked last, by sender."""
+        return self.senders.lost()
+
+
+def are_texts(found: object) -> bool:
+    """Whether something is a list of texts, and of one at least."""
+    return isinstance(found, list) and bool(found) and all(isinstance(it, str) for it in found)
 
 
 class Topic:
@@ -202,7 +259,7 @@ class Topic:
 
         if is_old or not self.fire or not mqtt.topic_matches_sub(self.topic, topic):
             return
-        if self.pattern is None or self.pattern.search(raw.decode(errors="replace")):
+        if self.pattern is None or self.pattern.match(raw):
             self.fire(now(), f"MQTT {topic} {quoted(raw)}")
 
 

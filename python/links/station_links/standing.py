@@ -1,7 +1,7 @@
 """States that a broker remembers, and the state that loop_archive writes."""
-import json
-import os
 import time
+
+from lapyrei import answers
 
 # What changes in numbers alone is told again after so many seconds.
 NUMBERS_SECONDS = 60.0
@@ -41,27 +41,15 @@ class States:
             is_late = now - had[1] >= NUMBERS_SECONDS
             if is_same and not (is_late and without_time(had[2]) != without_time(found)):
                 return
-        self.told[topic] = generation, now, found
-        self.broker.publish(topic, found, retain=True)
+        if self.broker.publish(topic, found, retain=True) is not None:
+            self.told[topic] = generation, now, found
 
 
 def archive_in(path: str) -> dict | None:
     """The state that loop_archive has written; None where there is none, or none that is whole."""
     try:
         with open(path, "rb") as file:
-            if os.fstat(file.fileno()).st_size > ARCHIVE_BYTES:
-                return None
-            found = json.loads(file.read(ARCHIVE_BYTES))
-    except (OSError, ValueError, RecursionError):
+            raw = file.read(ARCHIVE_BYTES + 1)
+        return answers.answer_in(raw, answers.ARCHIVE, ARCHIVE_BYTES)
+    except (OSError, answers.Unusable):
         return None
-    return found if is_archive(found) else None
-
-
-def is_archive(found: object) -> bool:
-    """Whether something is such a state."""
-    if not isinstance(found, dict) or not isinstance(found.get("archived"), list):
-        return False
-    cameras = found.get("cameras")
-    return isinstance(cameras, list) and all(
-        isinstance(it, dict) and isinstance(it.get("name"), str) for it in cameras
-    )

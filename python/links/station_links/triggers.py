@@ -3,7 +3,6 @@ has a source (sources.py), whose causes are gathered (levels.py), and each keep 
 station's page, or to all stations by MQTT."""
 import importlib.util
 import json
-import queue
 import threading
 import time
 from dataclasses import dataclass
@@ -12,17 +11,21 @@ from pathlib import Path
 from . import moments
 from .asked import Keep, keep_of
 from .broker import TOPIC, Broker, BrokerWords, broker_words
-from .doing import Doer, page_words
+from .doing import Doer, Waiting, page_words, waiting_of
+from .journal import Journal
 from .levels import Cause, Gathered, short
 from .pages import Page
 from .settings import NAME, BadSettings, Words, words_of
-from .sources import KINDS, Fault, Topic
-from .told import Memory
+from .sources import KINDS, Fault, Topic, Udp
+from .threads import kept_running
+from .told import Full, Memory
 
 # How often a source that failed is begun again.
 AGAIN_SECONDS = 1.0
 # How long keeps that are under way may take at a stop.
 LEAVE_SECONDS = 3.0
+# How often it is looked for keeps that go to the broker.
+PUBLISH_SECONDS = 0.1
 SECOND = 1_000_000
 
 
@@ -94,13 +97,24 @@ class Triggers:
     def __init__(self, words: TriggerWords, tell) -> None:
         self.words, self.tell = words, lambda text: tell(short(text))
         self.over, self.lock, self.wake = threading.Event(), threading.Lock(), threading.Event()
+        self.journal = Journal(self.tell)
         self.memory, self.ended = Memory(words.state, self.tell), threading.Event()
-        # What an earlier run has left to do.
-        self.left = self.memory.open_orders()
-        self.doer = Doer(words.page, self.ended)
-        self.keeps: queue.Queue[tuple[Keep, bool]] = queue.Queue()
+        self.doer = Doer(words.page, self.ended, self.waits, self.done)
+        # Keeps for stations by MQTT, and those that are on their way, by the numbers of messages.
+        self.line: list[Waiting] = []
         self.sent: dict[int, str] = {}
         self.broker = self.broker_of(words) if words.broker else None
+        # What an earlier run has left to do.
+        for id_, order in self.memory.open_orders():
+            self.give(keep_of(id_, order.words), order.came)
+
+    def give(self, keep: Keep, came: float | None = None) -> None:
+        """Gives a keep to whoever does it."""
+        if self.words.stations:
+            with self.lock:
+                self.line.append(waiting_of(keep, came))
+        else:
+            self.doer.add(waiting_of(keep, came))
 
     def broker_of(self, words: TriggerWords) -> Broker:
         """The broker, which brings the topics and takes the keeps."""
@@ -117,20 +131,32 @@ class Triggers:
 
     def run(self) -> None:
         """Works until it is stopped."""
-        works = [(self.watch, it) for it in self.words.triggers]
-        works.append((self.publish if self.words.stations else self.work,))
-        if self.words.stations:
-            works.append((self.settle,))
+        names = [it.gathered.name for it in self.words.triggers]
+        works = [lambda it=it: self.watch(it) for it in self.words.triggers]
+        names += ["that publishes", "that writes down"] if self.words.stations else ["that keeps"]
+        works += [self.publish, self.settle] if self.words.stations else [self.doer.run]
         if self.broker:
             self.broker.start()
-        for work, *words in works:
-            threading.Thread(target=work, args=words, daemon=True).start()
+        for name, work in zip(names, works):
+            kept_running(name, work, self.ended, self.tell)
         while not self.over.is_set():
             self.gather()
+            self.say_what_was_lost()
             self.wake.wait(0.1)
             self.wake.clear()
         self.gather(is_last=True)
+        self.say_what_was_lost()
+        self.journal.flush(is_last=True)
         self.leave()
+
+    def say_what_was_lost(self) -> None:
+        """Says which packets came too fast, and what waits for the journal."""
+        for trigger in self.words.triggers:
+            if isinstance(trigger.source, Udp):
+                for sender, count in trigger.source.lost().items():
+                    text = f"a packet of {sender} was dropped: more came than can be looked at"
+                    self.journal.add(f"{trigger.gathered.name} lost", text, count)
+        self.journal.flush()
 
     def leave(self) -> None:
         """Ends, and says what is left to do."""
@@ -150,7 +176,7 @@ class Triggers:
         def fire(moment: int, text: str) -> None:
             with self.lock:
                 trigger.gathered.add(Cause(moment, text))
-            self.tell(f"{name}: {text} at {moments.iso(moment)}")
+            self.journal.add(name, f"{text} at {moments.iso(moment)}")
             self.wake.set()
 
         while not self.over.is_set():
@@ -175,44 +201,70 @@ class Triggers:
             with self.lock:
                 due = trigger.gathered.due(time.time_ns() // 1000, 2**62 if is_last else tick)
             if due:
-                self.memory.begin(due.id, due.words())
-                self.keeps.put((due, False))
+                self.begin(due)
 
-    def all_keeps(self):
-        """The keeps to give, first those that an earlier run has left."""
-        for id_, words in self.left:
-            yield keep_of(id_, words), True
-        while True:
-            yield self.keeps.get()
+    def begin(self, keep: Keep) -> None:
+        """A keep is due. It is written down, and given; where too many wait, that is told."""
+        try:
+            self.memory.begin(keep.id, keep.words())
+        except Full as fault:
+            self.tell(f"{keep.id} NOT kept: TooMany {fault}: {keep.note}")
+            return
+        self.give(keep)
+
+    def waits(self, keep: Keep, why: str) -> None:
+        """A keep waits."""
+        self.tell(f"{keep.id} waits: {why}")
 
     def done(self, keep: Keep, found: dict) -> None:
         """What became of a keep."""
         self.memory.answer(keep.id, json.dumps(found))
         if found["kept"]:
             self.tell(f"{keep.id} kept: {found['text']}")
+        elif found["kept"] is None:
+            self.tell(f"{keep.id} {found['text']}")
         else:
             self.tell(f"{keep.id} NOT kept: {found.get('refused', '')} {found['text']}")
 
     # ------------------------------------------------------------------ to whom they are given
 
-    def work(self) -> None:
-        """Gives the keeps to the page, one after the other."""
-        for keep, is_again in self.all_keeps():
-            found = self.doer.do(
-                keep, is_again, lambda why, id_=keep.id: self.tell(f"{id_} waits: {why}")
-            )
-            if found:
-                self.done(keep, found)
-
     def publish(self) -> None:
-        """Gives the keeps to stations by MQTT, where loop_mqtt answers. The broker is waited
-        for."""
-        for keep, _ in self.all_keeps():
+        """Gives the keeps to stations by MQTT, where loop_mqtt answers. The broker is waited for,
+        for an hour at most by each keep's own clock."""
+        while not self.ended.is_set():
+            with self.lock:
+                line = list(self.line)
+            for it in line:
+                self.publish_one(it)
+            self.ended.wait(PUBLISH_SECONDS)
+
+    def publish_one(self, it: Waiting) -> None:
+        """Gives a keep to the broker, unless it has it; or its hour is over."""
+        keep = it.keep
+        with self.lock:
+            is_sent = keep.id in self.sent.values()
+        if it.is_late():
+            text = "It has waited an hour for the broker."
+            text += " It may have arrived." * is_sent
+            self.end_of(keep.id, {"kept": False, "refused": "NoBroker", "text": text})
+        elif not is_sent and self.broker.is_up:
             found = {"id": keep.id, "from": keep.since, "to": keep.until, "note": keep.note}
             found |= {"camera": keep.camera} if keep.camera else {}
-            topic = f"{self.words.prefix}/{self.words.stations}/keep"
             with self.lock:
-                self.sent[self.broker.publish(topic, found).mid] = keep.id
+                mid = self.broker.publish(f"{self.words.prefix}/{self.words.stations}/keep", found)
+                if mid is not None:
+                    self.sent[mid] = keep.id
+        elif not is_sent and not it.is_told:
+            it.is_told = True
+            self.waits(keep, f"the broker {self.broker.place()} isn't there")
+
+    def end_of(self, id_: str, found: dict) -> None:
+        """A keep waits no more."""
+        with self.lock:
+            ended = [it for it in self.line if it.keep.id == id_]
+            self.line = [it for it in self.line if it.keep.id != id_]
+        for it in ended:
+            self.done(it.keep, found)
 
     def settle(self) -> None:
         """Writes down what the broker has acknowledged."""
@@ -222,8 +274,7 @@ class Triggers:
                 id_ = self.sent.pop(mid, None)
             if id_:
                 text = f"given to {self.words.stations} by the broker"
-                self.memory.answer(id_, json.dumps({"kept": None, "text": text}))
-                self.tell(f"{id_} {text}")
+                self.end_of(id_, {"kept": None, "text": text})
 
 
 def checked(path: str, tell) -> Triggers:

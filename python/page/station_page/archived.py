@@ -1,10 +1,10 @@
 """What loop_archive says in the file that it replaces whole: which clips are elsewhere too, and how
 far behind it is. The page reads it where `archive` of its settings names it."""
-import json
 import os
 import time
 from collections.abc import Iterator
 
+from lapyrei import answers
 from prometheus_client.core import CounterMetricFamily, GaugeMetricFamily, Metric
 
 from . import limits, words
@@ -36,24 +36,24 @@ class Archive:
             mark = (found.st_dev, found.st_ino, found.st_mtime_ns, found.st_size)
             if mark == self.mark:
                 return
-            if found.st_size > limits.ARCHIVE_BYTES:
-                raise ValueError
-            with open(self.path, encoding="utf-8") as file:
-                self.take(json.load(file))
+            with open(self.path, "rb") as file:
+                raw, most = file.read(limits.ARCHIVE_BYTES + 1), limits.ARCHIVE_BYTES
+            self.take(answers.answer_in(raw, answers.ARCHIVE_SHOWN, most))
             self.mark, self.changed = mark, time.monotonic()
         except OSError as fault:
             self.mark, self.fault = None, f"{self.path}: {fault.strerror}"
-        except (ValueError, KeyError, TypeError, RecursionError):
-            self.mark, self.fault = None, f"{self.path} isn't a file of loop_archive"
+        except answers.Unusable as fault:
+            self.mark = None
+            self.fault = words.plain(f"{self.path} isn't a file of loop_archive: {fault}")
 
     def take(self, found: dict) -> None:
         """What the file says."""
         cameras = [
             {
-                "name": words.plain(str(it["name"])),
-                "waiting": int(it["waiting"]),
-                "archived": int(it["archived"]),
-                "fault": words.plain(str(it["fault"])),
+                "name": words.plain(it["name"]),
+                "waiting": it["waiting"],
+                "archived": it["archived"],
+                "fault": words.plain(it["fault"]),
                 "behind_seconds": float(it["behind_seconds"]),
             }
             for it in found["cameras"]
@@ -63,7 +63,7 @@ class Archive:
             if not it["is_released"]:
                 numbers = (it[word] for word in ("id", "first", "last", "since", "tag"))
                 held.setdefault((it["camera"], *numbers), set()).add(it["event"])
-        self.fault, self.cameras, self.held = words.plain(str(found["fault"])), cameras, held
+        self.fault, self.cameras, self.held = words.plain(found["fault"]), cameras, held
 
     def has(self, clip: dict) -> bool:
         """Whether a clip is archived, by what it is and by its event, where both know that."""

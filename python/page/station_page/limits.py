@@ -132,11 +132,15 @@ HOLE = 200_000
 # The bytes of pictures that are remembered of each camera.
 EYE_BYTES = 2 * 1024 * 1024
 # After how many seconds another station that says nothing doesn't answer, and how often it is tried
-# again; the bytes of a message of it, and how many steps of frames are taken at once over several
-# stations.
+# again; the bytes of a message of it and of its head, and the seconds in which it has to come
+# whole; for how long it is unusable after an answer that can't be used; how many steps of frames
+# are taken at once over several stations.
 AWAY_SECONDS = 5.0
 AGAIN_SECONDS = 1.0
-MESSAGE_BYTES = 32 * 1024 * 1024
+MESSAGE_BYTES = 8 * 1024 * 1024
+HEAD_BYTES = 64 * 1024
+MESSAGE_SECONDS = 30.0
+UNUSABLE_SECONDS = 60.0
 STEPS = 50
 # By how many microseconds its clock may be off, and by how many answers that is reckoned.
 CLOCK_MICROS = 20_000

@@ -11,6 +11,9 @@ from collections.abc import AsyncIterator, Awaitable, Coroutine
 from urllib.parse import quote
 
 from aiohttp import web
+from lapyrei import answers
+from lapyrei.answers import ALERT_NUMBERS_END as ALERTS
+from lapyrei.answers import MARK
 
 from . import limits, words
 from .asked import number_in
@@ -19,13 +22,11 @@ from .console import EVENTS, VIEW
 from .events import events_of
 from .films import Gathered
 from .orders import NoStation
-from .others import Other
+from .others import UNUSABLE, Other, parsed, within
 from .push import Stream, message, view_of, whole
 from .settings import OtherStation
 from .standing import for_programs
 from .together import (
-    ALERTS,
-    MARK,
     Presses,
     answers_of,
     event_of,
@@ -52,7 +53,10 @@ TOLD = (
     "X-Frame-Store",
     "X-Frame-Time",
 )
-NAME = "[A-Za-z0-9_-]{1,32}"
+NAME = answers.NAME
+# What a file of another station may be: nothing that a browser would run as this page's own.
+FILES = ("image/jpeg", "image/png", "video/mp4", "video/x-yuv4mpeg2", "text/csv", "application/zip")
+JSON = "application/json"
 
 
 class Told:
@@ -83,8 +87,12 @@ class Beside:
     async def run(self) -> None:
         """Sends what comes, again where the station was lost."""
         while True:
-            with contextlib.suppress(Unfit):
+            try:
                 await self.listen()
+            except Unfit:
+                pass
+            except Exception as fault:
+                self.other.unfit("/api/stream", fault)
             self.id = None
             await asyncio.sleep(limits.AGAIN_SECONDS)
 
@@ -99,7 +107,7 @@ class Beside:
                     if head["kind"] == "hello":
                         self.id = head["id"]
                         self.turned.set()
-                    elif head["kind"] in ("picture", "none"):
+                    elif head["kind"] in ("picture", "none") and MARK not in head["camera"]:
                         more = {key: it for key, it in head.items() if key not in ("kind", "camera")}
                         camera = named(self.other, head["camera"])
                         told = message(head["kind"], body, **more, camera=camera)
@@ -188,8 +196,8 @@ class Stations:
         while True:
             for other in self.others:
                 found = other.standing()
-                for kind, level in (("away", "bad"), ("clock", "warn")):
-                    text = found["text"] if found["level"] == level else ""
+                for kind in ("away", "unusable", "clock"):
+                    text = found["text"] if found["kind"] == kind else ""
                     # What is said of how long isn't said anew each second.
                     if not (text and self.laboratory.alerts.stands(kind, camera=other.name)):
                         self.laboratory.warned.set(kind, other.name, text)
@@ -251,17 +259,24 @@ class Stations:
         clips = self.laboratory.held.clips()
         for clip in clips:
             del clip["order_tag"]
-        told = await asyncio.gather(
-            *(it.ask("/api/clips", None, limits.FRESH_SECONDS) for it in self.others),
-            return_exceptions=True,
-        )
+        told = await asyncio.gather(*(self.clips_of(it) for it in self.others))
+        unusable = {}
         for other, found in zip(self.others, told):
-            if isinstance(found, tuple):
-                clips += [
-                    it | {"camera": named(other, it["camera"])} for it in found[1]["clips"]
-                ]
+            if isinstance(found, Unfit):
+                unusable[other.name] = str(found)
+            else:
+                clips += [it | {"camera": named(other, it["camera"])} for it in found]
         clips.sort(key=lambda clip: (clip["to_us"], clip["camera"]), reverse=True)
-        return web.json_response({"clips": clips})
+        return web.json_response({"clips": clips} | ({"unusable": unusable} if unusable else {}))
+
+    async def clips_of(self, other: Other) -> list[dict] | Unfit:
+        """The clips of another station, or why they can't be had."""
+        try:
+            seconds, shape = limits.FRESH_SECONDS, answers.CLIPS_SAID
+            _, found = await other.ask("/api/clips", None, seconds, shape)
+        except Unfit as unfit:
+            return unfit
+        return [it for it in found["clips"] if MARK not in it["camera"]]
 
     async def events(self, request: web.Request) -> web.Response:
         """All events."""
@@ -342,7 +357,7 @@ class Stations:
         for _ in range(min(abs(by), limits.STEPS)):
             asked = {"moment": moment, "by": 1 if by > 0 else -1}
             told = await asyncio.gather(
-                *(it.ask("/api/step", asked | {"cameras": its or None}) for it, its in chosen if it),
+                *(self.step_of(it, asked | {"cameras": its or None}) for it, its in chosen if it),
                 return_exceptions=True,
             )
             moments = [it[1]["moment"] for it in told if isinstance(it, tuple)]
@@ -354,6 +369,10 @@ class Stations:
         if moment is None:
             raise Unfit(404, "No frame is stored.")
         return web.json_response({"moment": moment})
+
+    async def step_of(self, other: Other, asked: dict) -> tuple[int, dict]:
+        """A step at another station."""
+        return await other.ask("/api/step", asked, shape=answers.STEP)
 
     # ---------------------------------------------------------------------------- what is asked for
 
@@ -438,12 +457,12 @@ class Stations:
         """Keeps at another station."""
         body = {"from": span[0], "to": span[1], "note": note}
         try:
-            _, told = await other.ask("/api/keep", body | ({"camera": camera} if camera else {}))
+            body |= {"camera": camera} if camera else {}
+            _, told = await other.ask("/api/keep", body, shape=answers.KEPT)
             return answers_of(other, told)
         except Unfit as fault:
-            return [refused(other.name, str(fault))]
-        except (KeyError, TypeError):
-            return [refused(other.name, "its answer can't be read. Is it another version?")]
+            may = " It may have kept: look at its clips." * (fault.status == UNUSABLE)
+            return [refused(other.name, f"{fault}{may}")]
 
     async def of_clip(self, request: web.Request) -> web.Response:
         """A note or a release of a clip, at its station."""
@@ -537,12 +556,25 @@ class Stations:
         async with other.answer(path, None, headers) as found:
             if found.status == 401:
                 raise other.away("it wants another token")
+            if found.content_type == JSON:
+                return await self.words_of(found, other)
+            if found.content_type not in FILES:
+                fault = answers.Unusable(f"is {found.content_type}")
+                raise other.unfit("a file", fault)
             response = web.StreamResponse(status=found.status)
             for key in TOLD:
                 if key in found.headers:
                     response.headers[key] = found.headers[key]
             self.page.dress(response)
             return await self.page.send(request, response, pieces_of(found, other))
+
+    async def words_of(self, found, other: Other) -> web.Response:
+        """What another station says of a frame, in JSON."""
+        try:
+            told = await parsed(await within(found, limits.MESSAGE_BYTES), answers.SAID)
+        except answers.Unusable as fault:
+            raise other.unfit("a file", fault) from None
+        return web.json_response(told, status=found.status)
 
     async def zip(self, request: web.Request) -> web.StreamResponse:
         """An event as one zip, with the files of all its stations."""

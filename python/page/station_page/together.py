@@ -5,20 +5,18 @@ import logging
 import threading
 import time
 
+from lapyrei.answers import ALERT_NUMBERS_END as ALERTS
+from lapyrei.answers import MARK
+
 from .events import NEAR_END, NEAR_START
 from .others import Other
 from .whole import clear, write_whole
 
 log = logging.getLogger("loop_page")
 
-# Between a station's name and a camera's, which no name has.
-MARK = ":"
-# The warnings of another station have their numbers from here on, each station its own.
-ALERTS = 10**9
-
 
 def named(other: Other, camera: object) -> str:
-    """A camera's name here."""
+    """A camera's name here: its station's, a mark that no name has, and its own."""
     return f"{other.name}{MARK}{camera}"
 
 
@@ -27,15 +25,17 @@ def cameras_of(other: Other) -> list[dict]:
     if other.state is None:
         return []
     found = [it | {"name": named(other, it["name"])} for it in other.state["cameras"]]
-    if not other.silent():
+    if other.is_shown_as_it_is():
         return found
-    text = f"{other.standing()['text']} What you see of it is of before."
-    away = {"level": "bad", "state": text, "kind": "away", "short": "no answer"}
+    kind, why = other.trouble()
+    text = f"{why} What you see of it is of before."
+    shortly = "unusable answer" if kind == "unusable" else "no answer"
+    away = {"level": "bad", "state": text, "kind": "away", "short": shortly}
     return [it | away for it in found]
 
 
 def alerts_of(other: Other, place: int) -> list[dict]:
-    """Its warnings that nobody has seen."""
+    """Its warnings that nobody has seen. Each station's have numbers of their own here."""
     found = []
     for it in (other.state or {}).get("alerts", []):
         camera = it.get("camera")
@@ -61,7 +61,7 @@ def more_of(local: dict, others: list[Other]) -> dict:
     for other in others:
         for name, it in other.more.items():
             cameras[named(other, name)] = it
-            if other.silent():
+            if not other.is_shown_as_it_is():
                 advice = (
                     "Does loop_page run there, and is the network there? Recording may well go on."
                 )
@@ -225,6 +225,6 @@ def answers_of(other: Other, told: dict) -> list[dict]:
 
 def refused(name: str | None, why: str) -> dict:
     """A station that kept nothing, and why."""
-    text = why if name is None or why.startswith(f"{name}:") else f"{name}: {why}"
+    text = why if name is None or why.startswith((f"{name}:", f"{name} ")) else f"{name}: {why}"
     found = {"camera": name, "kept": False, "text": text, "why": why, "clips": [], "lack": ""}
     return found | {"remark": "", "event": None, "until_us": None, "held_us": None, "asked_us": None}
