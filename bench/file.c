@@ -1,15 +1,13 @@
-/* The system's calls of `bench_programs append-file` and `lock-file`, and of `bench_programs lane`, as a plain program, with the same places and sizes
-   and in the same order; it checks nothing. And one bare write of the same bytes and one fdatasync for each group.
+/* The system's calls of `bench_programs append-file` and `lock-file` as a plain program, with the same places and sizes and in the same
+   order; it checks nothing. And one bare write of the same bytes and one fdatasync for each group.
 
        file append PATH GROUP GROUPS
        file bare PATH GROUP GROUPS
-       file lane PATH GROUP GROUPS
        file lock PATH ROUNDS
        file forget PATH
 
-   The store in the file has no clips, and the blocks from 0 on, each full but the last. `lane` makes the copies of a lane too: each frame is
-   made anew, copied into the memory of a buffer, and out of it into memory of its own, before its group is appended. `forget` asks the
-   system to drop the file's pages. */
+   The store in the file has no clips, and the blocks from 0 on, each full but the last. `forget` asks the system to drop the file's
+   pages. */
 #include "store.h"
 
 /* The same slots at the same places, and nothing else. */
@@ -57,26 +55,6 @@ static void append_groups(struct store *s, uint8_t *slots, uint32_t count, uint3
         (bare ? append_bare : append)(s, slots, frames, count);
 }
 
-/* So many groups through two buffers: the frames of a group are made, each goes through a buffer, and all are appended. */
-static void run_lane(struct store *s, uint8_t *slots, uint32_t count, uint32_t groups) {
-    uint8_t *buffers[2] = {memory(s->size), memory(s->size)};
-    struct frame frames[8];
-    for (uint32_t n = 0; n < groups; n++) {
-        for (uint32_t i = 0; i < count; i++)
-            frames[i] = made(s, n * count + i);
-        for (uint32_t i = 0; i < count; i++) {
-            uint8_t *buffer = buffers[frames[i].sequence % 2];
-            memcpy(buffer, frames[i].bytes, s->size);
-            free(frames[i].bytes);
-            frames[i].bytes = memory(s->size);
-            memcpy(frames[i].bytes, buffer, s->size);
-        }
-        append(s, slots, frames, count);
-        for (uint32_t i = 0; i < count; i++)
-            free(frames[i].bytes);
-    }
-}
-
 int main(int argc, char **argv) {
     if (argc == 3 && !strcmp(argv[1], "forget"))
         return forget(argv[2]);
@@ -88,19 +66,15 @@ int main(int argc, char **argv) {
         printf("locked, next %llu\n", (unsigned long long)s.next);
         return 0;
     }
-    if (argc != 5 || (strcmp(argv[1], "append") && strcmp(argv[1], "bare") && strcmp(argv[1], "lane")))
+    if (argc != 5 || (strcmp(argv[1], "append") && strcmp(argv[1], "bare")))
         return 2;
     struct store s;
     open_store(&s, argv[2]);
     uint32_t count = atoi(argv[3]), groups = atoi(argv[4]);
-    int lane = !strcmp(argv[1], "lane");
     if (count == 0 || count > 8)
         return 1;
     uint8_t *slots = memory(8 * (32 + (size_t)s.size));
-    if (lane)
-        run_lane(&s, slots, count, groups);
-    else
-        append_groups(&s, slots, count, groups, !strcmp(argv[1], "bare"));
-    printf("%s, next %llu\n", lane ? "stored" : "appended", (unsigned long long)s.next);
+    append_groups(&s, slots, count, groups, !strcmp(argv[1], "bare"));
+    printf("appended, next %llu\n", (unsigned long long)s.next);
     return 0;
 }

@@ -10,7 +10,8 @@ import sys
 import tempfile
 
 import layout
-import trial_library
+import trial
+import unproved
 
 TOOLS = os.path.dirname(os.path.abspath(__file__))
 CRATES = os.path.join(TOOLS, "..", "crates")
@@ -26,11 +27,14 @@ class Violation(Exception):
 def built(name):
     """A program's path, or the static library's of a crate that has no program. One that a variable
     names, as LOOP_CLI, LOOP_STATION, BENCH_PROGRAMS, EXAMPLE_FILL or LAPYREI, is taken as it is;
-    else that of crates/NAME/out, where it is newer than its sources. Else it is built where
-    LAPYREI_PROVE is set, and proved where something changed: nobody starts that unawares."""
+    one of tests/rust is compiled, and never proved. Others are taken from crates/NAME/out, where
+    they are newer than their sources. Else they are built where LAPYREI_PROVE is set, and proved
+    where something changed: nobody starts that unawares."""
     given = os.environ.get(name.upper())
     if given:
         return os.path.abspath(given)
+    if name in unproved.of_tests():
+        return trial.trial(name)
     if not os.environ.get("LAPYREI_PROVE"):
         if is_fresh(name):
             return path_of(name)
@@ -58,7 +62,7 @@ def is_fresh(name):
     """Whether it is built, and newer than the sources of its crate and of those below."""
     if not os.path.exists(path_of(name)):
         return False
-    crates = [name, *trial_library.below(name, trial_library.uses(), [])]
+    crates = [name, *unproved.below(unproved.libraries()[name])]
     sources = [it for crate in crates for it in (pathlib.Path(CRATES) / crate / "src").rglob("*")]
     return os.stat(path_of(name)).st_mtime >= max(it.stat().st_mtime for it in sources)
 

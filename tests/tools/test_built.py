@@ -15,7 +15,7 @@ def crates(tmp_path, monkeypatch):
         os.utime(tmp_path / name / "src/main.rt", (1000, 1000))
     monkeypatch.setattr(stores, "CRATES", str(tmp_path))
     used = {"loop_cli": ["below"], "below": []}
-    monkeypatch.setattr(stores.trial_library, "uses", lambda: used)
+    monkeypatch.setattr(stores.unproved, "libraries", lambda: used)
     for name in ("LOOP_CLI", "LAPYREI_PROVE"):
         monkeypatch.delenv(name, raising=False)
     return tmp_path

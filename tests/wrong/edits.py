@@ -31,6 +31,11 @@ class Edit(NamedTuple):
         return [f"{self.crate}: {self.name}: {old.strip()!r} stands {text.count(old)} times in "
                 f"{self.file}" for old, new in self.pairs if old == new or text.count(old) != 1]
 
+    def changed_file(self):
+        """The text of its file with the wrong body, by the file's path in the repository."""
+        path = str(self.source.relative_to(TOP))
+        return {path: self.changed(self.source.read_text())}
+
     def changed(self, text):
         """The file's text with the wrong body."""
         for old, new in self.pairs:
@@ -72,3 +77,11 @@ def all_edits(names=()):
     if missing := [path.stem for path in paths if not path.is_file()]:
         sys.exit(f"tests/wrong has nothing of {' '.join(missing)}")
     return [edit for path in paths for edit in edits_of(path)]
+
+
+def named(crate, name):
+    """The wrong body of this name, which has to fit its source."""
+    edit = next((it for it in all_edits([crate]) if it.name == name), None)
+    if edit is None or edit.unfit():
+        sys.exit(edit.unfit()[0] if edit else f"tests/wrong/{crate}.edits has no {name}")
+    return edit

@@ -1,6 +1,5 @@
 //! A text that is gathered and written at even places.
 
-use crate::asserts::{holds, same};
 use crate::ends::Noted;
 use loop_commands::EvenWriter;
 use std::alloc::Global;
@@ -14,11 +13,11 @@ static PIECES: [&[u8]; 5] = [b"abc", b"def", b"ghi", b"jklmnopqrstuvwxyzabc", b"
 // Writes each piece; each write but the last ends at a multiple of 8.
 fn is_even<W: Write>(rt: &impl Abort, text: &mut W, sizes: &Cell<[usize; 6]>, pieces: &[&[u8]]) {
     for piece in pieces {
-        holds!(rt; text.write_all(piece).is_ok(), piece);
+        assert!(rt; text.write_all(piece).is_ok(), "{piece:?}");
     }
-    same!(rt; sizes.get(), [8, 8, 8, 0, 0, 0]);
-    holds!(rt; text.flush().is_ok());
-    same!(rt; sizes.get(), [8, 8, 8, 6, 0, 0]);
+    assert_eq!(rt; sizes.get(), [8, 8, 8, 0, 0, 0]);
+    assert!(rt; text.flush().is_ok());
+    assert_eq!(rt; sizes.get(), [8, 8, 8, 6, 0, 0]);
 }
 
 // Gathers the pieces.
@@ -49,6 +48,6 @@ fn each_write_but_the_last_ends_at_an_even_place(rt: HostRuntime) {
 fn multiples_of_zero_are_taken_as_multiples_of_one(rt: HostRuntime) {
     let mut seen: Vec<u8> = Vec::new(rt.alloc());
     let written = EvenWriter::new(&mut seen, 0).write_all(b"even");
-    holds!(rt; written.is_ok());
-    same!(rt; seen.as_slice(), b"even".as_slice());
+    assert!(rt; written.is_ok());
+    assert_eq!(rt; seen.as_slice(), b"even".as_slice());
 }

@@ -1,6 +1,5 @@
 //! Recordings of frames of two million bytes, through buffers of the application's memory.
 
-use crate::asserts::{holds, same};
 use loop_capture::{Device, Pattern};
 use loop_desk::Desk;
 use loop_disk::MemDisk;
@@ -36,15 +35,13 @@ type Filmed = Result<HeapEnded, Unfilmed<Pattern, MemDisk, HeapPlane, Four>>;
 struct Four;
 
 impl Noting for Four {
-    ghost use Rattle.std.specs.Prelude.{false};
-
-    ghost NOTED = { false };
+    ghost NOTED = { ? };
 
     const NOTED: bool = false;
 }
 
 impl Visits for Four {
-    ghost asks = { λ call. ⊥ };
+    ghost asks = { ? };
 
     const VISITED: bool = false;
 }
@@ -92,7 +89,7 @@ fn camera_of(
         panic!(rt; "memory for buffers")
     };
     let started = start_queue(&mut queue, &mut table, start).is_ok();
-    holds!(rt; started);
+    assert!(rt; started);
     match Desk::new(alloc, store, LIMITS) {
         Ok(desk) => Camera::new(device_of(rt, alloc, bytes), queue, table, desk),
         Err(_) => panic!(rt; "memory for a desk"),
@@ -143,15 +140,15 @@ fn are_of(bytes: &[u8], number: u8, size: u32) -> bool {
 fn is_held(rt: &impl Abort, alloc: Global, desk: &mut Seat<MemDisk, Four>, number: u8, size: u32) {
     match desk.read_frame(alloc, u64::from(number)) {
         None => panic!(rt; "frame {number}: not asked"),
-        Some(Ok(read)) => holds!(rt; are_of(&read.bytes, number, size), (number, size)),
+        Some(Ok(read)) => assert!(rt; are_of(&read.bytes, number, size), "{number:?}, {size:?}"),
         Some(Err(fault)) => panic!(rt; "frame {number}: {fault}"),
     }
 }
 
 // Checks that the four frames of a row are stored as the source gave them.
 fn are_stored(rt: &impl Abort, alloc: Global, ended: &mut HeapEnded, size: u32) {
-    same!(rt; ended.desk.status().next, 4, size);
-    same!(rt; (ended.given_up, ended.left), (0, 0), size);
+    assert_eq!(rt; ended.desk.status().next, 4, "{size:?}");
+    assert_eq!(rt; (ended.given_up, ended.left), (0, 0), "{size:?}");
     for number in 0..4u8 {
         is_held(rt, alloc, &mut ended.desk, number, size);
     }

@@ -1,6 +1,5 @@
 //! Scripts and sessions where memory is refused.
 
-use crate::asserts::{holds, same};
 use crate::ran::{Ran, comes_to, run_script};
 use loop_desk::{Flushed, Outline};
 use loop_record::{Geometry, PixelFormat};
@@ -54,16 +53,16 @@ fn count(rt: &impl Abort, refused: &mut Refused, ran: &Ran, blocks: u64) {
         comes_to(rt, ran, "", "refused 1 NoMemory\n", 1, &blocks);
         return;
     }
-    same!(rt; ran.status, 0, blocks);
+    assert_eq!(rt; ran.status, 0, "{blocks:?}");
     if !ran.out.starts_with(b"formatted\n") {
         refused.formats = refused.formats.saturating_add(1);
-        holds!(rt; is_refused_format(&ran.out), blocks);
+        assert!(rt; is_refused_format(&ran.out), "{blocks:?}");
     } else if is_refused_store(&ran.out) {
         refused.stores = refused.stores.saturating_add(1);
     } else if is_refused_reopen(&ran.out) {
         refused.reopens = refused.reopens.saturating_add(1);
     } else {
-        holds!(rt; is_done(&ran.out), blocks);
+        assert!(rt; is_done(&ran.out), "{blocks:?}");
     }
 }
 
@@ -93,10 +92,10 @@ fn want_of_memory_is_a_refusal_of_its_line(rt: HostRuntime) {
         is_counted(&rt, &mut refused, (&budget, rt.alloc()), blocks);
     }
     // One store is refused: that of the first frame, whose memory the second one uses.
-    same!(rt; (refused.buffers, refused.stores), (3, 1));
-    holds!(rt; refused.formats >= 4, refused.formats);
+    assert_eq!(rt; (refused.buffers, refused.stores), (3, 1));
+    assert!(rt; refused.formats >= 4, "{:?}", refused.formats);
     // A refused reopen leaves no store.
-    holds!(rt; refused.reopens >= 3, refused.reopens);
+    assert!(rt; refused.reopens >= 3, "{:?}", refused.reopens);
     budget.allow(1000);
     is_run(&rt, (&budget, rt.alloc()));
 }
@@ -135,7 +134,7 @@ fn submits<A: Allocator + Copy>(
     session: &mut ScriptDesk<A>,
     want: &Result<u64, StoreFault>,
 ) {
-    same!(rt; session.submit_next(alloc), *want);
+    assert_eq!(rt; session.submit_next(alloc), *want);
 }
 
 // Stores the next frame of the pattern.
@@ -145,7 +144,7 @@ fn stores<A: Allocator + Copy>(
     session: &mut ScriptDesk<A>,
     want: &Result<Flushed, StoreFault>,
 ) {
-    same!(rt; session.store_next(alloc), *want);
+    assert_eq!(rt; session.store_next(alloc), *want);
 }
 
 // The sequence of a frame that was read.
@@ -163,7 +162,11 @@ fn reads<A: Allocator + Copy>(
     session: &mut ScriptDesk<A>,
     (number, want): (u64, &Result<u32, StoreFault>),
 ) {
-    same!(rt; sequence_of(session.read(alloc, number)), *want, number);
+    assert_eq!(rt;
+        sequence_of(session.read(alloc, number)),
+        *want,
+        "{number:?}"
+    );
 }
 
 // How many frames wait.
@@ -181,7 +184,7 @@ fn tells<A: Allocator + Copy>(
     session: &ScriptDesk<A>,
     want: &Result<u32, StoreFault>,
 ) {
-    same!(rt; pending_of(session.outline(alloc)), *want);
+    assert_eq!(rt; pending_of(session.outline(alloc)), *want);
 }
 
 // Makes a call.
@@ -261,8 +264,8 @@ fn reopened<A: Allocator + Copy>(
 
 // Checks that no frame waits after those that are stored.
 fn has_none_waiting<A: Allocator + Copy>(rt: &impl Abort, session: &mut ScriptDesk<A>, next: u64) {
-    same!(rt; session.next(), next);
-    same!(rt; session.flush(), Ok(stored(next, 0)));
+    assert_eq!(rt; session.next(), next);
+    assert_eq!(rt; session.flush(), Ok(stored(next, 0)));
 }
 
 // Makes calls of a fresh session, and others once its store was opened again.

@@ -1,6 +1,5 @@
 //! Lines, numbers, refusals and frames of the pattern, each alone.
 
-use crate::asserts::{holds, same};
 use crate::ends::Broken;
 use crate::ran::text;
 use loop_disk::DiskFault;
@@ -29,7 +28,7 @@ static LINES: [(usize, &str, Result<bool, BadLine>); 7] = [
 fn line_of(rt: &impl Abort, alloc: Global, length: usize, ending: &str) -> Vec<u8> {
     let mut bytes = vec![in alloc; b'a'; length].expect(rt, "memory for a line");
     let ended = bytes.extend_from_slice(ending.as_bytes());
-    holds!(rt; ended.is_ok(), "memory for an ending");
+    assert!(rt; ended.is_ok(), "memory for an ending");
     bytes
 }
 
@@ -41,7 +40,11 @@ fn reads(
     length: usize,
     answer: Result<bool, BadLine>,
 ) {
-    same!(rt; (next_line(input, line), line.capacity()), (answer, 4097), length);
+    assert_eq!(rt;
+        (next_line(input, line), line.capacity()),
+        (answer, 4097),
+        "{length:?}"
+    );
 }
 
 // Reads a line, and where one is read, checks that none follows it.
@@ -54,7 +57,7 @@ fn is_read(
     let mut line = Vec::with_capacity(alloc, 4097).expect(rt, "memory for a line");
     reads(rt, &mut input, &mut line, length, answer);
     if answer == Ok(true) {
-        same!(rt; line.len(), length, length);
+        assert_eq!(rt; line.len(), length, "{length:?}");
         reads(rt, &mut input, &mut line, length, Ok(false));
     }
 }
@@ -99,7 +102,7 @@ fn prints<W: Write>(out: &mut W, fault: StoreFault) -> bool {
 fn is_printed(rt: &impl Abort, alloc: Global, fault: StoreFault, line: &str) {
     let mut out: Vec<u8> = Vec::new(alloc);
     let printed = (prints(&mut out, fault), prints(&mut Broken, fault));
-    same!(rt; (printed, text(&out)), ((true, false), line));
+    assert_eq!(rt; (printed, text(&out)), ((true, false), line));
 }
 
 #[test]
@@ -133,7 +136,7 @@ static COMMANDS: [(&str, Option<ScriptCommand>); 3] = [
 // Reads each line.
 fn each_is_asked(rt: &impl Abort, rows: &[(&str, Option<ScriptCommand>)]) {
     for (line, command) in rows {
-        same!(rt; read_command(line), *command, line);
+        assert_eq!(rt; read_command(line), *command, "{line:?}");
     }
 }
 
@@ -141,14 +144,14 @@ fn each_is_asked(rt: &impl Abort, rows: &[(&str, Option<ScriptCommand>)]) {
 fn lines_and_numbers_are_read_and_frames_of_the_pattern_are_made(rt: HostRuntime) {
     each_is_asked(&rt, &COMMANDS);
     let numbers = [small_number("00004294967295"), small_number("4294967296")];
-    same!(rt; numbers, [Some(u32::MAX), None]);
+    assert_eq!(rt; numbers, [Some(u32::MAX), None]);
     let mut bytes = [0; 4];
     fill_pattern(&mut bytes, 510);
-    same!(rt; bytes, [254, 255, 0, 1]);
-    same!(rt; pattern_sequence((1 << 32) + 3), 3);
+    assert_eq!(rt; bytes, [254, 255, 0, 1]);
+    assert_eq!(rt; pattern_sequence((1 << 32) + 3), 3);
     let times = [
         pattern_timestamp(2, 30000, 1001),
         pattern_timestamp(u64::MAX, 1, 1),
     ];
-    same!(rt; times, [66733, u64::MAX]);
+    assert_eq!(rt; times, [66733, u64::MAX]);
 }

@@ -1,6 +1,5 @@
 //! Runs of scripts, and what came of them.
 
-use crate::asserts::same;
 use loop_commands::simulate;
 use std::alloc::{Allocator, Global};
 use std::fmt::Debug;
@@ -38,5 +37,5 @@ pub(crate) fn comes_to(
     note: &impl Debug,
 ) {
     let got = (text(&ran.out), text(&ran.err), ran.status);
-    same!(rt; got, (printed, told, status), note);
+    assert_eq!(rt; got, (printed, told, status), "{note:?}");
 }

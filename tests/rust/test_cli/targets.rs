@@ -1,6 +1,5 @@
 //! Exports into a target whose calls fail, and exports and lists where memory is refused.
 
-use crate::asserts::same;
 use crate::ran::text;
 use loop_commands::{
     Beneath, ExportTarget, NotExported, export_along, export_apart, export_text, list,
@@ -177,7 +176,11 @@ fn exports(
     };
     let mut out: Vec<u8> = Vec::new(alloc);
     let got = writes_apart(alloc, store, *range, target, &mut out);
-    same!(rt; (got, text(&out), bytes.get()), (*fault, *printed, *count), (range, fails));
+    assert_eq!(rt;
+        (got, text(&out), bytes.get()),
+        (*fault, *printed, *count),
+        "{range:?}, {fails:?}"
+    );
 }
 
 // Exports as each row says.
@@ -303,7 +306,11 @@ fn each_is_granted<A: Allocator + Copy>(
         };
         budget.allow(*blocks);
         let got = writes(alloc, store, *way, target);
-        same!(rt; (got, bytes.get(), budget.left()), (*fault, *count, 0), (way, blocks));
+        assert_eq!(rt;
+            (got, bytes.get(), budget.left()),
+            (*fault, *count, 0),
+            "{way:?}, {blocks:?}"
+        );
     }
 }
 
@@ -325,7 +332,7 @@ fn no_line_follows_a_text_whose_file_cannot_be_synced(rt: HostRuntime) {
         fails: Fails::Nothing,
     };
     let got = writes_along(rt.alloc(), &mut store, target, &Fails::Settle);
-    same!(rt; (got, bytes.get()), (Some(ExportFault::Write), 75));
+    assert_eq!(rt; (got, bytes.get()), (Some(ExportFault::Write), 75));
 }
 
 // How many blocks are granted to a list, all of which are needed. Then why there is no list, and what is printed.
@@ -346,7 +353,11 @@ fn each_lists<A: Allocator + Copy>(
         let mut out: Vec<u8> = Vec::new(*budget.inner());
         budget.allow(*blocks);
         let got = lists(alloc, store, &mut out);
-        same!(rt; (got, text(&out), budget.left()), (*fault, *printed, 0), blocks);
+        assert_eq!(rt;
+            (got, text(&out), budget.left()),
+            (*fault, *printed, 0),
+            "{blocks:?}"
+        );
     }
 }
 

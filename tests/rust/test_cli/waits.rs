@@ -1,6 +1,5 @@
 //! What is printed before the program waits for the next line, and inputs and outputs that fail.
 
-use crate::asserts::same;
 use crate::ends::{Broken, Halting, Idle, Lists, Parts, Screen};
 use crate::ran::text;
 use loop_commands::simulate;
@@ -26,9 +25,9 @@ fn what_a_line_prints_is_written_before_the_next_line_is_read(rt: HostRuntime) {
     };
     let mut out = Screen { screen: &screen };
     let status = simulate(rt.alloc(), input, &mut out, &mut Broken);
-    same!(rt; (status, screen.get()), (0, (53, 3)));
+    assert_eq!(rt; (status, screen.get()), (0, (53, 3)));
     // `formatted`; two lines in one write; and `next 2` with `frames 0..1`.
-    same!(rt; seen.get(), [(0, 0), (10, 1), (34, 2), (53, 3)]);
+    assert_eq!(rt; seen.get(), [(0, 0), (10, 1), (34, 2), (53, 3)]);
 }
 
 // How many lines `list` an input has, whether a read after them fails, what is printed on standard error, and the
@@ -49,10 +48,15 @@ fn each_input_comes_to(rt: &impl Abort, alloc: Global, rows: &[(u32, bool, &str,
         };
         let mut err: Vec<u8> = Vec::new(alloc);
         let answer = simulate(alloc, input, &mut io::sink(), &mut err);
-        same!(rt; (answer, text(&err)), (*status, *told), (lines, fails));
+        assert_eq!(rt;
+            (answer, text(&err)),
+            (*status, *told),
+            "{lines:?}, {fails:?}"
+        );
     }
 }
 
+// At -O2: two million lines take minutes with the check of addresses.
 #[test]
 fn inputs_that_fail_or_are_too_long_end_the_run(rt: HostRuntime) {
     each_input_comes_to(&rt, rt.alloc(), &INPUTS);
@@ -64,9 +68,12 @@ fn outputs_that_fail_end_the_run(rt: HostRuntime) {
     let mut err: Vec<u8> = Vec::new(alloc);
     let broken = simulate(alloc, b"list\n".as_slice(), &mut Broken, &mut err);
     let idle = simulate(alloc, b"list\n".as_slice(), &mut Idle, &mut err);
-    same!(rt; (broken, idle, err.len()), (1, 1, 0));
+    assert_eq!(rt; (broken, idle, err.len()), (1, 1, 0));
     let mut out: Vec<u8> = Vec::new(alloc);
-    same!(rt; simulate(alloc, b"list \n".as_slice(), &mut out, &mut Broken), 1);
+    assert_eq!(rt;
+        simulate(alloc, b"list \n".as_slice(), &mut out, &mut Broken),
+        1
+    );
 }
 
 #[test]
@@ -79,5 +86,5 @@ fn a_read_that_is_interrupted_is_tried_again(rt: HostRuntime) {
     let mut out: Vec<u8> = Vec::new(alloc);
     let status = simulate(alloc, input, &mut out, &mut Broken);
     let printed = "refused 4 NotFormatted\nrefused 4 NotFormatted\n";
-    same!(rt; (status, text(&out)), (0, printed));
+    assert_eq!(rt; (status, text(&out)), (0, printed));
 }

@@ -1,6 +1,5 @@
 //! Words after the program's name that can't be had.
 
-use crate::asserts::same;
 use crate::ran::text;
 use loop_commands::words_refused;
 use std::alloc::Global;
@@ -11,7 +10,7 @@ use std::process::Abort;
 fn is_told(rt: &impl Abort, alloc: Global, kind: ErrorKind, told: &str, status: u8) {
     let mut err: Vec<u8> = Vec::new(alloc);
     let got = words_refused(&Error::from(kind), &mut err);
-    same!(rt; (got, text(&err)), (status, told));
+    assert_eq!(rt; (got, text(&err)), (status, told));
 }
 
 #[test]

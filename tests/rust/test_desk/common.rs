@@ -1,8 +1,5 @@
 //! What the tests share: events and replies as rows of tables, and lanes and desks over images.
 
-ghost use Rattle.std.specs.Prelude.{◌≡◌, length};
-
-use crate::asserts::same;
 use loop_desk::{Desk, DeskLimits, Hand, LaneFault};
 use loop_disk::{Disk, MemDisk};
 use loop_ioctl::{BufferMemory, BufferType, Ioctl, IoctlReply, QueueEvent, QueueReply};
@@ -266,10 +263,10 @@ pub(crate) fn all_tell<P, A: Allocator>(
     replies: &[LaneReply<P, A>],
     lines: &[(Call, Told)],
 ) {
-    same!(rt; replies.len(), lines.len());
+    assert_eq!(rt; replies.len(), lines.len());
     let mut line = 0usize;
     for (_, want) in lines {
-        same!(rt; tell_at(replies, line), Some(*want), line);
+        assert_eq!(rt; tell_at(replies, line), Some(*want), "{line:?}");
         line = line.saturating_add(1);
     }
 }
@@ -302,9 +299,7 @@ pub(crate) fn runs<D: Disk + Drop, P: PlaneMemory, A: Allocator + Copy>(
 }
 
 /// A page of a ledger of its own.
-pub(crate) fn page<A: Allocator + Copy>(rt: &impl Abort, alloc: A) -> PageHold<A>
-    ensures { length result.pages ≡ 1 }
-{
+pub(crate) fn page<A: Allocator + Copy>(rt: &impl Abort, alloc: A) -> PageHold<A> {
     let Ok((ledger, seat)) = PageLedger::new(alloc, 1) else {
         panic!(rt; "memory for a ledger")
     };

@@ -1,8 +1,5 @@
 //! What a device's ticks become: its frames go through the queue, the lane and the store to a text.
 
-ghost use Rattle.std.specs.Prelude.{[], ⊤};
-
-use crate::asserts::{holds, same};
 use crate::common::Call::*;
 use crate::common::Told::{Count, Done, Fault, Flushed, Index, Number};
 use crate::common::*;
@@ -27,9 +24,9 @@ struct Faulty {
 }
 
 impl FrameSource for Faulty {
-    ghost next_gives = { λ s r out t. ⊤ };
+    ghost next_gives = { ? };
 
-    ghost lends = { λ s. [] };
+    ghost lends = { ? };
 
     fn next(&mut self, out: &mut [u8]) -> Next {
         let frame = self.frame;
@@ -170,7 +167,7 @@ fn plays(
     lines: &[(Call, Told)],
 ) {
     for (time, want) in periods {
-        same!(rt; device.tick(&mut lane.queue, *time), *want, *time);
+        assert_eq!(rt; device.tick(&mut lane.queue, *time), *want, "{time:?}");
     }
     runs(rt, alloc, lane, Vec::new(alloc), lines);
 }
@@ -219,15 +216,19 @@ fn have_heads(
     rows: &[(u64, u32, u64)],
 ) {
     for (number, sequence, time) in rows {
-        same!(rt; head(alloc, store, *number), Some((*sequence, *time)), *number);
+        assert_eq!(rt;
+            head(alloc, store, *number),
+            Some((*sequence, *time)),
+            "{number:?}"
+        );
     }
 }
 
 // Checks the text of a store's frames.
 fn becomes(rt: &impl Abort, alloc: Global, store: &mut Store<MemDisk>, text: &[u8]) {
     let mut out = Vec::new(alloc);
-    same!(rt; export(alloc, store, 0, u64::MAX, &mut out).ok(), Some(6));
-    holds!(rt; out.iter().eq(text.iter()));
+    assert_eq!(rt; export(alloc, store, 0, u64::MAX, &mut out).ok(), Some(6));
+    assert!(rt; out.iter().eq(text.iter()));
 }
 
 #[test]

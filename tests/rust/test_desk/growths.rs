@@ -1,6 +1,5 @@
 //! Each growth is refused in turn.
 
-use crate::asserts::{holds, same};
 use crate::common::Call::*;
 use crate::common::Told::{Count, Done, Fault, Flushed, Frame, Index, Number, Refused};
 use crate::common::*;
@@ -65,7 +64,7 @@ fn come_back<D: Disk + Drop, P: PlaneMemory, A: Allocator + Copy>(
     let Err((fault, events)) = lane_run(alloc, lane, events) else {
         panic!(rt; "replies need memory")
     };
-    same!(rt; fault, StoreFault::NoMemory);
+    assert_eq!(rt; fault, StoreFault::NoMemory);
     events
 }
 
@@ -81,10 +80,10 @@ fn runs_within<D: Disk + Drop, P: PlaneMemory, A: Allocator + Copy>(
     let events = events_of(rt, alloc, sets, lines);
     memory.allow(0);
     let events = come_back(rt, alloc, lane, events);
-    same!(rt; events.len(), lines.len(), allowed);
+    assert_eq!(rt; events.len(), lines.len(), "{allowed:?}");
     memory.allow(allowed);
     are_answered(rt, alloc, lane, events, lines);
-    same!(rt; memory.left(), 0, allowed);
+    assert_eq!(rt; memory.left(), 0, "{allowed:?}");
 }
 
 // Does the events of tables, each with two sets at hand.
@@ -191,10 +190,10 @@ fn holds_one<D: Disk + Drop, A: Allocator + Copy>(
     alloc: A,
     desk: &mut Desk<D, A>,
 ) {
-    holds!(rt; submits(rt, alloc, desk));
-    same!(rt; stored(desk), Some(1));
-    holds!(rt; is_locked(desk));
-    same!(rt; desk.status().held, 1);
+    assert!(rt; submits(rt, alloc, desk));
+    assert_eq!(rt; stored(desk), Some(1));
+    assert!(rt; is_locked(desk));
+    assert_eq!(rt; desk.status().held, 1);
 }
 
 // An outline of a desk needs two growths.
@@ -205,11 +204,15 @@ fn outlines_within<D: Disk + Drop, A: Allocator + Copy>(
 ) {
     for allowed in 0..2 {
         memory.allow(allowed);
-        same!(rt; outline_fault(alloc, desk), Some(StoreFault::NoMemory), allowed);
-        same!(rt; memory.left(), 0, allowed);
+        assert_eq!(rt;
+            outline_fault(alloc, desk),
+            Some(StoreFault::NoMemory),
+            "{allowed:?}"
+        );
+        assert_eq!(rt; memory.left(), 0, "{allowed:?}");
     }
     memory.allow(2);
-    same!(rt; outline_fault(alloc, desk), None);
+    assert_eq!(rt; outline_fault(alloc, desk), None);
 }
 
 // The first run of the held frames of a moment.
@@ -252,8 +255,8 @@ fn seeks_within<D: Disk + Drop, A: Allocator + Copy>(
 ) {
     for (allowed, moment, answer) in &SOUGHT {
         memory.allow(*allowed);
-        same!(rt; first_sought(alloc, desk, *moment), *answer, *allowed);
-        same!(rt; memory.left(), 0, *allowed);
+        assert_eq!(rt; first_sought(alloc, desk, *moment), *answer, "{allowed:?}");
+        assert_eq!(rt; memory.left(), 0, "{allowed:?}");
     }
 }
 
@@ -279,7 +282,7 @@ fn desk_within<D: Disk + Drop, A: Allocator + Copy>(
 ) -> Desk<D, A> {
     let store = refused_within(rt, (memory, alloc), store, 0);
     let store = refused_within(rt, (memory, alloc), store, 1);
-    same!(rt; store.geometry(), SMALL);
+    assert_eq!(rt; store.geometry(), SMALL);
     memory.allow(2);
     desk_for(rt, alloc, store)
 }
@@ -298,15 +301,18 @@ fn needs_no_more<D: Disk + Drop, A: Allocator + Copy>(
     (memory, alloc): (&Budget, A),
     desk: &mut Desk<D, A>,
 ) {
-    same!(rt; memory.left(), 0);
+    assert_eq!(rt; memory.left(), 0);
     memory.allow(1);
-    same!(rt; spare(desk), 0);
+    assert_eq!(rt; spare(desk), 0);
     holds_one(rt, alloc, desk);
-    same!(rt; (spare(desk), spare(desk)), (12, 0));
+    assert_eq!(rt; (spare(desk), spare(desk)), (12, 0));
     outlines_within(rt, (memory, alloc), desk);
     seeks_within(rt, (memory, alloc), desk);
-    same!(rt; reads_within(0, (memory, alloc), desk), Err(StoreFault::NoMemory));
-    same!(rt; reads_within(1, (memory, alloc), desk), Ok(true));
+    assert_eq!(rt;
+        reads_within(0, (memory, alloc), desk),
+        Err(StoreFault::NoMemory)
+    );
+    assert_eq!(rt; reads_within(1, (memory, alloc), desk), Ok(true));
 }
 
 // Checks that a desk over a disk takes its memory first.

@@ -1,6 +1,5 @@
 //! What a power loss within a lane's run leaves, and what an opening finds of it.
 
-use crate::asserts::same;
 use crate::common::*;
 use crate::text::FIFTEEN;
 use loop_disk::{CrashDisk, Disk, Spoil};
@@ -69,7 +68,11 @@ fn are_opened(
     for (back, spoil, next) in stops {
         let stop = disk.calls().saturating_sub(*back);
         let left = disk.crash(stop, *spoil).expect(rt, "memory for an image");
-        same!(rt; next_of(rt, alloc, fresh(rt, alloc), lines, left), *next, *back);
+        assert_eq!(rt;
+            next_of(rt, alloc, fresh(rt, alloc), lines, left),
+            *next,
+            "{back:?}"
+        );
     }
 }
 

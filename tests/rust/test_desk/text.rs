@@ -1,6 +1,5 @@
 //! What a lane recorded becomes a text.
 
-use crate::asserts::holds;
 use crate::common::Call::*;
 use crate::common::Told::{Count, Done, Fault, Flushed, Index, Number};
 use crate::common::*;
@@ -47,7 +46,7 @@ fn is_exported<D: Disk + Drop, P: PlaneMemory, A: Allocator + Copy>(
         panic!(rt; "no text")
     };
     all_tell(rt, &replies, lines);
-    holds!(rt; out.iter().eq(text.iter()));
+    assert!(rt; out.iter().eq(text.iter()));
 }
 
 #[test]

@@ -1,6 +1,5 @@
 // The disk that reads ahead, where memory is refused.
 
-use crate::asserts::{holds, same};
 use crate::calls::{Call, plays, read_at, write_at};
 use loop_file::AheadDisk;
 use loop_disk::{Disk, MemDisk};
@@ -14,7 +13,11 @@ const SIZE: u8 = 100;
 // Makes the bytes of a disk 0, 1, 2, ..
 fn numbers<D: Disk>(rt: &impl Abort, disk: &mut D) {
     for number in 0..SIZE {
-        same!(*rt; write_at(disk, u64::from(number), &[number]), Ok(()), number);
+        assert_eq!(*rt;
+            write_at(disk, u64::from(number), &[number]),
+            Ok(()),
+            "{number:?}"
+        );
     }
 }
 
@@ -22,8 +25,8 @@ fn numbers<D: Disk>(rt: &impl Abort, disk: &mut D) {
 fn shows_numbers<D: Disk>(rt: &impl Abort, disk: &mut D) {
     let mut seen = [0; 8];
     for at in 0..90u8 {
-        same!(*rt; read_at(disk, u64::from(at), &mut seen), Ok(()), at);
-        same!(*rt; seen[7], at.saturating_add(7));
+        assert_eq!(*rt; read_at(disk, u64::from(at), &mut seen), Ok(()), "{at:?}");
+        assert_eq!(*rt; seen[7], at.saturating_add(7));
     }
 }
 
@@ -31,7 +34,7 @@ fn shows_numbers<D: Disk>(rt: &impl Abort, disk: &mut D) {
 fn comes_back<A: Allocator + Copy>(rt: &impl Abort, memory: A, disk: MemDisk) -> MemDisk {
     match AheadDisk::new(memory, disk, 16) {
         Ok(ahead) => {
-            holds!(*rt; false, "a window without memory");
+            assert!(*rt; false, "a window without memory");
             ahead.into_inner()
         }
         Err(disk) => disk,
@@ -54,7 +57,7 @@ fn is_read_ahead<A: Allocator + Copy>(rt: &impl Abort, memory: A, disk: MemDisk)
             shows_numbers(rt, &mut ahead);
             plays(rt, &mut ahead, &OVER);
         }
-        Err(_) => holds!(*rt; false, "memory for a window"),
+        Err(_) => assert!(*rt; false, "memory for a window"),
     }
 }
 
@@ -67,7 +70,7 @@ fn a_window_takes_one_block_and_without_it_the_disk_comes_back(
     numbers(&rt, &mut disk);
     memory.allow(0);
     let disk = comes_back(&rt, &memory, disk);
-    same!(rt; disk.bytes().len(), usize::from(SIZE));
+    assert_eq!(rt; disk.bytes().len(), usize::from(SIZE));
     memory.allow(1);
     is_read_ahead(&rt, &memory, disk);
     Ok(())

@@ -1,6 +1,6 @@
 // Calls of a disk with their answers, as rows of tables. They compare with its size first, so that no test has to. A
 // call beyond the disk is answered as a failed sync, which no read and no write returns.
-use crate::asserts::{holds, same};
+
 use loop_disk::{Disk, DiskFault};
 use std::process::Abort;
 use test_alloc::Budget;
@@ -68,9 +68,9 @@ fn gives<D: Disk>(
     buf: &mut [u8],
     (want, answer): (&[u8], Result<(), DiskFault>),
 ) {
-    same!(*rt; read_at(disk, at, buf), answer, at);
+    assert_eq!(*rt; read_at(disk, at, buf), answer, "{at:?}");
     if answer.is_ok() {
-        same!(*rt; &*buf, want, at);
+        assert_eq!(*rt; &*buf, want, "{at:?}");
     }
 }
 
@@ -85,20 +85,28 @@ fn reads<D: Disk>(
     let mut seen = [0xEE; MOST];
     match seen.get_mut(..want.len()) {
         Some(buf) => gives(rt, disk, at, buf, (want, answer)),
-        None => holds!(*rt; false),
+        None => assert!(*rt; false),
     }
 }
 
 /// Makes one call, and fails the test unless it has this answer.
 pub(crate) fn does<D: Disk>(rt: &impl Abort, disk: &mut D, call: &Call) {
     match call {
-        Call::Size(size) => same!(*rt; disk.size(), *size),
-        Call::Write(at, bytes, answer) => same!(*rt; write_at(disk, *at, bytes), *answer, at),
+        Call::Size(size) => assert_eq!(*rt; disk.size(), *size),
+        Call::Write(at, bytes, answer) => assert_eq!(*rt;
+            write_at(disk, *at, bytes),
+            *answer,
+            "{at:?}"
+        ),
         Call::Rows(at, first, second, third, answer) => {
-            same!(*rt; write_rows(disk, *at, first, second, third), *answer, at)
+            assert_eq!(*rt;
+                write_rows(disk, *at, first, second, third),
+                *answer,
+                "{at:?}"
+            )
         }
         Call::Read(at, want, answer) => reads(rt, disk, *at, want, *answer),
-        Call::Sync(answer) => same!(*rt; disk.sync(), *answer),
+        Call::Sync(answer) => assert_eq!(*rt; disk.sync(), *answer),
     }
 }
 

@@ -1,5 +1,5 @@
 // The disk that remembers its calls, where memory is refused.
-use crate::asserts::{holds, same};
+
 use crate::calls::{Call, does, plays_within};
 use loop_disk::{CrashDisk, DiskFault, Spoil};
 use std::alloc::{AllocError, Allocator};
@@ -29,11 +29,11 @@ static FULL: [(u64, Call); 10] = [
 
 // Only four calls are remembered, and the disk after a crash takes two blocks.
 fn is_as_it_was<A: Allocator + Copy>(rt: &impl Abort, memory: &Budget, disk: &CrashDisk<A>) {
-    same!(*rt; disk.calls(), 4);
-    same!(*rt; disk.bytes().get(8), Some(&0));
+    assert_eq!(*rt; disk.calls(), 4);
+    assert_eq!(*rt; disk.bytes().get(8), Some(&0));
     for allowed in 0..3u64 {
         memory.allow(allowed);
-        same!(*rt; crashes(disk, 4), allowed == 2, allowed);
+        assert_eq!(*rt; crashes(disk, 4), allowed == 2, "{allowed:?}");
     }
 }
 
@@ -49,9 +49,9 @@ fn is_filled<A: Allocator + Copy>(
     is_as_it_was(rt, memory, &disk);
     memory.allow(2);
     does(rt, &mut disk, &Call::Write(8, &[7], Ok(())));
-    same!(*rt; memory.left(), 0);
+    assert_eq!(*rt; memory.left(), 0);
     memory.allow(1);
-    holds!(*rt; CrashDisk::new(alloc, 1).is_err());
+    assert!(*rt; CrashDisk::new(alloc, 1).is_err());
     Ok(())
 }
 

@@ -1,5 +1,5 @@
 // A file whose calls fail, are short or are interrupted, and what a stop leaves of a file that is made anew.
-use crate::asserts::{holds, same};
+
 use crate::calls::{Call, does};
 use crate::faulty::{Faulty, Medium};
 use loop_disk::DiskFault;
@@ -29,11 +29,11 @@ static MADE: [(&[u8], u64, u32, u32); 7] = [
 // No call fails. A stop at any moment leaves the old bytes or a file that begins with a zero, and the end leaves the
 // new file.
 fn is_made(rt: &impl Abort, (file, folder): (&Medium, &Medium), size: u64, calls: u32) {
-    same!(*rt; makes(file, folder, size), None, size);
-    holds!(*rt; file.is_safe.get(), size);
-    same!(*rt; file.calls.get(), calls, size);
-    same!(*rt; folder.calls.get(), 1, size);
-    holds!(*rt; file.is_cleared(size), size);
+    assert_eq!(*rt; makes(file, folder, size), None, "{size:?}");
+    assert!(*rt; file.is_safe.get(), "{size:?}");
+    assert_eq!(*rt; file.calls.get(), calls, "{size:?}");
+    assert_eq!(*rt; folder.calls.get(), 1, "{size:?}");
+    assert!(*rt; file.is_cleared(size), "{size:?}");
 }
 
 // Some calls of the file fail. The refusal is returned, and a stop at any moment leaves the old bytes or a zero as the
@@ -45,10 +45,17 @@ fn fails(
     fault: FileFault,
 ) {
     let (call, count, _) = file.fails.get();
-    same!(*rt; makes(file, folder, *size), Some(fault), (size, call));
-    holds!(*rt; file.is_safe.get(), (size, call));
+    assert_eq!(*rt;
+        makes(file, folder, *size),
+        Some(fault),
+        "{size:?}, {call:?}"
+    );
+    assert!(*rt; file.is_safe.get(), "{size:?}, {call:?}");
     let may_be_closed = count > 1 || call >= *kept;
-    holds!(*rt; file.has(old) || (may_be_closed && file.now.get().is_closed()), (size, call));
+    assert!(*rt;
+        file.has(old) || (may_be_closed && file.now.get().is_closed()),
+        "{size:?}, {call:?}"
+    );
 }
 
 // The same with a file of its own.
@@ -89,8 +96,8 @@ fn a_stop_leaves_the_old_file_or_one_that_begins_with_a_zero(rt: HostRuntime) {
 fn a_folder_that_cannot_be_synced_changes_nothing(rt: HostRuntime) {
     let (file, folder) = (Medium::of(b"old"), Medium::of(b""));
     folder.fails.set((0, 1, ErrorKind::Other));
-    same!(rt; makes(&file, &folder, 8), Some(FileFault::Failed));
-    holds!(rt; file.has(b"old"));
+    assert_eq!(rt; makes(&file, &folder, 8), Some(FileFault::Failed));
+    assert!(rt; file.has(b"old"));
 }
 
 // The first call of the file that fails, how many fail from there on, and how. Then a call of a disk of six bytes with
@@ -165,15 +172,15 @@ fn answers(rt: &impl Abort, (first, count, kind): (u32, u32, ErrorKind), call: &
     file.fails.set((first.saturating_add(1), count, kind));
     does(rt, &mut disk, call);
     match call {
-        Call::Write(_, _, Ok(())) => holds!(*rt; file.has(b"frames"), (first, count)),
-        Call::Rows(_, _, _, _, Ok(())) => holds!(*rt; file.has(b"frames"), (first, count)),
+        Call::Write(_, _, Ok(())) => assert!(*rt; file.has(b"frames"), "{first:?}, {count:?}"),
+        Call::Rows(_, _, _, _, Ok(())) => assert!(*rt; file.has(b"frames"), "{first:?}, {count:?}"),
         _ => (),
     }
 }
 
 // Fails the test: there has to be a disk over a file whose calls don't fail.
 fn is_told(rt: &impl Abort) {
-    holds!(*rt; false);
+    assert!(*rt; false);
 }
 
 #[test]
@@ -187,5 +194,5 @@ fn a_failed_call_is_reported_and_a_short_or_interrupted_one_is_continued(rt: Hos
 fn a_file_whose_size_cannot_be_read_is_no_disk(rt: HostRuntime) {
     let file = Medium::of(b"old");
     file.fails.set((0, 1, ErrorKind::Other));
-    holds!(rt; FileDisk::over(Faulty { medium: &file }).is_err());
+    assert!(rt; FileDisk::over(Faulty { medium: &file }).is_err());
 }

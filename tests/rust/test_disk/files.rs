@@ -1,5 +1,5 @@
 // The disk over a file.
-use crate::asserts::{holds, same};
+
 use crate::calls::{Call, does, plays, read_at, write_at, write_rows};
 use crate::paths::{creates, has, is_done, opens, removes, writes};
 use loop_disk::{Disk, DiskFault, MemDisk};
@@ -28,7 +28,7 @@ fn plays_at(
             opens(rt, path, Err(FileFault::Busy));
             creates(rt, path, 1, Err(FileFault::Busy));
         }
-        Err(fault) => same!(*rt; Some(fault), None, path),
+        Err(fault) => assert_eq!(*rt; Some(fault), None, "{path:?}"),
     }
 }
 
@@ -58,7 +58,7 @@ fn is_cut<D: Disk>(rt: &(impl Abort + Files<File = File>), path: &str, disk: &mu
 fn is_read_back(rt: &(impl Abort + Files<File = File>), path: &str) {
     match FileDisk::open(rt, path) {
         Ok(mut disk) => is_cut(rt, path, &mut disk),
-        Err(fault) => same!(*rt; Some(fault), None, path),
+        Err(fault) => assert_eq!(*rt; Some(fault), None, "{path:?}"),
     }
 }
 
@@ -133,8 +133,8 @@ fn shows_rows<D: Disk>(
     seen: &mut [u8],
     row: (u64, usize, usize),
 ) {
-    same!(*rt; write_split(disk, bytes, row), Ok(()), row);
-    same!(*rt; read_at(disk, 0, seen), Ok(()), row);
+    assert_eq!(*rt; write_split(disk, bytes, row), Ok(()), "{row:?}");
+    assert_eq!(*rt; read_at(disk, 0, seen), Ok(()), "{row:?}");
 }
 
 // Checks that a file shows the same as a disk in memory, of which each call is proved.
@@ -149,11 +149,11 @@ fn shows_alike(
     let mut memory = MemDisk::new(rt.alloc(), 110_000)?;
     let zeros = [0; 4_096];
     for page in 0..26u64 {
-        same!(*rt; write_at(file, page * 4_096, &zeros), Ok(()));
+        assert_eq!(*rt; write_at(file, page * 4_096, &zeros), Ok(()));
     }
     shows_rows(rt, file, &bytes, &mut here, row);
     shows_rows(rt, &mut memory, &bytes, &mut there, row);
-    holds!(*rt; here == there, row);
+    assert!(*rt; here == there, "{row:?}");
     Ok(())
 }
 
@@ -173,7 +173,7 @@ fn rows_are_written_to_a_file_one_after_the_other(rt: HostRuntime) -> Result<(),
 // here, since a test can't give up its rights.
 fn is_denied(rt: &(impl Abort + Files<File = File>), path: &str) {
     if let Err(fault) = FileDisk::open(rt, path) {
-        same!(*rt; fault, FileFault::Denied);
+        assert_eq!(*rt; fault, FileFault::Denied);
     }
 }
 
@@ -353,7 +353,7 @@ fn is_synced<D: Disk>(
     for (fails, call, data) in calls {
         syncs.fails.set(*fails);
         does(rt, disk, call);
-        same!(*rt; syncs.data.get(), *data);
+        assert_eq!(*rt; syncs.data.get(), *data);
         opens(rt, path, Err(FileFault::Busy));
     }
 }
@@ -497,7 +497,7 @@ fn fills(
     want: (Result<u64, FileFault>, u32),
 ) {
     match with_folder(rt, path) {
-        Ok((file, folder)) => same!(*rt; fills_over(file, &folder, how), want, how),
+        Ok((file, folder)) => assert_eq!(*rt; fills_over(file, &folder, how), want, "{how:?}"),
         Err(error) => is_done(rt, Err(error), path),
     }
 }
@@ -549,7 +549,11 @@ fn is_stopped(
     writes(rt, path, &vec![in rt.alloc(); 0u8; LONG]?);
     let mut bytes = numbered(rt.alloc())?;
     match opened(rt, path) {
-        Ok(file) => same!(*rt; write_within(file, &bytes, *allowed), (*answer, *count), allowed),
+        Ok(file) => assert_eq!(*rt;
+            write_within(file, &bytes, *allowed),
+            (*answer, *count),
+            "{allowed:?}"
+        ),
         Err(error) => is_done(rt, Err(error), path),
     }
     let shown = (*allowed).min(bytes.len());
@@ -597,6 +601,6 @@ static NAMED: [(ErrorKind, FileFault); 5] = [
 #[test]
 fn each_error_of_the_system_becomes_a_fault_by_name(rt: HostRuntime) {
     for (kind, fault) in &NAMED {
-        same!(rt; FileFault::from(io::Error::from(*kind)), *fault);
+        assert_eq!(rt; FileFault::from(io::Error::from(*kind)), *fault);
     }
 }

@@ -1,6 +1,5 @@
 // The disk over another that is never written to.
 
-use crate::asserts::same;
 use crate::calls::{Call, does, plays};
 use crate::paths::{creates, removes};
 use loop_disk::{Disk, DiskFault, MemDisk};
@@ -52,8 +51,8 @@ fn writes_that_overlap_are_read_and_the_disk_beneath_stays(rt: HostRuntime) -> R
     let image = MemDisk::of(BENEATH.to_vec(rt.alloc())?);
     let mut disk = OverlayDisk::new(rt.alloc(), image);
     plays(&rt, &mut disk, &OVERLAPPING);
-    same!(rt; disk.written(), 8);
-    same!(rt; disk.into_inner().bytes(), BENEATH);
+    assert_eq!(rt; disk.written(), 8);
+    assert_eq!(rt; disk.into_inner().bytes(), BENEATH);
     Ok(())
 }
 
@@ -69,7 +68,7 @@ fn has_no_room<A: Allocator + Copy>(
         disk,
         &Call::Rows(4, b"E", b"F", b"G", Err(DiskFault::Write)),
     );
-    same!(*rt; disk.written(), written);
+    assert_eq!(*rt; disk.written(), written);
     does(rt, disk, &Call::Read(2, shown, Ok(())));
 }
 
@@ -89,7 +88,7 @@ fn fills<A: Allocator + Copy>(
     for _ in 0..4u64 {
         does(rt, disk, &Call::Write(4, b"EFG", Ok(())));
     }
-    same!(*rt; memory.left(), 0);
+    assert_eq!(*rt; memory.left(), 0);
     does(rt, disk, &Call::Read(2, b"cdEFGh", Ok(())));
 }
 
@@ -99,7 +98,7 @@ fn is_filled<A: Allocator + Copy>(rt: &impl Abort, memory: &Budget, alloc: A, im
     let mut disk = OverlayDisk::new(alloc, image);
     fills(rt, memory, &mut disk, (0, b"cdefgh"));
     fills(rt, memory, &mut disk, (4, b"cdEFGh"));
-    same!(*rt; disk.into_inner().bytes(), BENEATH);
+    assert_eq!(*rt; disk.into_inner().bytes(), BENEATH);
 }
 
 #[test]

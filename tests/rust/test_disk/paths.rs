@@ -1,5 +1,5 @@
 // What tests do at a path. Each of these functions fails the test unless the outcome is as given.
-use crate::asserts::same;
+
 use loop_disk::Disk;
 use loop_file::{FileDisk, FileFault};
 use std::alloc::AllocGlobal;
@@ -20,7 +20,7 @@ pub(crate) fn opens(
         Ok(disk) => Ok(disk.size()),
         Err(fault) => Err(fault),
     };
-    same!(*rt; size, want, path);
+    assert_eq!(*rt; size, want, "{path:?}");
 }
 
 /// Makes a file that is a disk of this many bytes. Its size is this, or it is refused with this fault.
@@ -34,13 +34,13 @@ pub(crate) fn creates(
         Ok(disk) => Ok(disk.size()),
         Err(fault) => Err(fault),
     };
-    same!(*rt; size, want, path);
+    assert_eq!(*rt; size, want, "{path:?}");
 }
 
 /// Fails the test unless a call of the system succeeded.
 pub(crate) fn is_done(rt: &impl Abort, done: io::Result<()>, path: &str) {
     if let Err(error) = done {
-        same!(*rt; Some(error.kind()), None, path);
+        assert_eq!(*rt; Some(error.kind()), None, "{path:?}");
     }
 }
 
@@ -67,10 +67,10 @@ pub(crate) fn has(
     note: u32,
 ) {
     match fs::read(rt, path) {
-        Ok(bytes) => same!(*rt; Some(bytes.as_slice()), want, note),
+        Ok(bytes) => assert_eq!(*rt; Some(bytes.as_slice()), want, "{note:?}"),
         Err(error) => {
-            same!(*rt; error.kind(), ErrorKind::NotFound, note);
-            same!(*rt; None, want, note);
+            assert_eq!(*rt; error.kind(), ErrorKind::NotFound, "{note:?}");
+            assert_eq!(*rt; None, want, "{note:?}");
         }
     }
 }

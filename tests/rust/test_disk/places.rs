@@ -1,5 +1,5 @@
 // Where a file is made, and what a refusal leaves there, over a system whose calls fail or come too late.
-use crate::asserts::{holds, same};
+
 use crate::calls::{Call, does};
 use crate::paths::{creates, has, is_done, links, removes, writes};
 use loop_file::{FileDisk, FileFault, FilePlace, TextFile};
@@ -124,7 +124,11 @@ fn makes(
         trouble,
         left: Cell::new(Some(call)),
     };
-    same!(*rt; FileDisk::create(&(troubled, rt.alloc()), path, 64).err(), want, note);
+    assert_eq!(*rt;
+        FileDisk::create(&(troubled, rt.alloc()), path, 64).err(),
+        want,
+        "{note:?}"
+    );
 }
 
 // The bytes of the file that there was, the trouble, and the call of the system at which it comes. Then the refusal,
@@ -310,7 +314,10 @@ fn are_linked(
     for (event, left) in events {
         happens(rt, "first.img", event, note);
         has(rt, "linked/named.img", *left, note);
-        holds!(*rt; is_link(rt, "first.img") && is_link(rt, "linked/second.img"), note);
+        assert!(*rt;
+            is_link(rt, "first.img") && is_link(rt, "linked/second.img"),
+            "{note:?}"
+        );
         note = note.saturating_add(1);
     }
 }
@@ -344,10 +351,10 @@ fn is_given_up(
 #[test]
 fn a_disk_that_is_given_up_leaves_no_new_file_and_no_old_store(rt: HostRuntime) {
     let path = "given.img";
-    same!(rt; is_given_up(&rt, path), Ok(()));
+    assert_eq!(rt; is_given_up(&rt, path), Ok(()));
     has(&rt, path, None, 0);
     writes(&rt, path, b"old");
-    same!(rt; is_given_up(&rt, path), Ok(()));
+    assert_eq!(rt; is_given_up(&rt, path), Ok(()));
     has(&rt, path, Some(b"\0abc"), 1);
     removes(&rt, path);
 }
@@ -367,11 +374,11 @@ fn is_finished(
 fn a_file_gets_its_name_once_it_is_whole_and_takes_no_others(rt: HostRuntime) {
     let (path, unfinished) = ("whole.img", "whole.img.new");
     writes(&rt, unfinished, b"what a stop left");
-    same!(rt; is_finished(&rt, path), Ok(()));
+    assert_eq!(rt; is_finished(&rt, path), Ok(()));
     has(&rt, path, Some(b"\0\0\0\0"), 0);
     has(&rt, unfinished, None, 1);
     writes(&rt, path, b"old");
-    same!(rt; is_finished(&rt, path), Err(FileFault::Busy));
+    assert_eq!(rt; is_finished(&rt, path), Err(FileFault::Busy));
     has(&rt, path, Some(b"old"), 2);
     removes(&rt, path);
     removes(&rt, unfinished);
@@ -393,14 +400,20 @@ fn is_written(
 #[test]
 fn a_text_is_written_to_a_file_that_nobody_holds(rt: HostRuntime) {
     let path = "text.y4m";
-    same!(rt; is_written(&rt, path, b"a long text"), Ok(()));
+    assert_eq!(rt; is_written(&rt, path, b"a long text"), Ok(()));
     has(&rt, path, Some(b"a long text"), 0);
-    same!(rt; is_written(&rt, path, b"a text"), Ok(()));
+    assert_eq!(rt; is_written(&rt, path, b"a text"), Ok(()));
     has(&rt, path, Some(b"a text"), 1);
     let held = FileDisk::open(&rt, path);
-    same!(rt; is_written(&rt, path, b"another text"), Err(FileFault::Busy));
+    assert_eq!(rt;
+        is_written(&rt, path, b"another text"),
+        Err(FileFault::Busy)
+    );
     has(&rt, path, Some(b"a text"), 2);
-    holds!(rt; held.is_ok());
-    same!(rt; is_written(&rt, "gone/text.y4m", b"a text"), Err(FileFault::Missing));
+    assert!(rt; held.is_ok());
+    assert_eq!(rt;
+        is_written(&rt, "gone/text.y4m", b"a text"),
+        Err(FileFault::Missing)
+    );
     removes(&rt, path);
 }

@@ -1,5 +1,4 @@
 //! The device of a case, whose frames are those of the pattern.
-ghost use Rattle.std.specs.Prelude.{[], ⊤};
 
 use crate::line::Call;
 use crate::plane::AnyPlane;
@@ -18,9 +17,9 @@ pub(crate) struct Camera {
 }
 
 impl FrameSource for Camera {
-    ghost next_gives = { λ s r out t. ⊤ };
+    ghost next_gives = { ? };
 
-    ghost lends = { λ s. [] };
+    ghost lends = { ? };
 
     fn next(&mut self, out: &mut [u8]) -> Next {
         let frame = self.frame;

@@ -1,5 +1,4 @@
 //! A lane, or a desk alone, over a disk.
-ghost use Rattle.std.specs.Prelude.{◌≤◌, IfOk};
 
 use crate::camera::{self, Camera};
 use crate::desk;
@@ -59,10 +58,7 @@ fn opened<D: Disk + Drop>(alloc: Global, disk: D) -> Result<Store<D>> {
 }
 
 // The limits of a desk.
-fn limits_of(opening: Opening) -> Result<DeskLimits>
-    ensures pending { IfOk result (λ limits. (1 ≤ limits.pending) × (limits.pending ≤ 64)) }
-    ensures group { IfOk result (λ limits. (1 ≤ limits.group) × (limits.group ≤ 8)) }
-{
+fn limits_of(opening: Opening) -> Result<DeskLimits> {
     let Opening { pending, group, .. } = opening;
     if pending == 0 || 64 < pending || group == 0 || 8 < group {
         return Err(anyhow!("1 to 64 frames wait, and a group has 1 to 8"));
@@ -75,10 +71,11 @@ fn limits_of(opening: Opening) -> Result<DeskLimits>
 }
 
 // A desk over a store.
-fn desk_over<D: Disk + Drop>(alloc: Global, store: Store<D>, limits: DeskLimits) -> Result<Desk<D>>
-    requires pending { (1 ≤ limits.pending) × (limits.pending ≤ 64) }
-    requires group { (1 ≤ limits.group) × (limits.group ≤ 8) }
-{
+fn desk_over<D: Disk + Drop>(
+    alloc: Global,
+    store: Store<D>,
+    limits: DeskLimits,
+) -> Result<Desk<D>> {
     match Desk::new(alloc, store, limits) {
         Ok(desk) => Ok(desk),
         Err(_store) => Err(anyhow!("memory for a desk")),

@@ -1,7 +1,8 @@
 //! Cases of desks, lanes and queues: each line of standard input is a call with its answer.
 //!
-//! An empty line, and one that begins with `#`, is printed as it is. Of any other line the text up to `=>` is printed,
-//! and then this program's own answer. So the input and the expected output are one text, `stdout`.
+//! They are read from `tests/cases/lane.cases`. An empty line, and one that begins with `#`, is passed over. Of any
+//! other line the text before `=>` is asked, and what follows has to be the answer. A line that comes to something else
+//! is printed, with both.
 //!
 //! - `line` has the calls and how they are written;
 //! - `plane` has memory of each kind, `event` the events that calls make of a lane or a queue, `told` replies as text;
@@ -10,8 +11,7 @@
 //! - `script` does a list of events, as `tests/checks/queue_model.py` writes them: a line `list ..`, or each line of
 //!   the input where the program's word is `lists`;
 //! - `session` keeps the list of a case. `lists` repeats it as one list, `stops` over a disk that is stopped at each
-//!   moment, `failing` over one that fails each call; `shown` prints what a disk holds.
-#![tactic(auto)]
+//!   moment, `failing` over one that fails each call; `shown` prints what a disk holds; `tally` counts and compares.
 
 mod camera;
 mod case;
@@ -27,6 +27,7 @@ mod script;
 mod session;
 mod shown;
 mod stops;
+mod tally;
 mod told;
 
 use anyhow::Result;

@@ -1,5 +1,4 @@
 //! Planes of each kind of memory, each of one page.
-ghost use Rattle.std.specs.Prelude.{◌≡◌, IfOk, length};
 
 use anyhow::{Result, anyhow};
 use loop_pages::{PageHold, PageLedger};
@@ -15,9 +14,7 @@ pub(crate) enum AnyPlane {
 }
 
 impl PlaneMemory for AnyPlane {
-    ghost use Rattle.test_lane_cases.specs.Kinds.{any_plane};
-
-    ghost plane = { any_plane };
+    ghost plane = { ? };
 
     fn kind(&self) -> Memory {
         match self {
@@ -61,9 +58,7 @@ impl PlaneMemory for AnyPlane {
 }
 
 // A page of a ledger of its own.
-fn page(alloc: Global) -> Result<PageHold>
-    ensures { IfOk result (λ hold. length hold.pages ≡ 1) }
-{
+fn page(alloc: Global) -> Result<PageHold> {
     let (ledger, seat) = match PageLedger::new(alloc, 1) {
         Ok(made) => made,
         Err(_) => return Err(anyhow!("memory for a ledger")),

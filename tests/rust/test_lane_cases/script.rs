@@ -6,8 +6,6 @@ mod cell;
 mod letters;
 mod told;
 
-ghost use Rattle.std.specs.Prelude.{◌≡◌, ◌∷◌, [], IfOk};
-
 use self::cell::Cell;
 use anyhow::{Result, anyhow};
 use loop_ioctl::{QueueEvent, QueueReply, are_whole, run_events};
@@ -27,9 +25,7 @@ fn kind_of(letter: u8) -> Memory {
 }
 
 // A queue of two buffers for frames of one byte, whose device starts with one queued buffer.
-fn queue(alloc: Global, kind: Memory) -> Result<Queue<Cell>>
-    ensures { IfOk result (λ q. q.body.shape ≡ record { count = 1; sizes = 1 ∷ 0 ∷ 0 ∷ [] }) }
-{
+fn queue(alloc: Global, kind: Memory) -> Result<Queue<Cell>> {
     let sets = if kind == Memory::Mmap { 2 } else { 0 };
     let supply = letters::supply(alloc, sets)?;
     let mut queue = Queue::new(alloc, PixelFormat::Grey, 1, 1, 1);
@@ -72,9 +68,7 @@ fn replies(
     queue: &mut Queue<Cell>,
     table: &mut FdTable<Cell>,
     events: Vec<QueueEvent<Cell>>,
-) -> Result<Vec<QueueReply<Cell>>>
-    requires { queue.old.body.shape ≡ record { count = 1; sizes = 1 ∷ 0 ∷ 0 ∷ [] } }
-{
+) -> Result<Vec<QueueReply<Cell>>> {
     let shape = Shape {
         count: 1,
         sizes: [1, 0, 0],

@@ -7,6 +7,7 @@ use crate::queue::{self, QueueCase, QueueList};
 use crate::script;
 use crate::shown::{self, Step};
 use crate::stops::stops;
+use crate::tally::Tally;
 use anyhow::{Result, anyhow};
 use loop_disk::MemDisk;
 use loop_plane::Memory;
@@ -271,46 +272,21 @@ fn tells(alloc: Global, session: &mut CaseSession, text: &str) -> Result<Vec<u8>
     Ok(told)
 }
 
-// The lines of an input.
-fn read<R: BufRead + Drop>(alloc: Global, input: R) -> Result<Vec<String>> {
-    let mut lines = Vec::new(alloc);
-    for line in input.lines(alloc) {
-        lines.push(line?)?;
-    }
-    Ok(lines)
-}
-
 // Answers a line.
 fn answer<W: Write>(
     alloc: Global,
     session: &mut CaseSession,
     line: &str,
+    tally: &mut Tally,
     out: &mut W,
 ) -> Result<()> {
     if line.is_empty() || line.starts_with('#') {
-        out.write_all(line.as_bytes())?;
-    } else {
-        let (text, _) = before(line, "=>");
-        let told = tells(alloc, session, text)?;
-        out.write_all(text.as_bytes())?;
-        out.write_all(b"=> ")?;
-        out.write_all(&told)?;
+        tally.pass();
+        return Ok(());
     }
-    out.write_all(b"\n")?;
-    Ok(())
-}
-
-// Answers these lines.
-fn answer_all<W: Write>(
-    alloc: Global,
-    session: &mut CaseSession,
-    lines: &[String],
-    out: &mut W,
-) -> Result<()> {
-    for line in lines {
-        answer(alloc, session, line.as_str(), out)?;
-    }
-    Ok(())
+    let (asked, wanted) = before(line, "=> ");
+    let got = tells(alloc, session, asked)?;
+    tally.note(asked, wanted, &got, out)
 }
 
 /// Answers each line.
@@ -319,7 +295,10 @@ pub(crate) fn answers<R: BufRead + Drop, W: Write>(
     input: R,
     out: &mut W,
 ) -> Result<()> {
-    let lines: Vec<String> = read(alloc, input)?;
     let mut session = CaseSession::new(alloc);
-    answer_all(alloc, &mut session, &lines, out)
+    let mut tally = Tally::new();
+    for line in input.lines(alloc) {
+        answer(alloc, &mut session, &line?, &mut tally, out)?;
+    }
+    tally.end(out)
 }

@@ -1,10 +1,5 @@
 //! Claims that are granted or refused, as the tests expect.
 
-ghost use Rattle.std.specs.Prelude.{◌≡◌, length};
-ghost use Rattle.std.specs.Arc.{arc_value};
-ghost use Rattle.loop_pages.specs.Place.{IsIdle};
-
-use crate::asserts::same;
 use loop_pages::{PageFault, PageHold, PageLedger, PageSeat};
 use std::alloc::Allocator;
 use std::process::Abort;
@@ -17,10 +12,7 @@ pub(crate) fn claimed<A: Allocator + Copy>(
     ledger: &Arc<PageLedger<A>, A>,
     seat: PageSeat,
     count: u32,
-) -> PageHold<A>
-    requires { IsIdle (arc_value ledger.now) seat }
-    ensures { length result.pages ≡ count }
-{
+) -> PageHold<A> {
     match PageLedger::claim(alloc, ledger, seat, count) {
         Ok(hold) => hold,
         Err((fault, _)) => panic!(rt; "{count} pages: {fault}"),
@@ -35,14 +27,11 @@ pub(crate) fn refused<A: Allocator + Copy>(
     seat: PageSeat,
     count: u32,
     name: PageFault,
-) -> PageSeat
-    requires { IsIdle (arc_value ledger.now) seat }
-    ensures { IsIdle (arc_value ledger.now) result }
-{
+) -> PageSeat {
     match PageLedger::claim(alloc, ledger, seat, count) {
         Ok(_) => panic!(rt; "{count} pages are granted"),
         Err((fault, seat)) => {
-            same!(rt; fault, name, count);
+            assert_eq!(rt; fault, name, "{count:?}");
             seat
         }
     }

@@ -1,10 +1,5 @@
 //! What the tests share: planes over claimed pages, and a queue of frames of one byte whose calls are rows of tables.
 
-ghost use Rattle.std.specs.Prelude.{◌≡◌, ◌≤◌, length};
-ghost use Rattle.std.specs.Arc.{arc_value};
-ghost use Rattle.loop_pages.specs.Place.{IsIdle};
-
-use crate::asserts::same;
 use bitflags::Flags;
 use loop_pages::{PageHold, PageLedger, PageSeat};
 use loop_plane::{Memory, MmapPlane, PlaneMemory};
@@ -21,11 +16,7 @@ pub(crate) fn page<A: Allocator + Copy>(
     alloc: A,
     ledger: &Arc<PageLedger<A>, A>,
     seat: PageSeat,
-) -> (PageHold<A>, PageSeat)
-    requires { IsIdle (arc_value ledger.now) seat }
-    ensures one { length result.0.pages ≡ 1 }
-    ensures next { IsIdle (arc_value ledger.now) result.1 }
-{
+) -> (PageHold<A>, PageSeat) {
     let (taken, next) = ledger.split(seat);
     match PageLedger::claim(alloc, ledger, taken, 1) {
         Ok(hold) => (hold, next),
@@ -40,10 +31,7 @@ pub(crate) fn supplied<A: Allocator + Copy>(
     ledger: &Arc<PageLedger<A>, A>,
     seat: PageSeat,
     supply: &mut Vec<PlaneSet<MmapPlane<A>>, A>,
-) -> PageSeat
-    requires { IsIdle (arc_value ledger.now) seat }
-    ensures { IsIdle (arc_value ledger.now) result }
-{
+) -> PageSeat {
     let (hold, next) = page(rt, alloc, ledger, seat);
     let Ok(plane) = MmapPlane::new(alloc, hold) else {
         panic!(rt; "memory for a plane")
@@ -62,10 +50,7 @@ pub(crate) fn supplied_many<A: Allocator + Copy>(
     mut seat: PageSeat,
     count: u32,
     supply: &mut Vec<PlaneSet<MmapPlane<A>>, A>,
-) -> PageSeat
-    requires { IsIdle (arc_value ledger.now) seat }
-    ensures { IsIdle (arc_value ledger.now) result }
-{
+) -> PageSeat {
     for _set in 0..count {
         seat = supplied(rt, alloc, ledger, seat, supply);
     }
@@ -122,15 +107,11 @@ pub(crate) struct Small<P, A: Allocator + Copy = Global> {
 }
 
 impl<P, A: Allocator + Copy> Model for Small<P, A> {
-    ghost use Rattle.std.specs.Prelude.{◌≡◌};
-    ghost use Rattle.loop_vb2.specs.Planes.{frame_size};
-    ghost use Rattle.loop_vb2.specs.State.{Lined};
+    ghost Value = { ? };
 
-    ghost Value = { Lined P };
+    ghost view = { ? };
 
-    ghost view = { λ s. s.queue };
-
-    ghost invariant = { λ s. frame_size s.queue.body.shape ≡ 1 };
+    ghost invariant = { ? };
 }
 
 // The answer that is a refusal.
@@ -154,14 +135,12 @@ impl<A: Allocator + Copy> Small<MmapPlane<A>, A> {
         min_queued: u32,
         count: u32,
         supply: Vec<PlaneSet<MmapPlane<A>>, A>,
-    ) -> Small<MmapPlane<A>, A>
-        requires { min_queued ≤ 32 }
-    {
+    ) -> Small<MmapPlane<A>, A> {
         let mut queue = Queue::new(alloc, PixelFormat::Grey, 1, 1, min_queued);
         let Ok(granted) = queue.request(count, Memory::Mmap, supply) else {
             panic!(rt; "{count} buffers")
         };
-        same!(rt; granted.count, count);
+        assert_eq!(rt; granted.count, count);
         Small { queue }
     }
 }
@@ -252,6 +231,6 @@ pub(crate) fn runs<P: PlaneMemory, A: Allocator + Copy>(
 ) {
     for (line, (call, said)) in table.iter().enumerate() {
         let answer = small.call(*call);
-        same!(rt; answer, *said, line);
+        assert_eq!(rt; answer, *said, "{line:?}");
     }
 }

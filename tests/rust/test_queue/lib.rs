@@ -7,38 +7,21 @@
 //! - `rounds`: buffers are queued, filled and dequeued, with ample memory and with each growth refused;
 //! - `refusals`: what a refused request hands back, and which pages are free again; `supplies`: the same by ioctls;
 //!   `lists`: by a list of events;
-//! - `boxes`: a frame on its way through a queue of boxes, with a contract as a crate above the queue would write it;
+//! - `boxes`: a frame on its way through a queue of boxes;
 //! - `listed`: a source that returns what its list has; `ticks`: what a device's ticks do to a queue, with the pattern,
-//!   with that source, and with an input that is cut; `sources`: what sources return;
-//! - `asserts`: assertions that are cheap to prove.
-#![tactic(auto)]
+//!   with that source, and with an input that is cut; `sources`: what sources return.
 
-#[cfg(test)]
-mod asserts;
-pub mod boxes;
-#[cfg(test)]
+mod boxes;
 mod budget;
-#[cfg(test)]
 mod claimed;
-#[cfg(test)]
 mod common;
-#[cfg(test)]
 mod listed;
-#[cfg(test)]
 mod lists;
-#[cfg(test)]
 mod pages;
-#[cfg(test)]
 mod planes;
-#[cfg(test)]
 mod refusals;
-#[cfg(test)]
 mod rounds;
-#[cfg(test)]
 mod sources;
-#[cfg(test)]
 mod supplies;
-#[cfg(test)]
 mod threads;
-#[cfg(test)]
 mod ticks;

@@ -1,7 +1,5 @@
 //! A source that answers by a list, and the frame that is dequeued.
 
-ghost use Rattle.std.specs.Prelude.{[], ⊤};
-
 use bitflags::Flags;
 use loop_capture::{FrameSource, Next};
 use loop_plane::{Memory, PlaneMemory};
@@ -16,9 +14,9 @@ pub(crate) struct Listed {
 }
 
 impl FrameSource for Listed {
-    ghost next_gives = { λ s r out t. ⊤ };
+    ghost next_gives = { ? };
 
-    ghost lends = { λ s. [] };
+    ghost lends = { ? };
 
     fn next(&mut self, out: &mut [u8]) -> Next {
         let call = self.calls;
@@ -45,9 +43,9 @@ pub(crate) struct Lender {
 }
 
 impl FrameSource for Lender {
-    ghost next_gives = { λ s r out t. ⊤ };
+    ghost next_gives = { ? };
 
-    ghost lends = { λ s. s.frame };
+    ghost lends = { ? };
 
     fn next(&mut self, _out: &mut [u8]) -> Next {
         Next::Bad

@@ -1,6 +1,5 @@
 //! A list of events where memory is refused.
 
-use crate::asserts::same;
 use crate::common::{facts, supplied_many};
 use loop_ioctl::{BufferType, Ioctl, IoctlReply, QueueEvent, QueueReply, are_whole, run_events};
 use loop_pages::PageLedger;
@@ -82,12 +81,12 @@ fn does<'a>(
         Ok(replies) => come_of(&replies),
         Err((errno, events)) => Came::Back(errno, sets_of(&events)),
     };
-    same!(rt; (got, memory.left()), (want, 0), allowed);
+    assert_eq!(rt; (got, memory.left()), (want, 0), "{allowed:?}");
     let left = match want {
         Came::Granted(count) => (count as usize, Memory::Mmap, false),
         _ => before,
     };
-    same!(rt; facts(queue), left, allowed);
+    assert_eq!(rt; facts(queue), left, "{allowed:?}");
     memory.allow(u64::MAX);
 }
 

@@ -1,10 +1,5 @@
 //! Planes of each kind, and the table of their fds.
 
-ghost use Rattle.std.specs.Prelude.{◌≡◌, ◌≤◌, length};
-ghost use Rattle.std.specs.Arc.{arc_value};
-ghost use Rattle.loop_pages.specs.Place.{IsIdle};
-
-use crate::asserts::{holds, same};
 use crate::claimed::{claimed, refused};
 use loop_pages::{PageFault, PageHold, PageLedger, PageSeat};
 use loop_plane::{
@@ -25,9 +20,7 @@ fn mapped(
     alloc: Global,
     ledger: &Arc<PageLedger>,
     seat: PageSeat,
-) -> Result<Plane, Fail>
-    requires { IsIdle (arc_value ledger.now) seat }
-{
+) -> Result<Plane, Fail> {
     let Ok(plane) = MmapPlane::new(alloc, claimed(rt, alloc, ledger, seat, 1)) else {
         return Err("a plane of one page".into());
     };
@@ -40,9 +33,7 @@ fn window(
     alloc: Global,
     ledger: &Arc<PageLedger>,
     seat: PageSeat,
-) -> Result<Plane, Fail>
-    requires { IsIdle (arc_value ledger.now) seat }
-{
+) -> Result<Plane, Fail> {
     let Ok(plane) = UserPlane::new(alloc, claimed(rt, alloc, ledger, seat, 2), 0, 5000) else {
         return Err("a window of two pages".into());
     };
@@ -55,9 +46,7 @@ fn scattered(
     alloc: Global,
     ledger: &Arc<PageLedger>,
     seat: PageSeat,
-) -> Result<Plane, Fail>
-    requires { IsIdle (arc_value ledger.now) seat }
-{
+) -> Result<Plane, Fail> {
     let Ok(plane) = DmabufPlane::new(alloc, claimed(rt, alloc, ledger, seat, 1)) else {
         return Err("a scatter list of one page".into());
     };
@@ -65,9 +54,7 @@ fn scattered(
 }
 
 // Fills a plane of any kind with three bytes, and checks the last two of them.
-fn reads_back<P: PlaneMemory>(plane: &mut P) -> bool
-    requires { 3 ≤ (P.plane plane.old).length }
-{
+fn reads_back<P: PlaneMemory>(plane: &mut P) -> bool {
     plane.fill(&[1, 2, 3]);
     let mut out = [0; 2];
     plane.copy_out(1, &mut out);
@@ -78,7 +65,7 @@ fn reads_back<P: PlaneMemory>(plane: &mut P) -> bool
 fn read_back(rt: &impl Abort, planes: &mut [Plane]) {
     for plane in planes {
         assert!(rt; plane.length() >= 3);
-        holds!(rt; reads_back(plane));
+        assert!(rt; reads_back(plane));
     }
 }
 
@@ -88,9 +75,7 @@ fn three_planes(
     alloc: Global,
     ledger: &Arc<PageLedger>,
     seat: PageSeat,
-) -> Result<Vec<Plane>, Fail>
-    requires { IsIdle (arc_value ledger.now) seat }
-{
+) -> Result<Vec<Plane>, Fail> {
     let (one, seat) = ledger.split(seat);
     let (two, three) = ledger.split(seat);
     let mapped = mapped(rt, alloc, ledger, one)?;
@@ -108,28 +93,24 @@ fn three_kinds_of_plane_are_used_in_one_list(rt: HostRuntime) -> Result<(), Fail
     read_back(&rt, &mut planes);
     let last = refused(&rt, alloc, &ledger, last, 1, PageFault::NoPages);
     drop(planes);
-    same!(rt; claimed(&rt, alloc, &ledger, last, 4).count(), 4);
+    assert_eq!(rt; claimed(&rt, alloc, &ledger, last, 4).count(), 4);
     Ok(())
 }
 
 // Fills a window that crosses the edge of two pages, and reads those bytes back.
-fn window_reads_back(rt: &impl Abort, alloc: Global, hold: PageHold) -> Result<(), Fail>
-    requires { length hold.pages ≡ 2 }
-{
+fn window_reads_back(rt: &impl Abort, alloc: Global, hold: PageHold) -> Result<(), Fail> {
     let Ok(mut window) = UserPlane::new(alloc, hold, 4090, 12) else {
         return Err("a window of two pages".into());
     };
     window.fill(&[0, 1, 2, 3, 4, 5, 6, 7, 8, 9, 10, 11]);
     let mut out = [0; 4];
     window.copy_out(4, &mut out);
-    same!(rt; out, [4, 5, 6, 7]);
+    assert_eq!(rt; out, [4, 5, 6, 7]);
     Ok(())
 }
 
 // The same with a scatter list.
-fn list_reads_back(rt: &impl Abort, alloc: Global, hold: PageHold) -> Result<(), Fail>
-    requires { length hold.pages ≡ 2 }
-{
+fn list_reads_back(rt: &impl Abort, alloc: Global, hold: PageHold) -> Result<(), Fail> {
     let Ok(mut plane) = DmabufPlane::new(alloc, hold) else {
         return Err("a scatter list of two pages".into());
     };
@@ -139,7 +120,7 @@ fn list_reads_back(rt: &impl Abort, alloc: Global, hold: PageHold) -> Result<(),
     plane.fill(bytes.as_slice());
     let mut out = [0; 4];
     plane.copy_out(4094, &mut out);
-    same!(rt; out, [7, 1, 2, 7]);
+    assert_eq!(rt; out, [7, 1, 2, 7]);
     Ok(())
 }
 
@@ -157,18 +138,18 @@ fn attaches(rt: &impl Abort, table: &mut DmabufTable, fd: u32, other: Plane) -> 
     let Ok(plane) = table.attach(fd) else {
         return Err("the plane".into());
     };
-    holds!(rt; matches!(table.attach(fd), Err(FdFault::Attached)));
-    holds!(rt; matches!(table.close(fd), Err(FdFault::Attached)));
-    holds!(rt; table.detach(fd, plane).is_ok());
+    assert!(rt; matches!(table.attach(fd), Err(FdFault::Attached)));
+    assert!(rt; matches!(table.close(fd), Err(FdFault::Attached)));
+    assert!(rt; table.detach(fd, plane).is_ok());
     let Err((fault, other)) = table.detach(fd, other) else {
         return Err("the plane is back".into());
     };
-    same!(rt; (fault, other.kind()), (FdFault::NotAttached, Memory::Mmap));
+    assert_eq!(rt; (fault, other.kind()), (FdFault::NotAttached, Memory::Mmap));
     let Ok(plane) = table.close(fd) else {
         return Err("the plane".into());
     };
-    same!(rt; plane.kind(), Memory::DmaBuf);
-    holds!(rt; matches!(table.attach(fd), Err(FdFault::NoSuchFd)));
+    assert_eq!(rt; plane.kind(), Memory::DmaBuf);
+    assert!(rt; matches!(table.attach(fd), Err(FdFault::NoSuchFd)));
     Ok(())
 }
 
@@ -197,7 +178,7 @@ fn plane_grows<'a>(
         return Err("no block is left for the bytes".into());
     };
     budget.allow(1);
-    holds!(rt; MmapPlane::new(budget, hold).is_ok());
+    assert!(rt; MmapPlane::new(budget, hold).is_ok());
     Ok(())
 }
 
@@ -206,14 +187,12 @@ fn window_grows<'a>(
     rt: &impl Abort,
     budget: &'a Budget,
     hold: PageHold<&'a Budget>,
-) -> Result<(), Fail>
-    requires { length hold.pages ≡ 2 }
-{
+) -> Result<(), Fail> {
     let Err(hold) = UserPlane::new(budget, hold, 4090, 12) else {
         return Err("no block is left for the bytes".into());
     };
     budget.allow(1);
-    holds!(rt; UserPlane::new(budget, hold, 4090, 12).is_ok());
+    assert!(rt; UserPlane::new(budget, hold, 4090, 12).is_ok());
     Ok(())
 }
 
@@ -229,22 +208,22 @@ fn list_grows<'a>(
             return Err("a list and two blocks are three".into());
         };
         hold = same;
-        same!(rt; hold.count(), 2, blocks);
+        assert_eq!(rt; hold.count(), 2, "{blocks:?}");
     }
     budget.allow(3);
-    holds!(rt; DmabufPlane::new(budget, hold).is_ok());
+    assert!(rt; DmabufPlane::new(budget, hold).is_ok());
     Ok(())
 }
 
 // An fd takes one block. Without it, its value comes back.
 fn fd_grows(rt: &impl Abort, budget: &Budget) -> Result<(), Fail> {
     let mut table = FdTable::new(budget);
-    same!(rt; table.add(7), Err((FdFault::NoMemory, 7)));
+    assert_eq!(rt; table.add(7), Err((FdFault::NoMemory, 7)));
     budget.allow(1);
     let Ok(fd) = table.add(7) else {
         return Err("one block is enough".into());
     };
-    same!(rt; table.close(fd), Ok(7));
+    assert_eq!(rt; table.close(fd), Ok(7));
     Ok(())
 }
 

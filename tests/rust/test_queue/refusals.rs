@@ -1,6 +1,5 @@
 //! What a refused request hands back, and which pages are free again.
 
-use crate::asserts::{holds, same};
 use crate::common::{facts, supplied_many};
 use loop_pages::PageLedger;
 use loop_plane::{Memory, MmapPlane, PlaneMemory};
@@ -41,7 +40,7 @@ fn supply_back<P: PlaneMemory, A: Allocator + Copy>(
 ) -> Vec<PlaneSet<P>, A> {
     match queue.request(count, kind, supply) {
         Err(refused) => {
-            same!(rt; refused.errno, errno);
+            assert_eq!(rt; refused.errno, errno);
             refused.supply
         }
         Ok(_) => panic!(rt; "{errno:?}: not refused"),
@@ -55,9 +54,9 @@ fn stream<P: PlaneMemory, A: Allocator + Copy>(
     count: u32,
 ) {
     for index in 0..count {
-        holds!(rt; is_queued(queue, index), index);
+        assert!(rt; is_queued(queue, index), "{index:?}");
     }
-    holds!(rt; queue.stream_on().is_ok());
+    assert!(rt; queue.stream_on().is_ok());
 }
 
 // Maps or unmaps a buffer.
@@ -95,10 +94,10 @@ fn is_busy<P: PlaneMemory, A: Allocator + Copy>(
     four: Vec<PlaneSet<P>, A>,
     two: Vec<PlaneSet<P>, A>,
 ) {
-    holds!(rt; granted(queue, 4, Memory::Mmap, four));
+    assert!(rt; granted(queue, 4, Memory::Mmap, four));
     stream(rt, queue, 4);
     let two = supply_back(rt, queue, (2, Memory::Mmap), two, BUSY);
-    same!(rt; (two.len(), facts(queue)), (2, (4, Memory::Mmap, true)));
+    assert_eq!(rt; (two.len(), facts(queue)), (2, (4, Memory::Mmap, true)));
 }
 
 // A request for none is refused while a buffer is mapped, and then granted.
@@ -107,10 +106,10 @@ fn frees<P: PlaneMemory, A: Allocator + Copy>(
     queue: &mut Queue<P, A>,
     none: Vec<PlaneSet<P>, A>,
 ) {
-    holds!(rt; is_mapped(queue, 1, true));
+    assert!(rt; is_mapped(queue, 1, true));
     let none = supply_back(rt, queue, (0, Memory::Mmap), none, MAPPED);
-    holds!(rt; is_mapped(queue, 1, false));
-    holds!(rt; granted(queue, 0, Memory::Mmap, none));
+    assert!(rt; is_mapped(queue, 1, false));
+    assert!(rt; granted(queue, 0, Memory::Mmap, none));
 }
 
 #[test]
@@ -125,7 +124,7 @@ fn a_request_is_refused_while_streaming_and_frees_all_pages_at_count_0(
     let mut queue = big(alloc);
     is_busy(&rt, &mut queue, four, two);
     frees(&rt, &mut queue, Vec::new(alloc));
-    holds!(rt; PageLedger::claim(alloc, &ledger, whole, 6).is_ok());
+    assert!(rt; PageLedger::claim(alloc, &ledger, whole, 6).is_ok());
     Ok(())
 }
 
@@ -145,8 +144,12 @@ fn is_refused<'a>(
     let (before, sets) = (facts(queue), supply.len());
     memory.allow(blocks);
     let supply = supply_back(rt, queue, (count, kind), supply, NO_MEMORY);
-    same!(rt; (supply.len(), memory.left()), (sets, 0), (count, blocks));
-    same!(rt; facts(queue), before, (count, blocks));
+    assert_eq!(rt;
+        (supply.len(), memory.left()),
+        (sets, 0),
+        "{count:?}, {blocks:?}"
+    );
+    assert_eq!(rt; facts(queue), before, "{count:?}, {blocks:?}");
     supply
 }
 
@@ -159,9 +162,9 @@ fn is_granted<'a>(
     (count, kind, growths): (u32, Memory, u64),
 ) {
     memory.allow(growths);
-    holds!(rt; granted(queue, count, kind, supply), count);
-    same!(rt; memory.left(), 0, count);
-    same!(rt; facts(queue), (count as usize, kind, false), count);
+    assert!(rt; granted(queue, count, kind, supply), "{count:?}");
+    assert_eq!(rt; memory.left(), 0, "{count:?}");
+    assert_eq!(rt; facts(queue), (count as usize, kind, false), "{count:?}");
     memory.allow(u64::MAX);
 }
 

@@ -1,6 +1,5 @@
 //! The pages of a queue's buffers, by ioctls.
 
-use crate::asserts::{holds, same};
 use crate::common::supplied_many;
 use loop_ioctl::{BufferMemory, BufferType, Ioctl, IoctlReply, apply};
 use loop_pages::PageLedger;
@@ -48,9 +47,9 @@ fn stream(rt: &impl Abort, mapped: &mut Mapped, count: u32) {
             index,
             memory: BufferMemory::Mmap,
         };
-        holds!(rt; is_done(mapped, call), index);
+        assert!(rt; is_done(mapped, call), "{index:?}");
     }
-    holds!(rt; is_done(mapped, Ioctl::StreamOn { buf_type: GREY }));
+    assert!(rt; is_done(mapped, Ioctl::StreamOn { buf_type: GREY }));
 }
 
 #[test]
@@ -62,10 +61,13 @@ fn a_supply_comes_back_and_old_pages_are_free_again(rt: HostRuntime) -> Result<(
     let whole = supplied_many(&rt, alloc, &ledger, seat, 2, &mut two);
     let queue = Queue::new(alloc, PixelFormat::Grey, 1, 1, 1);
     let mut mapped: Mapped = (queue, FdTable::new(alloc));
-    same!(rt; request(&mut mapped, 4, four), Ok(4));
+    assert_eq!(rt; request(&mut mapped, 4, four), Ok(4));
     stream(&rt, &mut mapped, 4);
-    same!(rt; request(&mut mapped, 2, two), Err((Errno::of(Reason::Streaming), 2)));
-    same!(rt; request(&mut mapped, 0, Vec::new(alloc)), Ok(0));
-    holds!(rt; PageLedger::claim(alloc, &ledger, whole, 6).is_ok());
+    assert_eq!(rt;
+        request(&mut mapped, 2, two),
+        Err((Errno::of(Reason::Streaming), 2))
+    );
+    assert_eq!(rt; request(&mut mapped, 0, Vec::new(alloc)), Ok(0));
+    assert!(rt; PageLedger::claim(alloc, &ledger, whole, 6).is_ok());
     Ok(())
 }

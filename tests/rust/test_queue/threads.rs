@@ -1,11 +1,5 @@
 //! Claims of pages by several threads.
 
-ghost use Rattle.std.specs.Prelude.{◌+◌, ◌<◌};
-ghost use Rattle.std.specs.Arc.{arc_value};
-ghost use Rattle.std.specs.Thread.{IsSync};
-ghost use Rattle.loop_pages.specs.Place.{IsIdle};
-
-use crate::asserts::holds;
 use crate::claimed::claimed;
 use loop_pages::{PageHold, PageLedger, PageSeat};
 use std::alloc::Global;
@@ -43,10 +37,7 @@ fn takes_turns(
     marks: &[AtomicBool],
     least: u32,
     kinds: u32,
-) -> Option<u32>
-    requires seat { IsIdle (arc_value ledger.now) seat }
-    requires counts { (0 < kinds) × (least + kinds < 1024) }
-{
+) -> Option<u32> {
     let mut seat = seat;
     let mut got = 0u32;
     for round in 0..100u32 {
@@ -76,18 +67,12 @@ fn two_threads<R: Threads + Sync>(
     ledger: &Arc<PageLedger>,
     seat: PageSeat,
     marks: &[AtomicBool],
-) -> Option<u32>
-    requires { IsIdle (arc_value ledger.now) seat }
-{
+) -> Option<u32> {
     let (one, two) = ledger.split(seat);
     let (first, second) = join(
         rt,
-        || -> Option<u32>
-            requires { IsIdle (arc_value ledger.now) one }
-        { takes_turns(alloc, ledger, one, marks, 2, 1) },
-        || -> Option<u32>
-            requires { IsIdle (arc_value ledger.now) two }
-        { takes_turns(alloc, ledger, two, marks, 2, 1) },
+        || -> Option<u32> { takes_turns(alloc, ledger, one, marks, 2, 1) },
+        || -> Option<u32> { takes_turns(alloc, ledger, two, marks, 2, 1) },
     );
     together(first, second)
 }
@@ -99,27 +84,17 @@ fn three_threads<R: Threads + Sync>(
     ledger: &Arc<PageLedger>,
     seat: PageSeat,
     marks: &[AtomicBool],
-) -> Option<u32>
-    requires { IsIdle (arc_value ledger.now) seat }
-{
+) -> Option<u32> {
     let (one, rest) = ledger.split(seat);
     let (two, three) = ledger.split(rest);
     let (first, (second, third)) = join(
         rt,
-        || -> Option<u32>
-            requires { IsIdle (arc_value ledger.now) one }
-        { takes_turns(alloc, ledger, one, marks, 1, 3) },
-        || -> (Option<u32>, Option<u32>)
-            requires { IsIdle (arc_value ledger.now) two × IsIdle (arc_value ledger.now) three × IsSync R.row }
-        {
+        || -> Option<u32> { takes_turns(alloc, ledger, one, marks, 1, 3) },
+        || -> (Option<u32>, Option<u32>) {
             join(
                 rt,
-                || -> Option<u32>
-                    requires { IsIdle (arc_value ledger.now) two }
-                { takes_turns(alloc, ledger, two, marks, 1, 3) },
-                || -> Option<u32>
-                    requires { IsIdle (arc_value ledger.now) three }
-                { takes_turns(alloc, ledger, three, marks, 1, 3) },
+                || -> Option<u32> { takes_turns(alloc, ledger, two, marks, 1, 3) },
+                || -> Option<u32> { takes_turns(alloc, ledger, three, marks, 1, 3) },
             )
         },
     );
@@ -138,10 +113,10 @@ fn no_page_is_in_two_holds(rt: HostRuntime) -> Result<(), Fail> {
         AtomicBool::new(false),
     ];
     let got = two_threads(&rt, rt.alloc(), &ledger, one, &marks);
-    holds!(rt; got.is_some_and(|got| got > 0));
+    assert!(rt; got.is_some_and(|got| got > 0));
     let got = three_threads(&rt, rt.alloc(), &ledger, two, &marks);
-    holds!(rt; got.is_some_and(|got| got > 0));
+    assert!(rt; got.is_some_and(|got| got > 0));
     let hold = claimed(&rt, rt.alloc(), &ledger, seat, 4);
-    holds!(rt; marks_all(&hold, &marks));
+    assert!(rt; marks_all(&hold, &marks));
     Ok(())
 }

@@ -1,10 +1,6 @@
 //! What a tick does to a queue, and which sequence a frame has.
 
-ghost use Rattle.std.specs.Arc.{arc_value};
-ghost use Rattle.loop_pages.specs.Place.{IsIdle};
-
 use self::Step::{Starts, Stops, Takes, Ticks};
-use crate::asserts::{holds, same};
 use crate::listed::{Frame, Lender, Listed, round};
 use loop_capture::{Device, FrameSource, Next, Pattern, Tick, Y4mSource};
 use loop_pages::{PageLedger, PageSeat};
@@ -44,8 +40,8 @@ fn does<S: FrameSource>(
     place: usize,
 ) {
     match step {
-        Ticks(time, want) => same!(rt; device.tick(queue, *time), *want, place),
-        Takes(want) => same!(rt; round(queue), *want, place),
+        Ticks(time, want) => assert_eq!(rt; device.tick(queue, *time), *want, "{place:?}"),
+        Takes(want) => assert_eq!(rt; round(queue), *want, "{place:?}"),
         Starts => starts(rt, queue),
         Stops => {
             queue.stream_off();
@@ -55,7 +51,7 @@ fn does<S: FrameSource>(
 
 // Queues the one buffer, and starts streaming.
 fn starts(rt: &impl Abort, queue: &mut Queue<MmapPlane>) {
-    holds!(rt; queue.queue(0, Memory::Mmap, None).is_ok() && queue.stream_on().is_ok());
+    assert!(rt; queue.queue(0, Memory::Mmap, None).is_ok() && queue.stream_on().is_ok());
 }
 
 // Does a list of steps.
@@ -71,9 +67,7 @@ fn plays<S: FrameSource>(
 }
 
 // A plane of one page.
-fn plane(alloc: Global, ledger: &Arc<PageLedger>, seat: PageSeat) -> Result<MmapPlane, Fail>
-    requires { IsIdle (arc_value ledger.now) seat }
-{
+fn plane(alloc: Global, ledger: &Arc<PageLedger>, seat: PageSeat) -> Result<MmapPlane, Fail> {
     let Ok(hold) = PageLedger::claim(alloc, ledger, seat, 1) else {
         return Err("a page".into());
     };
@@ -92,7 +86,7 @@ fn requests(
 ) -> Result<(), AllocError> {
     let mut supply = Vec::new(alloc);
     supply.push(set)?;
-    holds!(rt; queue.request(1, Memory::Mmap, supply).is_ok());
+    assert!(rt; queue.request(1, Memory::Mmap, supply).is_ok());
     Ok(())
 }
 
@@ -112,7 +106,7 @@ fn is_too_wide(
     queue: &mut Queue<MmapPlane>,
     time: u64,
 ) {
-    same!(rt; wide.tick(queue, time), Tick::WrongSize, time);
+    assert_eq!(rt; wide.tick(queue, time), Tick::WrongSize, "{time:?}");
 }
 
 #[test]
@@ -194,13 +188,16 @@ fn three_planes(rt: &impl Abort, alloc: Global) -> Result<Queue<MmapPlane>, Fail
 
 // Dequeues the frame, of which each of these planes begins with these bytes. Its buffer is queued again.
 fn copies(rt: &impl Abort, queue: &mut Queue<MmapPlane>, planes: &[(u32, [u8; 2])]) {
-    holds!(rt; queue.dequeue().is_ok());
+    assert!(rt; queue.dequeue().is_ok());
     for (plane, want) in planes {
         let mut out = [0xFF; 2];
-        holds!(rt; queue.copy_plane(0, *plane, 0, &mut out).is_ok(), *plane);
-        same!(rt; out, *want, *plane);
+        assert!(rt;
+            queue.copy_plane(0, *plane, 0, &mut out).is_ok(),
+            "{plane:?}"
+        );
+        assert_eq!(rt; out, *want, "{plane:?}");
     }
-    holds!(rt; queue.queue(0, Memory::Mmap, None).is_ok());
+    assert!(rt; queue.queue(0, Memory::Mmap, None).is_ok());
 }
 
 #[test]

@@ -1,8 +1,5 @@
 //! Calls of a recorder as rows of tables: each row is what is noted of the call, with its answer.
 
-ghost use Rattle.std.specs.Prelude.{◌<◌, length};
-
-use crate::asserts::{holds, same};
 use crate::common::{AtOnce, are_of, frame};
 use loop_desk::{Flushed, Status};
 use loop_disk::Disk;
@@ -74,14 +71,12 @@ fn submits<R: Wait + Abort, D: Disk + Drop, P: PlaneMemory, A: Allocator + Copy>
     pass: &mut Pass<A>,
     stamp: FrameInfo,
     size: u64,
-) -> Result<Noted, SessionFault>
-    requires { camera < length recorder.now.outlines }
-{
+) -> Result<Noted, SessionFault> {
     let given = frame(alloc, stamp, size).expect(rt, "memory for a frame");
     let answer = match recorder.submit(rt, camera, pass, given) {
         Ok(number) => Ok(number),
         Err((fault, back)) => {
-            holds!(rt; are_of(&back.bytes, stamp.sequence, size), camera);
+            assert!(rt; are_of(&back.bytes, stamp.sequence, size), "{camera:?}");
             Err(fault)
         }
     };
@@ -95,9 +90,7 @@ fn flushes<R: Wait, D: Disk + Drop, P: PlaneMemory, A: Allocator + Copy, Q: Pace
     pace: &Q,
     camera: u32,
     pass: &mut Pass<A>,
-) -> Result<Noted, SessionFault>
-    requires { camera < length recorder.now.outlines }
-{
+) -> Result<Noted, SessionFault> {
     Ok(Noted::Flush(heard(recorder.flush(rt, camera, pass, pace))?))
 }
 
@@ -108,9 +101,7 @@ fn locks<R: Wait, D: Disk + Drop, P: PlaneMemory, A: Allocator + Copy>(
     camera: u32,
     pass: &mut Pass<A>,
     span: Span,
-) -> Result<Noted, SessionFault>
-    requires { camera < length recorder.now.outlines }
-{
+) -> Result<Noted, SessionFault> {
     let answer = recorder.lock_clip(rt, camera, pass, span.from, span.to, span.tag);
     Ok(Noted::Lock(span, heard(answer)?))
 }
@@ -122,9 +113,7 @@ fn unlocks<R: Wait, D: Disk + Drop, P: PlaneMemory, A: Allocator + Copy>(
     camera: u32,
     pass: &mut Pass<A>,
     id: u32,
-) -> Result<Noted, SessionFault>
-    requires { camera < length recorder.now.outlines }
-{
+) -> Result<Noted, SessionFault> {
     let answer = recorder.unlock_clip(rt, camera, pass, id);
     Ok(Noted::Unlock(id, heard(answer)?))
 }
@@ -137,12 +126,13 @@ fn reads<R: Wait + Abort, D: Disk + Drop, P: PlaneMemory, A: Allocator + Copy>(
     camera: u32,
     pass: &mut Pass<A>,
     number: u64,
-) -> Result<Noted, SessionFault>
-    requires { camera < length recorder.now.outlines }
-{
+) -> Result<Noted, SessionFault> {
     let answer = match recorder.read_frame(rt, alloc, camera, pass, number) {
         Ok(read) => {
-            holds!(rt; are_of(&read.bytes, read.head.sequence, SIZE), (camera, number));
+            assert!(rt;
+                are_of(&read.bytes, read.head.sequence, SIZE),
+                "{camera:?}, {number:?}"
+            );
             Ok(read.head)
         }
         Err(fault) => Err(fault),
@@ -156,9 +146,7 @@ fn asks<R: Wait, D: Disk + Drop, P: PlaneMemory, A: Allocator + Copy>(
     recorder: &Recorder<D, P, A>,
     camera: u32,
     pass: &mut Pass<A>,
-) -> Result<Noted, SessionFault>
-    requires { camera < length recorder.now.outlines }
-{
+) -> Result<Noted, SessionFault> {
     match recorder.status(rt, camera, pass) {
         Ok(status) => Ok(Noted::Status(status)),
         Err(fault) => Err(fault),
@@ -174,9 +162,7 @@ pub(crate) fn makes<R: Wait + Abort, D: Disk + Drop, P: PlaneMemory, A: Allocato
     camera: u32,
     pass: &mut Pass<A>,
     call: Noted,
-) -> Result<Noted, SessionFault>
-    requires { camera < length recorder.now.outlines }
-{
+) -> Result<Noted, SessionFault> {
     match call {
         Noted::Submit(stamp, size, _) => { submits(rt, alloc, recorder, camera, pass, stamp, size) }
         Noted::Flush(_) => flushes(rt, recorder, pace, camera, pass),
@@ -196,12 +182,10 @@ pub(crate) fn plays<R: Wait + Abort, D: Disk + Drop, P: PlaneMemory, A: Allocato
     camera: u32,
     pass: &mut Pass<A>,
     table: &[Noted],
-)
-    requires { camera < length recorder.now.outlines }
-{
+) {
     for (place, call) in table.iter().enumerate() {
         let answer = makes(rt, alloc, recorder, pace, camera, pass, *call);
-        same!(rt; answer, Ok(*call), (camera, place));
+        assert_eq!(rt; answer, Ok(*call), "{camera:?}, {place:?}");
     }
 }
 
@@ -214,9 +198,7 @@ pub(crate) fn plays_by<R: Wait + Abort, D: Disk + Drop, P: PlaneMemory, A: Alloc
     passes: &mut [Pass<A>],
     place: usize,
     table: &[Noted],
-)
-    requires { camera < length recorder.now.outlines }
-{
+) {
     match passes.get_mut(place) {
         Some(pass) => plays(rt, alloc, recorder, &AtOnce, camera, pass, table),
         None => panic!(rt; "no pass {place}"),
@@ -261,8 +243,12 @@ pub(crate) fn are_noted<D: Disk + Drop, P: PlaneMemory, A: Allocator + Copy>(
     ) else {
         panic!(rt; "no camera {camera}, or no pass {pass}")
     };
-    same!(rt; of_camera.history.len(), table.len(), camera);
-    same!(rt; (of_pass.number(), of_pass.receipts().len()), (pass, table.len()), camera);
+    assert_eq!(rt; of_camera.history.len(), table.len(), "{camera:?}");
+    assert_eq!(rt;
+        (of_pass.number(), of_pass.receipts().len()),
+        (pass, table.len()),
+        "{camera:?}"
+    );
     have_entries(rt, &of_camera.history, pass, table);
     have_receipts(rt, of_pass.receipts(), camera, table);
 }
@@ -270,7 +256,7 @@ pub(crate) fn are_noted<D: Disk + Drop, P: PlaneMemory, A: Allocator + Copy>(
 // Checks that the entries are a pass's, of these calls.
 fn have_entries(rt: &impl Abort, history: &[Entry], pass: u32, table: &[Noted]) {
     for (entry, call) in history.iter().zip(table) {
-        same!(rt; *entry, Entry { pass, call: *call });
+        assert_eq!(rt; *entry, Entry { pass, call: *call });
     }
 }
 
@@ -278,7 +264,14 @@ fn have_entries(rt: &impl Abort, history: &[Entry], pass: u32, table: &[Noted]) 
 fn have_receipts(rt: &impl Abort, receipts: &[Receipt], camera: u32, table: &[Noted]) {
     let mut place = 0u64;
     for (receipt, call) in receipts.iter().zip(table) {
-        same!(rt; *receipt, Receipt { camera, place, call: *call });
+        assert_eq!(rt;
+            *receipt,
+            Receipt {
+                camera,
+                place,
+                call: *call
+            }
+        );
         place = place.wrapping_add(1);
     }
 }

@@ -1,10 +1,6 @@
 //! Ten thousand calls by eight threads at four desks, and what each crash of their disks leaves. A crash replays all
-//! calls of the disk before it. That takes some seconds as the tests are built, and more than `rt try`, with its
-//! checks, has time for.
+//! calls of the disk before it.
 
-ghost use Rattle.std.specs.Prelude.{◌<◌, length};
-
-use crate::asserts::{holds, same};
 use crate::calls::*;
 use crate::common::*;
 use crate::plain::{Deed, Plain, done};
@@ -90,9 +86,7 @@ fn calls<R: Wait + Abort, D: Disk + Drop, P: PlaneMemory>(
     alloc: Global,
     recorder: &Recorder<D, P>,
     mut pass: Pass,
-) -> Pass
-    requires { 3 < length recorder.now.outlines }
-{
+) -> Pass {
     let mut caller = Caller {
         dice: Dice {
             state: u64::from(pass.number()),
@@ -105,7 +99,7 @@ fn calls<R: Wait + Abort, D: Disk + Drop, P: PlaneMemory>(
         let newest = caller.newest[camera as usize];
         let call = caller.call(newest);
         let answer = makes(rt, alloc, recorder, &AtOnce, camera as u32, &mut pass, call);
-        holds!(rt; answer.is_ok(), turn);
+        assert!(rt; answer.is_ok(), "{turn:?}");
         if let Ok(Noted::Submit(_, _, Ok(number))) = answer {
             caller.newest[camera as usize] = number;
         }
@@ -119,15 +113,11 @@ fn all_call<R: Threads + Wait + Abort + Sync, D: Disk + Drop + Send + Sync, P: P
     alloc: Global,
     recorder: &Recorder<D, P>,
     passes: Vec<Pass>,
-) -> Vec<Pass>
-    requires { 3 < length recorder.now.outlines }
-{
+) -> Vec<Pass> {
     let called = thread::map_vec(
         rt,
         passes,
-        &|pass: Pass| -> Pass
-            requires { 3 < length recorder.now.outlines }
-        { calls(rt, alloc, recorder, pass) },
+        &|pass: Pass| -> Pass { calls(rt, alloc, recorder, pass) },
     );
     called.expect(rt, "memory for a list")
 }
@@ -209,10 +199,11 @@ fn all_crashes(rt: &impl Abort, alloc: Global, opening: usize, camera: EndedCame
         moment = moment.saturating_add(deed.calls);
         plain = deed.into_last(alloc);
     }
-    same!(rt; moment, disk.calls());
-    holds!(rt; plain.is_in(alloc, &mut crashed(rt, alloc, &disk, moment, Spoil::Old)));
+    assert_eq!(rt; moment, disk.calls());
+    assert!(rt; plain.is_in(alloc, &mut crashed(rt, alloc, &disk, moment, Spoil::Old)));
 }
 
+// At -O2: ten thousand calls are replayed by each of 20,000 crashes.
 #[test]
 fn each_crash_reads_as_a_prefix_of_the_calls_of_eight_threads(rt: HostRuntime) {
     let alloc = rt.alloc();
@@ -238,5 +229,5 @@ fn each_crash_reads_as_a_prefix_of_the_calls_of_eight_threads(rt: HostRuntime) {
         calls = calls.saturating_add(camera.history.len());
         all_crashes(&rt, alloc, opening, camera);
     }
-    same!(rt; calls, 10_000);
+    assert_eq!(rt; calls, 10_000);
 }

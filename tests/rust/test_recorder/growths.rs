@@ -1,9 +1,5 @@
 //! Each growth is refused in turn: nothing changes, and with one more growth the call succeeds.
 
-ghost use Rattle.std.specs.Prelude.{◌≡◌, ◌<◌, All, false, length, vec_len};
-ghost use Rattle.loop_recorder.specs.Opened.{IsReady};
-
-use crate::asserts::same;
 use crate::calls::*;
 use crate::common::*;
 use loop_desk::{Flushed, Status};
@@ -38,19 +34,18 @@ fn is_refused<'a, P: PlaneMemory>(
     memory: &'a Budget,
     cameras: Cameras<'a, P>,
     allowed: u64,
-) -> Cameras<'a, P>
-    requires ready { All (IsReady P.plane) cameras.items }
-    requires count { vec_len cameras ≡ 2 }
-    ensures ready { All (IsReady P.plane) result.items }
-    ensures count { vec_len result ≡ 2 }
-{
+) -> Cameras<'a, P> {
     memory.allow(allowed);
     match Recorder::new(memory, cameras, 2) {
         Ok(_) => panic!(rt; "{allowed} growths are enough"),
         Err(NewRefused::NoMemory(back)) => {
-            same!(rt; (memory.left(), back.len()), (0, 2), allowed);
+            assert_eq!(rt; (memory.left(), back.len()), (0, 2), "{allowed:?}");
             for camera in &back {
-                same!(rt; Noted::Status(camera.0.status()), status(1, 1, 0), allowed);
+                assert_eq!(rt;
+                    Noted::Status(camera.0.status()),
+                    status(1, 1, 0),
+                    "{allowed:?}"
+                );
             }
             back
         }
@@ -62,9 +57,7 @@ fn made<'a, P: PlaneMemory>(
     rt: &impl Abort,
     alloc: Global,
     memory: &'a Budget,
-) -> (Thrifty<'a, P>, Passes<'a>)
-    ensures { length result.0.outlines ≡ 2 }
-{
+) -> (Thrifty<'a, P>, Passes<'a>) {
     let disks = vec![in memory;
         MemDisk::of(image(rt, alloc, 1)),
         MemDisk::of(image(rt, alloc, 1)),
@@ -76,7 +69,7 @@ fn made<'a, P: PlaneMemory>(
     }
     memory.allow(NEW);
     let made = recorder_of(rt, memory, cameras, 2);
-    same!(rt; memory.left(), 0);
+    assert_eq!(rt; memory.left(), 0);
     made
 }
 
@@ -152,9 +145,7 @@ fn grows<'a, R: Wait + Abort, P: PlaneMemory>(
     pass: &mut Pass<&'a Budget>,
     rows: &[(u64, usize, bool)],
     calls: &[Noted],
-)
-    requires { 0 < length recorder.now.outlines }
-{
+) {
     for (allowed, at, noted) in rows {
         let call = calls.get(*at).copied().expect(rt, "a call");
         memory.allow(*allowed);
@@ -164,7 +155,7 @@ fn grows<'a, R: Wait + Abort, P: PlaneMemory>(
         } else {
             Err(SessionFault::NoMemory)
         };
-        same!(rt; (answer, memory.left()), (want, 0), (*allowed, *at));
+        assert_eq!(rt; (answer, memory.left()), (want, 0), "{allowed:?}, {at:?}");
     }
 }
 
@@ -174,9 +165,7 @@ fn grows_by_first<'a, R: Wait + Abort, P: PlaneMemory>(
     memory: &'a Budget,
     recorder: &Thrifty<'a, P>,
     passes: &mut [Pass<&'a Budget>],
-)
-    requires { 0 < length recorder.now.outlines }
-{
+) {
     match passes.get_mut(0) {
         Some(pass) => grows(rt, memory, recorder, pass, &ROWS, &NOTED),
         None => panic!(rt; "a pass"),

@@ -1,12 +1,6 @@
 //! Cameras that are filmed, by turns and by threads, into a disk that takes all and into one that fails; what is kept,
 //! read and unlocked meanwhile; and the text of what was filmed.
 
-ghost use Rattle.std.specs.Prelude.{◌≡◌, ⊤, [], false};
-ghost use Rattle.loop_pipeline.specs.Fronts.{IsOpen, StandsPort};
-ghost use Rattle.loop_plane.specs.Kinds.{heap_plane};
-ghost use Rattle.rtrb.specs.Ring.{received};
-
-use crate::asserts::{holds, same};
 use crate::common::*;
 use loop_capture::{Device, Pattern, Tick};
 use loop_desk::{Desk, Flushed, Hand, LaneFault};
@@ -55,13 +49,13 @@ fn guide(ticks: u64, first: u64) -> Guided {
 }
 
 impl Noting for Guided {
-    ghost NOTED = { false };
+    ghost NOTED = { ? };
 
     const NOTED: bool = false;
 }
 
 impl Visits for Guided {
-    ghost asks = { λ call. ⊤ };
+    ghost asks = { ? };
 
     const VISITED: bool = true;
 }
@@ -130,14 +124,12 @@ type TestCamera = Camera<Pattern, Fused, HeapPlane, Guided>;
 type TestEnded = CameraEnd<Pattern, Fused, HeapPlane, Guided>;
 
 // A queue that streams, with four buffers in the application's memory.
-fn streaming(rt: &impl Abort, alloc: Global) -> (Queue<HeapPlane>, FdTable<HeapPlane>)
-    ensures { IsOpen ⟦<HeapPlane as PlaneMemory>⟧.plane result.0 result.1 }
-{
+fn streaming(rt: &impl Abort, alloc: Global) -> (Queue<HeapPlane>, FdTable<HeapPlane>) {
     let (mut queue, mut table) = new_queue(alloc, &SMALL);
     let Ok(start) = heap_start(alloc, &queue, 4) else {
         panic!(rt; "memory for buffers")
     };
-    holds!(rt; start_queue(&mut queue, &mut table, start).is_ok());
+    assert!(rt; start_queue(&mut queue, &mut table, start).is_ok());
     (queue, table)
 }
 
@@ -165,22 +157,14 @@ fn film<R: Threads + Wait + Clock + Abort + Sync>(
     link: &Link,
     guide: &Guided,
     camera: TestCamera,
-) -> TestEnded
-    ensures { StandsPort ⟦<HeapPlane as PlaneMemory>⟧.plane result.queue result.table }
-{
+) -> TestEnded {
     let (rt, link, guide) = (&*rt, &*link, &*guide);
-    thread::scope(
-        thread::scope_env(),
-        rt,
-        move |scope| -> TestEnded
-            ensures { StandsPort heap_plane result.queue result.table }
-        {
-            match film_camera(rt, alloc, scope, link, guide, camera) {
-                Ok(ended) => ended,
-                Err(_) => panic!(rt; "no camera was filmed"),
-            }
-        },
-    )
+    thread::scope(thread::scope_env(), rt, move |scope| -> TestEnded {
+        match film_camera(rt, alloc, scope, link, guide, camera) {
+            Ok(ended) => ended,
+            Err(_) => panic!(rt; "no camera was filmed"),
+        }
+    })
 }
 
 // Checks that a desk holds the frame of a number, which is the pattern's, at the time of its tick.
@@ -188,17 +172,19 @@ fn has_frame(rt: &impl Abort, alloc: Global, desk: &mut Seat<Fused, Guided>, num
     match desk.read_frame(alloc, u64::from(number)) {
         None => panic!(rt; "frame {number}: not asked"),
         Some(Ok(read)) => {
-            holds!(rt; are_of(&read.bytes, number, 12), number);
-            same!(rt; read.head.timestamp, u64::from(number) * 1_000, number);
+            assert!(rt; are_of(&read.bytes, number, 12), "{number:?}");
+            assert_eq!(rt;
+                read.head.timestamp,
+                u64::from(number) * 1_000,
+                "{number:?}"
+            );
         }
         Some(Err(fault)) => panic!(rt; "frame {number}: {fault}"),
     }
 }
 
 // The camera again, from what its filming ended with.
-fn again(rt: &impl Abort, ended: TestEnded) -> TestCamera
-    requires { StandsPort ⟦<HeapPlane as PlaneMemory>⟧.plane ended.queue ended.table }
-{
+fn again(rt: &impl Abort, ended: TestEnded) -> TestCamera {
     let CameraEnd {
         device,
         queue,
@@ -222,18 +208,18 @@ fn each_frame_is_filmed_in_one_filming_after_another(rt: HostRuntime) {
     };
     let first = guide(20, 0);
     let mut ended = film(&rt, alloc, &link, &first, camera);
-    same!(rt; ended.desk.status().next, 20);
-    same!(rt; (ended.given_up, ended.left), (0, 0));
-    same!(rt; first.brought.load(Ordering::SeqCst), 20);
-    same!(rt; first.stored.load(Ordering::SeqCst), 20);
-    same!(rt; first.gave_up.load(Ordering::SeqCst), 0);
-    holds!(rt; first.clips.load(Ordering::SeqCst) > 0);
+    assert_eq!(rt; ended.desk.status().next, 20);
+    assert_eq!(rt; (ended.given_up, ended.left), (0, 0));
+    assert_eq!(rt; first.brought.load(Ordering::SeqCst), 20);
+    assert_eq!(rt; first.stored.load(Ordering::SeqCst), 20);
+    assert_eq!(rt; first.gave_up.load(Ordering::SeqCst), 0);
+    assert!(rt; first.clips.load(Ordering::SeqCst) > 0);
     has_frame(&rt, alloc, &mut ended.desk, 18);
     has_frame(&rt, alloc, &mut ended.desk, 19);
     let second = guide(20, 20);
     let mut ended = film(&rt, alloc, &link, &second, again(&rt, ended));
-    same!(rt; ended.desk.status().next, 40);
-    same!(rt; (ended.given_up, ended.left), (0, 0));
+    assert_eq!(rt; ended.desk.status().next, 40);
+    assert_eq!(rt; (ended.given_up, ended.left), (0, 0));
     has_frame(&rt, alloc, &mut ended.desk, 39);
 }
 
@@ -261,8 +247,8 @@ fn has_stored(
     let Outcome { shot: _, filmed } = outcome;
     match filmed {
         Ok(mut ended) => {
-            same!(rt; ended.desk.status().next, u64::from(frames), frames);
-            same!(rt; (ended.given_up, ended.left), (0, 0), frames);
+            assert_eq!(rt; ended.desk.status().next, u64::from(frames), "{frames:?}");
+            assert_eq!(rt; (ended.given_up, ended.left), (0, 0), "{frames:?}");
             has_frame(rt, alloc, &mut ended.desk, frames.saturating_sub(1));
         }
         Err(_) => panic!(rt; "not filmed: {frames} frames"),
@@ -275,11 +261,11 @@ fn several_cameras_are_filmed_each_by_its_own_guide(rt: HostRuntime) {
     let mut shots = Vec::new(alloc);
     for ticks in &[20u64, 7] {
         let added = shots.push(shot(&rt, alloc, *ticks)).is_ok();
-        holds!(rt; added, *ticks);
+        assert!(rt; added, "{ticks:?}");
     }
     match film_all(&rt, alloc, shots) {
         Ok(mut outcomes) => {
-            same!(rt; outcomes.len(), 2);
+            assert_eq!(rt; outcomes.len(), 2);
             has_stored(&rt, alloc, outcomes.pop(), 7);
             has_stored(&rt, alloc, outcomes.pop(), 20);
         }
@@ -301,15 +287,27 @@ fn frames_that_a_broken_disk_does_not_take_are_counted(rt: HostRuntime) {
         let status = ended.desk.status();
         let brought = told.brought.load(Ordering::SeqCst);
         let lost = ended.given_up.saturating_add(ended.left);
-        same!(rt; brought.saturating_add(lost), 20, passed);
-        same!(rt; told.gave_up.load(Ordering::SeqCst), ended.given_up, passed);
-        same!(rt; told.stored.load(Ordering::SeqCst), status.next, passed);
-        same!(rt; status.next.saturating_add(u64::from(status.pending)), brought, passed);
+        assert_eq!(rt; brought.saturating_add(lost), 20, "{passed:?}");
+        assert_eq!(rt;
+            told.gave_up.load(Ordering::SeqCst),
+            ended.given_up,
+            "{passed:?}"
+        );
+        assert_eq!(rt;
+            told.stored.load(Ordering::SeqCst),
+            status.next,
+            "{passed:?}"
+        );
+        assert_eq!(rt;
+            status.next.saturating_add(u64::from(status.pending)),
+            brought,
+            "{passed:?}"
+        );
         if status.must_reopen {
             broken = true;
         }
     }
-    holds!(rt; broken);
+    assert!(rt; broken);
 }
 
 // The text of the pattern's frames 18 and 19: up to the bytes of the first, and from then on.
@@ -352,9 +350,9 @@ fn what_a_camera_filmed_becomes_a_text(rt: HostRuntime) {
         missed: 0,
         failed: 0,
     };
-    same!(rt; lost, Some(none));
-    same!(rt; text.len(), FIRST.len() + SECOND.len());
-    holds!(rt; text.starts_with(FIRST) && text.ends_with(SECOND));
+    assert_eq!(rt; lost, Some(none));
+    assert_eq!(rt; text.len(), FIRST.len() + SECOND.len());
+    assert!(rt; text.starts_with(FIRST) && text.ends_with(SECOND));
 }
 
 type TestFront = Front<Pattern, HeapPlane, Guided>;
@@ -362,9 +360,7 @@ type TestFront = Front<Pattern, HeapPlane, Guided>;
 type TestBack = Back<MemDisk, Guided>;
 
 // The outcome of taking a frame, in a word.
-fn take(alloc: Global, front: &mut TestFront) -> &'static str
-    ensures { front.new ≡ front.old }
-{
+fn take(alloc: Global, front: &mut TestFront) -> &'static str {
     let mut spare = None;
     match front.take(alloc, &mut spare) {
         TakeOutcome::Frame => "frame",
@@ -376,10 +372,7 @@ fn take(alloc: Global, front: &mut TestFront) -> &'static str
 }
 
 // Which buffer the next tick completes.
-fn tick<R: Wait + Clock>(rt: &R, front: &mut TestFront, told: &Guided) -> Option<u32>
-    requires { told.now ≡ front.old.guide }
-    ensures { front.new ≡ front.old }
-{
+fn tick<R: Wait + Clock>(rt: &R, front: &mut TestFront, told: &Guided) -> Option<u32> {
     match front.tick(rt, told) {
         Some(Tick::Completed(index)) => Some(index),
         _ => None,
@@ -387,9 +380,7 @@ fn tick<R: Wait + Clock>(rt: &R, front: &mut TestFront, told: &Guided) -> Option
 }
 
 // The outcome of bringing a frame, in a word.
-fn bring(back: &mut TestBack) -> &'static str
-    ensures { back.new ≡ record back.old { desks = back.new.desks } }
-{
+fn bring(back: &mut TestBack) -> &'static str {
     match back.bring(false) {
         Brought::Nothing => "nothing",
         Brought::NoRoom => "no room",
@@ -399,53 +390,43 @@ fn bring(back: &mut TestBack) -> &'static str
 }
 
 // Three frames are completed, and two fill the ring.
-fn fill_ring<R: Abort + Wait + Clock>(rt: &R, alloc: Global, front: &mut TestFront, told: &Guided)
-    requires { told.now ≡ front.old.guide }
-    ensures { front.new ≡ front.old }
-{
-    same!(rt; take(alloc, front), "queue");
-    same!(rt; tick(rt, front, told), Some(0));
-    same!(rt; tick(rt, front, told), Some(1));
-    same!(rt; tick(rt, front, told), Some(2));
-    same!(rt; take(alloc, front), "frame");
-    same!(rt; take(alloc, front), "HandFull");
-    holds!(rt; front.put_back().is_ok());
-    same!(rt; take(alloc, front), "frame");
-    holds!(rt; front.put_back().is_ok());
-    same!(rt; take(alloc, front), "ring full");
+fn fill_ring<R: Abort + Wait + Clock>(rt: &R, alloc: Global, front: &mut TestFront, told: &Guided) {
+    assert_eq!(rt; take(alloc, front), "queue");
+    assert_eq!(rt; tick(rt, front, told), Some(0));
+    assert_eq!(rt; tick(rt, front, told), Some(1));
+    assert_eq!(rt; tick(rt, front, told), Some(2));
+    assert_eq!(rt; take(alloc, front), "frame");
+    assert_eq!(rt; take(alloc, front), "HandFull");
+    assert!(rt; front.put_back().is_ok());
+    assert_eq!(rt; take(alloc, front), "frame");
+    assert!(rt; front.put_back().is_ok());
+    assert_eq!(rt; take(alloc, front), "ring full");
 }
 
 // Two frames fill the desk.
-fn fill_desk(rt: &impl Abort, back: &mut TestBack)
-    ensures { back.new ≡ record back.old { desks = back.new.desks } }
-{
-    same!(rt; bring(back), "submitted");
-    same!(rt; bring(back), "submitted");
-    same!(rt; bring(back), "no room");
+fn fill_desk(rt: &impl Abort, back: &mut TestBack) {
+    assert_eq!(rt; bring(back), "submitted");
+    assert_eq!(rt; bring(back), "submitted");
+    assert_eq!(rt; bring(back), "no room");
 }
 
 // No flush was refused, so no frame is given up: the two are stored, and the third comes to the desk.
-fn store_and_bring(rt: &impl Abort, back: &mut TestBack)
-    ensures { back.new ≡ record back.old { desks = back.new.desks } }
-{
-    same!(rt; bring(back), "no room");
-    holds!(rt; back.give_up().is_none());
+fn store_and_bring(rt: &impl Abort, back: &mut TestBack) {
+    assert_eq!(rt; bring(back), "no room");
+    assert!(rt; back.give_up().is_none());
     match back.flush() {
-        Ok(flushed) => same!(rt; flushed.stored, 2),
+        Ok(flushed) => assert_eq!(rt; flushed.stored, 2),
         Err(fault) => panic!(rt; "no flush: {fault}"),
     }
-    same!(rt; bring(back), "submitted");
+    assert_eq!(rt; bring(back), "submitted");
 }
 
 // The third frame is taken, and then a fourth, whose buffer stays in the hand. Then the guide ends the front.
-fn take_last<R: Abort + Wait + Clock>(rt: &R, alloc: Global, front: &mut TestFront, told: &Guided)
-    requires { told.now ≡ front.old.guide }
-    ensures { front.new ≡ front.old }
-{
-    holds!(rt; front.put_back().is_ok());
-    same!(rt; tick(rt, front, told), Some(3));
-    same!(rt; take(alloc, front), "frame");
-    same!(rt; tick(rt, front, told), None);
+fn take_last<R: Abort + Wait + Clock>(rt: &R, alloc: Global, front: &mut TestFront, told: &Guided) {
+    assert!(rt; front.put_back().is_ok());
+    assert_eq!(rt; tick(rt, front, told), Some(3));
+    assert_eq!(rt; take(alloc, front), "frame");
+    assert_eq!(rt; tick(rt, front, told), None);
 }
 
 #[test]
@@ -464,18 +445,21 @@ fn a_front_and_a_back_work_by_turns(rt: HostRuntime) {
     let mut back = back_before(&rt, alloc, desk, from);
     fill_ring(&rt, alloc, &mut front, &told);
     fill_desk(&rt, &mut back);
-    same!(rt; take(alloc, &mut front), "frame");
+    assert_eq!(rt; take(alloc, &mut front), "frame");
     store_and_bring(&rt, &mut back);
     take_last(&rt, alloc, &mut front, &told);
     let Ok(parts) = front.into_ended() else {
         panic!(rt; "its guide has ended it")
     };
     let ended = end(begun, parts, back);
-    same!(rt; (ended.given_up, ended.left), (0, 1));
-    same!(rt; (ended.missed, ended.failed), (0, 0));
-    same!(rt; (ended.desk.status().next, ended.desk.status().pending), (2, 1));
+    assert_eq!(rt; (ended.given_up, ended.left), (0, 1));
+    assert_eq!(rt; (ended.missed, ended.failed), (0, 0));
+    assert_eq!(rt;
+        (ended.desk.status().next, ended.desk.status().pending),
+        (2, 1)
+    );
     match ended.hand {
-        Hand::Spent { index, .. } => same!(rt; index, 3),
+        Hand::Spent { index, .. } => assert_eq!(rt; index, 3),
         _ => panic!(rt; "no buffer is in the hand"),
     }
 }
@@ -486,10 +470,7 @@ fn back_before(
     alloc: Global,
     desk: Desk<MemDisk>,
     from: Consumer<Frame>,
-) -> TestBack
-    requires { received from ≡ [] }
-    ensures { result.from ≡ from }
-{
+) -> TestBack {
     match Back::new(alloc, 1, Seat::alone(desk), from) {
         Ok(back) => back,
         Err(_) => panic!(rt; "memory for a back"),
@@ -511,8 +492,8 @@ fn back_of_four(rt: &impl Abort, alloc: Global) -> TestBack {
             timestamp: u64::from(number) * 10,
         };
         let given = frame(alloc, stamp, 12).expect(rt, "memory for a frame");
-        holds!(rt; to.push(given).is_ok(), number);
-        same!(rt; bring(&mut back), "submitted", number);
+        assert!(rt; to.push(given).is_ok(), "{number:?}");
+        assert_eq!(rt; bring(&mut back), "submitted", "{number:?}");
     }
     back
 }
@@ -520,7 +501,7 @@ fn back_of_four(rt: &impl Abort, alloc: Global) -> TestBack {
 // Stores two frames.
 fn store_two(rt: &impl Abort, back: &mut TestBack) {
     match back.flush() {
-        Ok(flushed) => same!(rt; flushed.stored, 2),
+        Ok(flushed) => assert_eq!(rt; flushed.stored, 2),
         Err(fault) => panic!(rt; "no flush: {fault}"),
     }
 }
@@ -534,7 +515,7 @@ fn keep(
 ) -> (Option<Clip>, usize) {
     let place = back.active();
     let kept = back.keep(alloc, place, times, 7);
-    holds!(rt; kept.fault.is_none());
+    assert!(rt; kept.fault.is_none());
     (kept.clips.first().copied(), kept.clips.len())
 }
 
@@ -542,7 +523,7 @@ fn keep(
 fn a_keep_between_flushes_locks_what_is_held(rt: HostRuntime) {
     let alloc = rt.alloc();
     let mut back = back_of_four(&rt, alloc);
-    same!(rt; keep(&rt, alloc, &mut back, ALL).1, 0);
+    assert_eq!(rt; keep(&rt, alloc, &mut back, ALL).1, 0);
     store_two(&rt, &mut back);
     store_two(&rt, &mut back);
     let times = Times {
@@ -552,18 +533,21 @@ fn a_keep_between_flushes_locks_what_is_held(rt: HostRuntime) {
     let (Some(clip), count) = keep(&rt, alloc, &mut back, times) else {
         panic!(rt; "no clip")
     };
-    same!(rt; (clip.from, clip.to, clip.tag, count), (1, 2, 7, 1));
+    assert_eq!(rt; (clip.from, clip.to, clip.tag, count), (1, 2, 7, 1));
     match back.outline(alloc, back.active()) {
-        Ok(outline) => same!(rt; (outline.next, outline.clips.len(), outline.pending), (4, 1, 0)),
+        Ok(outline) => assert_eq!(rt;
+            (outline.next, outline.clips.len(), outline.pending),
+            (4, 1, 0)
+        ),
         Err(fault) => panic!(rt; "no outline: {fault}"),
     }
     let place = back.active();
     match back.read_frame(alloc, place, 3) {
-        Ok(read) => holds!(rt; are_of(&read.bytes, 3, 12)),
+        Ok(read) => assert!(rt; are_of(&read.bytes, 3, 12)),
         Err(fault) => panic!(rt; "frame 3: {fault}"),
     }
     let place = back.active();
-    holds!(rt; back.unlock_clip(place, clip.id).is_ok());
+    assert!(rt; back.unlock_clip(place, clip.id).is_ok());
     let place = back.active();
-    holds!(rt; back.unlock_clip(place, clip.id).is_err());
+    assert!(rt; back.unlock_clip(place, clip.id).is_err());
 }

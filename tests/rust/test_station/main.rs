@@ -11,7 +11,6 @@
 //! - `keeping`: keeps, `answers`: their lines, `ordering`: a camera's orders, `saving`: saves, `texts`: what saves
 //!   write, `told`: lines about a camera, `searching`: gaps in clips, each with its judge;
 //! - `world`: a station and its cameras, step by step.
-#![tactic(auto)]
 
 mod answers;
 mod camera;

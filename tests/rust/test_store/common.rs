@@ -1,8 +1,5 @@
 //! What the tests share: a geometry, frames of a pattern, images, and calls that check their preconditions first.
 
-ghost use Rattle.std.specs.Prelude.{◌≡◌, All, IsTrue, length};
-
-use crate::asserts::{holds as so, same};
 use loop_disk::{Disk, MemDisk};
 use loop_record::{Frame, FrameHead, Geometry, PixelFormat, SuperHead, TAGGED, encode_super};
 use loop_store::{Store, StoreFault};
@@ -56,9 +53,7 @@ pub(crate) fn numbers(alloc: Global, spans: &[(u64, u64)]) -> Result<Vec<u64>, A
 }
 
 // Whether each frame has this many bytes.
-fn have_size<A: Allocator>(frames: &[Frame<A>], size: usize) -> bool
-    ensures { IsTrue result → All (λ frame. length frame.bytes.items ≡ size) frames.now }
-{
+fn have_size<A: Allocator>(frames: &[Frame<A>], size: usize) -> bool {
     frames.iter().all(|frame| frame.bytes.len() == size)
 }
 
@@ -101,9 +96,12 @@ pub(crate) fn reads<D: Disk + Drop, A: Allocator>(
 ) -> Result<(), StoreFault> {
     let (head, bytes) = read(rt, alloc, store, number)?;
     let expected = frame(alloc, bytes.len(), number, attempt)?;
-    same!(rt; head.number, number);
-    same!(rt; (head.sequence, head.flags, head.timestamp), (expected.sequence, expected.flags, expected.timestamp));
-    same!(rt; bytes.as_slice(), expected.bytes.as_slice());
+    assert_eq!(rt; head.number, number);
+    assert_eq!(rt;
+        (head.sequence, head.flags, head.timestamp),
+        (expected.sequence, expected.flags, expected.timestamp)
+    );
+    assert_eq!(rt; bytes.as_slice(), expected.bytes.as_slice());
     Ok(())
 }
 
@@ -118,11 +116,11 @@ pub(crate) fn held<D: Disk + Drop, A: Allocator>(
 ) -> Result<Vec<u64>, StoreFault> {
     let numbers = store.frames(alloc)?;
     for number in &numbers {
-        so!(rt; store.holds(*number));
+        assert!(rt; store.holds(*number));
         reads(rt, alloc, store, *number, u64::from(again <= *number))?;
     }
     let next = numbers.last().map_or(0, |last| last.wrapping_add(1));
-    same!(rt; store.next(), next);
+    assert_eq!(rt; store.next(), next);
     let before = numbers.first().map_or(next, |first| first.wrapping_sub(1));
     is_not_held(rt, alloc, store, next);
     is_not_held(rt, alloc, store, before);
@@ -136,8 +134,11 @@ fn is_not_held<D: Disk + Drop, A: Allocator>(
     store: &mut Store<D, A>,
     number: u64,
 ) {
-    so!(rt; !store.holds(number));
-    same!(rt; read(rt, alloc, store, number).err(), Some(StoreFault::NotHeld));
+    assert!(rt; !store.holds(number));
+    assert_eq!(rt;
+        read(rt, alloc, store, number).err(),
+        Some(StoreFault::NotHeld)
+    );
 }
 
 /// Checks that these frames are held.
@@ -149,7 +150,7 @@ pub(crate) fn holds<D: Disk + Drop, A: Allocator>(
 ) -> Result<(), StoreFault> {
     let found = held(rt, alloc, store, u64::MAX)?;
     let expected = numbers(alloc, spans)?;
-    same!(rt; found.as_slice(), expected.as_slice());
+    assert_eq!(rt; found.as_slice(), expected.as_slice());
     Ok(())
 }
 
@@ -175,7 +176,7 @@ pub(crate) fn append_next<D: Disk + Drop>(rt: &impl Abort, alloc: Global, store:
     let number = store.next();
     let next = frame(alloc, 12, number, 0).expect(rt, "memory for a frame");
     let frames = vec![in alloc; next].expect(rt, "memory for a group");
-    same!(rt; append(rt, store, &frames), Ok(number));
+    assert_eq!(rt; append(rt, store, &frames), Ok(number));
 }
 
 /// The image after this many appends of one frame each.

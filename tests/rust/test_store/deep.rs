@@ -1,6 +1,5 @@
 //! Samples of more than 8 bits, and the times of frames.
 
-use crate::asserts::{holds, same};
 use loop_record::{Geometry, PixelFormat};
 use loop_y4m::{Depth, FrameLine, Y4mFault, Y4mReader, may_have, write_deep_header, write_frame};
 use std::alloc::Global;
@@ -181,11 +180,15 @@ fn told(
 // Checks what is read of a stream of a frame.
 fn reads(rt: &impl Abort, alloc: Global, (stream, format, bits): Row, width: u32) {
     let Some((found, shape, sides, bytes)) = told(rt, alloc, stream) else {
-        holds!(*rt; false, bits);
+        assert!(*rt; false, "{bits:?}");
         return;
     };
-    same!(*rt; (found, shape, sides), (bits, format, (width, 2)), bits);
-    holds!(*rt; stream.ends_with(&bytes), bits);
+    assert_eq!(*rt;
+        (found, shape, sides),
+        (bits, format, (width, 2)),
+        "{bits:?}"
+    );
+    assert!(*rt; stream.ends_with(&bytes), "{bits:?}");
 }
 
 #[test]
@@ -200,7 +203,7 @@ fn streams_of_ffmpeg_are_read(rt: HostRuntime) {
 fn eight_bits_alone_are_asked_for(rt: HostRuntime) {
     for (stream, _, bits) in &ROWS {
         let refused = Y4mReader::open(*stream).err();
-        same!(rt; refused, Some(Y4mFault::UnsupportedColour), bits);
+        assert_eq!(rt; refused, Some(Y4mFault::UnsupportedColour), "{bits:?}");
     }
 }
 
@@ -224,16 +227,16 @@ fn comes_back(rt: &impl Abort, alloc: Global, format: PixelFormat, depth: Depth)
         *byte = at as u8;
     }
     let mut text = Vec::new(alloc);
-    holds!(*rt; may_have(&geometry, depth));
-    holds!(*rt; write_deep_header(&geometry, depth, &mut text).is_ok());
-    holds!(*rt; write_frame(&frame, &mut text).is_ok());
+    assert!(*rt; may_have(&geometry, depth));
+    assert!(*rt; write_deep_header(&geometry, depth, &mut text).is_ok());
+    assert!(*rt; write_frame(&frame, &mut text).is_ok());
     let came = told(rt, alloc, text.as_slice());
     let Some((bits, shape, sides, bytes)) = came else {
-        holds!(*rt; false, depth);
+        assert!(*rt; false, "{depth:?}");
         return;
     };
-    same!(*rt; (bits, shape, sides), (depth.bits(), format, (width, 2)));
-    same!(*rt; bytes.as_slice(), frame.as_slice(), depth);
+    assert_eq!(*rt; (bits, shape, sides), (depth.bits(), format, (width, 2)));
+    assert_eq!(*rt; bytes.as_slice(), frame.as_slice(), "{depth:?}");
 }
 
 #[test]
@@ -249,10 +252,10 @@ fn each_depth_comes_back(rt: HostRuntime) {
 #[test]
 fn bits_have_their_depth(rt: HostRuntime) {
     for depth in &DEPTHS {
-        same!(rt; Depth::of_bits(depth.bits()), Some(*depth));
+        assert_eq!(rt; Depth::of_bits(depth.bits()), Some(*depth));
     }
     for bits in &[0u32, 1, 7, 11, 13, 15, 17, 31, 32, 264, u32::MAX] {
-        same!(rt; Depth::of_bits(*bits), None, bits);
+        assert_eq!(rt; Depth::of_bits(*bits), None, "{bits:?}");
     }
 }
 
@@ -279,7 +282,11 @@ const REFUSED: [(&[u8], Y4mFault); 13] = [
 #[test]
 fn deep_headers_are_refused_by_name(rt: HostRuntime) {
     for (header, fault) in &REFUSED {
-        same!(rt; Y4mReader::open_deep(*header).err(), Some(*fault), header);
+        assert_eq!(rt;
+            Y4mReader::open_deep(*header).err(),
+            Some(*fault),
+            "{header:?}"
+        );
     }
 }
 
@@ -328,9 +335,9 @@ fn first_line(
 fn a_frames_line_says_its_time(rt: HostRuntime) {
     for (frames, time) in &TIMES {
         let said = Ok(Some(FrameLine { time: *time }));
-        same!(rt; first_line(&rt, rt.alloc(), *frames), said, frames);
+        assert_eq!(rt; first_line(&rt, rt.alloc(), *frames), said, "{frames:?}");
     }
-    same!(rt; first_line(&rt, rt.alloc(), b""), Ok(None));
+    assert_eq!(rt; first_line(&rt, rt.alloc(), b""), Ok(None));
     let bad = first_line(&rt, rt.alloc(), b"FRAMEXt=1\na");
-    same!(rt; bad, Err(Y4mFault::BadHeader));
+    assert_eq!(rt; bad, Err(Y4mFault::BadHeader));
 }

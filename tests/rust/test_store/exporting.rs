@@ -1,9 +1,6 @@
 //! The held frames of a store, exported: the text, the pieces in which frames are copied, and what each fault leaves of
 //! the text.
 
-ghost use Rattle.std.specs.Prelude.{◌≡◌, All, IsTrue, length};
-
-use crate::asserts::{holds, same};
 use crate::fakes::{Gutter, reads, tell};
 use crate::reading::{PIXELS, TWO};
 use loop_disk::{Disk, DiskFault, FuseDisk, MemDisk, OnceDisk};
@@ -75,9 +72,7 @@ fn frame<A: Allocator + Copy>(rt: &impl Abort, alloc: A, size: usize, number: u6
 }
 
 // Whether each frame has this many bytes.
-fn have_size<A: Allocator>(frames: &[Frame<A>], size: usize) -> bool
-    ensures { IsTrue result → All (λ frame. length frame.bytes.items ≡ size) frames.now }
-{
+fn have_size<A: Allocator>(frames: &[Frame<A>], size: usize) -> bool {
     frames.iter().all(|frame| frame.bytes.len() == size)
 }
 
@@ -121,7 +116,7 @@ fn appends<D: Disk + Drop, A: Allocator + Copy>(
     count: u64,
 ) {
     for number in 0..count {
-        same!(rt; append(rt, alloc, store), Ok(number));
+        assert_eq!(rt; append(rt, alloc, store), Ok(number));
     }
 }
 
@@ -159,8 +154,8 @@ fn exported<D: Disk + Drop>(
 // Checks the export of the two frames up to this number.
 fn exports_both<D: Disk + Drop>(rt: &impl Abort, alloc: Global, store: &mut Store<D>, to: u64) {
     let (answer, text) = exported(alloc, store, 0, to);
-    same!(rt; answer, Ok(2), to);
-    same!(rt; text.as_slice(), TWO.as_slice(), to);
+    assert_eq!(rt; answer, Ok(2), "{to:?}");
+    assert_eq!(rt; text.as_slice(), TWO.as_slice(), "{to:?}");
     let shape = (PixelFormat::Ym12, 4, 2, (25, 1));
     reads(
         rt,
@@ -177,8 +172,8 @@ fn exports_two<D: Disk + Drop>(rt: &impl Abort, alloc: Global, store: &mut Store
         exports_both(rt, alloc, store, *to);
     }
     let (answer, text) = exported(alloc, store, 1, 1);
-    same!(rt; (answer, text.len()), (Ok(1), 57));
-    same!(rt; text.get(45..), TWO.get(63..));
+    assert_eq!(rt; (answer, text.len()), (Ok(1), 57));
+    assert_eq!(rt; text.get(45..), TWO.get(63..));
 }
 
 #[test]
@@ -201,8 +196,8 @@ fn exports_failing<D: Disk + Drop>(
     };
     let mut out = Gutter::new(alloc, Some(fails));
     let answer = export(alloc, store, 0, 1, &mut out);
-    same!(rt; answer, want, fails);
-    same!(rt; Some(out.got.as_slice()), TWO.get(..left), fails);
+    assert_eq!(rt; answer, want, "{fails:?}");
+    assert_eq!(rt; Some(out.got.as_slice()), TWO.get(..left), "{fails:?}");
 }
 
 // Fails each call in turn, in each of three ways.
@@ -248,8 +243,8 @@ fn pixels_of(rt: &impl Abort, alloc: Global, numbers: &[u64]) -> Vec<u8> {
 // Checks that a text has the frames of these numbers.
 fn has_frames(rt: &impl Abort, alloc: Global, text: &[u8], numbers: &[u64], note: u64) {
     let told = tell(rt, alloc, text);
-    same!(rt; told.frames, pixels_of(rt, alloc, numbers), note);
-    same!(rt; told.ends, [Ok(false); 2], note);
+    assert_eq!(rt; told.frames, pixels_of(rt, alloc, numbers), "{note:?}");
+    assert_eq!(rt; told.ends, [Ok(false); 2], "{note:?}");
 }
 
 // Checks that the frames of each range that are exported have these numbers.
@@ -261,7 +256,7 @@ fn are_exported<D: Disk + Drop>(
 ) {
     for ((from, to), numbers) in rows {
         let (answer, text) = exported(alloc, store, *from, *to);
-        same!(rt; answer, Ok(numbers.len() as u64), *from);
+        assert_eq!(rt; answer, Ok(numbers.len() as u64), "{from:?}");
         has_frames(rt, alloc, &text, numbers, *from);
     }
 }
@@ -296,10 +291,13 @@ fn exports_clipped<D: Disk + Drop>(
     store: &mut Store<D>,
     rows: &[Range],
 ) {
-    same!(rt; append(rt, alloc, store), Ok(6));
+    assert_eq!(rt; append(rt, alloc, store), Ok(6));
     are_exported(rt, alloc, store, rows);
     let (answer, text) = exported(alloc, store, 2, 3);
-    same!(rt; (answer, text.len()), (Err(ExportFault::Store(StoreFault::NotHeld)), 0));
+    assert_eq!(rt;
+        (answer, text.len()),
+        (Err(ExportFault::Store(StoreFault::NotHeld)), 0)
+    );
 }
 
 // The ring has recycled frames 0 and 1, or a clip has kept them.
@@ -327,8 +325,8 @@ fn exports_pieces<D: Disk + Drop>(
     let mut out = Sizes {
         sizes: Vec::new(alloc),
     };
-    same!(rt; export(alloc, store, 0, 0, &mut out), Ok(1));
-    same!(rt; out.sizes.as_slice(), sizes);
+    assert_eq!(rt; export(alloc, store, 0, 0, &mut out), Ok(1));
+    assert_eq!(rt; out.sizes.as_slice(), sizes);
 }
 
 #[test]
@@ -370,10 +368,14 @@ fn exported_once(rt: &impl Abort, alloc: Global, image: &[u8], call: u64) -> Opt
 // An export whose read failed is refused, and has written this many bytes of the text. A second export writes the whole
 // text.
 fn fails(rt: &impl Abort, told: &Twice, (text, length): (&[u8], usize), call: u64) {
-    same!(rt; told.0, Err(ExportFault::Store(StoreFault::Disk(DiskFault::Read))), call);
-    same!(rt; told.1.len(), length, call);
-    holds!(rt; Some(told.1.as_slice()) == text.get(..length), call);
-    same!(rt; told.2, Ok(1), call);
+    assert_eq!(rt;
+        told.0,
+        Err(ExportFault::Store(StoreFault::Disk(DiskFault::Read))),
+        "{call:?}"
+    );
+    assert_eq!(rt; told.1.len(), length, "{call:?}");
+    assert!(rt; Some(told.1.as_slice()) == text.get(..length), "{call:?}");
+    assert_eq!(rt; told.2, Ok(1), "{call:?}");
 }
 
 // Fails each call of an export in turn. It writes this many bytes of the text.
@@ -384,8 +386,8 @@ fn fails_in_turn(rt: &impl Abort, alloc: Global, image: &[u8], text: &[u8], leng
             continue;
         };
         let Some(length) = lengths.next() else {
-            same!(rt; told.0, Ok(1), call);
-            holds!(rt; told.1.as_slice() == text, call);
+            assert_eq!(rt; told.0, Ok(1), "{call:?}");
+            assert!(rt; told.1.as_slice() == text, "{call:?}");
             return;
         };
         fails(rt, &told, (text, *length), call);
@@ -399,7 +401,7 @@ fn a_read_that_fails_leaves_a_prefix_of_the_text(rt: HostRuntime) {
     let alloc = rt.alloc();
     let image = image_of(&rt, alloc, stored(&rt, alloc, LARGE, 1));
     let text = large_text(&rt, alloc);
-    same!(rt; text.len(), 65_584);
+    assert_eq!(rt; text.len(), 65_584);
     fails_in_turn(&rt, alloc, &image, &text, &[46, 46, 65_582, 65_582]);
 }
 
@@ -430,8 +432,8 @@ fn grows<D: Disk + Drop, A: Allocator + Copy>(
 ) {
     for (growths, to, want) in rows {
         let told = granted(alloc, (memory, given), store, *growths, *to);
-        same!(rt; told, *want, *growths);
-        same!(rt; memory.left(), 0, *growths);
+        assert_eq!(rt; told, *want, "{growths:?}");
+        assert_eq!(rt; memory.left(), 0, "{growths:?}");
     }
 }
 
@@ -465,10 +467,14 @@ fn exports_nothing<D: Disk + Drop, A: Allocator + Copy>(
     store: &mut Store<D, A>,
 ) {
     let failed = append(rt, given, store).err();
-    same!(rt; failed, Some(StoreFault::Disk(DiskFault::Write)));
+    assert_eq!(rt; failed, Some(StoreFault::Disk(DiskFault::Write)));
     for to in &[1, 2] {
         let told = granted(alloc, (memory, given), store, 0, *to);
-        same!(rt; told, (Err(ExportFault::Store(StoreFault::MustReopen)), 0), *to);
+        assert_eq!(rt;
+            told,
+            (Err(ExportFault::Store(StoreFault::MustReopen)), 0),
+            "{to:?}"
+        );
     }
 }
 

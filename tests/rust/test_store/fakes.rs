@@ -1,6 +1,5 @@
 //! Inputs and outputs that give or take one byte a call, and the outcome of reading a whole input.
 
-use crate::asserts::same;
 use loop_record::PixelFormat;
 use loop_y4m::{Y4mFault, Y4mReader};
 use std::alloc::Global;
@@ -155,7 +154,7 @@ pub fn reads<R: Read + Drop>(
     note: usize,
 ) {
     let told = tell(rt, alloc, input);
-    same!(rt; told.opened, opened, note);
-    same!(rt; told.frames.as_slice(), frames, note);
-    same!(rt; told.ends, [end; 2], note);
+    assert_eq!(rt; told.opened, opened, "{note:?}");
+    assert_eq!(rt; told.frames.as_slice(), frames, "{note:?}");
+    assert_eq!(rt; told.ends, [end; 2], "{note:?}");
 }

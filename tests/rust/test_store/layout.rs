@@ -1,6 +1,5 @@
 //! Sizes, and the bytes of each part of a disk.
 
-use crate::asserts::{holds, same};
 use loop_record::{
     CLIP_SIZE, Damage, Found, Frame, FrameHead, Geometry, HEAD_SIZE, LayoutFault, OPEN,
     PixelFormat, SegmentHead, Span, SuperHead, TABLE_SIZE, VERSION_GATE, decode_clip, decode_head,
@@ -35,21 +34,21 @@ const TINY: Geometry = Geometry {
 #[test]
 fn a_geometry_has_these_sizes_and_places(rt: HostRuntime) {
     assert!(rt; SMALL.check().is_ok() && TINY.check().is_ok());
-    same!(rt; SMALL.frame_bytes(), 12);
-    same!(rt; SMALL.segment_at(0), 2_560);
-    same!(rt; SMALL.segment_at(2), 3_760);
-    same!(rt; SMALL.gate_at(1, 1), 3_417);
-    same!(rt; SMALL.slot_at(1, 1), 3_716);
-    same!(rt; SMALL.disk_size(), 4_360);
-    same!(rt; TINY.disk_size(), 3_650);
-    same!(rt; PixelFormat::Ym12.planes(), 3);
-    same!(rt; PixelFormat::Ym12.plane_bytes(5, 3, 1), 6);
-    same!(rt; Damage::BlockTooHigh.number(), 6);
+    assert_eq!(rt; SMALL.frame_bytes(), 12);
+    assert_eq!(rt; SMALL.segment_at(0), 2_560);
+    assert_eq!(rt; SMALL.segment_at(2), 3_760);
+    assert_eq!(rt; SMALL.gate_at(1, 1), 3_417);
+    assert_eq!(rt; SMALL.slot_at(1, 1), 3_716);
+    assert_eq!(rt; SMALL.disk_size(), 4_360);
+    assert_eq!(rt; TINY.disk_size(), 3_650);
+    assert_eq!(rt; PixelFormat::Ym12.planes(), 3);
+    assert_eq!(rt; PixelFormat::Ym12.plane_bytes(5, 3, 1), 6);
+    assert_eq!(rt; Damage::BlockTooHigh.number(), 6);
     let wide = Geometry {
         segments: 65,
         ..SMALL
     };
-    holds!(rt; wide.check().is_err());
+    assert!(rt; wide.check().is_err());
 }
 
 // The front of the superblock of `SMALL`: its gate and name, version 1, 4 by 2, YM12, 25 over 1, three
@@ -75,10 +74,10 @@ fn superblock(rt: &impl Abort, front: &[u8], version: u32, gate: u8) {
     };
     encode_super(&head, &mut superblock);
     let (fields, rest) = superblock.split_at(VERSION_GATE);
-    same!(rt; fields, front, version);
-    holds!(rt; rest.iter().skip(1).all(|byte| *byte == 0), version);
-    same!(rt; rest.first(), Some(&gate), version);
-    same!(rt; decode_super(&superblock), Ok(head));
+    assert_eq!(rt; fields, front, "{version:?}");
+    assert!(rt; rest.iter().skip(1).all(|byte| *byte == 0), "{version:?}");
+    assert_eq!(rt; rest.first(), Some(&gate), "{version:?}");
+    assert_eq!(rt; decode_super(&superblock), Ok(head));
 }
 
 // A superblock of `SMALL` with this byte at a place is read with this answer.
@@ -93,7 +92,7 @@ fn changed(rt: &impl Abort, at: usize, byte: u8, want: Result<SuperHead, LayoutF
     if let Some(place) = superblock.get_mut(at) {
         *place = byte;
     }
-    same!(rt; decode_super(&superblock), want, (at, byte));
+    assert_eq!(rt; decode_super(&superblock), want, "{at:?}, {byte:?}");
 }
 
 #[test]
@@ -116,12 +115,12 @@ fn slot(rt: &impl Abort, frame: &Frame, bytes: &[u8]) {
     assert!(rt; frame.bytes.len() == 12);
     let mut slot = [0x5Au8; 44];
     encode_slot(3, frame, &mut slot);
-    same!(rt; slot.as_slice(), bytes);
+    assert_eq!(rt; slot.as_slice(), bytes);
     let mut head = [0x5Au8; HEAD_SIZE];
     encode_head(3, frame, &mut head);
-    same!(rt; Some(head.as_slice()), bytes.get(..HEAD_SIZE));
-    holds!(rt; decode_slot(&slot, 3).is_ok());
-    same!(rt; decode_slot(&slot, 2), Err(Damage::SlotHead));
+    assert_eq!(rt; Some(head.as_slice()), bytes.get(..HEAD_SIZE));
+    assert!(rt; decode_slot(&slot, 3).is_ok());
+    assert_eq!(rt; decode_slot(&slot, 2), Err(Damage::SlotHead));
 }
 
 #[test]
@@ -147,7 +146,7 @@ fn header(
 ) {
     assert!(rt; SMALL.check().is_ok() && bytes.len() == 512);
     put_u64(bytes, 8, block);
-    same!(rt; decode_header(&SMALL, bytes), want, block);
+    assert_eq!(rt; decode_header(&SMALL, bytes), want, "{block:?}");
 }
 
 // The entry of a clip from this number on is read with this answer in a version.
@@ -161,8 +160,8 @@ fn entry(
     assert!(rt; bytes.len() == 32);
     put_u64(bytes, 8, from);
     put_u32(bytes, 16, 3);
-    same!(rt; decode_clip(version, bytes), want, (version, from));
-    same!(rt; (u64_at(bytes, 8), u32_at(bytes, 16)), (from, 3));
+    assert_eq!(rt; decode_clip(version, bytes), want, "{version:?}, {from:?}");
+    assert_eq!(rt; (u64_at(bytes, 8), u32_at(bytes, 16)), (from, 3));
 }
 
 // The clip of the frames 2 and 3.
@@ -189,7 +188,7 @@ fn an_entry_has_its_tag_in_version_2_alone(rt: HostRuntime) {
         tag: 7 | 1 << 56,
     };
     encode_clip(span, &mut written);
-    same!(rt; written, bytes);
+    assert_eq!(rt; written, bytes);
 }
 
 #[test]
@@ -224,9 +223,9 @@ fn found(segment: u32, block: u64, frames: u32) -> Found {
 #[test]
 fn a_block_is_there_once_and_only_the_newest_may_lack_a_frame(rt: HostRuntime) {
     let open = [found(1, 3, 2), found(0, 5, 1)];
-    holds!(rt; !repeats(&open) && !lacks_frame(&SMALL, &open));
+    assert!(rt; !repeats(&open) && !lacks_frame(&SMALL, &open));
     let open = [found(1, 3, 2), found(2, 5, 1), found(0, 5, 2)];
-    holds!(rt; repeats(&open) && lacks_frame(&SMALL, &open));
+    assert!(rt; repeats(&open) && lacks_frame(&SMALL, &open));
 }
 
 // A table whose last clip ends at this number, from 7 on, is read with this answer.
@@ -239,7 +238,11 @@ fn clips(rt: &impl Abort, open: &[Found], to: u64, want: Result<Option<Span>, Da
     put_u64(&mut table, 63 * CLIP_SIZE + 24, 9);
     let mut clips = [None; 64];
     clips[63] = want.ok().flatten();
-    same!(rt; read_clips(&SMALL, 2, &table, open), want.map(|_| clips), to);
+    assert_eq!(rt;
+        read_clips(&SMALL, 2, &table, open),
+        want.map(|_| clips),
+        "{to:?}"
+    );
 }
 
 #[test]
@@ -258,8 +261,8 @@ fn the_next_number_and_the_clips_are_found(rt: HostRuntime) {
             frames: 1,
         },
     ];
-    same!(rt; next_after(&SMALL, &[]), 0);
-    same!(rt; next_after(&SMALL, &open), 9);
+    assert_eq!(rt; next_after(&SMALL, &[]), 0);
+    assert_eq!(rt; next_after(&SMALL, &open), 9);
     clips(
         &rt,
         &open,
@@ -277,7 +280,7 @@ fn the_next_number_and_the_clips_are_found(rt: HostRuntime) {
 fn locks(rt: &impl Abort, clips: &[Option<Span>], rows: &[(u64, bool)]) {
     assert!(rt; SMALL.check().is_ok());
     for (block, locked) in rows {
-        same!(rt; is_locked(&SMALL, *block, clips), *locked, *block);
+        assert_eq!(rt; is_locked(&SMALL, *block, clips), *locked, "{block:?}");
     }
 }
 
@@ -302,7 +305,7 @@ fn a_clip_locks_the_blocks_of_its_frames(rt: HostRuntime) {
 // The head of a slot, read for a number and a size, gives this answer.
 fn head(rt: &impl Abort, head: &[u8], asked: (u64, u32), want: Result<FrameHead, Damage>) {
     assert!(rt; head.len() == HEAD_SIZE);
-    same!(rt; decode_head(head, asked.0, asked.1), want, asked);
+    assert_eq!(rt; decode_head(head, asked.0, asked.1), want, "{asked:?}");
 }
 
 #[test]

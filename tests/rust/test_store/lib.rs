@@ -6,43 +6,25 @@
 //! - `layout`: sizes, and the bytes of each part of a disk; `ring`: calls of a ring, over a disk that claims nothing
 //!   of its bytes, so that a test may begin with any image; `upgrade`: upgrades of a clip table to version 2 of the
 //!   layout; `tables`: the segments and the clips in memory;
-//! - `common`: a geometry, frames of a pattern, images, and calls that check their preconditions first;
+//! - `common`: a geometry, frames of a pattern, images, and calls that look first at what they need;
 //! - `looks`: a store over a disk that is never written to;
 //! - `memory`: each growth is refused in turn;
 //! - `names`: the numbers, the names and the sentences of the refusals;
 //! - YUV4MPEG2: `reading` and `writing` have the worked rows of the format, with inputs and outputs that are cut,
 //!   interrupted or fail (`fakes`); `exporting`: what is exported of a store, read back; `real`: streams that ffmpeg
-//!   and mjpegtools wrote;
-//! - `asserts`: assertions that are cheap to prove.
-#![tactic(auto)]
+//!   and mjpegtools wrote.
 
-#[cfg(test)]
-mod asserts;
-#[cfg(test)]
 mod common;
-#[cfg(test)]
 mod deep;
-#[cfg(test)]
 mod exporting;
-#[cfg(test)]
 mod fakes;
-#[cfg(test)]
 mod layout;
-#[cfg(test)]
 mod looks;
-#[cfg(test)]
 mod memory;
-#[cfg(test)]
 mod names;
-#[cfg(test)]
 mod reading;
-#[cfg(test)]
 mod real;
-#[cfg(test)]
 mod ring;
-#[cfg(test)]
 mod tables;
-#[cfg(test)]
 mod upgrade;
-#[cfg(test)]
 mod writing;

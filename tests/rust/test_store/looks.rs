@@ -1,6 +1,5 @@
 //! A store that is looked at: heads that are read alone, and an opening over a disk that is never written to.
 
-use crate::asserts::{holds as so, same};
 use crate::common::*;
 use loop_disk::{Disk, DiskFault, FuseDisk, MemDisk};
 use loop_overlay::OverlayDisk;
@@ -32,7 +31,7 @@ fn opens<D: Disk + Drop>(rt: &impl Abort, alloc: Global, disk: D) -> Store<D> {
 // An opening clears the stray gate.
 fn clears(rt: &impl Abort, alloc: Global, image: Vec<u8>) {
     let cleared = opens(rt, alloc, MemDisk::of(image));
-    same!(rt; cleared.into_disk().bytes().get(3417), Some(&0));
+    assert_eq!(rt; cleared.into_disk().bytes().get(3417), Some(&0));
 }
 
 // A frame is stored after the two that the store holds.
@@ -51,8 +50,8 @@ fn is_left(rt: &impl Abort, alloc: Global, image: &[u8], beneath: MemDisk) -> Re
     let mut store = opens(rt, alloc, OverlayDisk::new(alloc, beneath));
     is_tried(rt, alloc, &mut store)?;
     let tried = store.into_disk();
-    so!(rt; tried.written() > 1);
-    so!(rt; tried.into_inner().bytes() == image);
+    assert!(rt; tried.written() > 1);
+    assert!(rt; tried.into_inner().bytes() == image);
     Ok(())
 }
 
@@ -75,11 +74,14 @@ fn reads_heads<D: Disk + Drop>(rt: &impl Abort, store: &mut Store<D>) {
         flags: 0x2000,
         timestamp: 40_000,
     };
-    same!(rt; store.read_head(3), Err(StoreFault::NotHeld));
-    same!(rt; store.read_head(1), Ok(head));
-    same!(rt; store.read_head(1), Err(StoreFault::Disk(DiskFault::Read)));
-    same!(rt; store.lock(0, 1, 0), Err(StoreFault::Disk(DiskFault::Write)));
-    same!(rt; store.read_head(1), Err(StoreFault::MustReopen));
+    assert_eq!(rt; store.read_head(3), Err(StoreFault::NotHeld));
+    assert_eq!(rt; store.read_head(1), Ok(head));
+    assert_eq!(rt; store.read_head(1), Err(StoreFault::Disk(DiskFault::Read)));
+    assert_eq!(rt;
+        store.lock(0, 1, 0),
+        Err(StoreFault::Disk(DiskFault::Write))
+    );
+    assert_eq!(rt; store.read_head(1), Err(StoreFault::MustReopen));
 }
 
 // Opening three frames in three segments takes nine calls: a sync, and reads of the superblock, of the clips, of each

@@ -1,10 +1,5 @@
 //! Memory that is refused, at each growth.
 
-ghost use Rattle.std.specs.Prelude.{All, IsTrue};
-ghost use Rattle.loop_record.specs.Geometry.{is_good};
-ghost use Rattle.loop_store.specs.Runs.{IsOfSize};
-
-use crate::asserts::{holds as so, same};
 use crate::common::*;
 use loop_disk::{Disk, FuseDisk, MemDisk};
 use loop_record::{Geometry, Span, Times};
@@ -15,10 +10,7 @@ use std::test::Fail;
 use test_alloc::Budget;
 
 // Whether a frame that is to be stored has the geometry's size.
-fn fits<A: Allocator>(command: &Command<A>, geometry: &Geometry) -> bool
-    requires { IsTrue (is_good geometry.now) }
-    ensures { IsTrue result → IsOfSize geometry.now command.now }
-{
+fn fits<A: Allocator>(command: &Command<A>, geometry: &Geometry) -> bool {
     match command {
         Command::Store(frame) => frame.bytes.len() == geometry.frame_bytes() as usize,
         _ => true,
@@ -26,10 +18,7 @@ fn fits<A: Allocator>(command: &Command<A>, geometry: &Geometry) -> bool
 }
 
 // Whether each frame that is to be stored has the geometry's size.
-fn all_fit<A: Allocator>(commands: &[Command<A>], geometry: &Geometry) -> bool
-    requires { IsTrue (is_good geometry.now) }
-    ensures { IsTrue result → All (IsOfSize geometry.now) commands.now }
-{
+fn all_fit<A: Allocator>(commands: &[Command<A>], geometry: &Geometry) -> bool {
     commands.iter().all(|command| fits(command, geometry))
 }
 
@@ -74,10 +63,17 @@ fn formats(
 // Formats a disk of zeros where each growth is refused in turn.
 fn grows_in_format(rt: &impl Abort, alloc: Global, memory: &Budget, growths: u64) {
     for allowed in 0..growths {
-        same!(rt; formats(rt, alloc, memory, allowed), Err((StoreFault::NoMemory, 9)), allowed);
-        same!(rt; memory.left(), 0, allowed);
+        assert_eq!(rt;
+            formats(rt, alloc, memory, allowed),
+            Err((StoreFault::NoMemory, 9)),
+            "{allowed:?}"
+        );
+        assert_eq!(rt; memory.left(), 0, "{allowed:?}");
     }
-    same!(rt; (formats(rt, alloc, memory, growths), memory.left()), (Ok(0), 0));
+    assert_eq!(rt;
+        (formats(rt, alloc, memory, growths), memory.left()),
+        (Ok(0), 0)
+    );
 }
 
 // The opening of an image with this many of the newest blocks kept is refused, and hands the image back.
@@ -92,8 +88,8 @@ fn is_refused(
     let Err(refused) = Store::open_keeping(memory, disk_of(rt, alloc, image), keep) else {
         panic!(rt; "it is opened, and {keep} blocks are kept")
     };
-    same!(rt; (refused.fault, memory.left()), (fault, 0), keep);
-    so!(rt; refused.disk.bytes() == image, keep);
+    assert_eq!(rt; (refused.fault, memory.left()), (fault, 0), "{keep:?}");
+    assert!(rt; refused.disk.bytes() == image, "{keep:?}");
 }
 
 // Opens an image with this many of the newest blocks kept, where each growth is refused in turn.
@@ -131,9 +127,12 @@ fn upgrades_without_growth(rt: &impl Abort, alloc: Global, memory: &Budget) {
     let Ok(mut store) = format_v1(memory, zeros(rt, alloc), SMALL) else {
         panic!(rt; "these growths are enough")
     };
-    same!(rt; (store.version(), store.lock(0, 0, 9)), (1, Err(StoreFault::ClipNotHeld(0))));
-    same!(rt; (store.upgrade(), store.version()), (Ok(true), 2));
-    same!(rt; (store.upgrade(), memory.left()), (Ok(false), 0));
+    assert_eq!(rt;
+        (store.version(), store.lock(0, 0, 9)),
+        (1, Err(StoreFault::ClipNotHeld(0)))
+    );
+    assert_eq!(rt; (store.upgrade(), store.version()), (Ok(true), 2));
+    assert_eq!(rt; (store.upgrade(), memory.left()), (Ok(false), 0));
 }
 
 // Stores a frame where no memory is granted but for the frame.
@@ -147,7 +146,7 @@ fn stores_without_growth<'a>(
     memory.allow(1);
     let next = frame(memory, 12, number, 0).expect(rt, "memory for a frame");
     let frames = vec![in alloc; next].expect(rt, "memory for a group");
-    same!(rt; append(rt, store, &frames), Ok(number));
+    assert_eq!(rt; append(rt, store, &frames), Ok(number));
 }
 
 // Lists the numbers, where the one growth of the list is refused, and then granted.
@@ -158,8 +157,11 @@ fn grows_in_frames<'a>(
 ) {
     for (allowed, count) in &[(0, None), (1, Some(5usize))] {
         memory.allow(*allowed);
-        same!(rt; store.frames(memory).ok().map(|numbers| numbers.len()), *count);
-        same!(rt; memory.left(), 0);
+        assert_eq!(rt;
+            store.frames(memory).ok().map(|numbers| numbers.len()),
+            *count
+        );
+        assert_eq!(rt; memory.left(), 0);
     }
 }
 
@@ -181,8 +183,8 @@ fn grows_in_sought<'a>(
     for (allowed, first) in &[(0, None), (1, None), (2, Some(run))] {
         memory.allow(*allowed);
         let runs = store.sought(memory, times).ok();
-        same!(rt; runs.and_then(|runs| runs.first().copied()), *first);
-        same!(rt; memory.left(), 0);
+        assert_eq!(rt; runs.and_then(|runs| runs.first().copied()), *first);
+        assert_eq!(rt; memory.left(), 0);
     }
 }
 
@@ -194,11 +196,11 @@ fn grows_in_clips<'a>(
     number: u64,
 ) {
     memory.allow(0);
-    same!(rt; store.lock(number, number, 9), Ok(0));
-    same!(rt; store.clips(memory).err(), Some(StoreFault::NoMemory));
-    same!(rt; store.unlock(0), Ok(()));
+    assert_eq!(rt; store.lock(number, number, 9), Ok(0));
+    assert_eq!(rt; store.clips(memory).err(), Some(StoreFault::NoMemory));
+    assert_eq!(rt; store.unlock(0), Ok(()));
     memory.allow(1);
-    same!(rt; store.clips(memory).ok().map(|clips| clips.len()), Some(0));
+    assert_eq!(rt; store.clips(memory).ok().map(|clips| clips.len()), Some(0));
 }
 
 // Reads a frame, where its one growth is refused, and then granted. A frame that isn't held needs none.
@@ -211,11 +213,14 @@ fn grows_in_reads<'a>(
     for (allowed, answer) in &[(0, Err(StoreFault::NoMemory)), (1, Ok(12usize))] {
         memory.allow(*allowed);
         let frame = store.read_frame(memory, number);
-        same!(rt; frame.map(|frame| frame.bytes.len()), *answer);
-        same!(rt; memory.left(), 0);
+        assert_eq!(rt; frame.map(|frame| frame.bytes.len()), *answer);
+        assert_eq!(rt; memory.left(), 0);
     }
     memory.allow(0);
-    same!(rt; store.read_frame(memory, u64::MAX).err(), Some(StoreFault::NotHeld));
+    assert_eq!(rt;
+        store.read_frame(memory, u64::MAX).err(),
+        Some(StoreFault::NotHeld)
+    );
 }
 
 // Does a list of one command that reads a frame, where each growth is refused in turn.
@@ -228,8 +233,8 @@ fn grows_in_commands<'a>(
     for (allowed, answer) in &[(0, None), (1, Some(false)), (2, Some(true))] {
         memory.allow(*allowed);
         let replies = run(rt, memory, store, &[Command::Read(number)]).ok();
-        same!(rt; replies.as_ref().map(|replies| has_read(replies)), *answer);
-        same!(rt; memory.left(), 0);
+        assert_eq!(rt; replies.as_ref().map(|replies| has_read(replies)), *answer);
+        assert_eq!(rt; memory.left(), 0);
     }
 }
 
@@ -268,6 +273,6 @@ fn each_growth_is_refused_in_turn(rt: HostRuntime) -> Result<(), Fail> {
     let seven = image_of(&rt, alloc, 7);
     refuses_to_keep(&rt, alloc, &memory, &seven, 4);
     let mut store = grows_in_open(&rt, alloc, &memory, &seven, (2, 4));
-    same!(rt; store.keep(), 2);
+    assert_eq!(rt; store.keep(), 2);
     Ok(grows_on(&rt, alloc, &memory, &mut store)?)
 }

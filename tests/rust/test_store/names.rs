@@ -1,6 +1,5 @@
 //! The names, the numbers and the sentences of the refusals.
 
-use crate::asserts::same;
 use loop_disk::DiskFault;
 use loop_record::Damage;
 use loop_store::{OpenRefused, StoreFault};
@@ -26,7 +25,7 @@ fn a_refusal_has_its_number_and_its_name(rt: HostRuntime) {
         (StoreFault::BadKeep, 22, "BadKeep"),
     ];
     for (fault, number, name) in faults.as_slice() {
-        same!(rt; (fault.number(), fault.name()), (*number, *name));
+        assert_eq!(rt; (fault.number(), fault.name()), (*number, *name));
     }
 }
 
@@ -54,7 +53,7 @@ fn a_refused_opening_is_printed_as_its_fault_with_the_cause(rt: HostRuntime) -> 
             disk: (),
         };
         let printed = format!(in rt.alloc(); "{refused}")?;
-        same!(rt; printed.as_str(), *sentence);
+        assert_eq!(rt; printed.as_str(), *sentence);
     }
     Ok(())
 }

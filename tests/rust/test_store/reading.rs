@@ -1,6 +1,5 @@
 //! The rows of the format, as they are read.
 
-use crate::asserts::same;
 use crate::fakes::{Drip, Shape, Want, reads, tell};
 use loop_record::{Geometry, PixelFormat};
 use loop_y4m::{GeometryFault, Y4mFault, Y4mReader};
@@ -185,7 +184,7 @@ const HEADERS: [(&[u8], Result<Shape, Y4mFault>); 36] = [
 // Checks what each of these header lines says.
 fn opens(rt: &impl Abort, alloc: Global, rows: &[(&[u8], Result<Shape, Y4mFault>)]) {
     for (row, (line, opened)) in rows.iter().enumerate() {
-        same!(rt; tell(rt, alloc, *line).opened, *opened, row);
+        assert_eq!(rt; tell(rt, alloc, *line).opened, *opened, "{row:?}");
     }
 }
 
@@ -282,7 +281,7 @@ fn gives_geometry(rt: &impl Abort, rows: &[(&[u8], u32, u32, Result<Geometry, Ge
             Ok(reader) => Some(reader.geometry(*segments, *slots)),
             Err(_) => None,
         };
-        same!(rt; given, Some(*want), row);
+        assert_eq!(rt; given, Some(*want), "{row:?}");
     }
 }
 
@@ -371,9 +370,17 @@ fn long_lines(
 ) {
     for (length, refusal, end) in rows {
         let header = long_header(rt, alloc, *length);
-        same!(rt; tell(rt, alloc, header.as_slice()).opened.err(), *refusal, *length);
+        assert_eq!(rt;
+            tell(rt, alloc, header.as_slice()).opened.err(),
+            *refusal,
+            "{length:?}"
+        );
         let frame = long_frame(rt, alloc, *length);
-        same!(rt; tell(rt, alloc, frame.as_slice()).ends, [*end; 2], *length);
+        assert_eq!(rt;
+            tell(rt, alloc, frame.as_slice()).ends,
+            [*end; 2],
+            "{length:?}"
+        );
     }
 }
 

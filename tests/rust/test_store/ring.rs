@@ -1,8 +1,5 @@
 //! Calls of a ring over images.
 
-ghost use Rattle.std.specs.Prelude.{◌≡◌, ◌≤◌, IfOk, vec_len};
-
-use crate::asserts::{holds, same};
 use loop_disk::{Disk, DiskFault, FuseDisk, MemDisk, OnceDisk};
 use loop_record::{Damage, FrameHead, Geometry, OPEN, PixelFormat};
 use loop_ring::{Ring, SlotFault};
@@ -27,11 +24,11 @@ const FOUR: Geometry = Geometry {
 pub(crate) struct Bare<D>(pub(crate) D);
 
 impl<D: Disk> Disk for Bare<D> {
-    ghost medium = { λ disk. record (D.medium disk.0) { honest = ⊥ } };
+    ghost medium = { ? };
 
-    ghost harsh = { λ disk. D.harsh disk.0 };
+    ghost harsh = { ? };
 
-    ghost sound = { λ disk honest. absurd honest };
+    ghost sound = { ? };
 
     fn size(&self) -> u64 {
         self.0.size()
@@ -55,16 +52,12 @@ impl<D: Disk> Disk for Bare<D> {
 }
 
 // The ring of the geometry above.
-fn ring() -> Ring
-    ensures { result.geometry ≡ FOUR }
-{
+fn ring() -> Ring {
     Ring::new(FOUR)
 }
 
 // A disk of bytes 0x5A, in which segment 0 has block 0, with these frame gates and frame 3 in slot 3.
-fn image(alloc: Global, gates: [u8; 4]) -> Result<Vec<u8>, AllocError>
-    ensures { IfOk result (λ image. vec_len image ≡ 3936) }
-{
+fn image(alloc: Global, gates: [u8; 4]) -> Result<Vec<u8>, AllocError> {
     let mut image = vec![in alloc; 0x5A; 3936]?;
     image[2560..3072].fill(0);
     image[2560] = OPEN;
@@ -76,11 +69,7 @@ fn image(alloc: Global, gates: [u8; 4]) -> Result<Vec<u8>, AllocError>
 }
 
 // Clears the stray gates of segment 0.
-fn clear<D: Disk>(ring: &Ring, disk: &mut Bare<D>, frames: u32) -> Result<(), DiskFault>
-    requires ring { ring.now.geometry ≡ FOUR }
-    requires size { (D.medium disk.old.0).size ≡ 3936 }
-    requires frames { frames ≤ 4 }
-{
+fn clear<D: Disk>(ring: &Ring, disk: &mut Bare<D>, frames: u32) -> Result<(), DiskFault> {
     ring.clear_stray(disk, 0, frames)
 }
 
@@ -113,9 +102,9 @@ fn clears(rt: &impl Abort, alloc: Global, row: &Cleared) -> Result<(), Fail> {
     let expected = image(alloc, after)?;
     let mut disk = Bare(FuseDisk::new(MemDisk::of(image(alloc, before)?), calls));
     assert!(rt; frames <= 4);
-    same!(rt; clear(&ring(), &mut disk, frames), Ok(()), before);
-    same!(rt; disk.0.left, 0, before);
-    holds!(rt; disk.0.inner.bytes() == expected.as_slice(), before);
+    assert_eq!(rt; clear(&ring(), &mut disk, frames), Ok(()), "{before:?}");
+    assert_eq!(rt; disk.0.left, 0, "{before:?}");
+    assert!(rt; disk.0.inner.bytes() == expected.as_slice(), "{before:?}");
     Ok(())
 }
 
@@ -125,8 +114,8 @@ fn clears_in_part(rt: &impl Abort, alloc: Global, row: &Uncleared) -> Result<(),
     let expected = image(alloc, after)?;
     let before = image(alloc, [0xA5, 0x07, 0xA5, 0x01])?;
     let mut disk = Bare(OnceDisk::torn(MemDisk::of(before), call, keep));
-    same!(rt; clear(&ring(), &mut disk, 1), Err(fault), call);
-    holds!(rt; disk.0.inner.bytes() == expected.as_slice(), call);
+    assert_eq!(rt; clear(&ring(), &mut disk, 1), Err(fault), "{call:?}");
+    assert!(rt; disk.0.inner.bytes() == expected.as_slice(), "{call:?}");
     Ok(())
 }
 
@@ -153,9 +142,9 @@ fn reads(rt: &impl Abort, alloc: Global, row: &Asked) -> Result<(), Fail> {
     let mut disk = Bare(FuseDisk::new(MemDisk::of(image), calls));
     let mut out = [0; 12];
     let answer = ring().read_slot(&mut disk, 0, 3, number, &mut out);
-    same!(rt; answer, expected, at);
+    assert_eq!(rt; answer, expected, "{at:?}");
     if expected.is_ok() {
-        same!(rt; out, [3, 4, 5, 6, 7, 8, 9, 10, 11, 12, 13, 14], at);
+        assert_eq!(rt; out, [3, 4, 5, 6, 7, 8, 9, 10, 11, 12, 13, 14], "{at:?}");
     }
     Ok(())
 }

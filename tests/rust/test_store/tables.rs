@@ -1,8 +1,5 @@
 //! The segments and the clips in memory.
 
-ghost use Rattle.std.specs.Prelude.{◌≡◌, ◌<◌, All, IfOk, length};
-
-use crate::asserts::{holds, same};
 use crate::common::SMALL;
 use loop_clips::{CLIPS, Clip, ClipTable};
 use loop_record::{SegmentHead, Span};
@@ -16,9 +13,7 @@ use test_alloc::Budget;
 fn index<A: Allocator + Copy>(
     alloc: A,
     heads: [Option<SegmentHead>; 3],
-) -> Result<SegmentIndex<A>, AllocError>
-    ensures { IfOk result (λ index. (length index.heads ≡ 3) × All (λ count. count < 64) index.clips) }
-{
+) -> Result<SegmentIndex<A>, AllocError> {
     let mut index = SegmentIndex::new(alloc, 3)?;
     index.set(0, heads[0], 0);
     index.set(1, heads[1], 0);
@@ -43,21 +38,19 @@ fn clip(number: u64) -> Option<Span> {
 // Checks whether the index has these numbers.
 fn holds_these<A: Allocator>(rt: &impl Abort, index: &SegmentIndex<A>, rows: &[(u64, bool)]) {
     for (number, held) in rows {
-        same!(rt; index.holds(2, *number), *held, *number);
+        assert_eq!(rt; index.holds(2, *number), *held, "{number:?}");
     }
 }
 
 // Checks the index of a block 3 with one frame, a closed segment, and a block 2 with both frames. Then block 4 is begun
 // in the closed segment.
-fn finds<A: Allocator>(rt: &impl Abort, index: &mut SegmentIndex<A>)
-    requires { length index.old.heads ≡ 3 }
-{
-    same!(rt; (index.find(2).0, index.find(1).0), (Some(2), None));
-    same!(rt; index.first_closed(), Some(1));
+fn finds<A: Allocator>(rt: &impl Abort, index: &mut SegmentIndex<A>) {
+    assert_eq!(rt; (index.find(2).0, index.find(1).0), (Some(2), None));
+    assert_eq!(rt; index.first_closed(), Some(1));
     holds_these(rt, index, &[(3, false), (5, true), (6, true), (7, false)]);
     index.set(1, open(4, 0), 0);
-    same!(rt; index.get(1), open(4, 0));
-    same!(rt; (index.first_closed(), index.held_blocks()), (None, 2));
+    assert_eq!(rt; index.get(1), open(4, 0));
+    assert_eq!(rt; (index.first_closed(), index.held_blocks()), (None, 2));
 }
 
 #[test]
@@ -65,22 +58,22 @@ fn segments_are_found_by_what_they_hold(rt: HostRuntime) -> Result<(), Fail> {
     let memory = Budget::new(rt.alloc());
     for blocks in 0..3 {
         memory.allow(blocks);
-        holds!(rt; SegmentIndex::new(&memory, 3).is_err(), blocks);
+        assert!(rt; SegmentIndex::new(&memory, 3).is_err(), "{blocks:?}");
     }
     memory.allow(3);
     let heads = [open(3, 1), None, open(2, 2)];
     let mut index = index(&memory, heads)?;
     memory.allow(0);
-    same!(rt; index.heads(), heads.as_slice());
+    assert_eq!(rt; index.heads(), heads.as_slice());
     finds(&rt, &mut index);
     Ok(())
 }
 
 // Checks that the open segments of an index are these, in this order: a segment, its block and its frames.
 fn stand<A: Allocator>(rt: &impl Abort, index: &SegmentIndex<A>, rows: &[(u32, u64, u32)]) {
-    same!(rt; index.in_order().len(), rows.len());
+    assert_eq!(rt; index.in_order().len(), rows.len());
     for (found, row) in index.in_order().iter().zip(rows) {
-        same!(rt; (found.segment, found.block, found.frames), *row);
+        assert_eq!(rt; (found.segment, found.block, found.frames), *row);
     }
 }
 
@@ -101,9 +94,7 @@ fn mixed_block(segment: u32) -> u64 {
 }
 
 // 64 segments in that order. The second and the third block of memory are for the counts and the sorted entries.
-fn mixed(memory: &Budget<Global>) -> Result<SegmentIndex<&Budget<Global>>, AllocError>
-    ensures { IfOk result (λ index. length index.heads ≡ 64) }
-{
+fn mixed(memory: &Budget<Global>) -> Result<SegmentIndex<&Budget<Global>>, AllocError> {
     let mut heads = [None; 64];
     for (segment, head) in heads.iter_mut().enumerate() {
         *head = open(mixed_block(segment as u32), 1);
@@ -116,8 +107,8 @@ fn mixed(memory: &Budget<Global>) -> Result<SegmentIndex<&Budget<Global>>, Alloc
 fn finds_soon<A: Allocator>(rt: &impl Abort, index: &SegmentIndex<A>, rows: &[(u64, Option<u32>)]) {
     for (block, expected) in rows {
         let (found, looks) = index.find(*block);
-        same!(rt; found, *expected, *block);
-        holds!(rt; looks <= 7, (*block, looks));
+        assert_eq!(rt; found, *expected, "{block:?}");
+        assert!(rt; looks <= 7, "{block:?}, {looks:?}");
     }
 }
 
@@ -126,7 +117,7 @@ fn a_block_is_found_by_few_comparisons(rt: HostRuntime) -> Result<(), Fail> {
     let memory = Budget::new(rt.alloc());
     for blocks in 1..3 {
         memory.allow(blocks);
-        holds!(rt; mixed(&memory).is_err(), blocks);
+        assert!(rt; mixed(&memory).is_err(), "{blocks:?}");
     }
     memory.allow(3);
     let mut index = mixed(&memory)?;
@@ -149,9 +140,7 @@ const ABSENT: [(u64, Option<u32>); 5] = [
 ];
 
 // Checks the index of the 64 segments after some of them move.
-fn moves<A: Allocator>(rt: &impl Abort, index: &mut SegmentIndex<A>)
-    requires { length index.old.heads ≡ 64 }
-{
+fn moves<A: Allocator>(rt: &impl Abort, index: &mut SegmentIndex<A>) {
     // Segment 5 had block 10 + 3 * 57; 6 moves after all blocks, and then 50 to the block of 20.
     index.set(5, None, 0);
     index.set(6, open(u64::MAX, 0), 0);
@@ -187,7 +176,7 @@ fn goes(rt: &impl Abort, alloc: Global, row: &Row) -> Result<(), AllocError> {
     index.count_clips(&SMALL, &row.1);
     let block = index.victim();
     let segment = block.and_then(|block| index.find(block).0);
-    same!(rt; block.zip(segment), row.2, row.0);
+    assert_eq!(rt; block.zip(segment), row.2, "{:?}", row.0);
     Ok(())
 }
 
@@ -227,25 +216,25 @@ fn the_victim_follows_locks_and_appends(rt: HostRuntime) -> Result<(), Fail> {
     memory.allow(3);
     let mut index = index(&memory, [open(3, 2), open(1, 2), open(4, 1)])?;
     memory.allow(0);
-    same!(rt; index.victim(), Some(1));
+    assert_eq!(rt; index.victim(), Some(1));
     index.lock_clip(&SMALL, span(2));
-    same!(rt; index.victim(), Some(3));
+    assert_eq!(rt; index.victim(), Some(3));
     // Blocks 1 and 3 are locked, and 4 is the newest.
     let clips = [clip(2), clip(6)];
     index.set(0, open(3, 2), clips_on(&SMALL, &clips, open(3, 2)));
-    same!(rt; index.victim(), None);
+    assert_eq!(rt; index.victim(), None);
     index.unlock_clip(&SMALL, span(6));
-    same!(rt; index.victim(), Some(3));
+    assert_eq!(rt; index.victim(), Some(3));
     // Block 5 is begun in the segment of 3, and grows.
     let frames = 1;
     let head = Some(SegmentHead { block: 5, frames });
     index.set(0, head, clips_on(&SMALL, &[clip(2), None], head));
-    same!(rt; (index.victim(), index.held_blocks()), (Some(4), 3));
+    assert_eq!(rt; (index.victim(), index.held_blocks()), (Some(4), 3));
     index.grow(0, 2);
-    same!(rt; (index.get(0), index.victim()), (open(5, 2), Some(4)));
+    assert_eq!(rt; (index.get(0), index.victim()), (open(5, 2), Some(4)));
     stand(&rt, &index, &[(1, 1, 2), (2, 4, 1), (0, 5, 2)]);
     index.unlock_clip(&SMALL, span(2));
-    same!(rt; index.victim(), Some(1));
+    assert_eq!(rt; index.victim(), Some(1));
     Ok(())
 }
 
@@ -270,7 +259,12 @@ fn goes_keeping(rt: &impl Abort, alloc: Global, row: &KeptRow) -> Result<(), All
     let mut keep = 1u32;
     for victim in row.2.as_slice() {
         index.keep_newest(keep);
-        same!(rt; (index.keep(), index.victim()), (keep, *victim), (row.0, row.1));
+        assert_eq!(rt;
+            (index.keep(), index.victim()),
+            (keep, *victim),
+            "{:?}",
+            (row.0, row.1)
+        );
         keep = keep.wrapping_add(1);
     }
     Ok(())
@@ -300,7 +294,7 @@ fn the_kept_number_of_the_newest_held_blocks_stays(rt: HostRuntime) -> Result<()
 
 // Keeps this many of the newest blocks. Then this block would go.
 fn keeps<A: Allocator>(rt: &impl Abort, index: &SegmentIndex<A>, keep: u32, victim: Option<u64>) {
-    same!(rt; (index.keep(), index.victim()), (keep, victim));
+    assert_eq!(rt; (index.keep(), index.victim()), (keep, victim));
 }
 
 #[test]
@@ -328,7 +322,7 @@ fn the_kept_blocks_follow_locks_and_appends(rt: HostRuntime) -> Result<(), Fail>
     // To keep none is to keep one.
     index.keep_newest(0);
     keeps(&rt, &index, 0, Some(1));
-    same!(rt; memory.left(), 0);
+    assert_eq!(rt; memory.left(), 0);
     Ok(())
 }
 
@@ -340,14 +334,14 @@ fn listed(id: u32, from: u64, to: u64, tag: u64) -> Clip {
 // Checks the clips that a table has under ids.
 fn has_clips(rt: &impl Abort, table: &ClipTable, rows: &[(u32, Option<Span>)]) {
     for (id, expected) in rows {
-        same!(rt; table.get(*id), *expected, *id);
+        assert_eq!(rt; table.get(*id), *expected, "{id:?}");
     }
 }
 
 // Checks which blocks of two frames a table's clips meet.
 fn meets(rt: &impl Abort, table: &ClipTable, rows: &[(u64, bool)]) {
     for (block, met) in rows {
-        same!(rt; table.meets(&SMALL, *block), *met, *block);
+        assert_eq!(rt; table.meets(&SMALL, *block), *met, "{block:?}");
     }
 }
 
@@ -360,9 +354,9 @@ fn lists(
 ) -> Result<(), AllocError> {
     let memory = Budget::new(alloc);
     memory.allow(0);
-    holds!(rt; table.list(&memory).is_err());
+    assert!(rt; table.list(&memory).is_err());
     memory.allow(1);
-    same!(rt; table.list(&memory)?.as_slice(), clips);
+    assert_eq!(rt; table.list(&memory)?.as_slice(), clips);
     Ok(())
 }
 
@@ -374,7 +368,7 @@ fn clips_are_kept_as_they_were_read(rt: HostRuntime) -> Result<(), Fail> {
     clips[2] = tagged(256, 255, 8);
     clips[63] = clip(u64::MAX);
     let table = ClipTable::of(clips);
-    same!(rt; table.as_slice(), clips.as_slice());
+    assert_eq!(rt; table.as_slice(), clips.as_slice());
     let ids = [
         (0, tagged(2, 5, 9)),
         (1, None),
@@ -404,6 +398,6 @@ fn clips_are_kept_as_they_were_read(rt: HostRuntime) -> Result<(), Fail> {
 
 #[test]
 fn an_empty_table_has_no_clip(rt: HostRuntime) -> Result<(), Fail> {
-    holds!(rt; ClipTable::empty().list(rt.alloc())?.is_empty());
+    assert!(rt; ClipTable::empty().list(rt.alloc())?.is_empty());
     Ok(())
 }

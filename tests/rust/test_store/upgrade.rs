@@ -1,8 +1,5 @@
 //! Upgrades of a clip table to version 2 of the layout: which bytes are written, in how many calls.
 
-ghost use Rattle.std.specs.Prelude.{◌≤◌};
-
-use crate::asserts::same;
 use crate::ring::Bare;
 use loop_clips::{CLIPS, ClipTable};
 use loop_disk::{Disk, DiskFault, FuseDisk, MemDisk, OnceDisk};
@@ -36,16 +33,12 @@ fn table(first: usize) -> ClipTable {
 }
 
 // Upgrades a table.
-fn upgrade<D: Disk>(table: &ClipTable, disk: &mut Bare<D>) -> Result<(), DiskFault>
-    requires { 2560 ≤ (D.medium disk.old.0).size }
-{
+fn upgrade<D: Disk>(table: &ClipTable, disk: &mut Bare<D>) -> Result<(), DiskFault> {
     table.upgrade(disk)
 }
 
 // The first and the last byte of a tag.
-fn tag(bytes: &[u8], id: usize) -> Option<(u8, u8)>
-    requires { id ≤ 64 }
-{
+fn tag(bytes: &[u8], id: usize) -> Option<(u8, u8)> {
     let at = 512 + id * 32;
     Some((*bytes.get(at + 24)?, *bytes.get(at + 31)?))
 }
@@ -56,13 +49,16 @@ fn upgrades(rt: &impl Abort, alloc: Global, first: usize, calls: u64) -> Result<
     let front = front(alloc, first)?;
     assert!(rt; front.len() == 2560);
     let mut disk = Bare(FuseDisk::new(MemDisk::of(front), calls));
-    same!(rt; upgrade(&table(first), &mut disk), Ok(()), first);
-    same!(rt; disk.0.left, 0, first);
+    assert_eq!(rt; upgrade(&table(first), &mut disk), Ok(()), "{first:?}");
+    assert_eq!(rt; disk.0.left, 0, "{first:?}");
     let bytes = disk.0.inner.bytes();
-    same!(rt; (bytes.get(43), bytes.get(44), bytes.get(45)), (Some(&0x5A), Some(&OPEN), Some(&0x5A)));
+    assert_eq!(rt;
+        (bytes.get(43), bytes.get(44), bytes.get(45)),
+        (Some(&0x5A), Some(&OPEN), Some(&0x5A))
+    );
     for id in 0..CLIPS {
         let want = if id < first { 0x5A } else { 0 };
-        same!(rt; tag(bytes, id), Some((want, want)), id);
+        assert_eq!(rt; tag(bytes, id), Some((want, want)), "{id:?}");
     }
     Ok(())
 }
@@ -78,10 +74,14 @@ fn fails(
     let front = front(alloc, 63)?;
     assert!(rt; front.len() == 2560);
     let mut disk = Bare(OnceDisk::torn(MemDisk::of(front), call, keep));
-    same!(rt; upgrade(&table(63), &mut disk), Err(fault), (call, keep));
+    assert_eq!(rt;
+        upgrade(&table(63), &mut disk),
+        Err(fault),
+        "{call:?}, {keep:?}"
+    );
     let bytes = disk.0.inner.bytes();
-    same!(rt; bytes.get(44), Some(&gate), (call, keep));
-    same!(rt; tag(bytes, 63), Some(place), (call, keep));
+    assert_eq!(rt; bytes.get(44), Some(&gate), "{call:?}, {keep:?}");
+    assert_eq!(rt; tag(bytes, 63), Some(place), "{call:?}, {keep:?}");
     Ok(())
 }
 

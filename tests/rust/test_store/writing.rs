@@ -1,6 +1,5 @@
 //! The text that is written, and that it can be read back.
 
-use crate::asserts::{holds, same};
 use crate::fakes::{Gutter, reads};
 use crate::reading::{PIXELS, TWO};
 use loop_record::{Geometry, PixelFormat};
@@ -45,8 +44,8 @@ fn writes_failing(
     want: (Option<ErrorKind>, usize),
 ) {
     let mut out = Gutter::new(alloc, Some(fails));
-    same!(rt; refusal(&mut out), want.0, fails);
-    same!(rt; Some(out.got.as_slice()), TWO.get(..want.1), fails);
+    assert_eq!(rt; refusal(&mut out), want.0, "{fails:?}");
+    assert_eq!(rt; Some(out.got.as_slice()), TWO.get(..want.1), "{fails:?}");
 }
 
 // Fails the call of this number in each of three ways.
@@ -78,8 +77,8 @@ fn writes_to_the_end(rt: &impl Abort, alloc: Global) {
 fn two_frames_are_written_as_these_75_bytes(rt: HostRuntime) {
     let alloc = rt.alloc();
     let mut out: Vec<u8> = Vec::new(alloc);
-    same!(rt; refusal(&mut out), None);
-    same!(rt; out.as_slice(), TWO.as_slice());
+    assert_eq!(rt; refusal(&mut out), None);
+    assert_eq!(rt; out.as_slice(), TWO.as_slice());
     for number in 0..75usize {
         writes_failing_at(&rt, alloc, number);
     }
@@ -113,7 +112,7 @@ const ODD: [(PixelFormat, usize, &[u8]); 4] = [
 // The header of a geometry.
 fn header(rt: &impl Abort, alloc: Global, geometry: &Geometry) -> Vec<u8> {
     let mut out: Vec<u8> = Vec::new(alloc);
-    holds!(rt; write_header(geometry, &mut out).is_ok());
+    assert!(rt; write_header(geometry, &mut out).is_ok());
     out
 }
 
@@ -128,7 +127,10 @@ fn the_longest_header_is_written(rt: HostRuntime) {
         ..SMALL
     };
     let line = b"YUV4MPEG2 W4294967295 H4294967295 F4294967295:4294967295 Ip A0:0 C420jpeg\n";
-    same!(rt; header(&rt, rt.alloc(), &geometry).as_slice(), line.as_slice());
+    assert_eq!(rt;
+        header(&rt, rt.alloc(), &geometry).as_slice(),
+        line.as_slice()
+    );
 }
 
 // This many bytes, from 200 on.
@@ -158,8 +160,8 @@ fn odd(format: PixelFormat) -> Geometry {
 fn is_read_back(rt: &impl Abort, alloc: Global, row: &(PixelFormat, usize, &[u8])) {
     let pixels = pixels(rt, alloc, row.1);
     let mut out = header(rt, alloc, &odd(row.0));
-    same!(rt; out.as_slice(), row.2, row.1);
-    holds!(rt; write_frame(&pixels, &mut out).is_ok());
+    assert_eq!(rt; out.as_slice(), row.2, "{:?}", row.1);
+    assert!(rt; write_frame(&pixels, &mut out).is_ok());
     let want = (
         Ok((row.0, 5, 3, (u32::MAX, 1001))),
         pixels.as_slice(),

@@ -18,11 +18,11 @@ impl<'a, D> Counted<'a, D> {
 }
 
 impl<'a, D: Disk> Disk for Counted<'a, D> {
-    ghost medium = { λ disk. D.medium disk.inner };
+    ghost medium = { ? };
 
-    ghost harsh = { λ disk. D.harsh disk.inner };
+    ghost harsh = { ? };
 
-    ghost sound = { λ disk honest. D.sound disk.inner honest };
+    ghost sound = { ? };
 
     fn size(&self) -> u64 {
         self.inner.size()

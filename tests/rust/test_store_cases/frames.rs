@@ -1,7 +1,4 @@
-//! Frames of a pattern, and calls of a store that check their preconditions first.
-
-ghost use Rattle.std.specs.Prelude.{◌≡◌, All, IsTrue, length};
-ghost use Rattle.loop_record.specs.Geometry.{frame_bytes};
+//! Frames of a pattern, and calls of a store that look first whether they may be made.
 
 use anyhow::{Error, Result, anyhow};
 use loop_disk::Disk;
@@ -64,16 +61,12 @@ fn group(
 }
 
 // Whether each frame has this many bytes.
-fn have_size(frames: &[Frame], size: usize) -> bool
-    ensures { IsTrue result → All (λ frame. length frame.bytes.items ≡ size) frames.now }
-{
+fn have_size(frames: &[Frame], size: usize) -> bool {
     frames.iter().all(|frame| frame.bytes.len() == size)
 }
 
 /// The bytes of a store's frames.
-pub(crate) fn size_of_frames<D: Disk + Drop>(store: &Store<D>) -> usize
-    ensures { result ≡ frame_bytes store.now.geometry }
-{
+pub(crate) fn size_of_frames<D: Disk + Drop>(store: &Store<D>) -> usize {
     let geometry = store.geometry();
     geometry.frame_bytes() as usize
 }

@@ -1,8 +1,5 @@
 //! The image of a case: how it is made, changed, looked at and opened.
 
-ghost use Rattle.std.specs.Prelude.{IsTrue};
-ghost use Rattle.loop_record.specs.Geometry.{is_good};
-
 use crate::case::{Case, Verb, close};
 use crate::frames::{append_next, frame, held, opened, refused};
 use crate::text::{self, print_count, print_fault, say};
@@ -30,9 +27,11 @@ pub(crate) fn put(image: &mut [u8], at: usize, bytes: &[u8]) {
 }
 
 /// A freshly formatted image in this version of the layout.
-pub(crate) fn fresh(alloc: Global, geometry: Geometry, version: u32) -> Result<Vec<u8>, AllocError>
-    requires { IsTrue (is_good geometry) }
-{
+pub(crate) fn fresh(
+    alloc: Global,
+    geometry: Geometry,
+    version: u32,
+) -> Result<Vec<u8>, AllocError> {
     let mut image = vec![in alloc; 0u8; geometry.disk_size() as usize]?;
     let mut superblock = [0; 512];
     encode_super(&SuperHead { geometry, version }, &mut superblock);

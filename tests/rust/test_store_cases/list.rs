@@ -1,9 +1,5 @@
 //! Lists of commands.
 
-ghost use Rattle.std.specs.Prelude.{All, IsTrue};
-ghost use Rattle.loop_record.specs.Geometry.{is_good};
-ghost use Rattle.loop_store.specs.Runs.{IsOfSize};
-
 use crate::acts::{Act, does, print_answer, read_act};
 use crate::case::{Case, close};
 use crate::frames::{frame, is_frame, opened, refused, size_of_frames};
@@ -32,10 +28,7 @@ fn command(alloc: Global, size: usize, act: Act, number: u64) -> Result<Command>
 }
 
 // Whether a frame that is to be stored has the geometry's size.
-fn fits(command: &Command, geometry: &Geometry) -> bool
-    requires { IsTrue (is_good geometry.now) }
-    ensures { IsTrue result → IsOfSize geometry.now command.now }
-{
+fn fits(command: &Command, geometry: &Geometry) -> bool {
     match command {
         Command::Store(frame) => frame.bytes.len() == geometry.frame_bytes() as usize,
         _ => true,
@@ -43,10 +36,7 @@ fn fits(command: &Command, geometry: &Geometry) -> bool
 }
 
 // Whether each frame that is to be stored has the geometry's size.
-fn all_fit(commands: &[Command], geometry: &Geometry) -> bool
-    requires { IsTrue (is_good geometry.now) }
-    ensures { IsTrue result → All (IsOfSize geometry.now) commands.now }
-{
+fn all_fit(commands: &[Command], geometry: &Geometry) -> bool {
     commands.iter().all(|command| fits(command, geometry))
 }
 

@@ -1,6 +1,6 @@
-//! Cases of disks and stores, a line each, read from standard input. An empty line, and one that begins with `#`, is
-//! printed as it is. Of any other line the text up to and including `=> ` is printed, and then this program's own
-//! answer, whatever followed the arrow. So the input and the expected output are one text.
+//! Cases of disks and stores, a line each, read from standard input: `tests/cases/store.cases`. An empty line, and one
+//! that begins with `#`, is passed over. Of any other line the text before `=> ` is asked, and what follows has to be
+//! the answer. A line that comes to something else is printed, with both.
 //!
 //! - `words` reads the words of a line; `text` reads bytes that are written as text, and prints spans of numbers;
 //! - `counted` is a disk that counts its calls; `frames` has the frames, with the calls of a store that check their
@@ -10,11 +10,11 @@
 //! - `list` does lists of commands, `make` formats, `stops` stops at each call with each spoilt content, `fails`
 //!   fails each call in turn;
 //! - `keeping` opens with a number of the newest blocks kept;
-//! - `pile` is a disk that remembers, fails and reads ahead, without a store.
+//! - `pile` is a disk that remembers, fails and reads ahead, without a store;
+//! - `tally` counts the lines, and compares them.
 //!
 //! `data/version1.loop` is a store that the program wrote before there was version 2 of the layout: seven frames of its
 //! pattern by `record`, then `lock 2 2`, `lock 6 6`, `lock 3 6` and `unlock 1`.
-#![tactic(auto)]
 
 mod acts;
 mod case;
@@ -28,10 +28,12 @@ mod list;
 mod make;
 mod pile;
 mod stops;
+mod tally;
 mod text;
 mod words;
 
 use crate::case::Case;
+use crate::tally::Tally;
 use anyhow::Result;
 use std::alloc::AllocGlobal;
 use std::cell::Cell;
@@ -39,15 +41,12 @@ use std::fs;
 use std::io::{BufRead, BufWriter, Write};
 use std::rt::Files;
 
-// The question in a line, up to its arrow; None where the line is printed as it is.
-fn asked(line: &str) -> Option<&str> {
+// The question in a line and the answer that it names; None where the line is no case.
+fn asked(line: &str) -> Option<(&str, &str)> {
     if line.is_empty() || line.starts_with("#") {
         return None;
     }
-    match line.split_once("=> ") {
-        Some((asked, _)) => Some(asked),
-        None => None,
-    }
+    line.split_once("=> ").or(Some((line, "(no arrow)")))
 }
 
 // The answer to a line.
@@ -59,47 +58,32 @@ fn tells(case: &mut Case, asked: &str) -> Result<Vec<u8>> {
     Ok(told)
 }
 
-// Prints a line's question and the answer.
-fn print_told<W: Write>(out: &mut W, asked: &str, told: &[u8]) -> Result<()> {
-    out.write_all(asked.as_bytes())?;
-    out.write_all(b"=> ")?;
-    out.write_all(told)?;
-    Ok(out.write_all(b"\n")?)
-}
-
-// Prints a line.
-fn print_line<W: Write>(out: &mut W, line: &str) -> Result<()> {
-    Ok(writeln!(out, "{line}")?)
-}
-
 // Answers a line.
-fn answer<W: Write>(case: &mut Case, line: &str, out: &mut W) -> Result<()> {
+fn answer<W: Write>(case: &mut Case, line: &str, tally: &mut Tally, out: &mut W) -> Result<()> {
     match asked(line) {
-        Some(asked) => print_told(out, asked, &tells(case, asked)?),
-        None => print_line(out, line),
+        Some((asked, wanted)) => tally.note(asked, wanted, &tells(case, asked)?, out),
+        None => {
+            tally.pass();
+            Ok(())
+        }
     }
 }
 
-// Answers each line. The returns on an error are here, since `main` would drop its case and its output at each of them.
+// Answers each line.
 fn answers<R: BufRead + Drop, W: Write>(case: &mut Case, input: R, out: &mut W) -> Result<()> {
+    let mut tally = Tally::new();
     for line in input.lines(case.alloc) {
-        answer(case, &line?, out)?;
+        answer(case, &line?, &mut tally, out)?;
     }
-    out.flush()?;
-    Ok(())
+    tally.end(out)
 }
-
-// Where the old store is: in the folder in which the gate runs the program, or below the crate's.
-const OLD: [&str; 2] = ["version1.loop", "data/version1.loop"];
 
 // The bytes of the old store, or none where there is no such file.
 fn old_store(rt: &(impl AllocGlobal + Files)) -> Vec<u8> {
-    for path in OLD {
-        if let Ok(bytes) = fs::read(rt, path) {
-            return bytes;
-        }
+    match fs::read(rt, "version1.loop") {
+        Ok(bytes) => bytes,
+        Err(_) => Vec::new(rt.alloc()),
     }
-    Vec::new(rt.alloc())
 }
 
 fn main(rt: HostRuntime) -> Result<()> {

@@ -1,8 +1,5 @@
 //! Formatting, and each stop of it.
 
-ghost use Rattle.std.specs.Prelude.{IsTrue};
-ghost use Rattle.loop_record.specs.Geometry.{is_good};
-
 use crate::case::{Case, close};
 use crate::counted::Counted;
 use crate::frames::{held, unopened};
@@ -20,9 +17,12 @@ use std::io::Write;
 use std::str::SplitWhitespace;
 
 // The fresh image of a geometry and a version, with the slots of another image.
-fn fresh_with_slots(alloc: Global, geometry: Geometry, version: u32, old: &[u8]) -> Result<Vec<u8>>
-    requires { IsTrue (is_good geometry) }
-{
+fn fresh_with_slots(
+    alloc: Global,
+    geometry: Geometry,
+    version: u32,
+    old: &[u8],
+) -> Result<Vec<u8>> {
     let mut image = fresh(alloc, geometry, version)?;
     let size = (geometry.frame_bytes() as usize).wrapping_add(32);
     let count = size.wrapping_mul(geometry.slots as usize);
@@ -37,9 +37,7 @@ fn fresh_with_slots(alloc: Global, geometry: Geometry, version: u32, old: &[u8])
 
 // Whether a format of the image has left the superblock, a table without a clip, closed segments, and all slots as they
 // were.
-fn is_fresh(case: &Case, disk: &MemDisk, geometry: Geometry, version: u32) -> Result<bool>
-    requires { IsTrue (is_good geometry) }
-{
+fn is_fresh(case: &Case, disk: &MemDisk, geometry: Geometry, version: u32) -> Result<bool> {
     let expected = fresh_with_slots(case.alloc, geometry, version, &case.image)?;
     Ok(*disk.bytes() == *expected.as_slice())
 }
@@ -50,9 +48,7 @@ fn other_bytes() -> Error {
 }
 
 // Takes the bytes of a disk that a format of the image has left.
-fn take_fresh(case: &mut Case, disk: &MemDisk, geometry: Geometry, version: u32) -> Result<()>
-    requires { IsTrue (is_good geometry) }
-{
+fn take_fresh(case: &mut Case, disk: &MemDisk, geometry: Geometry, version: u32) -> Result<()> {
     if is_fresh(case, disk, geometry, version)? {
         case.image = bytes_of(case.alloc, disk)?;
         Ok(())

@@ -1,8 +1,6 @@
 //! Disks over one another, without a store: one that reads ahead, one that counts, one that fails from a call on, one
 //! that fails a call, and one that remembers its calls.
 
-ghost use Rattle.std.specs.Prelude.{◌+◌, ◌≤◌, IsTrue};
-
 use crate::case::Case;
 use crate::counted::Counted;
 use crate::text::{next_bytes, print_bytes, print_count, print_part, say};
@@ -134,9 +132,7 @@ fn read_call(alloc: Global, word_of: &str, words: &mut SplitWhitespace) -> Resul
 }
 
 // Whether a disk of this size has `count` bytes from a place on.
-fn has(size: u64, at: u64, count: u64) -> bool
-    ensures { IsTrue result → at + count ≤ size }
-{
+fn has(size: u64, at: u64, count: u64) -> bool {
     count <= size && at <= size - count
 }
 

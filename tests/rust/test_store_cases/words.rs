@@ -1,8 +1,5 @@
 //! The words of a line.
 
-ghost use Rattle.std.specs.Prelude.{IfOk, IsTrue};
-ghost use Rattle.loop_record.specs.Geometry.{is_good};
-
 use anyhow::{Error, Result, anyhow};
 use loop_disk::Spoil;
 use loop_record::{Geometry, PixelFormat};
@@ -99,9 +96,7 @@ pub(crate) fn any_geometry(words: &mut SplitWhitespace) -> Result<Geometry> {
 }
 
 /// Checks that a geometry is valid.
-pub(crate) fn good(geometry: Geometry) -> Result<Geometry>
-    ensures { IfOk result (λ geometry. IsTrue (is_good geometry)) }
-{
+pub(crate) fn good(geometry: Geometry) -> Result<Geometry> {
     match geometry.check() {
         Ok(()) => Ok(geometry),
         Err(_) => Err(bad_line()),

@@ -1,6 +1,5 @@
 //! Configurations: what is read of them.
 
-use crate::asserts::{holds, same};
 use loop_record::PixelFormat;
 use loop_station_words::{
     AnswersForm, CameraConfig, Config, FrameShape, MemoryLimit, Source, StoreSize, TimesFrom,
@@ -33,7 +32,11 @@ fn lasts(rt: &impl Abort, alloc: Global, row: &(&str, u64)) {
         "[[camera]]\nname='a'\nsource='p'\nstore='s'\nminutes={minutes}\n"
     );
     let text = text.expect(rt, "memory for a text");
-    same!(*rt; seconds_of(alloc, text.as_str()), Some(seconds), minutes);
+    assert_eq!(*rt;
+        seconds_of(alloc, text.as_str()),
+        Some(seconds),
+        "{minutes:?}"
+    );
 }
 
 #[test]
@@ -128,10 +131,10 @@ fn says_least(config: &Config) -> bool {
 #[test]
 fn each_word_of_a_configuration_is_read(rt: HostRuntime) {
     let whole = read_config(rt.alloc(), WHOLE);
-    holds!(rt; matches!(&whole, Ok(config) if says_all(config)));
+    assert!(rt; matches!(&whole, Ok(config) if says_all(config)));
     let least = read_config(
         rt.alloc(),
         "[[camera]]\nname='a'\nsource='p'\nstore='s'\nbytes=77\n",
     );
-    holds!(rt; matches!(&least, Ok(config) if says_least(config)));
+    assert!(rt; matches!(&least, Ok(config) if says_least(config)));
 }

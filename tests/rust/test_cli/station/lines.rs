@@ -1,6 +1,5 @@
 //! What is printed, and how large a store is.
 
-use crate::asserts::{holds, same};
 use loop_record::{Damage, Geometry, PixelFormat};
 use loop_script::{Likeness, Listing, compare_frames, print_other_rate};
 use loop_station_words::{CameraStatus, Lines, RingSize, print_clip_path, ring_for, ring_within};
@@ -315,31 +314,31 @@ fn each_answer_is_printed(rt: HostRuntime) {
     let mut lines = Lines::new(rt.alloc(), true);
     let mut more = Lines::new(rt.alloc(), true);
     let listing = listing(&rt, rt.alloc());
-    holds!(rt; lines.is_empty());
-    holds!(rt; tells_event(&mut lines) && tells_clips(&mut lines));
-    holds!(rt; tells_answers(&mut more, &listing));
-    holds!(rt; lines.add(&more).is_ok() && !lines.is_empty());
-    same!(rt; lines.text(), ANSWERS.as_bytes());
-    same!(rt; lines.json(), ANSWERS_JSON.as_bytes());
+    assert!(rt; lines.is_empty());
+    assert!(rt; tells_event(&mut lines) && tells_clips(&mut lines));
+    assert!(rt; tells_answers(&mut more, &listing));
+    assert!(rt; lines.add(&more).is_ok() && !lines.is_empty());
+    assert_eq!(rt; lines.text(), ANSWERS.as_bytes());
+    assert_eq!(rt; lines.json(), ANSWERS_JSON.as_bytes());
 }
 
 #[test]
 fn each_event_is_printed(rt: HostRuntime) {
     let mut lines = Lines::new(rt.alloc(), true);
-    holds!(rt; tells_sources(&mut lines) && tells_frames(&mut lines));
-    same!(rt; lines.text(), EVENTS.as_bytes());
-    same!(rt; lines.json(), EVENTS_JSON.as_bytes());
+    assert!(rt; tells_sources(&mut lines) && tells_frames(&mut lines));
+    assert_eq!(rt; lines.text(), EVENTS.as_bytes());
+    assert_eq!(rt; lines.json(), EVENTS_JSON.as_bytes());
 }
 
 // Where JSON isn't wanted, there is none.
 #[test]
 fn text_alone_is_printed(rt: HostRuntime) {
     let mut lines = Lines::new(rt.alloc(), false);
-    holds!(rt; tells_sources(&mut lines) && tells_frames(&mut lines));
-    same!(rt; lines.text(), EVENTS.as_bytes());
-    holds!(rt; lines.json().is_empty());
+    assert!(rt; tells_sources(&mut lines) && tells_frames(&mut lines));
+    assert_eq!(rt; lines.text(), EVENTS.as_bytes());
+    assert!(rt; lines.json().is_empty());
     let listing = listing(&rt, rt.alloc());
-    holds!(rt; lines.camera("left", &listing).is_ok() && lines.json().is_empty());
+    assert!(rt; lines.camera("left", &listing).is_ok() && lines.json().is_empty());
 }
 
 // Prints what lines begin with, and the names of a clip's file.
@@ -358,16 +357,16 @@ fn prints_heads(alloc: Global, out: &mut Vec<u8>) -> bool {
 #[test]
 fn lines_begin_with_time_and_label(rt: HostRuntime) {
     let mut out = Vec::new(rt.alloc());
-    holds!(rt; prints_heads(rt.alloc(), &mut out));
-    same!(rt; out.as_slice(), HEADS.as_bytes());
+    assert!(rt; prints_heads(rt.alloc(), &mut out));
+    assert_eq!(rt; out.as_slice(), HEADS.as_bytes());
 }
 
 #[test]
 fn another_rate_is_printed(rt: HostRuntime) {
     let mut out = Vec::new(rt.alloc());
-    holds!(rt; print_other_rate(&mut out, "left", &OTHER).is_ok());
+    assert!(rt; print_other_rate(&mut out, "left", &OTHER).is_ok());
     let words: &[u8] = b"other rate left 30000:1001\n";
-    same!(rt; out.as_slice(), words);
+    assert_eq!(rt; out.as_slice(), words);
 }
 
 // The same frames at the same rate, which is written in another way.
@@ -392,9 +391,9 @@ const TALL: Geometry = Geometry {
 
 #[test]
 fn frames_are_compared_whatever_their_rings(rt: HostRuntime) {
-    same!(rt; compare_frames(&OTHER, &SAME), Likeness::Alike);
-    same!(rt; compare_frames(&OTHER, &SLOW), Likeness::OtherRate);
-    same!(rt; compare_frames(&OTHER, &TALL), Likeness::OtherGeometry);
+    assert_eq!(rt; compare_frames(&OTHER, &SAME), Likeness::Alike);
+    assert_eq!(rt; compare_frames(&OTHER, &SLOW), Likeness::OtherRate);
+    assert_eq!(rt; compare_frames(&OTHER, &TALL), Likeness::OtherGeometry);
 }
 
 // How many frames of how many bytes a store is to hold, and the segments and slots for them; zeros where there is no
@@ -449,9 +448,17 @@ fn sizes(ring: Option<RingSize>) -> (u32, u32) {
 #[test]
 fn stores_are_as_large_as_they_have_to_be(rt: HostRuntime) {
     for (frames, size, segments, slots) in &RINGS {
-        same!(rt; sizes(ring_for(*frames, *size)), (*segments, *slots), (*frames, *size));
+        assert_eq!(rt;
+            sizes(ring_for(*frames, *size)),
+            (*segments, *slots),
+            "{frames:?}, {size:?}"
+        );
     }
     for (size, bytes, segments, slots) in &WITHIN {
-        same!(rt; sizes(ring_within(*size, *bytes)), (*segments, *slots), (*bytes, *size));
+        assert_eq!(rt;
+            sizes(ring_within(*size, *bytes)),
+            (*segments, *slots),
+            "{bytes:?}, {size:?}"
+        );
     }
 }

@@ -1,6 +1,5 @@
 //! Lines, and what they ask for.
 
-use crate::asserts::same;
 use loop_station_words::{Name, Order, label_of, read_order};
 use std::alloc::{AllocError, Global};
 use std::process::Abort;
@@ -192,10 +191,10 @@ fn is_labelled(rt: &impl Abort, row: &(&str, &str, &str)) {
     let (line, label, rest) = *row;
     match label_of(line) {
         Some((name, left)) => {
-            same!(*rt; name.text(), label, line);
-            same!(*rt; left.text(), rest, line);
+            assert_eq!(*rt; name.text(), label, "{line:?}");
+            assert_eq!(*rt; left.text(), rest, "{line:?}");
         }
-        None => same!(*rt; "", label, line),
+        None => assert_eq!(*rt; "", label, "{line:?}"),
     }
 }
 
@@ -217,5 +216,5 @@ fn lines_are_read_as_orders(rt: HostRuntime) {
 fn is_asked(rt: &impl Abort, alloc: Global, row: &(&str, &str)) {
     let (line, meaning) = *row;
     let got = written(alloc, line).expect(rt, "memory for a line");
-    same!(*rt; got.as_str(), meaning, line);
+    assert_eq!(*rt; got.as_str(), meaning, "{line:?}");
 }

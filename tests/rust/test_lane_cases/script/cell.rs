@@ -1,5 +1,4 @@
 // Memory of one byte, or of none.
-ghost use Rattle.std.specs.Prelude.{◌≡◌, ◌≤◌, ◌+◌, length, take, drop, option_to_list};
 
 use loop_plane::{Memory, PlaneMemory};
 
@@ -12,28 +11,19 @@ pub(crate) struct Cell {
 }
 
 // The only byte, where there is one.
-fn only(bytes: &[u8]) -> Option<u8>
-    requires { length bytes.now ≤ 1 }
-    ensures { option_to_list result ≡ bytes.now }
-{
+fn only(bytes: &[u8]) -> Option<u8> {
     bytes.first().copied()
 }
 
 // Copies a byte out from this place on.
-fn copy(byte: Option<u8>, at: u32, out: &mut [u8])
-    requires { at + length out.old ≤ length (option_to_list byte) }
-    ensures { out.new ≡ take (length out.old) (drop at (option_to_list byte)) }
-{
+fn copy(byte: Option<u8>, at: u32, out: &mut [u8]) {
     if let (Some(byte), Some(place)) = (byte, out.first_mut()) {
         *place = byte;
     }
 }
 
 impl PlaneMemory for Cell {
-    ghost use Rattle.std.specs.Prelude.{[], cond, option_to_list};
-    ghost use Rattle.loop_plane.specs.Plane.{plane_of};
-
-    ghost plane = { λ c. plane_of c.kind (cond c.short 0 1) (option_to_list c.byte) [] };
+    ghost plane = { ? };
 
     fn kind(&self) -> Memory {
         self.kind

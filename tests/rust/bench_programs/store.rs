@@ -1,6 +1,4 @@
 // Stores in memory and in files.
-ghost use Rattle.std.specs.Prelude.{◌≡◌, All, IfOk, IsTrue, length};
-ghost use Rattle.loop_record.specs.Geometry.{frame_bytes, is_good};
 
 use crate::words::{number, open_file, path, refused};
 use anyhow::{Context, Result, anyhow};
@@ -16,9 +14,7 @@ use std::rt::Files;
 const MAX_GROUP: usize = 64;
 
 /// The geometry that the next words name, of one frame a second.
-pub(crate) fn geometry(words: &mut Args) -> Result<Geometry>
-    ensures { IfOk result (λ geometry. IsTrue (is_good geometry)) }
-{
+pub(crate) fn geometry(words: &mut Args) -> Result<Geometry> {
     let geometry = Geometry {
         width: number(words)?,
         height: number(words)?,
@@ -40,10 +36,7 @@ fn group_of(
     geometry: &Geometry,
     count: u32,
     byte: u8,
-) -> Result<Vec<Frame>, AllocError>
-    requires { IsTrue (is_good geometry.now) }
-    ensures { IfOk result (λ group. All (λ frame. length frame.bytes.items ≡ frame_bytes geometry.now) group.items) }
-{
+) -> Result<Vec<Frame>, AllocError> {
     let mut group = Vec::new(alloc);
     for _ in 0..count {
         group.push(Frame {
@@ -57,10 +50,7 @@ fn group_of(
 }
 
 // Appends a group this many times.
-fn append_groups<D: Disk + Drop>(store: &mut Store<D>, group: &[Frame], groups: u32) -> Result<()>
-    requires { All (λ frame. length frame.bytes.items ≡ frame_bytes store.old.geometry) group.now }
-    ensures { store.new.geometry ≡ store.old.geometry }
-{
+fn append_groups<D: Disk + Drop>(store: &mut Store<D>, group: &[Frame], groups: u32) -> Result<()> {
     for _ in 0..groups {
         if group.is_empty() || group.len() > MAX_GROUP || group.len() > store.room() as usize {
             return Err(anyhow!("the group doesn't fit"));
@@ -71,10 +61,7 @@ fn append_groups<D: Disk + Drop>(store: &mut Store<D>, group: &[Frame], groups: 
 }
 
 // Formats a disk in memory and appends a group this many times.
-fn append_round(alloc: Global, geometry: Geometry, group: &[Frame], groups: u32) -> Result<()>
-    requires good { IsTrue (is_good geometry) }
-    requires sizes { All (λ frame. length frame.bytes.items ≡ frame_bytes geometry) group.now }
-{
+fn append_round(alloc: Global, geometry: Geometry, group: &[Frame], groups: u32) -> Result<()> {
     let disk = MemDisk::new(alloc, geometry.disk_size())?;
     match format(alloc, disk, geometry) {
         Err(OpenRefused { fault, disk: _ }) => Err(refused(fault)),
@@ -182,10 +169,7 @@ fn footage_of(
     first: u64,
     count: u32,
     run: u32,
-) -> Result<Vec<Frame>, AllocError>
-    requires { IsTrue (is_good geometry.now) }
-    ensures { IfOk result (λ group. All (λ frame. length frame.bytes.items ≡ frame_bytes geometry.now) group.items) }
-{
+) -> Result<Vec<Frame>, AllocError> {
     let mut group = Vec::new(alloc);
     for place in 0..count {
         let byte = footage(first.wrapping_add(u64::from(place)), run);

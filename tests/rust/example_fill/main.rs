@@ -1,6 +1,5 @@
 //! `example_fill STORE SEGMENTS SLOTS VIDEO LAST OUT` makes a fresh store in a file, and fills it with the frames of a
 //! YUV4MPEG2 file or pipe. Then it locks the last LAST frames as a clip, and exports them to another file.
-#![tactic(auto)]
 
 use anyhow::{Context, Result, anyhow};
 use loop_desk::{Desk, DeskLimits};
