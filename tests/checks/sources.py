@@ -88,7 +88,7 @@ def home(found, module, rest, steps=8):
         if path[-1] in (rest[0], "*"):
             there = module_at(found, module, path)
             if there and there[0] != module:
-                return home(found, *there, steps - 1)
+                return home(found, there[0], there[1], steps - 1)
     return module
 
 
