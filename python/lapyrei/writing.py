@@ -34,17 +34,9 @@ from .errors import (
     WrongSize,
 )
 from .files import Path, files_of
-from .store import (
-    Array,
-    Clip,
-    Form,
-    Frames,
-    Picture,
-    Planes,
-    Store,
-    Time,
-    form_of,
-)
+from .moments import Time, vector_of
+from .parts import Array, Form, Picture, Planes, form_of
+from .store import Clip, Frames, Store
 
 # Frames of a second: 25, 29.97, Fraction(30000, 1001), "30000:1001".
 Rate = Union[int, float, str, Fraction]
@@ -345,9 +337,21 @@ class Writable(Store):
     @property
     def form(self) -> Form:
         """How the samples lie; of a store that has no frame yet, as it was made for."""
-        if not len(self._heads) and self._bits is not None:
-            return form_of(self.geometry, self._bits)
         return super().form
+
+    def _bits_now(self) -> int:
+        if not len(self._heads) and self._bits is not None:
+            return self._bits
+        return super()._bits_now()
+
+    def __reduce_ex__(self, protocol: Any) -> Any:
+        # It travels as its reader: writing stays here.
+        with self._alone():
+            self._see()
+            twin = Store.__new__(Store)
+            known = {name: self.__dict__[name] for name in READER}
+            twin.__dict__.update(known, _bits_before=self._bits_now())
+            return read_only, (twin,)
 
     # ------------------------------------------------------------------------ frames
 
@@ -473,8 +477,8 @@ class Writable(Store):
     def _moments(self, given: Any) -> Array:
         """Times in microseconds."""
         if isinstance(given, np.ndarray) and given.dtype.kind == "M":
-            given = given.astype("datetime64[us]").astype(np.int64)
-        if isinstance(given, np.ndarray):
+            given = vector_of(given).tolist()
+        elif isinstance(given, np.ndarray):
             if given.dtype.kind not in "iuOU":
                 raise BadTime(f"times are microseconds or datetime64, not {given.dtype}")
             given = given.tolist()
@@ -609,6 +613,11 @@ def spread(given: Any, count: int, what: str) -> Array:
     return np.broadcast_to(found.astype("u4"), (count,))
 
 
+def read_only(store: Store) -> Store:
+    """The reader as which a store comes that was open to write elsewhere."""
+    return store
+
+
 def fresh(method: Callable[..., Any]) -> Callable[..., Any]:
     """A method that reads, after what was written here was seen, alone."""
 
@@ -621,10 +630,12 @@ def fresh(method: Callable[..., Any]) -> Callable[..., Any]:
     return call
 
 
+# What a reader has of its own (store.Store).
+READER = ("_where", "_parts", "_of", "_heads", "_lost", "_clips", "_events")
 READING = (
-    "__len__ __repr__ __getitem__ __iter__ heads numbers times when sequences flags bits late form "
-    "dtype shape take read luma rgb raw array moment between nearest parts runs clips events clip "
-    "event index"
+    "__len__ __repr__ __getitem__ __iter__ heads numbers times when sequences lost flags bits late "
+    "form dtype shape take blocks __array__ to_dask to_xarray read luma rgb raw array moment between nearest parts runs clips "
+    "events clip event index"
 )
 for _name in READING.split():
     _found = getattr(Writable, _name)

@@ -87,7 +87,7 @@ def image_of(store):
 @pytest.mark.parametrize("shape", [(6, 8), (5, 3), (1, 1)])
 def test_what_is_written_is_listed_and_exported_to_the_same_bytes(tmp_path, loop_cli, form, shape):
     with small(tmp_path, form=form, shape=shape) as store:
-        assert store.format == form and store.shape == shape and len(store) == 0
+        assert store.format == form and store.shape == (0, *shape) and len(store) == 0
         first = pictures(store, 7)
         assert store.append(first, times_of(7)).tolist() == list(range(7))
         one = store[3]
@@ -138,7 +138,7 @@ def test_times_numbers_counts_bits_and_marks_are_read_back(tmp_path):
 @pytest.mark.parametrize("form", ["GREY", "YM12", "YM24"])
 def test_deep_samples_are_stored_in_the_low_bits(tmp_path, form, bits):
     with small(tmp_path, form=form, bits=bits) as store:
-        assert store.dtype == np.uint16 and store.shape == SHAPE and store.geometry.width == 16
+        assert store.dtype == np.uint16 and store.shape[1:] == SHAPE and store.geometry.width == 16
         whole = pictures(store, 3, bits=bits)
         store.append(whole, times_of(3))
         first = whole[0] if form == "GREY" else [it[0] for it in whole]
