@@ -1,4 +1,4 @@
-# What keeps by itself: several/loop_trigger examples/door.trigger
+# What keeps by itself: python/links/loop_trigger examples/door.trigger
 # docs/several.md and loop_trigger(1) say what each word means.
 page = "http://127.0.0.1:8080"
 #token = "/etc/lapyrei/page.token"

@@ -3,7 +3,7 @@ import os
 import subprocess
 from pathlib import Path
 
-BUILD = Path(__file__).resolve().parent.parent / "capi/build.sh"
+BUILD = Path(__file__).resolve().parent.parent / "c/build.sh"
 
 
 def made(archive, folder):

@@ -1,4 +1,4 @@
-// What C gives and gets. capi/lapyrei.c has the same structs.
+// What C gives and gets. c/lapyrei.c has the same structs.
 ghost use Rattle.std.specs.Prelude.{◌≡◌};
 ghost use Rattle.lapyrei.specs.Shown.{clip_run, detail_of, head_of, named_by, refusal_of, shape_of, shaped, span_run};
 ghost use Rattle.lapyrei.specs.Told.{Values};

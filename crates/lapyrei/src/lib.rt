@@ -1,5 +1,5 @@
 //! The store's calls for C, which reach no file: each gets the file's bytes, opens the store over them, makes one call
-//! and answers, with a log of what is to be done to the file. Its caller, `capi/lapyrei.c`, does that in this order
+//! and answers, with a log of what is to be done to the file. Its caller, `c/lapyrei.c`, does that in this order
 //! before it reports the call.
 //!
 //! `calls` has the exported calls, `on_store` what they do to an open store, `open` what they share: the store over the

@@ -1,7 +1,0 @@
-//! Tests of loop_station_words: what is read of lines and configurations, and what is printed. Those that are refused
-//! stand in `rows/BadOrder.rows` and `rows/BadConfig.rows`.
-//! - `orders`: lines and the orders that they are; `configs`: configurations; `lines`: what is printed.
-
-mod configs;
-mod lines;
-mod orders;

@@ -1,9 +1,0 @@
-use Rattle.std.proofs.Common.{refl}
-use Rattle.test_recorder.proofs.common.camera_of.Goals as goal
-
--- a queue without buffers and any table stand for a state
-pub returns : goal.returns
-returns g c = record {
-  desk = c.requires.desk;
-  port = record { state = _; stands = (c.new_fronts_stand.ensures _ _ _ c.new-queue.ensures.state refl).queue };
-}

@@ -1,9 +1,0 @@
-use Rattle.std.proofs.Common.{refl}
-use Rattle.test_recorder.proofs.recordings.naming.Goals as goal
-
--- a queue without buffers and any table stand for a state
-pub returns : goal.returns
-returns g c = record {
-  desk = c.requires;
-  port = record { state = _; stands = (c.new_fronts_stand.ensures _ _ _ c.new-queue.ensures.state refl).queue };
-}

@@ -1,0 +1,218 @@
+"""The cameras, the station and what people asked of them: how all stands at the moment."""
+import asyncio
+import contextlib
+import json
+import logging
+import time
+
+from . import limits, words
+from .alerts import Alerts
+from .archived import Archive
+from .films import Films
+from .heard import Heard
+from .held import Held
+from .journal import Journal
+from .keeping import Keeping
+from .notes import Notes
+from .noting import Noting
+from .orders import NoStation, Orders
+from .reader import Reading, Source
+from .rings import Ring, Sources, Stores
+from .settings import Settings
+from .standing import Standing
+from .warned import Warned
+from .watched import Watched, refusal, settle
+from .words import Line, Unfit
+from .workers import NO_ANSWER, looks_of, reads_of
+
+log = logging.getLogger("loop_page")
+OF_STATION = (
+    "missing",
+    "other",
+    "unusable",
+    "absent",
+    "not a store",
+    "small",
+    "locked",
+    "nearly locked",
+    "behind",
+    "save waits",
+)
+UNREAD = (
+    "The station's answers can't be read. Its configuration needs `answers_form = \"json\"`; "
+    "start the station again, and then the page."
+)
+
+
+class Laboratory:
+    """All of it."""
+
+    def __init__(self, settings: Settings) -> None:
+        self.settings = settings
+        self.cameras = {
+            camera.name: Watched(
+                camera, Stores(camera.store, reads_of(camera.name)), looks=looks_of(camera.name)
+            )
+            for camera in settings.cameras
+        }
+        self.journal = Journal()
+        self.alerts = Alerts(settings.on_alert, settings.webhook, self.journal)
+        self.orders, self.heard = Orders(settings.orders, settings.answers, self), Heard()
+        self.notes, self.films = Notes(settings.notes), Films()
+        self.noting, self.warned, self.shown = Noting(self), Warned(self), Standing(self)
+        self.keeping, self.held = Keeping(self), Held(self)
+        self.archive = Archive(settings.archive)
+        # Held from a look at a clip until its release is given, so that no other order of this page
+        # comes between.
+        self.ordering = asyncio.Lock()
+        self.begun = time.monotonic()
+        self.is_running, self.was_running, self.said = self.orders.pipe.is_read(), False, 0.0
+        self.streams, self.wanted, self.version, self.looked = 0, time.monotonic(), 0, 0.0
+        self.changed, self.hurry = asyncio.Condition(), asyncio.Event()
+        self.state = b"{}"
+
+    def on_line(self, line: Line) -> None:
+        """A line of the station, whoever has asked for it."""
+        if self.alerts.stands("answers", camera=None):
+            self.warned.over("answers", None)
+        self.heard.take(line)
+        watched = self.cameras.get(line.camera or "")
+        if watched and line.kind in ("making", "status_making"):
+            watched.making = line["percent"]
+        elif watched and line.kind in ("status", "store_open", "kept"):
+            watched.making = None
+
+    def on_event(self, line: Line) -> None:
+        """A line of the station that nobody asked for."""
+        self.warned.on_event(line)
+
+    def on_unread(self) -> None:
+        """Lines of the station can't be read."""
+        self.warned.set("answers", None, UNREAD)
+
+    async def watch(self) -> None:
+        """Looks at the cameras, without end: often while somebody looks at the page."""
+        while True:
+            try:
+                await self.look()
+            except (OSError, ValueError) as fault:
+                log.exception("a look failed: %s", fault)
+            is_watched = self.streams or time.monotonic() - self.wanted < 10 or self.is_reading()
+            self.hurry.clear()
+            with contextlib.suppress(asyncio.TimeoutError):
+                await asyncio.wait_for(
+                    self.hurry.wait(), limits.LOOK_SECONDS if is_watched else limits.IDLE_SECONDS
+                )
+            if self.hurry.is_set():
+                # Many events together are one look.
+                await asyncio.sleep(0.05)
+
+    def is_reading(self) -> bool:
+        """Whether some of a camera's several stores aren't read yet."""
+        found = [it.reading.stores for it in self.cameras.values() if it.reading]
+        return any(stores and stores[0] < stores[1] for stores in found)
+
+    async def fresh(self) -> None:
+        """Sees that what was seen last isn't old: while nobody looks, cameras are looked at
+        seldom."""
+        self.wanted, version = time.monotonic(), self.version
+        if self.wanted - self.looked < 2 * limits.LOOK_SECONDS:
+            return
+        self.hurry.set()
+        async with self.changed:
+            with contextlib.suppress(asyncio.TimeoutError):
+                await asyncio.wait_for(
+                    self.changed.wait_for(lambda: self.version != version), limits.FRESH_SECONDS
+                )
+
+    async def ask(self) -> None:
+        """Asks the station how its cameras stand, without end: soon, until it has answered once,
+        and after it has come again."""
+        while True:
+            if self.orders.has_answers and self.orders.pipe.is_read():
+                with contextlib.suppress(NoStation):
+                    await self.ask_status()
+            for _ in range(int(limits.IDLE_ASK_SECONDS / limits.ASK_SECONDS)):
+                await asyncio.sleep(limits.ASK_SECONDS)
+                if not self.said or self.streams or time.monotonic() - self.wanted < 10:
+                    break
+
+    async def ask_status(self) -> None:
+        """Asks once."""
+        await self.orders.ask("status", each=self.on_status)
+        self.said = time.monotonic()
+
+    def on_status(self, line: Line) -> None:
+        """A line of the station's `status`. What it says is so now: what was said before the page
+        began, nobody has heard, and an event may have been lost."""
+        watched = self.cameras.get(line.camera or "")
+        if not watched:
+            return
+        if line.kind == "status":
+            self.warned.on_stands(watched, words.status_of(line))
+        elif line.kind == "absent":
+            watched.status, is_same = None, watched.absent == line["why"]
+            if not (is_same and self.warned.is_known("absent", line["camera"])):
+                self.warned.on_event(Line(None, "store_absent", line.members))
+
+    async def look(self) -> None:
+        """Looks once, and sends all pages what was seen."""
+        await self.look_at(list(self.cameras))
+        self.warned.judge_station()
+        self.archive.look()
+        self.warned.set("archive", None, self.archive.text() if self.archive.path else "")
+        for watched in self.cameras.values():
+            self.warned.judge(watched)
+        await self.noting.carry()
+        self.looked = time.monotonic()
+        state = json.dumps(self.shown.standing(), separators=(",", ":")).encode()
+        async with self.changed:
+            self.version, self.state = self.version + 1, state
+            self.changed.notify_all()
+
+    def forget_station(self) -> None:
+        """What a station said that has ended isn't so any more, nor not so."""
+        self.said = 0.0
+        self.heard.station_ended()
+        for name, watched in self.cameras.items():
+            watched.status, watched.absent, watched.making = None, "", None
+            for kind in OF_STATION:
+                self.warned.over(kind, name, is_told=False)
+
+    def watched(self, name: object) -> Watched:
+        """The camera of a name."""
+        if not isinstance(name, str) or name not in self.cameras:
+            raise Unfit(404, "There is no camera of that name.")
+        return self.cameras[name]
+
+    def seen(self, name: object) -> tuple[Watched, Reading | Ring, Source | Sources]:
+        """A camera with what was seen of it; Unfit where there is no store."""
+        watched = self.watched(name)
+        self.wanted = time.monotonic()
+        reading, source = watched.reading, watched.source
+        if watched.hangs():
+            raise Unfit(503, NO_ANSWER)
+        if reading is None or source is None:
+            raise Unfit(
+                503,
+                refusal(watched.why)
+                if watched.why
+                else "The page has only just begun. Try again in a moment.",
+            )
+        return watched, reading, source
+
+    async def look_at(self, names: list[str], is_new: bool = False) -> None:
+        """Looks at some cameras together, and waits for a while until that is done. A look that is
+        to be new begins after this call."""
+        chosen = [self.cameras[name] for name in names]
+        if is_new:
+            await settle(chosen)
+        for watched in chosen:
+            watched.begin()
+        await settle(chosen)
+
+    async def close(self) -> None:
+        """Ends what is under way."""
+        await self.films.close()
+        self.orders.pipe.close()
+        self.orders.reader.close()

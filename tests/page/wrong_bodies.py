@@ -1,0 +1,176 @@
+#!/usr/bin/python3
+"""Gives the page's tests wrong bodies of its Python, each of which they have to find.
+
+    tests/page/wrong_bodies.py [NAME..]
+
+Each is a copy of python/ with one change of one place. The tests that need no page run over it first,
+and then those that it names. It prints a line for each body, and ends with 1 where one survives that
+isn't among those that README.md names. They are of the code that reads the station's lines, of
+events by number, of notes, of keeps and of several stores."""
+import os
+import shutil
+import subprocess
+import sys
+import tempfile
+from pathlib import Path
+
+TESTS = Path(__file__).resolve().parent
+TOP = TESTS.parent.parent
+# The tests without a page that ought to find what is wrong in a file.
+UNITS = {
+    "notes": ["notes", "limits"],
+    "heard": ["notes", "events", "right", "rings"],
+    "kept": ["notes", "keep", "right"],
+    "events": ["events", "rings"],
+    "reader": ["rings", "push"],
+    "rings": ["rings"],
+    "words": ["words", "events"],
+    "held": ["notes", "right"],
+    "keeping": ["notes", "right"],
+    "standing": ["limits", "alerts"],
+    "noting": ["notes", "right"],
+    "whole": ["notes", "limits"],
+    "orders": ["notes", "alerts"],
+}
+# What starts a page, or more.
+FIXTURES = {"make", "shared", "kept", "closed", "absent", "page", "lab"}
+
+# A body: its name, its file, what is changed to what, and the tests beside those without a page.
+GROWS, NOTED = "grows_and_keeps or has_grown", "note"
+BODIES = [
+    ("another_camera_ends_an_event_earlier", "heard", 'max(told.until, line["to"])', 'line["to"]', ""),
+    ("gaps_of_an_earlier_answer_are_told_again", "heard", 'line["asked_micros"], []', 'line["asked_micros"], part.gaps', "hole"),
+    ("a_gap_has_no_length", "heard", 'line["at"] + line["micros"]', 'line["at"]', "hole"),
+    ("an_event_that_is_not_whole_goes_on", "heard", '("event_whole", "event_not_whole")', '("event_whole",)', ""),
+    ("the_newest_events_are_forgotten", "heard", "kept.popitem(last=False)", "kept.popitem()", ""),
+    ("events_go_on_without_a_station", "heard", "                told.until = 0\n", "                pass\n", ""),
+    ("a_tag_is_no_number", "heard", "        if is_number(clip.tag):\n            return clip.tag\n", "", ""),
+    ("clips_of_any_camera_have_the_number", "heard", "number = self.clips.get((camera, clip.id, clip.first))", "number = next((n for (_, *it), n in self.clips.items() if it == [clip.id, clip.first]), None)", ""),
+    ("a_clip_that_grows_is_of_another_cameras_event", "heard", "(name, first) == (camera, clip.first)", "first == clip.first", ""),
+    ("a_clip_is_of_an_event_that_never_grew", "heard", " and self.told(number).until", "", ""),
+    ("an_event_goes_on_while_any_camera_does", "heard", "and all(part", "and any(part", ""),
+    ("an_event_goes_on_whose_end_never_lay_ahead", "heard", "self.until > 0 and ", "", ""),
+    ("small_tags_are_numbers", "heard", "NUMBERS_FROM = 10**15", "NUMBERS_FROM = 1", ""),
+    ("no_tag_is_a_number", "heard", "NUMBERS_FROM = 10**15", "NUMBERS_FROM = 10**17", ""),
+    ("a_keep_has_no_number", "kept", "clips, event=event)", "clips)", "says_until_when"),
+    ("when_an_event_ends_is_not_said", "kept", "if self.until else", "if False else", ""),
+    ("nothing_kept_is_told_as_kept", "kept", '"kept": self.is_kept', '"kept": True', "refuses_is_said or of_no_frame"),
+    ("a_part_is_told_as_nothing", "kept", "PART if is_part", "PART if False", ""),
+    ("why_nothing_was_kept_is_not_said", "kept", "{why.rstrip('.?')}", "", ""),
+    ("a_note_is_of_all_stores", "notes", '{clip.since} {store}" if', '{clip.since}" if', NOTED),
+    ("a_note_is_of_all_clips_of_an_event", "notes", "event {clip.tag} {clip.since} {store}", "event {clip.tag} {store}", NOTED),
+    ("a_note_is_of_each_clip_of_an_id", "notes", "{clip.id} {clip.since} {clip.until} {store}", "{clip.id} {store}", NOTED),
+    ("notes_of_an_older_page_are_lost", "notes", ' or self.notes.get(by_ends(store, clip), "")', ' or ""', NOTED),
+    ("an_older_pages_note_comes_back", "notes", "(key_of(*it), by_ends(*it))", "(key_of(*it),)", NOTED),
+    ("notes_of_others_are_dropped", "notes", "if is_held(key)}", "if False}", NOTED),
+    ("notes_have_no_bound", "notes", "> limits.NOTES", "> 10 * limits.NOTES", NOTED),
+    ("notes_of_any_version_are_read", "notes", 'found.get("version") != VERSION', "False", ""),
+    ("notes_that_cannot_be_read_are_written_over", "notes", "            if self.fault:\n                raise NotesFault(self.fault)\n", "", ""),
+    ("open_pages_see_no_new_note", "notes", "self.version + 1", "self.version", NOTED),
+    ("a_file_of_notes_is_everybodys", "whole", "0o600", "0o666", NOTED),
+    ("half_a_file_of_notes_stays", "whole", "        os.unlink(new_of(path))\n", "        pass\n", "killed_page"),
+    ("a_note_may_be_long", "notes", "> limits.NOTE_BYTES", "> 10 * limits.NOTE_BYTES", NOTED),
+    ("a_note_has_lines", "notes", '" ".join("".join(sign if sign.isprintable() else " " for sign in text).split())', "text", NOTED),
+    ("numbered_clips_go_by_times_too", "events", 'if it["event"] is None])', "])", ""),
+    ("notes_are_told_twice", "events", 'list(dict.fromkeys(it["note"] for it in ordered if it["note"]))', '[it["note"] for it in ordered if it["note"]]', ""),
+    ("clips_of_two_tags_are_one_event", "events", '        if clip["order_tag"] != self.tag:\n            return False\n', "", ""),
+    ("a_camera_is_twice_in_a_press", "events", "return not any(\n            it", "return True or not any(\n            it", ""),
+    ("what_is_held_is_no_lack", "events", "if part.held is not None or part.why", "if part.why", ""),
+    ("an_event_never_ends", "events", "told.until if told.goes_on() else None", "told.until or None", ""),
+    ("the_oldest_event_is_first", "events", "reverse=True", "reverse=False", ""),
+    ("a_number_may_be_true", "words", "        and not isinstance(value, bool)\n", "", ""),
+    ("a_number_may_be_large", "words", "0 <= value < 2**64", "0 <= value", ""),
+    ("a_time_needs_no_zone", "words", "if moment.tzinfo is None or moment < EPOCH:", "moment = moment.replace(tzinfo=datetime.timezone.utc)\n    if moment < EPOCH:", ""),
+    ("a_label_may_be_anything", "words", "label is not None and not isinstance(label, str)", "False", ""),
+    ("texts_keep_their_signs", "words", "return key, plain(value)", "return key, value", ""),
+    ("a_line_too_deep_ends_the_page", "words", "(ValueError, RecursionError)", "ValueError", ""),
+    ("a_line_of_no_camera_is_of_none", "keeping", "camera = line.camera or camera", "camera = line.camera", ""),
+    ("a_keep_tells_an_earlier_clip_of_its_id", "keeping", "reading.clip_of(id_, first, last) if reading", "reading.clip(id_) if reading", ""),
+    ("a_keep_tells_a_longer_clip_of_another_event", "keeping", '            and self.laboratory.heard.number_of(name, it) == line["event"]\n', "", ""),
+    ("what_a_keep_lacks_is_not_told", "keeping", 'lack = "" if part.held is None', 'lack = "" if True', "hole or shorter"),
+    ("a_note_does_not_grow", "noting", "self.growing[name, number] = text", "pass", GROWS),
+    ("a_note_is_not_carried", "noting", "            if lacking:\n", "            if False:\n", GROWS),
+    ("a_note_is_not_carried_to_the_end", "noting", "if not is_open and (name, number) in self.grown:", "if not is_open:", GROWS),
+    ("any_clip_of_a_first_frame_is_the_longer_one", "held", "return found[0] if len(found) == 1 else None", "return found[0] if found else None", GROWS),
+    ("a_longer_clip_is_released_by_its_old_id", "held", 'f"release {camera} {clip.id} {clip.first}"', 'f"release {camera} {id_} {clip.first}"', GROWS),
+    ("clips_of_all_stores_have_one_id", "reader", "layout.CLIPS * (among or 0)", "0", ""),
+    ("frames_of_all_stores_have_one_name", "reader", "return frame if self.among is None else", "return frame if True else", ""),
+    ("frames_go_by_numbers_alone", "reader", "self.places[place] if self.places else place", "place", ""),
+    ("a_longer_clip_is_in_any_store", "heard", " and clip.is_beside(id_)", "", ""),
+    ("the_same_numbers_in_two_stores_are_the_same_frames", "events", '            and store_of(it["id"]) == store_of(clip["id"])\n', "", ""),
+    ("clips_of_several_stores_go_by_their_numbers", "events", 'it["from_us"] * (counts[it["camera"]] > 1)', "0", ""),
+    ("the_oldest_store_has_the_newest_frame", "rings", "return max(parts.values(), key", "return min(parts.values(), key", ""),
+    ("a_block_goes_while_a_segment_is_free", "rings", "        if any(self.is_free(part) for part in self.each()):\n            return None\n", "", ""),
+    ("the_first_stores_block_goes", "rings", "until = min(found)", "until = found[0]", ""),
+    ("a_hole_parts_nothing", "rings", "run.since - found[-1].until > longest", "False", ""),
+    ("other_frames_are_in_the_ring", "rings", "if part.geometry[:5] != active.geometry[:5]:", "if False:", ""),
+    ("a_file_is_settled_at_once", "rings", "is_old and self.reading is not None", "True", ""),
+    ("any_file_at_the_path_is_read", "rings", "if found.identity != self.identity:", "if False:", ""),
+    ("all_files_stay_open", "rings", "            self.reader.opened, self.reader.known = None, Known()\n", "", ""),
+    ("the_oldest_file_is_read_first", "rings", "-(stamps[it.number]", "(stamps[it.number]", ""),
+    ("a_turn_is_seen_by_the_next_look_alone", "rings", "likely = [active.among, ring.next_store()]", "likely = [active.among]", ""),
+    ("steps_stay_in_a_store", "rings", "        wanted = self.before(found.time)", "        return part.near(number, by, store)\n        wanted = self.before(found.time)", ""),
+    ("a_store_that_is_away_stays", "rings", "            found = dict(numbered_of(self.path))\n", "            found = {n: it.path for n, it in self.members.items()} | dict(numbered_of(self.path))\n", ""),
+    ("nothing_is_recorded_while_another_store_is_made", "standing", " and not is_made", "", "records_while_others"),
+    ("one_line_that_is_none_is_warned_of_for_ever", "orders", "        self.unread = 0\n        self.take(line)", "        self.take(line)", "unknown_lines or cannot_be_read"),
+    ("others_answers_are_events", "orders", "        if line.label is None:\n", "        if line.label not in self.waiting:\n", "many_keeps or grows_and"),
+    ("an_order_waits_for_a_station_that_has_ended", "orders", "                self.give_up()\n", "                pass\n", "ends_before"),
+]
+# Those that the tests pass over, each with why in README.md.
+SURVIVE: set[str] = set()
+
+
+def copy_of(folder, name, old, new):
+    """A copy of the page with a wrong body; its program."""
+    for part in ("python", "tools"):
+        shutil.copytree(TOP / part, folder / part)
+    path = folder / "python" / "page" / "station_page" / f"{name}.py"
+    text = path.read_text(encoding="utf-8")
+    if text.count(old) != 1:
+        sys.exit(f"wrong_bodies: {name}.py has {old!r} {text.count(old)} times")
+    path.write_text(text.replace(old, new), encoding="utf-8")
+    return str(folder / "python" / "page" / "loop_page")
+
+
+def pytest_collection_modifyitems(config, items):
+    """As a plugin of pytest: leaves the tests that need no page."""
+    items[:] = [it for it in items if not FIXTURES & set(it.fixturenames)]
+
+
+def failed(program, *words):
+    """The first test that fails over a page; nothing where all pass."""
+    place = f"{TESTS}:{os.environ.get('PYTHONPATH', '')}"
+    more = dict(os.environ, LOOP_PAGE=program, PYTHONPATH=place, PYTHONDONTWRITEBYTECODE="1")
+    command = ["/usr/bin/python3", "-m", "pytest", "-x", "-q", "-p", "no:cacheprovider", *words]
+    done = subprocess.run(command, env=more, cwd=TOP, capture_output=True, text=True, check=False)
+    if done.returncode not in (0, 1, 5):
+        return f"pytest ends with {done.returncode}: {done.stdout[-300:]}"
+    lines = [line for line in done.stdout.splitlines() if line.startswith(("FAILED", "ERROR"))]
+    return lines[0].split("::", 1)[-1].split(" - ")[0] if lines else ""
+
+
+def main(names):
+    """Tries the bodies of these names, or all; answers the status."""
+    if set(names) & {"-h", "--help"}:
+        print(__doc__)
+        return 0
+    if unknown := set(names) - {body[0] for body in BODIES}:
+        print(f"wrong_bodies: no {' '.join(sorted(unknown))}", file=sys.stderr)
+        return 2
+    survived = set()
+    for name, file, old, new, tests in BODIES:
+        if names and name not in names:
+            continue
+        with tempfile.TemporaryDirectory(prefix="wrong_bodies", dir="/var/tmp") as folder:
+            program = copy_of(Path(folder), file, old, new)
+            plain = [f"tests/page/test_{it}.py" for it in UNITS[file]]
+            found = failed(program, "-p", "wrong_bodies", *plain)
+            if not found and tests:
+                found = failed(program, "-k", tests, "tests/page")
+        print(f"{name}: {found or 'SURVIVES'}", flush=True)
+        survived |= {name} if not found else set()
+    return int(bool(survived - SURVIVE))
+
+
+if __name__ == "__main__":
+    sys.exit(main(sys.argv[1:]))
