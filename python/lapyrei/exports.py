@@ -23,7 +23,8 @@ from . import __version__, films, layout, times
 from .errors import ExportFault, MissingPackage
 from .files import camera_of
 from .place import place_for
-from .store import Clip, Event, Frames, Planes, Store
+from .parts import Planes
+from .store import Clip, Event, Frames, Store
 
 Array = NDArray[Any]
 Done = Callable[[int], None]

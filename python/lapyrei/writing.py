@@ -22,9 +22,9 @@ from . import layout, library
 from .errors import (
     BadGeometry,
     BadTime,
-    CannotMake,
     CannotOpen,
     ClipEmpty,
+    Exists,
     Gone,
     InUse,
     NoSuchClip,
@@ -82,7 +82,7 @@ def create(
     a sample, 8, or 9 to 16. A file that is there is left alone, unless `overwrite` is true: then
     all that it held is lost. `version` 1 makes the old layout.
 
-    Raises BadGeometry, CannotMake (`detail` is the errno: EEXIST where a file is there), InUse,
+    Raises BadGeometry, Exists where a file is there, CannotMake (`detail` is the errno), InUse,
     CannotOpen, NoMemory, DiskFault, TooMany, NoLibrary."""
     name = os.fspath(path)
     made = shape_of(shape, fraction_of(rate), format, bits, version)
@@ -90,10 +90,10 @@ def create(
     library.library()
     is_new = False if overwrite else take(name)
     try:
-        handle = library.formatted(name, made)
+        handle = library.formatted(name, made, overwrite)
     except Refused as fault:
         # What another program has begun there meanwhile is its own.
-        if is_new and not isinstance(fault, InUse):
+        if is_new and not isinstance(fault, (InUse, Exists)):
             os.unlink(name)
         raise
     return opened(handle, bits)
@@ -105,7 +105,7 @@ def take(path: str) -> bool:
         os.close(os.open(path, os.O_WRONLY | os.O_CREAT | os.O_EXCL | os.O_CLOEXEC, 0o666))
     except FileExistsError:
         why = "a file is there; overwrite=True erases it"
-        raise CannotMake(why, errno.EEXIST, path) from None
+        raise Exists(why, errno.EEXIST, path) from None
     except OSError as fault:
         raise CannotOpen(library.why_not(fault.errno or 0), path) from None
     return True
@@ -381,7 +381,7 @@ class Writable(Store):
         refused, those before it stay, and `stored` of the exception has their numbers.
 
         Raises WrongSize, BadTime, UnknownDepth, AllLocked, DiskFault, MustReopen, NumbersSpent,
-        NoMemory, BadHandle; Gone where the other store has removed a frame; TypeError for another
+        NoMemory, BadHandle; Moved where the file was removed or renamed; Gone where the other store has removed a frame; TypeError for another
         type of samples, ValueError for one that needs more bits."""
         with self._writes():
             if isinstance(frames, Frames):

@@ -479,9 +479,9 @@ def test_a_bad_geometry_is_refused_and_makes_no_file(tmp_path, more, says):
 def test_a_file_that_is_there_is_erased_only_where_that_is_said(tmp_path):
     filled(tmp_path, 5).close()
     before = Path(path_in(tmp_path)).read_bytes()
-    with pytest.raises(lapyrei.CannotMake, match="overwrite=True erases it") as refused:
+    with pytest.raises(lapyrei.Exists, match="overwrite=True erases it") as refused:
         small(tmp_path)
-    assert refused.value.detail == errno.EEXIST and refused.value.number == 103
+    assert refused.value.detail == errno.EEXIST and refused.value.number == 107
     assert Path(path_in(tmp_path)).read_bytes() == before
     with small(tmp_path, overwrite=True, slots=2) as store:
         assert len(store) == 0 and store.geometry.slots == 2
@@ -1045,6 +1045,7 @@ def test_each_refusal_of_the_header_has_a_class_of_its_name_and_words():
                for line in body.splitlines() if "=" in line]
     # What reads by the library alone isn't asked from here.
     others = {0: "Ok", 4: "NotFormatted", 5: "Damaged", 13: "NotHeld", 101: "CannotOpen"}
+    others |= {109: "Gone", 110: "ReadOnly", 111: "Unsettled", 112: "TimedOut"}
     assert set(numbers) - set(others) == set(lapyrei.library.CLASSES)
     for number, kind in lapyrei.library.CLASSES.items():
         assert made.lapyrei_name(number).decode() == kind.name
@@ -1122,3 +1123,47 @@ except lapyrei.NoMemory as refused:
 def test_the_limits_of_a_process_are_those_that_it_had():
     """Nothing here has changed them for the tests that follow."""
     assert resource.getrlimit(resource.RLIMIT_FSIZE)[0] == resource.RLIM_INFINITY
+
+
+# ------------------------------------------------------------------------------- a file that goes
+
+
+@pytest.mark.parametrize("how", ["removed", "renamed", "replaced"])
+def test_a_store_whose_file_went_is_told_so(tmp_path, how):
+    """What would be stored nobody would find."""
+    path = tmp_path / "a.loop"
+    with lapyrei.create(path, SHAPE, 25, segments=3, slots=4) as store:
+        store.append(np.zeros(SHAPE, np.uint8), 1)
+        if how == "removed":
+            path.unlink()
+        else:
+            path.rename(tmp_path / "b.loop")
+        if how == "replaced":
+            lapyrei.create(path, SHAPE, 25, segments=3, slots=4).close()
+        for call in (
+            lambda: store.append(np.zeros(SHAPE, np.uint8), 2),
+            lambda: store.lock(0, 0),
+            store.upgrade,
+        ):
+            with pytest.raises(lapyrei.Moved, match="a.loop: refused 108 Moved: .* removed") as it:
+                call()
+            assert it.value.number == 108
+
+
+def test_a_file_that_comes_before_it_is_made_is_not_erased(tmp_path, monkeypatch):
+    """Another program has made a store there between this one's look and its call."""
+    from lapyrei import writing
+
+    path, real = tmp_path / "a.loop", writing.take
+
+    def take(name):
+        made = real(name)
+        lapyrei.library.formatted(name, SHAPED, True).close()
+        return made
+
+    SHAPED = writing.shape_of(SHAPE, writing.fraction_of(25), "GREY", 8, 2)
+    SHAPED.segments, SHAPED.slots = 2, 3
+    monkeypatch.setattr(writing, "take", take)
+    with pytest.raises(lapyrei.Exists):
+        lapyrei.create(path, SHAPE, 25, segments=4, slots=4)
+    assert lapyrei.open(path).geometry.segments == 2
