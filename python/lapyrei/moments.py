@@ -1,5 +1,6 @@
-"""Times that a caller gives, as microseconds: numbers, texts, datetimes and numpy's datetime64. What
-is no time, or none that fits, is refused by name: numpy would make another time of it in silence."""
+"""Times that a caller gives, as microseconds: numbers, texts, datetimes and numpy's datetime64.
+What is no time, or none that fits, is refused by name: numpy would make another time of it in
+silence."""
 from __future__ import annotations
 
 import datetime

@@ -6,8 +6,6 @@ import json
 from typing import TYPE_CHECKING, Any
 from xml.etree import ElementTree
 
-
-
 if TYPE_CHECKING:
     from .exports import Job
 
@@ -56,13 +54,14 @@ def xml(job: Job) -> bytes:
     notes = element(top, "StructuredAnnotations")
     note = element(notes, "MapAnnotation", ID="Annotation:0", Namespace="lapyrei")
     value = element(note, "Value")
-    for key, it in annotations(job).items():
+    for key, it in notes_of(job).items():
         element(value, "M", K=key).text = it
     front = b'<?xml version="1.0" encoding="UTF-8"?>'
-    return front + ElementTree.tostring(top, "us-ascii").split(b"?>\n", 1)[-1]
+    text: bytes = ElementTree.tostring(top, "us-ascii")
+    return front + text.split(b"?>\n", 1)[-1]
 
 
-def annotations(job: Job) -> dict[str, str]:
+def notes_of(job: Job) -> dict[str, str]:
     """What the file says of itself, and the frames' own numbers and times."""
     said = {name: it if isinstance(it, str) else json.dumps(it) for name, it in job.about().items()}
     vectors = {name: json.dumps(it.tolist()) for name, it in job.vectors().items()}
@@ -96,5 +95,3 @@ def ngff(job: Job) -> dict[str, Any]:
     omero = {"version": NGFF, "name": about["camera"], "channels": channels}
     omero["rdefs"] = {"model": model, "defaultT": 0}
     return {"multiscales": [image], "omero": omero, "lapyrei": about}
-
-

@@ -29,6 +29,7 @@ HEADS = np.dtype(
     ]
 )
 
+
 class Planes(NamedTuple):
     """A picture in colour, or many: luma and the two colour differences, each an array
     (height, width), or (frames, height, width). Those of the colours are smaller by the format."""

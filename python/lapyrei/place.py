@@ -11,6 +11,8 @@ from collections.abc import Iterator
 from . import layout
 from .errors import ExportFault
 
+# One of these is in each folder that an export has made.
+MADE = ("frames.csv", "about.json", ".zgroup", "zarr.json")
 NO_LINKS = (errno.EPERM, errno.EOPNOTSUPP, errno.ENOSYS, errno.EMLINK, errno.EXDEV)
 
 
@@ -77,9 +79,7 @@ def forget_cached(path: str) -> None:
 
 def is_export(folder: str) -> bool:
     """Whether a folder is one that an export made, which may be replaced."""
-    return any(
-        os.path.exists(os.path.join(folder, it)) for it in ("frames.csv", "about.json", ".zgroup", "zarr.json")
-    )
+    return any(os.path.exists(os.path.join(folder, it)) for it in MADE)
 
 
 def is_store(path: str) -> bool:

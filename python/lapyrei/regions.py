@@ -5,7 +5,6 @@ from __future__ import annotations
 import operator
 from typing import Any, NamedTuple
 
-import numpy as np
 from numpy.typing import NDArray
 
 

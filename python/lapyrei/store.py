@@ -3,7 +3,6 @@ nothing. docs/python.md is for who uses it."""
 from __future__ import annotations
 
 import copy
-import datetime
 import operator
 import os
 from collections.abc import Iterator, Sequence
@@ -225,7 +224,9 @@ class Frames:
         planes = self._planes(place, form, found)
         return planes[0] if len(planes) == 1 else Planes(*planes)
 
-    def _planes(self, place: int, form: Form, wanted: Sequence[Region], first: int = 0) -> list[Array]:
+    def _planes(
+        self, place: int, form: Form, wanted: Sequence[Region], first: int = 0
+    ) -> list[Array]:
         """Regions of a frame's planes, from a plane on. Their rows alone are read."""
         starts = form.starts()
         pieces, read = [], []
@@ -329,7 +330,7 @@ class Frames:
     ) -> Any:
         """These frames as a DataArray of xarray, whose `time` is the frames': of UTC, or in seconds
         of another clock. `number`, `sequence`, `lost` and `time_us` stand beside it. In colour it
-        is a Dataset of luma, cb and cr; `colour` is as in `to_dask`. With `lazy` it is read by dask.
+        is a Dataset of luma, cb and cr; `colour` is as in `to_dask`. With `lazy` dask reads it.
         Needs python3-xarray."""
         from . import lazy as arrays
 

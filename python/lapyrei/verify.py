@@ -1,6 +1,6 @@
-"""Exports that prove themselves: each is read back from the disk, and its pixels, times and tags are
-compared with what was handed to it. Of each picture that was exported a checksum stays, so that the
-ring may go on meanwhile."""
+"""Exports that prove themselves: each is read back from the disk, and its pixels, times and tags
+are compared with what was handed to it. Of each picture that was exported a checksum stays, so that
+the ring may go on meanwhile."""
 from __future__ import annotations
 
 import csv
@@ -275,9 +275,9 @@ def said_by(*words: str) -> bytes:
 
 def film_texts(job: Job, path: str) -> tuple[tuple[str, Any, Any], ...]:
     """When its frames are shown, and what it says of itself."""
-    words = ("ffprobe", "-v", "error", "-select_streams", "v:0", "-of", "json")
-    words += ("-show_entries", "frame=pts_time:format_tags", path)
-    said = json.loads(said_by(*words))
+    shown_are = ("-show_entries", "frame=pts_time:format_tags")
+    words = ("ffprobe", "-v", "error", "-select_streams", "v:0", "-of", "json", *shown_are)
+    said = json.loads(said_by(*words, path))
     shown = [round(float(it["pts_time"]) * 1e6) for it in said["frames"]]
     wanted, _ = films.film_times(job.frames.times, job.geometry.period())
     told = {name.lower(): it for name, it in said["format"].get("tags", {}).items()}

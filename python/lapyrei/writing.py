@@ -381,8 +381,9 @@ class Writable(Store):
         refused, those before it stay, and `stored` of the exception has their numbers.
 
         Raises WrongSize, BadTime, UnknownDepth, AllLocked, DiskFault, MustReopen, NumbersSpent,
-        NoMemory, BadHandle; Moved where the file was removed or renamed; Gone where the other store has removed a frame; TypeError for another
-        type of samples, ValueError for one that needs more bits."""
+        NoMemory, BadHandle; Moved where the file was removed or renamed; Gone where the other store
+        has removed a frame; TypeError for another type of samples, ValueError for one that needs
+        more bits."""
         with self._writes():
             if isinstance(frames, Frames):
                 return self._copy(frames, times)
@@ -633,9 +634,9 @@ def fresh(method: Callable[..., Any]) -> Callable[..., Any]:
 # What a reader has of its own (store.Store).
 READER = ("_where", "_parts", "_of", "_heads", "_lost", "_clips", "_events")
 READING = (
-    "__len__ __repr__ __getitem__ __iter__ heads numbers times when sequences lost flags bits late "
-    "form dtype shape take blocks __array__ to_dask to_xarray read luma rgb raw array moment between nearest parts runs clips "
-    "events clip event index"
+    "__len__ __repr__ __getitem__ __iter__ __array__ heads numbers times when sequences lost flags "
+    "bits late form dtype shape take blocks to_dask to_xarray read luma rgb raw array moment "
+    "between nearest parts runs clips events clip event index"
 )
 for _name in READING.split():
     _found = getattr(Writable, _name)

@@ -1,5 +1,6 @@
 """Zarr of the third version of its format, which Debian's library doesn't write: a description in
-JSON for each group and array, and a file for each chunk, plain or by gzip (zarr-specs, core 3.0)."""
+JSON for each group and array, and a file for each chunk, plain or by gzip (zarr-specs, core
+3.0)."""
 from __future__ import annotations
 
 import gzip
@@ -86,5 +87,6 @@ class Found:
         out = np.empty(self.shape, self.dtype)
         grid = [range(-(-side // by)) for side, by in zip(self.shape, self.chunk)]
         for key in itertools.product(*grid):
-            out[tuple(slice(n * by, (n + 1) * by) for n, by in zip(key, self.chunk))] = self.get(key)
+            at = tuple(slice(n * by, (n + 1) * by) for n, by in zip(key, self.chunk))
+            out[at] = self.get(key)
         return out

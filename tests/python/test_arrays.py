@@ -381,7 +381,8 @@ def layers(path):
 def test_napari_reads_a_store_as_an_image_with_its_times(tmp_path):
     store = deep(tmp_path)
     ((data, words, kind),) = layers(store.parts[0].path)
-    assert kind == "image" and data.shape == (7, 8, 16) and (np.asarray(data) == store.array()).all()
+    assert kind == "image" and data.shape == (7, 8, 16)
+    assert (np.asarray(data) == store.array()).all()
     assert words["name"] == "left" and words["contrast_limits"] == [0, 4095]
     assert words["metadata"]["camera"] == "left" and not words.get("rgb")
     assert words["metadata"]["time_us"].tolist() == store.times.tolist()

@@ -55,7 +55,8 @@ def read_npy(path, name, place, plane):
 def read_h5(path, name, place, plane):
     """By h5dump."""
     raw = path.with_suffix(".raw")
-    words = ["h5dump", "-d", name, "-s", f"{place},0,0", "-c", f"1,{plane.shape[0]},{plane.shape[1]}"]
+    count = f"1,{plane.shape[0]},{plane.shape[1]}"
+    words = ["h5dump", "-d", name, "-s", f"{place},0,0", "-c", count]
     run(*words, "-b", "LE", "-o", raw, path)
     return raw.read_bytes()
 
@@ -89,7 +90,7 @@ def rgb_by_hand(picture, form, bits):
         for it in picture[1:]
     )
     unit, top = 2.0 ** (bits - 8), 2**bits - 1
-    y, cb, cr = (y - 16 * unit) / (219 * unit), (cb - 128 * unit) / (224 * unit), (cr - 128 * unit) / (224 * unit)
+    y, cb, cr = (y / unit - 16) / 219, (cb / unit - 128) / 224, (cr / unit - 128) / 224
     red, blue = y + 1.402 * cr, y + 1.772 * cb
     green = (y - 0.299 * red - 0.114 * blue) / 0.587
     return np.clip(np.rint(np.stack([red, green, blue], 2) * top), 0, top)
@@ -239,7 +240,7 @@ def wrong_writer(monkeypatch, kind, change):
 def test_a_byte_that_is_another_is_found_and_nothing_is_left(tmp_path, monkeypatch, kind):
     store = store_of(tmp_path, b"GREY", 8, (64, 48), 5)
     wrong_writer(monkeypatch, kind, spoil)
-    with pytest.raises(lapyrei.ExportFault, match="what was written (isn't what was|can't be) read"):
+    with pytest.raises(lapyrei.ExportFault, match="written (isn't what was|can't be) read"):
         lapyrei.export(store, kind, str(tmp_path / "out"), CHECKED)
     assert os.listdir(tmp_path) == ["left.loop"]
     lapyrei.export(store, kind, str(tmp_path / "out"))
