@@ -12,6 +12,7 @@
 #include <stdlib.h>
 #include <string.h>
 #include <sys/stat.h>
+#include <sys/syscall.h>
 #include <sys/wait.h>
 #include <unistd.h>
 
@@ -278,6 +279,29 @@ static lapyrei made_at(const char *name) {
     WANT(lapyrei_format(at(name), &small, &it), 0);
     WANT(put(it, 0), 0);
     return it;
+}
+
+/* The sync of a call, in which a file may be removed: it takes the place of the system's. */
+static const char *goes_in_a_sync;
+int fdatasync(int file) {
+    const char *name = goes_in_a_sync;
+    goes_in_a_sync = NULL;
+    if (name) unlink(name);
+    return (int)syscall(SYS_fdatasync, file);
+}
+
+/* Nor is it told that a call was made in whose sync the file went. */
+static void moved_late(void) {
+    lapyrei it = made_at("late.loop");
+    goes_in_a_sync = path;
+    WANT(put(it, 1), LAPYREI_MOVED);
+    WANT(put(it, 2), LAPYREI_MUST_REOPEN);
+    WANT(lapyrei_newest(it, &n), LAPYREI_MUST_REOPEN);
+    WANT(lapyrei_close(it), 0);
+    it = made_at("late.loop");
+    goes_in_a_sync = path;
+    WANT(lapyrei_lock(it, 0, 0, 0, NULL), LAPYREI_MOVED);
+    WANT(lapyrei_close(it), 0);
 }
 
 /* A file that was removed or renamed has no call that writes: what it would store nobody would find. */
@@ -633,6 +657,7 @@ int main(int argc, char **argv) {
     damage();
     exists();
     moved();
+    moved_late();
     read_beside();
     read_others();
     whole_beside();
