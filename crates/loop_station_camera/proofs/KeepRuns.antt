@@ -15,7 +15,7 @@ use Rattle.loop_desk.specs.Seen.{SeenDesk}
 use Rattle.loop_pipeline.specs.Backs.{GoesAt, SeenBack}
 use Rattle.loop_pipeline.proofs.DeskPlaces.{there-now}
 use Rattle.loop_pipeline.proofs.Places.{get-joined, get-set-other, some-same}
-use Rattle.loop_station_camera.specs.Keeping.{PlaceKept, StoresAll, StoresAndKeepsEach, TakesKept, clips_of, fault_of, first_fault, known, or_fault}
+use Rattle.loop_station_camera.specs.Keeping.{PlaceKept, StoresAll, StoresAndKeepsEach, TakesKept, first_fault, keep_fault, known, named_clips, or_fault}
 
 -- the first desks, so many, are done
 pub record KeepsFirst {D A : Type 0} (medium : D → Medium) (times : Times) (tag : ℕ) (count : ℕ) (between new : SeenBack D A)
@@ -27,8 +27,8 @@ pub record KeepsFirst {D A : Type 0} (medium : D → Medium) (times : Times) (ta
   pub rest : (place : ℕ) (d : SeenDesk D) → count ≤ place → slice_get new.desks place ≡ Some d
       → slice_get between.desks place ≡ Some d
   pub numbers : All (λ part. part.number < 256) parts
-  pub clips : kept.clips.items ≡ flat_map clips_of parts
-  pub fault : kept.fault ≡ first_fault (map fault_of parts)
+  pub clips : kept.clips.items ≡ flat_map named_clips parts
+  pub fault : kept.fault ≡ first_fault (map keep_fault parts)
   pub none : kept.clips.items ≡ [] → All (λ part. part.named ≡ true) parts
   pub still : length new.desks ≡ length between.desks
   pub same : new ≡ record between { desks = new.desks }
@@ -143,10 +143,10 @@ module _ {D A : Type 0} (medium : D → Medium) (times : Times) (tag : ℕ) wher
       rest = λ place d later is.
           so.rest place d (omega (arith, later)) (let apart : place ≢ count = omega (arith, later) in other place d apart is);
       numbers = all-more (λ part. part.number < 256) so.parts takes.part so.numbers takes.number;
-      clips = takes.clips ∙ (ap (λ l. l ++ clips_of takes.part) so.clips ∙ sym (flat-more clips_of so.parts takes.part));
-      fault = takes.fault ∙ (ap (λ f. or_fault f (fault_of takes.part)) so.fault ∙ sym (first-more fault_of so.parts takes.part));
+      clips = takes.clips ∙ (ap (λ l. l ++ named_clips takes.part) so.clips ∙ sym (flat-more named_clips so.parts takes.part));
+      fault = takes.fault ∙ (ap (λ f. or_fault f (keep_fault takes.part)) so.fault ∙ sym (first-more keep_fault so.parts takes.part));
       none = λ empty.
-          let nothing : kept.clips.items ≡ [] = nil-first kept.clips.items (clips_of takes.part) (sym takes.clips ∙ empty) in
+          let nothing : kept.clips.items ≡ [] = nil-first kept.clips.items (named_clips takes.part) (sym takes.clips ∙ empty) in
           all-more (λ part. part.named ≡ true) so.parts takes.part (so.none nothing) (takes.first nothing);
       still = ap length desks ∙ (length-set mid.desks count goes.after ∙ so.still);
       same = goes.same ∙ (ap (λ (b : SeenBack D A). record b { desks = slice_set mid.desks count goes.after }) so.same

@@ -48,11 +48,11 @@ pub record PlaceKept (A : Type 0) : Type 0 where
   pub named : Bool
 
 -- what is returned of it: its clips and its fault; or, if they can't be named, that memory was refused
-abbrev pub clips_of : {A : Type 0} → PlaceKept A → List Clip
-clips_of p = if p.named then map (known p.number) p.kept.clips.items else []
+abbrev pub named_clips : {A : Type 0} → PlaceKept A → List Clip
+named_clips p = if p.named then map (known p.number) p.kept.clips.items else []
 
-abbrev pub fault_of : {A : Type 0} → PlaceKept A → Option StoreFault
-fault_of p = if p.named then p.kept.fault else Some NoMemory
+abbrev pub keep_fault : {A : Type 0} → PlaceKept A → Option StoreFault
+keep_fault p = if p.named then p.kept.fault else Some NoMemory
 
 -- the first fault
 abbrev pub or_fault : Option StoreFault → Option StoreFault → Option StoreFault
@@ -68,8 +68,8 @@ pub record TakesKept {A : Type 0} (kept old new : Kept A) : Type 0 where
   pub part : PlaceKept A
   pub of : part.kept ≡ kept
   pub number : part.number < 256
-  pub clips : new.clips.items ≡ old.clips.items ++ clips_of part
-  pub fault : new.fault ≡ or_fault old.fault (fault_of part)
+  pub clips : new.clips.items ≡ old.clips.items ++ named_clips part
+  pub fault : new.fault ≡ or_fault old.fault (keep_fault part)
   pub first : old.clips.items ≡ [] → part.named ≡ true
 
 -- The active desk stored what waited, as far as no flush was refused, and then the held frames of a time were locked at
@@ -85,8 +85,8 @@ pub record StoresAndKeepsEach {D A : Type 0} (medium : D → Medium) (times : Ti
       → slice_get new.desks place ≡ Some e → slice_get parts place ≡ Some part
       → KeepsTime medium times tag d e part.kept
   pub numbers : All (λ part. part.number < 256) parts
-  pub clips : kept.clips.items ≡ flat_map clips_of parts
-  pub fault : kept.fault ≡ first_fault (map fault_of parts)
+  pub clips : kept.clips.items ≡ flat_map named_clips parts
+  pub fault : kept.fault ≡ first_fault (map keep_fault parts)
   pub none : kept.clips.items ≡ [] → All (λ part. part.named ≡ true) parts
   pub still : length new.desks ≡ length between.desks
   pub same : new ≡ record between { desks = new.desks }

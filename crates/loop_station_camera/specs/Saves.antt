@@ -10,15 +10,15 @@ use Rattle.loop_station_camera.specs.declared.save.Save.{Save}
 use Rattle.loop_station_camera.specs.declared.save.pieces.Piece.{Piece}
 
 -- the clips that a save reads
-abbrev pub clips_of : Save → List FoundClip
-clips_of s = elim s.event [ None ↦ s.found ∷ [] | Some clips ↦ clips.items ]
+abbrev pub clips_read : Save → List FoundClip
+clips_read s = elim s.event [ None ↦ s.found ∷ [] | Some clips ↦ clips.items ]
 
 -- how many frames a clip has, and several
-abbrev pub frames_of : FoundClip → ℕ
-frames_of f = f.clip.to + 1 - f.clip.from
+abbrev pub clip_length : FoundClip → ℕ
+clip_length f = f.clip.to + 1 - f.clip.from
 
-abbrev pub frames_in : List FoundClip → ℕ
-frames_in clips = sum_by frames_of clips
+abbrev pub frames_in_clips : List FoundClip → ℕ
+frames_in_clips clips = sum_by clip_length clips
 
 -- A writer was given the whole text of some frames, with the geometry of a store and samples that its frames may have:
 -- as many as there are numbers from the first of each clip to its last.
@@ -29,7 +29,7 @@ pub record WroteClips (old new : Option (List ℕ)) (geometry : Geometry) (clips
   pub frames : List (List ℕ)
   pub written : Appends old new (deep_text geometry depth frames)
   pub counted : length frames ≡ count
-  pub all : count ≡ frames_in clips
+  pub all : count ≡ frames_in_clips clips
   pub some : All (λ f. f.clip.from ≤ f.clip.to) clips
 
 -- ---- in pieces (private contracts alone)
@@ -49,5 +49,5 @@ rest_of f end first = record f { clip = record f.clip { from = end + 1 }; first 
 abbrev pub TakesPiece : List FoundClip → List FoundClip → Option Piece → Type 0
 TakesPiece old new None = (old ≡ []) × (new ≡ [])
 TakesPiece old new (Some p) =
-    (frames_in old ≡ (p.end + 1 - p.clip.clip.from) + frames_in new)
+    (frames_in_clips old ≡ (p.end + 1 - p.clip.clip.from) + frames_in_clips new)
     × ((p.clip.clip.from ≤ p.end) × All (λ f. p.clip.first ≤ f.first) old)

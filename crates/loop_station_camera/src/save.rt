@@ -7,8 +7,8 @@
 //! stop of the program or a `cancel` where that thread waits for a pipe that nobody reads.
 
 ghost use Rattle.std.specs.Prelude.{◌≡◌, IfErr, IfOk};
-ghost use Rattle.loop_station_camera.specs.Saves.{clips_of};
-ghost use Rattle.loop_station_core.specs.Saving.{shown, withdrawn};
+ghost use Rattle.loop_station_camera.specs.Saves.{clips_read};
+ghost use Rattle.loop_station_core.specs.Saving.{places_of, withdrawn};
 
 mod pieces;
 mod written;
@@ -73,7 +73,7 @@ impl Save {
 
     // The clips that it reads.
     fn clips(&self, alloc: Global) -> Result<Vec<FoundClip>, AllocError>
-        ensures { IfOk result (λ clips. clips.items ≡ clips_of self.now) }
+        ensures { IfOk result (λ clips. clips.items ≡ clips_read self.now) }
     {
         let mut clips = Vec::new(alloc);
         match &self.event {
@@ -330,7 +330,7 @@ impl Inside {
     // Asks for a place for a save: it begins there, or waits for one. Where it does neither, nothing is changed, and so
     // no place is taken for it.
     fn ask(&mut self, save: Arc<Save>) -> Result<(), NotBegun>
-        ensures refused { IfErr result (λ why. shown self.new.decided ≡ shown self.old.decided) }
+        ensures refused { IfErr result (λ why. places_of self.new.decided ≡ places_of self.old.decided) }
     {
         // A save that is told to wait, and for which there is no memory, is withdrawn: that leaves nothing of it.
         withdrawn_saves_leave_nothing();
@@ -348,7 +348,7 @@ impl Inside {
 
     // A save waits that was told to wait. Where there is no memory to keep it in, it is withdrawn.
     fn queue(&mut self, save: Arc<Save>) -> Result<(), NotBegun>
-        ensures { IfErr result (λ why. shown self.new.decided ≡ withdrawn (shown self.old.decided)) }
+        ensures { IfErr result (λ why. places_of self.new.decided ≡ withdrawn (places_of self.old.decided)) }
     {
         match self.waiting.push(save) {
             Ok(()) => Ok(()),

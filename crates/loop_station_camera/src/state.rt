@@ -18,7 +18,7 @@ use loop_station_parts::{
     Absent, Answering, Feed, FoundClip, Inbox, Job, Jobs, KeptClip, Life, Maker, Member, Message,
     NotSaved, NotTaken, Note, Posts, Request, Room, SaveOrder, Stored, Timeline,
 };
-use loop_station_words::{CameraConfig, Lines, micros_of, numbered};
+use loop_station_words::{CameraConfig, Lines, duration_of, numbered};
 use loop_store::{Clip, ReadFrame, StoreFault};
 use std::alloc::{AllocError, Global};
 use std::io;
@@ -546,7 +546,7 @@ impl CameraState {
     /// The duration in microseconds of the frames that have come from the source and are neither stored nor given up.
     pub fn behind_micros<R: Wait>(&self, rt: &R) -> u64 {
         match self.life.store(rt) {
-            Some(geometry) => micros_of(self.tally(rt).behind(), &geometry),
+            Some(geometry) => duration_of(self.tally(rt).behind(), &geometry),
             None => 0,
         }
     }

@@ -3,7 +3,7 @@
 use crate::state::CameraState;
 use loop_record::Geometry;
 use loop_station_parts::Said;
-use loop_station_words::{Lines, TimesFrom, micros_of};
+use loop_station_words::{Lines, TimesFrom, duration_of};
 use std::io;
 use std::sync::Wait;
 
@@ -13,7 +13,7 @@ pub fn said_of(state: &CameraState, geometry: &Geometry, bits: u32) -> Said {
         bits,
         time: None,
         by_source: state.config.times_from == TimesFrom::Source,
-        period: micros_of(1, geometry),
+        period: duration_of(1, geometry),
     }
 }
 

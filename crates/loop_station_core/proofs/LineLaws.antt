@@ -1,7 +1,7 @@
 -- Lines say what is so, once.
 use Rattle.std.proofs.Common.{◌≡◌, ℕ, ◌+◌, ◌/◌, ◌≤◌, ◌==◌, ◌||◌, ◌&&◌, Bool, true, false, List, [], ◌∷◌, Option, Some, None, IfSome, arith, refl, nat_lt, if◌then◌else◌}
 use Rattle.std.proofs.lemmas.Grind.{common_steps}
-use Rattle.loop_station_core.specs.Laws.{Alternate, StaysLost, IsSo, frames_in, is_measured, locked_lines, syncs_in, told_in}
+use Rattle.loop_station_core.specs.Laws.{Alternate, IsSo, StaysLost, is_measured, locked_lines, lost_in_line, lost_told_in, syncs_in}
 use Rattle.loop_station_core.specs.Telling.{is_missing, known_after, lines_of, same_source, source_line, told_behind, told_locked, told_lost, told_making, told_nearly, told_slow, told_source, told_store, told_syncs, told_unusable, told_waited}
 use Rattle.loop_station_core.specs.declared.changes.SourceSeen.{SourceSeen}
 use Rattle.loop_station_core.specs.declared.changes.SourceSeen.TheVariants.{Missing, Silent, Other, Unusable, On}
@@ -161,7 +161,7 @@ disk-told-once r (s ∷ ss) h = at s.disk refl (λ e. disk-told-once (known_afte
 
 -- a look tells what it then knows
 told-here : (r : Reported) (s : Seen) → r.lost.frames ≤ s.lost
-    → r.lost.frames + frames_in (lines_of r s).given_up ≡ (known_after r s).lost.frames
+    → r.lost.frames + lost_in_line (lines_of r s).given_up ≡ (known_after r s).lost.frames
 told-here r s h = grind (arith, common_steps)
 
 -- and all that are lost at the end
@@ -178,7 +178,7 @@ ends-lower a b s [] last h e = let lost : a ≤ s.lost = e.0 in (omega arith, e.
 ends-lower a b s (t ∷ ss) last h e = let lost : a ≤ s.lost = e.0 in (omega arith, e.1)
 
 pub lost-told-once : (r : Reported) (seen : List Seen) (last : ℕ) → StaysLost r.lost.frames seen last
-    → r.lost.frames + told_in r seen ≡ last
+    → r.lost.frames + lost_told_in r seen ≡ last
 lost-told-once r [] last h = let e : last ≡ r.lost.frames = h in omega arith
 lost-told-once r (s ∷ []) last h =
     let lost : r.lost.frames ≤ s.lost = h.0 in

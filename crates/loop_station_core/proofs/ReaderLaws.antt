@@ -4,9 +4,9 @@ use Rattle.std.specs.List.{list_any, position, position_or_len}
 use Rattle.std.proofs.lemmas.Grind.{common_steps}
 use Rattle.loop_station_core.proofs.ReleaseLaws.{first-at}
 use Rattle.loop_station_core.specs.Clips.{may_release, may_release_saved}
-use Rattle.loop_station_core.specs.Laws.{OrdersSpareReadClips, SavedClipsAreReleased, clip_of}
-use Rattle.loop_station_core.specs.Releases.{SaveStep, after_all, asks, ends, cancels, stops, ended_by, ended_in, no_saves, one_if, stepped, taken_by, taken_in}
-use Rattle.loop_station_core.specs.Saving.{Places, after_end, begun, covers, earns, ended, freed, has_key, held_at, holds, in_place, is_read, is_same, left_by, new_save, place_of, place_with, turn_of, turn_with, update, wanted, with_cancel, with_release, with_wish}
+use Rattle.loop_station_core.specs.Laws.{OrdersSpareReadClips, SavedClipsAreReleased, clip_key}
+use Rattle.loop_station_core.specs.Releases.{SaveStep, asks, cancels, ends, no_saves, one_if, saves_after, saves_after_all, saves_ended_by, saves_ended_in, saves_taken_by, saves_taken_in, stops}
+use Rattle.loop_station_core.specs.Saving.{Places, after_end_of, begun, covers, earns, ended_at, freed, has_key, has_such, held_at, is_read, is_same, left_to_others, new_save, place_of, place_with, turn_of_clip, turn_with, update, update_held, wanted, with_cancel, with_release, with_wish}
 use Rattle.loop_station_core.specs.declared.clips.MayRelease.TheVariants.{Now}
 use Rattle.loop_station_core.specs.declared.save_end.SaveEnd.{SaveEnd}
 use Rattle.loop_station_core.specs.declared.saves.SaveKey.{SaveKey}
@@ -116,15 +116,15 @@ module _ {X : Type 0} where
 
 -- how many saves have a key that passes
 abbrev readers : (SaveKey → Bool) → Places → ℕ
-readers f p = counted (holds (has_key f)) p.running + counted (has_key f) p.waiting
+readers f p = counted (has_such (has_key f)) p.running + counted (has_key f) p.waiting
 
 release-reads : (f : SaveKey → Bool) (o : Option Save)
-    → holds (has_key f) (in_place with_release o) ≡ holds (has_key f) o
+    → has_such (has_key f) (update_held with_release o) ≡ has_such (has_key f) o
 release-reads f None = refl
 release-reads f (Some s) = refl
 
 cancel-reads : (f : SaveKey → Bool) (o : Option Save)
-    → holds (has_key f) (in_place with_cancel o) ≡ holds (has_key f) o
+    → has_such (has_key f) (update_held with_cancel o) ≡ has_such (has_key f) o
 cancel-reads f None = refl
 cancel-reads f (Some s) = refl
 
@@ -133,7 +133,7 @@ wanted-counts f p k = at (place_with p k) (turn_with p k) refl refl where
   at : (a b : Option ℕ) → place_with p k ≡ a → turn_with p k ≡ b
       → readers f (wanted p k).0 ≡ readers f p
   at (Some place) b e n =
-      let u = update-counts (holds (has_key f)) (in_place with_release) p.running place (release-reads f) in
+      let u = update-counts (has_such (has_key f)) (update_held with_release) p.running place (release-reads f) in
       grind (arith, common_steps)
   at None (Some t) e n =
       let u = update-counts (has_key f) with_release p.waiting t (λ s. refl) in
@@ -142,12 +142,12 @@ wanted-counts f p k = at (place_with p k) (turn_with p k) refl refl where
 
 -- whether what a place holds does
 abbrev read_at : (SaveKey → Bool) → Places → ℕ → Bool
-read_at f p place = passes (holds (has_key f)) (slice_get p.running place)
+read_at f p place = passes (has_such (has_key f)) (slice_get p.running place)
 
-held-read : (f : SaveKey → Bool) (p : Places) (place : ℕ) → holds (has_key f) (held_at p place) ≡ read_at f p place
+held-read : (f : SaveKey → Bool) (p : Places) (place : ℕ) → has_such (has_key f) (held_at p place) ≡ read_at f p place
 held-read f p place = at (slice_get p.running place) refl where
   at : (o : Option (Option Save)) → slice_get p.running place ≡ o
-      → holds (has_key f) (held_at p place) ≡ read_at f p place
+      → has_such (has_key f) (held_at p place) ≡ read_at f p place
   at None e = grind (arith, common_steps)
   at (Some o) e = grind (arith, common_steps)
 
@@ -157,13 +157,13 @@ wanted-held f p k place = at (place_with p k) (turn_with p k) refl refl where
   at : (a b : Option ℕ) → place_with p k ≡ a → turn_with p k ≡ b
       → read_at f (wanted p k).0 place ≡ read_at f p place
   at (Some j) b e n =
-      let u = update-gets (holds (has_key f)) (in_place with_release) p.running j place (release-reads f) in
+      let u = update-gets (has_such (has_key f)) (update_held with_release) p.running j place (release-reads f) in
       grind (arith, common_steps)
   at None (Some t) e n = grind (arith, common_steps)
   at None None e n = grind (arith, common_steps)
 
 -- a place that is free stays so
-release-stays : (o : Option Save) → is_some (in_place with_release o) ≡ is_some o
+release-stays : (o : Option Save) → is_some (update_held with_release o) ≡ is_some o
 release-stays None = refl
 release-stays (Some s) = refl
 
@@ -172,27 +172,27 @@ holds_one p place = passes (λ (o : Option Save). not (is_some o)) (slice_get p.
 
 wanted-free : (p : Places) (k : SaveKey) (place : ℕ) → holds_one (wanted p k).0 place ≡ holds_one p place
 wanted-free p k place = at (place_with p k) (turn_with p k) refl refl where
-  kept : (o : Option Save) → not (is_some (in_place with_release o)) ≡ not (is_some o)
+  kept : (o : Option Save) → not (is_some (update_held with_release o)) ≡ not (is_some o)
   kept None = refl
   kept (Some s) = refl
 
   at : (a b : Option ℕ) → place_with p k ≡ a → turn_with p k ≡ b
       → holds_one (wanted p k).0 place ≡ holds_one p place
   at (Some j) b e n =
-      let u = update-gets (λ (o : Option Save). not (is_some o)) (in_place with_release) p.running j place kept in
+      let u = update-gets (λ (o : Option Save). not (is_some o)) (update_held with_release) p.running j place kept in
       grind (arith, common_steps)
   at None (Some t) e n = grind (arith, common_steps)
   at None None e n = grind (arith, common_steps)
 
-left-counts : (f : SaveKey → Bool) (p : Places) (s : Save) → readers f (left_by p s).0 ≡ readers f p
+left-counts : (f : SaveKey → Bool) (p : Places) (s : Save) → readers f (left_to_others p s).0 ≡ readers f p
 left-counts f p s = at s.release refl where
-  at : (b : Bool) → s.release ≡ b → readers f (left_by p s).0 ≡ readers f p
+  at : (b : Bool) → s.release ≡ b → readers f (left_to_others p s).0 ≡ readers f p
   at true e = let w = wanted-counts f p s.key in grind (arith, common_steps)
   at false e = grind (arith, common_steps)
 
-left-free : (p : Places) (s : Save) (place : ℕ) → holds_one (left_by p s).0 place ≡ holds_one p place
+left-free : (p : Places) (s : Save) (place : ℕ) → holds_one (left_to_others p s).0 place ≡ holds_one p place
 left-free p s place = at s.release refl where
-  at : (b : Bool) → s.release ≡ b → holds_one (left_by p s).0 place ≡ holds_one p place
+  at : (b : Bool) → s.release ≡ b → holds_one (left_to_others p s).0 place ≡ holds_one p place
   at true e = let w = wanted-free p s.key place in grind (arith, common_steps)
   at false e = grind (arith, common_steps)
 
@@ -206,25 +206,25 @@ begun-counts f p place h = at p.stopped p.waiting (slice_get p.running place) re
   at false (s ∷ ss) None e n g = grind (arith, common_steps)
   at false (s ∷ ss) (Some (Some t)) e n g = grind (arith, common_steps)
   at false (s ∷ ss) (Some None) e n g =
-      let put = set-counts (holds (has_key f)) p.running place None (Some s) g in
+      let put = set-counts (has_such (has_key f)) p.running place None (Some s) g in
       grind (arith, common_steps)
 
 after-counts : (f : SaveKey → Bool) (p : Places) (place : ℕ) (s : Save) → slice_get p.running place ≡ Some (Some s)
-    → readers f (after_end p place s).0 + one_if (has_key f s) ≡ readers f p
+    → readers f (after_end_of p place s).0 + one_if (has_key f s) ≡ readers f p
 after-counts f p place s g =
-    let gone = set-counts (holds (has_key f)) p.running place (Some s) None g in
+    let gone = set-counts (has_such (has_key f)) p.running place (Some s) None g in
     let there = set-there p.running place (Some s) None g in
     let free : holds_one (freed p place) place ≡ true = grind (arith, common_steps) in
-    let still : holds_one (left_by (freed p place) s).0 place ≡ true = rw (left-free (freed p place) s place) free in
+    let still : holds_one (left_to_others (freed p place) s).0 place ≡ true = rw (left-free (freed p place) s place) free in
     let left = left-counts f (freed p place) s in
-    let next = begun-counts f (left_by (freed p place) s).0 place still in
+    let next = begun-counts f (left_to_others (freed p place) s).0 place still in
     grind (arith, common_steps)
 
 ended-counts : (f : SaveKey → Bool) (p : Places) (place : ℕ)
-    → readers f (ended p place).0 + one_if (read_at f p place) ≡ readers f p
+    → readers f (ended_at p place).0 + one_if (read_at f p place) ≡ readers f p
 ended-counts f p place = at (slice_get p.running place) refl where
   at : (o : Option (Option Save)) → slice_get p.running place ≡ o
-      → readers f (ended p place).0 + one_if (read_at f p place) ≡ readers f p
+      → readers f (ended_at p place).0 + one_if (read_at f p place) ≡ readers f p
   at None g = grind (arith, common_steps)
   at (Some None) g = grind (arith, common_steps)
   at (Some (Some s)) g = let a = after-counts f p place s g in grind (arith, common_steps)
@@ -250,7 +250,7 @@ wish-counts f p place end releases = at (held_at p place) refl where
 
 -- what happens takes a save in, or ends one, or leaves as many
 abbrev Adds : (SaveKey → Bool) → Places → SaveStep → Type 0
-Adds f p s = readers f (stepped p s) + ended_by f p s ≡ readers f p + taken_by f p s
+Adds f p s = readers f (saves_after p s) + saves_ended_by f p s ≡ readers f p + saves_taken_by f p s
 
 end-adds : (f : SaveKey → Bool) (p : Places) (place : ℕ) (end : SaveEnd) (releases : Bool)
     → Adds f p (ends place end releases)
@@ -258,7 +258,7 @@ end-adds f p place end releases =
     let wish = wish-counts f p place end releases in
     let gone = ended-counts f (with_wish p place end releases) place in
     let held = held-read f p place in
-    let all : readers f (stepped p (ends place end releases)) + one_if (read_at f p place)
+    let all : readers f (saves_after p (ends place end releases)) + one_if (read_at f p place)
     ≡ readers f p = grind (arith, common_steps) in
     grind (arith, common_steps)
 
@@ -275,7 +275,7 @@ ask-adds f p key automatic =
           let free = first-at (λ o. not (is_some o)) p.running place (Some t) e g in
           grind (arith, common_steps)
       put place (Some None) s e g =
-          let new = set-counts (holds (has_key f)) p.running place None (Some (new_save key automatic)) g in
+          let new = set-counts (has_such (has_key f)) p.running place None (Some (new_save key automatic)) g in
           grind (arith, common_steps)
 
       at : (stopped : Bool) (free : Option ℕ) (own : Bool) → p.stopped ≡ stopped
@@ -288,8 +288,8 @@ ask-adds f p key automatic =
           grind (arith, common_steps)
 
 cancel-adds : (f : SaveKey → Bool) (p : Places) (c i : ℕ) → Adds f p (cancels c i)
-cancel-adds f p c i = at (place_of p c i) (turn_of p c i) refl refl where
-  turned : (t : ℕ) (o : Option Save) → place_of p c i ≡ None → turn_of p c i ≡ Some t → slice_get p.waiting t ≡ o
+cancel-adds f p c i = at (place_of p c i) (turn_of_clip p c i) refl refl where
+  turned : (t : ℕ) (o : Option Save) → place_of p c i ≡ None → turn_of_clip p c i ≡ Some t → slice_get p.waiting t ≡ o
       → Adds f p (cancels c i)
   turned t None e n g = grind (arith, common_steps)
   turned t (Some s) e n g =
@@ -297,9 +297,9 @@ cancel-adds f p c i = at (place_of p c i) (turn_of p c i) refl refl where
       let left = left-counts f (record p { waiting = remove p.waiting t }) s in
       grind (arith, common_steps)
 
-  at : (a b : Option ℕ) → place_of p c i ≡ a → turn_of p c i ≡ b → Adds f p (cancels c i)
+  at : (a b : Option ℕ) → place_of p c i ≡ a → turn_of_clip p c i ≡ b → Adds f p (cancels c i)
   at (Some place) b e n =
-      let u = update-counts (holds (has_key f)) (in_place with_cancel) p.running place (cancel-reads f) in
+      let u = update-counts (has_such (has_key f)) (update_held with_cancel) p.running place (cancel-reads f) in
       grind (arith, common_steps)
   at None (Some t) e n = turned t (slice_get p.waiting t) e n refl
   at None None e n = grind (arith, common_steps)
@@ -311,7 +311,7 @@ stop-adds f p = at (position is_some p.running) p.waiting refl refl where
   run place None e g = grind (arith, common_steps)
   run place (Some None) e g = grind (arith, common_steps)
   run place (Some (Some s)) e g =
-      let gone = set-counts (holds (has_key f)) p.running place (Some s) None g in
+      let gone = set-counts (has_such (has_key f)) p.running place (Some s) None g in
       grind (arith, common_steps)
 
   at : (a : Option ℕ) (ws : List Save) → position is_some p.running ≡ a → p.waiting ≡ ws → Adds f p stops
@@ -326,16 +326,16 @@ one-adds f p (cancels c i) = cancel-adds f p c i
 one-adds f p stops = stop-adds f p
 
 all-add : (f : SaveKey → Bool) (p : Places) (steps : List SaveStep)
-    → readers f (after_all p steps) + ended_in f p steps ≡ readers f p + taken_in f p steps
+    → readers f (saves_after_all p steps) + saves_ended_in f p steps ≡ readers f p + saves_taken_in f p steps
 all-add f p [] = refl
 all-add f p (s ∷ ss) =
-    let one : readers f (stepped p s) + ended_by f p s ≡ readers f p + taken_by f p s =
+    let one : readers f (saves_after p s) + saves_ended_by f p s ≡ readers f p + saves_taken_by f p s =
     one-adds f p s in
-    let rest : readers f (after_all (stepped p s) ss) + ended_in f (stepped p s) ss
-    ≡ readers f (stepped p s) + taken_in f (stepped p s) ss = all-add f (stepped p s) ss in
+    let rest : readers f (saves_after_all (saves_after p s) ss) + saves_ended_in f (saves_after p s) ss
+    ≡ readers f (saves_after p s) + saves_taken_in f (saves_after p s) ss = all-add f (saves_after p s) ss in
     omega (arith, one, rest)
 
-none-reads : (f : SaveKey → Bool) (places : ℕ) → counted (holds (has_key f)) (replicate places None) ≡ 0
+none-reads : (f : SaveKey → Bool) (places : ℕ) → counted (has_such (has_key f)) (replicate places None) ≡ 0
 none-reads f zero = refl
 none-reads f (suc n) = let rest = none-reads f n in omega (arith, rest)
 
@@ -343,9 +343,9 @@ unread : (camera id : ℕ) (tag : Option ℕ) (p : Places) → is_read p camera 
     → readers (covers camera id tag) p ≡ 0
 unread camera id tag p h =
     let f : SaveKey → Bool = covers camera id tag in
-    let runs : list_any (holds (has_key f)) p.running ≡ false = grind (arith, common_steps) in
+    let runs : list_any (has_such (has_key f)) p.running ≡ false = grind (arith, common_steps) in
     let waits : list_any (has_key f) p.waiting ≡ false = grind (arith, common_steps) in
-    let running = none-any (holds (has_key f)) p.running runs in
+    let running = none-any (has_such (has_key f)) p.running runs in
     let waiting = none-any (has_key f) p.waiting waits in
     omega (arith, running, waiting)
 
@@ -363,16 +363,16 @@ spares false (Some n) (Some f) h = at (n == f) refl where
 pub orders-spare : OrdersSpareReadClips
 orders-spare places camera id tag steps said first h =
     let f : SaveKey → Bool = covers camera id tag in
-    let both = spares (is_read (after_all (no_saves places) steps) camera id tag) said first h in
-    let none : readers f (after_all (no_saves places) steps) ≡ 0 =
-    unread camera id tag (after_all (no_saves places) steps) both.0 in
-    let all : readers f (after_all (no_saves places) steps) + ended_in f (no_saves places) steps
-    ≡ readers f (no_saves places) + taken_in f (no_saves places) steps = all-add f (no_saves places) steps in
+    let both = spares (is_read (saves_after_all (no_saves places) steps) camera id tag) said first h in
+    let none : readers f (saves_after_all (no_saves places) steps) ≡ 0 =
+    unread camera id tag (saves_after_all (no_saves places) steps) both.0 in
+    let all : readers f (saves_after_all (no_saves places) steps) + saves_ended_in f (no_saves places) steps
+    ≡ readers f (no_saves places) + saves_taken_in f (no_saves places) steps = all-add f (no_saves places) steps in
     let begin : readers f (no_saves places) ≡ 0 = let e = none-reads f places in omega (arith, e) in
     (omega (arith, none, all, begin), both.1)
 
 -- saves that are the same are of one clip
-same-keys : (a b : SaveKey) → is_same a b ≡ true → clip_of b ≡ clip_of a
+same-keys : (a b : SaveKey) → is_same a b ≡ true → clip_key b ≡ clip_key a
 same-keys a b h =
     let camera : b.camera ≡ a.camera = grind (arith, common_steps) in
     let id : b.id ≡ a.id = grind (arith, common_steps) in
@@ -384,11 +384,11 @@ same-keys a b h =
 
 -- what saves may release isn't read, and is what was saved
 spares-saved : (read : Bool) (saved : SaveKey) (there : Option SaveKey) → may_release_saved read saved there ≡ Now
-    → (read ≡ false) × (option_map clip_of there ≡ Some (clip_of saved))
+    → (read ≡ false) × (option_map clip_key there ≡ Some (clip_key saved))
 spares-saved read saved None h = grind (arith, common_steps)
 spares-saved read saved (Some clip) h = at (is_same saved clip) read refl refl where
   at : (b r : Bool) → is_same saved clip ≡ b → read ≡ r
-      → (read ≡ false) × (option_map clip_of (Some clip) ≡ Some (clip_of saved))
+      → (read ≡ false) × (option_map clip_key (Some clip) ≡ Some (clip_key saved))
   at false r e n = grind (arith, common_steps)
   at true true e n = grind (arith, common_steps)
   at true false e n = (n, ap (λ (k : SaveKey). Some k) (same-keys saved clip e))
@@ -396,6 +396,6 @@ spares-saved read saved (Some clip) h = at (is_same saved clip) read refl refl w
 pub saved-released : SavedClipsAreReleased
 saved-released places saved steps there h =
     let tag : Option ℕ = Some saved.tag in
-    let both = spares-saved (is_read (after_all (no_saves places) steps) saved.camera saved.id tag) saved there h in
+    let both = spares-saved (is_read (saves_after_all (no_saves places) steps) saved.camera saved.id tag) saved there h in
     let rest = orders-spare places saved.camera saved.id tag steps None None (rw both.0 refl) in
     (both.1, rest.0)

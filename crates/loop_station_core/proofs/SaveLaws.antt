@@ -2,7 +2,7 @@
 use Rattle.std.proofs.Common.{◌≡◌, ◌++◌, ◌-◌, ℕ, Bool, true, false, not, List, [], ◌∷◌, Option, Some, None, is_some, length, take, refl, ap, length-append, arith}
 use Rattle.std.specs.List.{position}
 use Rattle.std.proofs.lemmas.Grind.{common_steps}
-use Rattle.loop_station_core.specs.Saving.{Places, asked, is_saving, left_by, new_save, wanted, withdrawn}
+use Rattle.loop_station_core.specs.Saving.{Places, asked, is_saving, left_to_others, new_save, wanted, withdrawn}
 use Rattle.loop_station_core.specs.declared.saves.Asked.TheVariants.{Waits}
 use Rattle.loop_station_core.specs.declared.saves.Save.{Save}
 use Rattle.loop_station_core.specs.declared.saves.SaveKey.{SaveKey}
@@ -10,7 +10,7 @@ use Rattle.loop_station_core.specs.declared.saves.SaveKey.{SaveKey}
 saving-waits : (p : Places) (key : SaveKey) → (wanted p key).1 ≡ is_saving p key
 saving-waits p key = grind (arith, common_steps)
 
-pub releases-free : (p : Places) (s : Save) → (left_by p s).1 ≡ true → is_saving p s.key ≡ false
+pub releases-free : (p : Places) (s : Save) → (left_to_others p s).1 ≡ true → is_saving p s.key ≡ false
 releases-free p s h =
     let waits = saving-waits p s.key in
     grind (arith, common_steps)

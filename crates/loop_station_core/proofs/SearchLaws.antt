@@ -1,7 +1,7 @@
 -- What a search finds is a gap, and a stretch with one is looked into.
 use Rattle.std.proofs.Common.{◌≡◌, ℕ, ◌+◌, ◌-◌, ◌*◌, ◌≤◌, ◌<◌, Bool, true, false, zero, suc, ap, arith, refl}
 use Rattle.std.proofs.lemmas.Grind.{common_steps}
-use Rattle.loop_station_core.specs.Laws.{goes_on, search_of, searched}
+use Rattle.loop_station_core.specs.Laws.{search_of, searched, step_search}
 use Rattle.loop_station_core.specs.Search.{has_gap, mark_at, middle, most, passed, told, turn}
 use Rattle.loop_station_core.specs.declared.search.Search.{Search}
 use Rattle.loop_station_core.specs.declared.search.SearchTurn.TheVariants.{Gap}
@@ -28,7 +28,7 @@ told-of time period s h = let w = within s h.order in at (has_gap s.period s.fro
 passed-of : (time : ℕ → ℕ) (period : ℕ) (s : Search) → IsOf time period s → IsOf time period (passed s)
 passed-of time period s h = record { rate = h.rate; from = h.to; to = h.end; end = h.end; order = h.rest; rest = grind (arith, common_steps) }
 
-goes-of : (time : ℕ → ℕ) (period : ℕ) (s : Search) → IsOf time period s → IsOf time period (goes_on time s)
+goes-of : (time : ℕ → ℕ) (period : ℕ) (s : Search) → IsOf time period s → IsOf time period (step_search time s)
 goes-of time period s h =
     let t = told-of time period s h in
     let p = passed-of time period s h in
@@ -36,7 +36,7 @@ goes-of time period s h =
 
 searched-of : (time : ℕ → ℕ) (period turns : ℕ) (s : Search) → IsOf time period s → IsOf time period (searched time turns s)
 searched-of time period zero s h = h
-searched-of time period (suc turns) s h = searched-of time period turns (goes_on time s) (goes-of time period s h)
+searched-of time period (suc turns) s h = searched-of time period turns (step_search time s) (goes-of time period s h)
 
 gap-so : (time : ℕ → ℕ) (period : ℕ) (s : Search) (from to : ℕ) → IsOf time period s → (turn s).1 ≡ Gap from to
     → (from ≡ time s.from.number) × (to ≡ time (s.from.number + 1)) × (period + most period < to - from)

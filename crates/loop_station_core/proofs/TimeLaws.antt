@@ -2,7 +2,7 @@
 use Rattle.std.proofs.Common.{◌≡◌, ℕ, ◌+◌, ◌-◌, ◌^◌, ◌<◌, ◌≤◌, Bool, true, false, List, [], ◌∷◌, Option, Some, None, is_some, min, arith, refl}
 use Rattle.std.specs.Prelude.{IfSome, if◌then◌else◌, nat_le}
 use Rattle.std.proofs.lemmas.Bool.{leb-false, leb-true}
-use Rattle.loop_station_core.specs.Timing.{EachLater, later, said_or_now, step, tells}
+use Rattle.loop_station_core.specs.Timing.{EachLater, later, said_or_now, step_timing, tells}
 use Rattle.loop_station_core.specs.declared.timing.Arrival.{Arrival}
 use Rattle.loop_station_core.specs.declared.timing.Timing.{Timing}
 
@@ -17,7 +17,7 @@ rises (Some last) time = λ room. later_by (nat_le time last) last time refl roo
 
 pub rise : (t : Timing) (frames : List Arrival) → EachLater t frames
 rise t [] = tt
-rise t (a ∷ more) = (rises t.last (said_or_now a), rise (step t a).0 more)
+rise t (a ∷ more) = (rises t.last (said_or_now a), rise (step_timing t a).0 more)
 
 told_by : (tell : Bool) (gap : Option ℕ) (told now : ℕ) → tells gap (Some told) now ≡ tell
     → is_some (if tell then gap else None) ≡ true → 1000000 ≤ now - told
@@ -30,6 +30,6 @@ apart_by : (last : Option ℕ) (gap : Option ℕ) (told now : ℕ) → last ≡ 
 apart_by last gap told now is some =
     told_by (tells gap (Some told) now) gap told now refl (rw is at some)
 
-pub apart : (t : Timing) (a : Arrival) (told : ℕ) → t.told ≡ Some told → is_some (step t a).1.gap ≡ true
+pub apart : (t : Timing) (a : Arrival) (told : ℕ) → t.told ≡ Some told → is_some (step_timing t a).1.gap ≡ true
     → 1000000 ≤ a.now - told
 apart t a told is some = apart_by t.told _ told a.now is some

@@ -3,17 +3,17 @@ use Rattle.std.specs.Prelude.{ℕ, ◌+◌, Bool, false, not, List, [], ◌∷�
 use Rattle.std.specs.List.{position}
 
 -- each camera has answered
-abbrev pub is_whole : {L : Type 0} → List (Option L) → Bool
-is_whole given = not (is_some (position (λ o. not (is_some o)) given))
+abbrev pub all_answered : {L : Type 0} → List (Option L) → Bool
+all_answered given = not (is_some (position (λ o. not (is_some o)) given))
 
 -- there is a camera at a place, and it hasn't answered
-abbrev pub is_open : {L : Type 0} → List (Option L) → ℕ → Bool
-is_open given place = elim (slice_get given place) [ None ↦ false | Some o ↦ not (is_some o) ]
+abbrev pub is_unanswered : {L : Type 0} → List (Option L) → ℕ → Bool
+is_unanswered given place = elim (slice_get given place) [ None ↦ false | Some o ↦ not (is_some o) ]
 
 -- the camera at a place answers, and whether the order is answered by that; a second answer counts for nothing
 abbrev pub gives : {L : Type 0} → List (Option L) → ℕ → L → List (Option L) × Bool
-gives given place answer = if is_open given place
-    then (slice_set given place (Some answer), is_whole (slice_set given place (Some answer)))
+gives given place answer = if is_unanswered given place
+    then (slice_set given place (Some answer), all_answered (slice_set given place (Some answer)))
     else (given, false)
 
 -- after the cameras at some places have answered

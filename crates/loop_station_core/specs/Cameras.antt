@@ -13,14 +13,14 @@ use Rattle.loop_station_core.specs.declared.camera.SourceEvent.{SourceEvent}
 use Rattle.loop_station_core.specs.declared.camera.SourceEvent.TheVariants as its
 
 -- what follows the end of a filming; where the store must be opened again, that is told even at a stop
-abbrev pub after_end : Camera → Bool → Act
-after_end c must_reopen = if c.stopping
+abbrev pub after_filming : Camera → Bool → Act
+after_filming c must_reopen = if c.stopping
     then (if must_reopen then OpenAgain else Finish)
     else (if c.moved then MakeAnew else OpenAgain)
 
 -- a camera whose store isn't there, and what follows
-abbrev pub left : Camera → Camera × Act
-left c = if c.stopping then (c, Finish) else (if c.moved
+abbrev pub without_store : Camera → Camera × Act
+without_store c = if c.stopping then (c, Finish) else (if c.moved
     then (record c { moved = false }, MakeAnew)
     else (record c { faults = min (c.faults + 1) (2 ^ 64 - 1) }, OpenAgain))
 
@@ -32,8 +32,8 @@ step_filming c (Store count) = (record c { locked = c.locked && (count == 0) }, 
 step_filming c AllLocked = (record c { locked = true }, if c.stopping || c.over then GiveUp else FlushAgain)
 step_filming c Break = (record c { over = true }, GiveUp)
 step_filming c Move = (record c { over = true; moved = true }, GoOn)
-step_filming c (End must_reopen) = (c, after_end c must_reopen)
-step_filming c Leave = left c
+step_filming c (End must_reopen) = (c, after_filming c must_reopen)
+step_filming c Leave = without_store c
 
 -- its source is open, or wasn't there, and gives nothing: for two seconds, or for three of its frames
 abbrev pub is_silent : Camera → ℕ → ℕ → Bool
@@ -70,9 +70,9 @@ step_source c its.Read = (record c { waits = None; silent = false }, GoOn)
 step_source c (its.Look now frame) = (record c { silent = is_silent c now frame }, GoOn)
 
 -- a camera after something happened, and what follows
-abbrev pub step : Camera → Event → Camera × Act
-step c (Filming e) = step_filming c e
-step c (Source e) = step_source c e
+abbrev pub step_camera : Camera → Event → Camera × Act
+step_camera c (Filming e) = step_filming c e
+step_camera c (Source e) = step_source c e
 
 -- the state of its source
 abbrev pub source_seen : Camera → SourceSeen
@@ -85,4 +85,4 @@ films c come taken = not c.over && (not c.stopping || not (come == taken))
 -- a camera after all that happened
 abbrev pub lived : Camera → List Event → Camera
 lived c [] = c
-lived c (e ∷ es) = lived (step c e).0 es
+lived c (e ∷ es) = lived (step_camera c e).0 es

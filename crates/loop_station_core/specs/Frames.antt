@@ -23,20 +23,20 @@ brought_of f = f.waiting + f.stored + f.lost
 
 -- What happens to frames: one comes, the first that is on its way comes to the desk or is given up, so many at the desk
 -- are stored, or the desk is given up when so many had been taken for it.
-pub data Step : Type 0 where
-  comes : Step
-  brings : Step
-  gives_up : Step
-  stores : ℕ → Step
-  loses : ℕ → Step
+pub data FlowStep : Type 0 where
+  comes : FlowStep
+  brings : FlowStep
+  gives_up : FlowStep
+  stores : ℕ → FlowStep
+  loses : ℕ → FlowStep
 
 -- where frames are after that; no more come than a u64 counts
-abbrev pub moved : Flow → Step → Flow
-moved f comes = if nat_lt (all_of f) (2 ^ 64 - 1) then record f { coming = f.coming + 1 } else f
-moved f brings = record f { coming = f.coming - 1; waiting = f.waiting + min 1 f.coming }
-moved f gives_up = record f { coming = f.coming - 1; lost = f.lost + min 1 f.coming }
-moved f (stores n) = record f { waiting = f.waiting - n; stored = f.stored + min n f.waiting }
-moved f (loses taken) =
+abbrev pub step_flow : Flow → FlowStep → Flow
+step_flow f comes = if nat_lt (all_of f) (2 ^ 64 - 1) then record f { coming = f.coming + 1 } else f
+step_flow f brings = record f { coming = f.coming - 1; waiting = f.waiting + min 1 f.coming }
+step_flow f gives_up = record f { coming = f.coming - 1; lost = f.lost + min 1 f.coming }
+step_flow f (stores n) = record f { waiting = f.waiting - n; stored = f.stored + min n f.waiting }
+step_flow f (loses taken) =
     let gone = min f.coming (taken - brought_of f) in
     record f { coming = f.coming - gone; waiting = 0; lost = f.lost + f.waiting + gone }
 
@@ -45,15 +45,15 @@ abbrev pub no_frames : Flow
 no_frames = record { coming = 0; waiting = 0; stored = 0; lost = 0 }
 
 -- where frames are after a list of steps
-abbrev pub after : Flow → List Step → Flow
+abbrev pub after : Flow → List FlowStep → Flow
 after f [] = f
-after f (s ∷ ss) = after (moved f s) ss
+after f (s ∷ ss) = after (step_flow f s) ss
 
 -- how many come in a step, and in a list of them
-abbrev pub come_by : Step → ℕ
+abbrev pub come_by : FlowStep → ℕ
 come_by comes = 1
 come_by _ = 0
 
-abbrev pub come_in : List Step → ℕ
+abbrev pub come_in : List FlowStep → ℕ
 come_in [] = 0
 come_in (s ∷ ss) = come_by s + come_in ss

@@ -10,16 +10,16 @@ between since [] until = record { micros = until - since; at = since } ∷ []
 between since (r ∷ rs) until = record { micros = r.first - since; at = since } ∷ between r.last rs until
 
 -- it is longer than one and a half of these periods
-abbrev pub is_long : ℕ → Gap → Bool
-is_long period g = nat_lt (period + period / 2) g.micros
+abbrev pub is_long_gap : ℕ → Gap → Bool
+is_long_gap period g = nat_lt (period + period / 2) g.micros
 
 -- the gaps of a time: what is long of what lies between its runs
 abbrev pub gaps : ℕ → ℕ → List Run → ℕ → List Gap
-gaps period since runs until = filter (is_long period) (between since runs until)
+gaps period since runs until = filter (is_long_gap period) (between since runs until)
 
 -- how long gaps are together
-abbrev pub missing : List Gap → ℕ
-missing gs = sum_by (λ g. g.micros) gs
+abbrev pub micros_missing : List Gap → ℕ
+micros_missing gs = sum_by (λ g. g.micros) gs
 
 -- the runs lie one after the other within the time
 abbrev pub AreWithin : ℕ → List Run → ℕ → Type 0
@@ -27,5 +27,5 @@ AreWithin since [] until = since ≤ until
 AreWithin since (r ∷ rs) until = (since ≤ r.first) × (r.first ≤ r.last) × AreWithin r.last rs until
 
 -- a clip lies wholly within another
-abbrev pub is_within : ClipSpan → ClipSpan → Bool
-is_within old new = nat_le new.from old.from && nat_le old.to new.to
+abbrev pub lies_within : ClipSpan → ClipSpan → Bool
+lies_within old new = nat_le new.from old.from && nat_le old.to new.to

@@ -9,25 +9,25 @@ use Rattle.loop_station_core.specs.declared.keep.KeepTurn.{KeepTurn}
 use Rattle.loop_station_core.specs.declared.keep.KeepTurn.TheVariants.{Wait, Part, Whole}
 
 -- how many steps frames have taken, as a u64 counts them
-abbrev pub steps_of : Tally → ℕ
-steps_of t = (t.brought + t.left) % 2 ^ 64
+abbrev pub steps_taken : Tally → ℕ
+steps_taken t = (t.brought + t.left) % 2 ^ 64
 
 -- a keep that has seen whether a frame made progress
-abbrev pub moved : Keep → ℕ → ℕ → Keep
-moved k steps now = if steps == k.steps then k else record k { steps = steps; moved = now }
+abbrev pub progress_seen : Keep → ℕ → ℕ → Keep
+progress_seen k steps now = if steps == k.steps then k else record k { steps = steps; moved = now }
 
 -- a keep that has seen whether its end has passed, and how many frames had come by then
-abbrev pub ended : Keep → ℕ → ℕ → Keep
-ended k now come = if nat_le k.until now && not (is_some k.all) then record k { all = Some (max come k.come) } else k
+abbrev pub end_seen : Keep → ℕ → ℕ → Keep
+end_seen k now come = if nat_le k.until now && not (is_some k.all) then record k { all = Some (max come k.come) } else k
 
 -- a keep that has looked
 abbrev pub looked : Keep → Look → Keep
-looked k l = ended (moved k (steps_of l.tally) l.time) l.time l.come
+looked k l = end_seen (progress_seen k (steps_taken l.tally) l.time) l.time l.come
 
 -- So many frames are at the desk or lost; or nothing helps: every block is locked, or no frame has made progress for a
 -- minute.
-abbrev pub is_free : ℕ → Keep → Look → Bool
-is_free needs k l = nat_le needs l.tally.brought || (l.locked || nat_lt 60000000 (l.time - k.moved))
+abbrev pub is_clear : ℕ → Keep → Look → Bool
+is_clear needs k l = nat_le needs l.tally.brought || (l.locked || nat_lt 60000000 (l.time - k.moved))
 
 -- its end has passed, or nothing further comes
 abbrev pub is_over : Keep → Look → Bool
@@ -43,11 +43,11 @@ has_newest k l = is_some k.part && (k.block == l.block)
 
 -- it is done
 abbrev pub is_done : Keep → Look → Bool
-is_done k l = is_over k l && is_free (needed k l) k l
+is_done k l = is_over k l && is_clear (needed k l) k l
 
 -- it locks what is there
-abbrev pub is_due : Keep → Look → Bool
-is_due k l = is_free k.come k l && not (has_newest k l)
+abbrev pub part_is_due : Keep → Look → Bool
+part_is_due k l = is_clear k.come k l && not (has_newest k l)
 
 -- the keep once it has locked what is there, and up to when
 abbrev pub part_locked : Keep → Look → Keep × KeepTurn
@@ -55,11 +55,11 @@ part_locked k l = (record k { block = l.block; part = Some (min l.time k.until) 
 
 -- what a keep that has looked does
 abbrev pub acts : Keep → Look → Keep × KeepTurn
-acts k l = if is_done k l then (k, Whole) else (if is_due k l then part_locked k l else (k, Wait))
+acts k l = if is_done k l then (k, Whole) else (if part_is_due k l then part_locked k l else (k, Wait))
 
 -- what a keep does
-abbrev pub step : Keep → Look → Keep × KeepTurn
-step k l = acts (looked k l) l
+abbrev pub step_keep : Keep → Look → Keep × KeepTurn
+step_keep k l = acts (looked k l) l
 
 -- the first and the last microsecond of so many seconds before a line was read, and so many after
 abbrev pub bounds : ℕ → ℕ → ℕ → ℕ × ℕ
@@ -78,7 +78,7 @@ tag_of None own event = if own == 0 then event else own
 -- this holds of each of some looks, of the keep after it and of what it does then
 abbrev pub EachTurn : (Look → Keep → KeepTurn → Type 0) → Keep → List Look → Type 0
 EachTurn P k [] = Unit {0}
-EachTurn P k (l ∷ ls) = P l (step k l).0 (step k l).1 × EachTurn P (step k l).0 ls
+EachTurn P k (l ∷ ls) = P l (step_keep k l).0 (step_keep k l).1 × EachTurn P (step_keep k l).0 ls
 
 -- the looks come one after the other, none before a time
 abbrev pub AreInOrder : ℕ → List Look → Type 0

@@ -1,19 +1,19 @@
 -- What holds over any list of events.
 use Rattle.std.specs.Prelude.{ℕ, ◌+◌, ◌-◌, ◌*◌, ◌^◌, ◌≡◌, ◌≤◌, ◌<◌, ◌⊎◌, Bool, true, false, List, [], ◌∷◌, zero, suc, Option, Some, None, IfSome, is_some, option_map, if◌then◌else◌}
 use Rattle.std.specs.List.{list_any}
-use Rattle.loop_station_core.specs.Answers.{answers_of, given_by, is_whole}
-use Rattle.loop_station_core.specs.Cameras.{lived, step}
+use Rattle.loop_station_core.specs.Answers.{all_answered, answers_of, given_by}
+use Rattle.loop_station_core.specs.Cameras.{lived, step_camera}
 use Rattle.loop_station_core.specs.declared.camera.Act.TheVariants.{GiveUp}
-use Rattle.loop_station_core.specs.Frames.{Step, after, all_of, come_in, no_frames}
-use Rattle.loop_station_core.specs.Gaps.{AreWithin, gaps, missing}
+use Rattle.loop_station_core.specs.Frames.{FlowStep, after, all_of, come_in, no_frames}
+use Rattle.loop_station_core.specs.Gaps.{AreWithin, gaps, micros_missing}
 use Rattle.loop_station_core.specs.Keeps.{AreInOrder, EachTurn, HasTimesOf, IsRight, IsTimely}
-use Rattle.loop_station_core.specs.Orders.{OrderStep, after_all, handed_in, no_orders, taken_in}
+use Rattle.loop_station_core.specs.Orders.{OrderStep, no_orders, orders_after_all, orders_handed_in, orders_taken_in}
 use Rattle.loop_station_core.specs.Clips.{may_release, may_release_saved}
-use Rattle.loop_station_core.specs.Releases.{SaveStep, after_all as all_happened, ended_in, frees_in, lets_in, no_saves, taken_in as saves_taken_in}
+use Rattle.loop_station_core.specs.Releases.{SaveStep, clip_released_in, lets_in, no_saves, saves_after_all, saves_ended_in, saves_taken_in}
 use Rattle.loop_station_core.specs.SaveEnds.{waits_in}
 use Rattle.loop_station_core.specs.Search.{has_gap, mark_at, most, told, turn}
 use Rattle.loop_station_core.specs.Texts.{AllThreeCame, FirstCame, after_steps}
-use Rattle.loop_station_core.specs.Saving.{Places, asked, covers, is_read, is_saving, left_by, withdrawn}
+use Rattle.loop_station_core.specs.Saving.{Places, asked, covers, is_read, is_saving, left_to_others, withdrawn}
 use Rattle.loop_station_core.specs.declared.clips.MayRelease.TheVariants.{Now}
 use Rattle.loop_station_core.specs.declared.saves.Asked.TheVariants.{Waits}
 use Rattle.loop_station_core.specs.declared.saves.SaveKey.{SaveKey}
@@ -39,7 +39,7 @@ use Rattle.loop_station_core.specs.declared.changes.Reported.{Reported}
 
 -- Each frame that came is stored, lost, at the desk, or on its way to it.
 abbrev pub FramesAddUp : Type 0
-FramesAddUp = (steps : List Step) → come_in steps < 2 ^ 64 → all_of (after no_frames steps) ≡ come_in steps
+FramesAddUp = (steps : List FlowStep) → come_in steps < 2 ^ 64 → all_of (after no_frames steps) ≡ come_in steps
 
 -- At each look a keep does what is right by its line, and keeps its times.
 abbrev pub KeepsAreRight : Type 0
@@ -49,38 +49,40 @@ KeepsAreRight = (k : Keep) (now : ℕ) (looks : List Look) → IsTimely now k �
 -- What is held of a time and its gaps are all of it.
 abbrev pub GapsAddUp : Type 0
 GapsAddUp = (period since until : ℕ) (runs : List Run) → AreWithin since runs until
-    → until - since - missing (gaps period since runs until) + missing (gaps period since runs until) ≡ until - since
+    → until - since - micros_missing (gaps period since runs until) + micros_missing (gaps period since runs until)
+    ≡ until - since
 
 -- A clip is released by the end of a save only where no other save is of it.
 abbrev pub ReleasesAreFree : Type 0
-ReleasesAreFree = (p : Places) (s : Save) → (left_by p s).1 ≡ true → is_saving p s.key ≡ false
+ReleasesAreFree = (p : Places) (s : Save) → (left_to_others p s).1 ≡ true → is_saving p s.key ≡ false
 
 -- An order releases the clip of an id and a tag only where each save that was taken in and reads it, as its clip or as
 -- one of an event, has ended, and only the clip that it means. So it is after each list of what happens to saves.
 abbrev pub OrdersSpareReadClips : Type 0
 OrdersSpareReadClips = (places camera id : ℕ) (tag : Option ℕ) (steps : List SaveStep) (said first : Option ℕ)
     → let p = no_saves places in
-    may_release (is_read (all_happened p steps) camera id tag) said first ≡ Now
-    → (saves_taken_in (covers camera id tag) p steps ≡ ended_in (covers camera id tag) p steps)
+    may_release (is_read (saves_after_all p steps) camera id tag) said first ≡ Now
+    → (saves_taken_in (covers camera id tag) p steps ≡ saves_ended_in (covers camera id tag) p steps)
     × ((said ≡ None) ⊎ (said ≡ first))
 
 -- Saves release a clip only where a save of it that began by itself has come to an end with its text whole, or saved
 -- already, and clips of its camera are released then. So it is of each list of what happens to saves.
 abbrev pub ReleasesAreEarned : Type 0
 ReleasesAreEarned = (places : ℕ) (key : SaveKey) (steps : List SaveStep)
-    → lets_in key (no_saves places) steps ≡ false → frees_in key (no_saves places) steps ≡ false
+    → lets_in key (no_saves places) steps ≡ false → clip_released_in key (no_saves places) steps ≡ false
 
 -- the clip of a save, whatever else the save reads
-abbrev pub clip_of : SaveKey → SaveKey
-clip_of key = record key { whole = false }
+abbrev pub clip_key : SaveKey → SaveKey
+clip_key key = record key { whole = false }
 
 -- What is released since it is saved is the very clip that was saved, and only once each save that was taken in and
 -- reads its id or its tag has ended. So a save of a store that was moved away releases no clip of the new one.
 abbrev pub SavedClipsAreReleased : Type 0
 SavedClipsAreReleased = (places : ℕ) (saved : SaveKey) (steps : List SaveStep) (there : Option SaveKey)
     → let p = no_saves places in let reads = covers saved.camera saved.id (Some saved.tag) in
-    may_release_saved (is_read (all_happened p steps) saved.camera saved.id (Some saved.tag)) saved there ≡ Now
-    → (option_map clip_of there ≡ Some (clip_of saved)) × (saves_taken_in reads p steps ≡ ended_in reads p steps)
+    may_release_saved (is_read (saves_after_all p steps) saved.camera saved.id (Some saved.tag)) saved there ≡ Now
+    → (option_map clip_key there ≡ Some (clip_key saved))
+    × (saves_taken_in reads p steps ≡ saves_ended_in reads p steps)
 
 -- A save that is withdrawn once it was told to wait leaves all as if it hadn't been asked for.
 abbrev pub WithdrawnSavesLeaveNothing : Type 0
@@ -93,8 +95,8 @@ SavesWaitOnce = (ends : List (SaveEnd × ℕ)) → waits_in false ends ≤ 1
 
 -- At most 256 orders of a camera wait, and each one that was taken in waits or was handed out.
 abbrev pub OrdersAreHandedOut : Type 0
-OrdersAreHandedOut = (steps : List OrderStep) → let orders = after_all no_orders steps in
-    (orders.waiting ≤ 256) × (handed_in no_orders steps + orders.waiting ≡ taken_in no_orders steps)
+OrdersAreHandedOut = (steps : List OrderStep) → let orders = orders_after_all no_orders steps in
+    (orders.waiting ≤ 256) × (orders_handed_in no_orders steps + orders.waiting ≡ orders_taken_in no_orders steps)
 
 -- what a line says was so when it was seen
 abbrev pub IsSo : Seen → Change → Type 0
@@ -139,14 +141,14 @@ DisksAreToldOnce = (r : Reported) (seen : List Seen) → r.disk ≡ false
     → syncs_in r seen ≡ (if is_measured seen then 1 else 0)
 
 -- how many frames a line says are lost
-abbrev pub frames_in : Option Change → ℕ
-frames_in (Some (GivenUp frames since)) = frames
-frames_in _ = 0
+abbrev pub lost_in_line : Option Change → ℕ
+lost_in_line (Some (GivenUp frames since)) = frames
+lost_in_line _ = 0
 
 -- how many the lines of some looks say are lost
-abbrev pub told_in : Reported → List Seen → ℕ
-told_in r [] = 0
-told_in r (s ∷ ss) = frames_in (lines_of r s).given_up + told_in (known_after r s) ss
+abbrev pub lost_told_in : Reported → List Seen → ℕ
+lost_told_in r [] = 0
+lost_told_in r (s ∷ ss) = lost_in_line (lines_of r s).given_up + lost_told_in (known_after r s) ss
 
 -- frames stay lost, and at the last look the program ends
 abbrev pub StaysLost : ℕ → List Seen → ℕ → Type 0
@@ -157,7 +159,7 @@ StaysLost lost (s ∷ ss) last = (lost ≤ s.lost) × StaysLost s.lost ss last
 -- Each lost frame is told once: by the end all are, and none twice.
 abbrev pub LostAreToldOnce : Type 0
 LostAreToldOnce = (r : Reported) (seen : List Seen) (last : ℕ) → StaysLost r.lost.frames seen last
-    → r.lost.frames + told_in r seen ≡ last
+    → r.lost.frames + lost_told_in r seen ≡ last
 
 -- the lines about locked blocks, of some looks
 abbrev pub locked_lines : Bool → List Bool → List Change
@@ -203,7 +205,7 @@ NoneBegins (e ∷ events) = NoneBegins events
 -- A filming whose store was moved away ends: no flush of it is tried again, even where each block is locked.
 abbrev pub MovedStoresAreLeft : Type 0
 MovedStoresAreLeft = (c : Camera) (events : List Event) → NoneBegins events
-    → (step (lived c (Filming Move ∷ events)) (Filming AllAreLocked)).1 ≡ GiveUp
+    → (step_camera (lived c (Filming Move ∷ events)) (Filming AllAreLocked)).1 ≡ GiveUp
 
 -- A source that is told as silent waits for a byte.
 abbrev pub SilentSourcesWait : Type 0
@@ -212,12 +214,12 @@ SilentSourcesWait = (c : Camera) (events : List Event) → c.silent ≡ false
 
 -- An order that isn't answered yet is answered once, when the last of its cameras answers, in whatever order they do.
 abbrev pub OrdersAreAnsweredOnce : Type 0
-OrdersAreAnsweredOnce = (given : List (Option ℕ)) (answers : List (ℕ × ℕ)) → is_whole given ≡ false
-    → answers_of given answers ≡ (if is_whole (given_by given answers) then 1 else 0)
+OrdersAreAnsweredOnce = (given : List (Option ℕ)) (answers : List (ℕ × ℕ)) → all_answered given ≡ false
+    → answers_of given answers ≡ (if all_answered (given_by given answers) then 1 else 0)
 
 -- how a search of a clip goes on, whose frames have these times
-abbrev pub goes_on : (ℕ → ℕ) → Search → Search
-goes_on time s = elim (turn s).1 [
+abbrev pub step_search : (ℕ → ℕ) → Search → Search
+step_search time s = elim (turn s).1 [
   | Read n ↦ told s (time n)
   | SearchGap from to ↦ (turn s).0
   | Again ↦ (turn s).0
@@ -227,7 +229,7 @@ goes_on time s = elim (turn s).1 [
 -- after so many turns
 abbrev pub searched : (ℕ → ℕ) → ℕ → Search → Search
 searched time zero s = s
-searched time (suc turns) s = searched time turns (goes_on time s)
+searched time (suc turns) s = searched time turns (step_search time s)
 
 -- a search of the frames from one number to another
 abbrev pub search_of : (ℕ → ℕ) → ℕ → ℕ → ℕ → Search

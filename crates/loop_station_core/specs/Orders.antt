@@ -9,18 +9,18 @@ use Rattle.loop_station_core.specs.declared.orders.Orders.{Orders}
 abbrev pub no_orders : Orders
 no_orders = record { waiting = 0; busy = false; attended = NotYet }
 
-abbrev pub is_gone : Attended → Bool
-is_gone Gone = true
-is_gone _ = false
+abbrev pub is_unattended : Attended → Bool
+is_unattended Gone = true
+is_unattended _ = false
 
 -- one more comes: it is taken in where somebody does orders, or is still to come, and fewer than 256 wait
-abbrev pub added : Orders → Orders × AddedOrder
-added o = if is_gone o.attended then (o, Absent)
+abbrev pub order_added : Orders → Orders × AddedOrder
+order_added o = if is_unattended o.attended then (o, Absent)
     else (if nat_lt o.waiting 256 then (record o { waiting = o.waiting + 1 }, Waits) else (o, TooMany))
 
 -- the first one is handed out, if there is one
-abbrev pub handed : Orders → Orders × Bool
-handed o = (record o { waiting = o.waiting - 1; busy = nat_lt 0 o.waiting }, nat_lt 0 o.waiting)
+abbrev pub order_handed : Orders → Orders × Bool
+order_handed o = (record o { waiting = o.waiting - 1; busy = nat_lt 0 o.waiting }, nat_lt 0 o.waiting)
 
 -- one is done, and whether further ones wait
 abbrev pub after_one : Orders → Orders × Bool
@@ -30,11 +30,11 @@ after_one o = (record o { busy = false }, nat_lt 0 o.waiting)
 abbrev pub opened : Orders → Orders
 opened o = record o { attended = Now }
 
-abbrev pub left : Orders → Orders
-left o = record o { attended = Gone }
+abbrev pub unattended : Orders → Orders
+unattended o = record o { attended = Gone }
 
-abbrev pub is_idle : Orders → Bool
-is_idle o = (o.waiting == 0) && not o.busy
+abbrev pub are_done : Orders → Bool
+are_done o = (o.waiting == 0) && not o.busy
 
 -- What happens to the orders of a camera: one comes, the first is handed out, one is done, somebody comes, nobody is
 -- there any more.
@@ -46,36 +46,36 @@ pub data OrderStep : Type 0 where
   leaves : OrderStep
 
 -- the orders after that
-abbrev pub stepped : Orders → OrderStep → Orders
-stepped o adds = (added o).0
-stepped o hands = (handed o).0
-stepped o ends = (after_one o).0
-stepped o opens = opened o
-stepped o leaves = left o
+abbrev pub orders_after : Orders → OrderStep → Orders
+orders_after o adds = (order_added o).0
+orders_after o hands = (order_handed o).0
+orders_after o ends = (after_one o).0
+orders_after o opens = opened o
+orders_after o leaves = unattended o
 
-abbrev pub after_all : Orders → List OrderStep → Orders
-after_all o [] = o
-after_all o (s ∷ ss) = after_all (stepped o s) ss
+abbrev pub orders_after_all : Orders → List OrderStep → Orders
+orders_after_all o [] = o
+orders_after_all o (s ∷ ss) = orders_after_all (orders_after o s) ss
 
 -- an order is taken in by a step
-abbrev pub is_in : AddedOrder → ℕ
-is_in Waits = 1
-is_in _ = 0
+abbrev pub added_count : AddedOrder → ℕ
+added_count Waits = 1
+added_count _ = 0
 
-abbrev pub taken_by : Orders → OrderStep → ℕ
-taken_by o adds = is_in (added o).1
-taken_by o _ = 0
+abbrev pub orders_taken_by : Orders → OrderStep → ℕ
+orders_taken_by o adds = added_count (order_added o).1
+orders_taken_by o _ = 0
 
 -- one is handed out
-abbrev pub handed_by : Orders → OrderStep → ℕ
-handed_by o hands = if (handed o).1 then 1 else 0
-handed_by o _ = 0
+abbrev pub orders_handed_by : Orders → OrderStep → ℕ
+orders_handed_by o hands = if (order_handed o).1 then 1 else 0
+orders_handed_by o _ = 0
 
 -- how many are, by a list of steps
-abbrev pub taken_in : Orders → List OrderStep → ℕ
-taken_in o [] = 0
-taken_in o (s ∷ ss) = taken_by o s + taken_in (stepped o s) ss
+abbrev pub orders_taken_in : Orders → List OrderStep → ℕ
+orders_taken_in o [] = 0
+orders_taken_in o (s ∷ ss) = orders_taken_by o s + orders_taken_in (orders_after o s) ss
 
-abbrev pub handed_in : Orders → List OrderStep → ℕ
-handed_in o [] = 0
-handed_in o (s ∷ ss) = handed_by o s + handed_in (stepped o s) ss
+abbrev pub orders_handed_in : Orders → List OrderStep → ℕ
+orders_handed_in o [] = 0
+orders_handed_in o (s ∷ ss) = orders_handed_by o s + orders_handed_in (orders_after o s) ss

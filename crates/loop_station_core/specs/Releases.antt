@@ -1,6 +1,6 @@
 -- Which clips are released, by what happens to saves one after the other.
 use Rattle.std.specs.Prelude.{ℕ, ◌+◌, ◌&&◌, ◌||◌, Bool, true, false, List, [], ◌∷◌, Option, Some, None, replicate, slice_get}
-use Rattle.loop_station_core.specs.Saving.{Places, asked, cancelled, earns, finished, has_key, held_at, holds, is_of, stopped, turn_of, with_wish}
+use Rattle.loop_station_core.specs.Saving.{Places, asked, cancelled, earns, finished, has_key, has_such, held_at, is_of_clip, stopped, turn_of_clip, with_wish}
 use Rattle.loop_station_core.specs.declared.save_end.SaveEnd.{SaveEnd}
 use Rattle.loop_station_core.specs.declared.saves.Save.{Save}
 use Rattle.loop_station_core.specs.declared.saves.SaveKey.{SaveKey}
@@ -19,15 +19,15 @@ pub data SaveStep : Type 0 where
   stops : SaveStep
 
 -- the saves after that
-abbrev pub stepped : Places → SaveStep → Places
-stepped p (asks key automatic) = (asked p key automatic).0
-stepped p (ends place end releases) = (finished p place end releases).0
-stepped p (cancels camera id) = (cancelled p camera id).0
-stepped p stops = (stopped p).0
+abbrev pub saves_after : Places → SaveStep → Places
+saves_after p (asks key automatic) = (asked p key automatic).0
+saves_after p (ends place end releases) = (finished p place end releases).0
+saves_after p (cancels camera id) = (cancelled p camera id).0
+saves_after p stops = (stopped p).0
 
-abbrev pub after_all : Places → List SaveStep → Places
-after_all p [] = p
-after_all p (s ∷ ss) = after_all (stepped p s) ss
+abbrev pub saves_after_all : Places → List SaveStep → Places
+saves_after_all p [] = p
+saves_after_all p (s ∷ ss) = saves_after_all (saves_after p s) ss
 
 -- a cancelled save says that its clip is released
 abbrev pub says_release : Cancelled → Bool
@@ -36,29 +36,29 @@ says_release _ = false
 
 -- the first save that waits and is of the clip of an id
 abbrev pub next_reader : Places → ℕ → ℕ → Option Save
-next_reader p camera id = elim (turn_of p camera id) [ None ↦ None | Some at ↦ slice_get p.waiting at ]
+next_reader p camera id = elim (turn_of_clip p camera id) [ None ↦ None | Some at ↦ slice_get p.waiting at ]
 
 -- what happens releases a clip
-abbrev pub frees : SaveKey → Places → SaveStep → Bool
-frees key p (ends place end releases) =
-    holds (is_of key) (held_at (with_wish p place end releases) place)
+abbrev pub clip_released_by : SaveKey → Places → SaveStep → Bool
+clip_released_by key p (ends place end releases) =
+    has_such (is_of_clip key) (held_at (with_wish p place end releases) place)
     && (finished p place end releases).1.release
-frees key p (cancels c i) = holds (is_of key) (next_reader p c i) && says_release (cancelled p c i).1
-frees key p _ = false
+clip_released_by key p (cancels c i) = has_such (is_of_clip key) (next_reader p c i) && says_release (cancelled p c i).1
+clip_released_by key p _ = false
 
 -- a save that began by itself has come to an end with its text whole, or saved already, and that releases its clip
 abbrev pub lets : SaveKey → Places → SaveStep → Bool
-lets key p (ends place end releases) = holds (λ s. is_of key s && earns s end releases) (held_at p place)
+lets key p (ends place end releases) = has_such (λ s. is_of_clip key s && earns s end releases) (held_at p place)
 lets key p _ = false
 
 -- the same of each of a list
-abbrev pub frees_in : SaveKey → Places → List SaveStep → Bool
-frees_in key p [] = false
-frees_in key p (s ∷ ss) = frees key p s || frees_in key (stepped p s) ss
+abbrev pub clip_released_in : SaveKey → Places → List SaveStep → Bool
+clip_released_in key p [] = false
+clip_released_in key p (s ∷ ss) = clip_released_by key p s || clip_released_in key (saves_after p s) ss
 
 abbrev pub lets_in : SaveKey → Places → List SaveStep → Bool
 lets_in key p [] = false
-lets_in key p (s ∷ ss) = lets key p s || lets_in key (stepped p s) ss
+lets_in key p (s ∷ ss) = lets key p s || lets_in key (saves_after p s) ss
 
 -- one or none
 abbrev pub one_if : Bool → ℕ
@@ -72,34 +72,35 @@ is_taken Waits = true
 is_taken _ = false
 
 -- how many saves whose keys pass are taken in by what happens
-abbrev pub taken_by : (SaveKey → Bool) → Places → SaveStep → ℕ
-taken_by f p (asks key automatic) = one_if (is_taken (asked p key automatic).1 && f key)
-taken_by f p _ = 0
+abbrev pub saves_taken_by : (SaveKey → Bool) → Places → SaveStep → ℕ
+saves_taken_by f p (asks key automatic) = one_if (is_taken (asked p key automatic).1 && f key)
+saves_taken_by f p _ = 0
 
 -- a save that waited has ended by a cancel, and one whose key passes by a stop
-abbrev pub is_gone : Cancelled → Bool
-is_gone (Waiting release) = true
-is_gone _ = false
+abbrev pub ended_waiting : Cancelled → Bool
+ended_waiting (Waiting release) = true
+ended_waiting _ = false
 
 abbrev pub stops_one : (SaveKey → Bool) → Option StoppedSave → Bool
 stops_one f None = false
 stops_one f (Some s) = f s.key
 
 -- how many of them have ended by what happens
-abbrev pub ended_by : (SaveKey → Bool) → Places → SaveStep → ℕ
-ended_by f p (asks key automatic) = 0
-ended_by f p (ends place end releases) = one_if (holds (has_key f) (held_at p place))
-ended_by f p (cancels c i) = one_if (is_gone (cancelled p c i).1 && holds (has_key f) (next_reader p c i))
-ended_by f p stops = one_if (stops_one f (stopped p).1)
+abbrev pub saves_ended_by : (SaveKey → Bool) → Places → SaveStep → ℕ
+saves_ended_by f p (asks key automatic) = 0
+saves_ended_by f p (ends place end releases) = one_if (has_such (has_key f) (held_at p place))
+saves_ended_by f p (cancels c i) =
+    one_if (ended_waiting (cancelled p c i).1 && has_such (has_key f) (next_reader p c i))
+saves_ended_by f p stops = one_if (stops_one f (stopped p).1)
 
 -- how many by all of a list
-abbrev pub taken_in : (SaveKey → Bool) → Places → List SaveStep → ℕ
-taken_in f p [] = 0
-taken_in f p (s ∷ ss) = taken_by f p s + taken_in f (stepped p s) ss
+abbrev pub saves_taken_in : (SaveKey → Bool) → Places → List SaveStep → ℕ
+saves_taken_in f p [] = 0
+saves_taken_in f p (s ∷ ss) = saves_taken_by f p s + saves_taken_in f (saves_after p s) ss
 
-abbrev pub ended_in : (SaveKey → Bool) → Places → List SaveStep → ℕ
-ended_in f p [] = 0
-ended_in f p (s ∷ ss) = ended_by f p s + ended_in f (stepped p s) ss
+abbrev pub saves_ended_in : (SaveKey → Bool) → Places → List SaveStep → ℕ
+saves_ended_in f p [] = 0
+saves_ended_in f p (s ∷ ss) = saves_ended_by f p s + saves_ended_in f (saves_after p s) ss
 
 -- no save, and so many places
 abbrev pub no_saves : ℕ → Places

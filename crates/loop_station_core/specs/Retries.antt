@@ -4,8 +4,8 @@ use Rattle.std.specs.List.{position}
 use Rattle.loop_station_core.specs.declared.retries.Retry.{Retry}
 
 -- its time has come
-abbrev pub is_due : ℕ → Retry → Bool
-is_due now r = nat_le r.at now
+abbrev pub retry_is_due : ℕ → Retry → Bool
+retry_is_due now r = nat_le r.at now
 
 -- it reads the clip of an id
 abbrev pub reads_clip : ℕ → ℕ → Retry → Bool
@@ -20,5 +20,5 @@ taken p rs = elim (position p rs) [
 
 -- A save is tried again only once its time has come.
 abbrev pub RetriesAreDue : Type 0
-RetriesAreDue = (retries : List Retry) (now i : ℕ) (r : Retry) → (taken (is_due now) retries).1 ≡ Some i
+RetriesAreDue = (retries : List Retry) (now i : ℕ) (r : Retry) → (taken (retry_is_due now) retries).1 ≡ Some i
     → slice_get retries i ≡ Some r → r.at ≤ now

@@ -14,8 +14,8 @@ is_saved MayPass = false
 is_saved Final = false
 
 -- a minute later
-abbrev pub later : ℕ → ℕ
-later now = min (now + 60000000) (2 ^ 64 - 1)
+abbrev pub minute_later : ℕ → ℕ
+minute_later now = min (now + 60000000) (2 ^ 64 - 1)
 
 -- A line tells the end, unless the clip was saved already. A save that began by itself and may succeed later is tried
 -- again, and told as such unless that was told before.
@@ -24,7 +24,7 @@ after_save Whole automatic told now = record { line = Some Saved; again = None }
 after_save Already automatic told now = record { line = None; again = None }
 after_save Final automatic told now = record { line = Some NotSaved; again = None }
 after_save MayPass automatic told now = if automatic
-    then record { line = if told then None else Some Waits; again = Some (later now) }
+    then record { line = if told then None else Some Waits; again = Some (minute_later now) }
     else record { line = Some NotSaved; again = None }
 
 -- a line says that a save is tried again

@@ -20,8 +20,8 @@ pub record Places : Type 0 where
   pub stopped : Bool
 
 -- as the code has them
-abbrev pub shown : Saves → Places
-shown s = record { running = s.running.items; waiting = s.waiting.items; stopped = s.stopped }
+abbrev pub places_of : Saves → Places
+places_of s = record { running = s.running.items; waiting = s.waiting.items; stopped = s.stopped }
 
 -- a save that has just been asked for
 abbrev pub new_save : SaveKey → Bool → Save
@@ -37,8 +37,8 @@ abbrev pub saves_itself : SaveKey → Save → Bool
 saves_itself key s = s.automatic && (not s.cancelled && is_same key s.key)
 
 -- it is of a clip
-abbrev pub is_of : SaveKey → Save → Bool
-is_of key s = is_same key s.key
+abbrev pub is_of_clip : SaveKey → Save → Bool
+is_of_clip key s = is_same key s.key
 
 -- it is of the clip of an id
 abbrev pub reads : ℕ → ℕ → Save → Bool
@@ -62,34 +62,34 @@ abbrev pub has_key : (SaveKey → Bool) → Save → Bool
 has_key f s = f s.key
 
 -- such a save runs in a place
-abbrev pub holds : (Save → Bool) → Option Save → Bool
-holds p None = false
-holds p (Some s) = p s
+abbrev pub has_such : (Save → Bool) → Option Save → Bool
+has_such p None = false
+has_such p (Some s) = p s
 
 -- an element of a list is changed, if it is there
 abbrev pub update : {X : Type 0} → (X → X) → ℕ → List X → List X
 update f i xs = elim (slice_get xs i) [ None ↦ xs | Some x ↦ slice_set xs i (f x) ]
 
 -- what a place holds is changed, if it holds a save
-abbrev pub in_place : (Save → Save) → Option Save → Option Save
-in_place f None = None
-in_place f (Some s) = Some (f s)
+abbrev pub update_held : (Save → Save) → Option Save → Option Save
+update_held f None = None
+update_held f (Some s) = Some (f s)
 
 -- the place in which a save of the clip of an id runs that isn't to end already, and where one waits
 abbrev pub place_of : Places → ℕ → ℕ → Option ℕ
-place_of p camera id = position (holds (picks camera id)) p.running
+place_of p camera id = position (has_such (picks camera id)) p.running
 
-abbrev pub turn_of : Places → ℕ → ℕ → Option ℕ
-turn_of p camera id = position (reads camera id) p.waiting
+abbrev pub turn_of_clip : Places → ℕ → ℕ → Option ℕ
+turn_of_clip p camera id = position (reads camera id) p.waiting
 
 -- a save that runs or waits reads a clip
 abbrev pub is_read : Places → ℕ → ℕ → Option ℕ → Bool
-is_read p camera id tag = list_any (holds (has_key (covers camera id tag))) p.running
+is_read p camera id tag = list_any (has_such (has_key (covers camera id tag))) p.running
     || list_any (has_key (covers camera id tag)) p.waiting
 
 -- a clip is being saved by itself, or waits for that
 abbrev pub has_automatic : Places → SaveKey → Bool
-has_automatic p key = is_some (position (holds (saves_itself key)) p.running)
+has_automatic p key = is_some (position (has_such (saves_itself key)) p.running)
     || is_some (position (saves_itself key) p.waiting)
 
 -- it releases its clip at its end, if no other save reads it then
@@ -98,10 +98,10 @@ with_release s = record s { release = true }
 
 -- the place in which a save of a clip runs, and where one waits
 abbrev pub place_with : Places → SaveKey → Option ℕ
-place_with p key = position (holds (is_of key)) p.running
+place_with p key = position (has_such (is_of_clip key)) p.running
 
 abbrev pub turn_with : Places → SaveKey → Option ℕ
-turn_with p key = position (is_of key) p.waiting
+turn_with p key = position (is_of_clip key) p.waiting
 
 -- a save of a clip runs or waits
 abbrev pub is_saving : Places → SaveKey → Bool
@@ -110,7 +110,7 @@ is_saving p key = is_some (place_with p key) || is_some (turn_with p key)
 -- A clip is to be released once no save is of it: the first save of it bears that. Whether there is one.
 abbrev pub wanted : Places → SaveKey → Places × Bool
 wanted p key = elim (place_with p key) [
-  | Some place ↦ (record p { running = update (in_place with_release) place p.running }, true)
+  | Some place ↦ (record p { running = update (update_held with_release) place p.running }, true)
   | None ↦ elim (turn_with p key) [
     | Some at ↦ (record p { waiting = update with_release at p.waiting }, true)
     | None ↦ (p, false)
@@ -118,8 +118,8 @@ wanted p key = elim (place_with p key) [
 ]
 
 -- what a save that is gone leaves to the others of its clip; whether the clip is released now
-abbrev pub left_by : Places → Save → Places × Bool
-left_by p s = if s.release
+abbrev pub left_to_others : Places → Save → Places × Bool
+left_to_others p s = if s.release
     then (let w = wanted p s.key in (w.0, not w.1))
     else (p, false)
 
@@ -146,9 +146,9 @@ abbrev pub freed : Places → ℕ → Places
 freed p place = record p { running = slice_set p.running place None }
 
 -- the save of a place has ended: what it leaves to the others, and the save that begins there
-abbrev pub after_end : Places → ℕ → Save → Places × Ended
-after_end p place s =
-    let rest = left_by (freed p place) s in
+abbrev pub after_end_of : Places → ℕ → Save → Places × Ended
+after_end_of p place s =
+    let rest = left_to_others (freed p place) s in
     let next = begun rest.0 place in
     (next.0, record { release = rest.1; begun = next.1 })
 
@@ -157,10 +157,10 @@ abbrev pub held_at : Places → ℕ → Option Save
 held_at p place = elim (slice_get p.running place) [ None ↦ None | Some o ↦ o ]
 
 -- the save of a place has ended, if there is one
-abbrev pub ended : Places → ℕ → Places × Ended
-ended p place = elim (held_at p place) [
+abbrev pub ended_at : Places → ℕ → Places × Ended
+ended_at p place = elim (held_at p place) [
   | None ↦ (p, record { release = false; begun = None })
-  | Some s ↦ after_end p place s
+  | Some s ↦ after_end_of p place s
 ]
 
 -- a save releases its clip: it began by itself, the text is there, and clips of its camera are released then
@@ -176,7 +176,7 @@ with_wish p place end releases = elim (held_at p place) [
 
 -- the save of a place has come to its end by itself
 abbrev pub finished : Places → ℕ → SaveEnd → Bool → Places × Ended
-finished p place end releases = ended (with_wish p place end releases) place
+finished p place end releases = ended_at (with_wish p place end releases) place
 
 -- it is to end before its text is whole
 abbrev pub with_cancel : Save → Save
@@ -186,14 +186,14 @@ with_cancel s = record s { cancelled = true }
 abbrev pub cancelled_at : Places → ℕ → Places × Cancelled
 cancelled_at p at = elim (slice_get p.waiting at) [
   | None ↦ (p, No)
-  | Some s ↦ let rest = left_by (record p { waiting = remove p.waiting at }) s in (rest.0, Waiting rest.1)
+  | Some s ↦ let rest = left_to_others (record p { waiting = remove p.waiting at }) s in (rest.0, Waiting rest.1)
 ]
 
 -- a save of a clip is to end: one that runs, or else one that waits
 abbrev pub cancelled : Places → ℕ → ℕ → Places × Cancelled
 cancelled p camera id = elim (place_of p camera id) [
-  | Some place ↦ (record p { running = update (in_place with_cancel) place p.running }, Running place)
-  | None ↦ elim (turn_of p camera id) [
+  | Some place ↦ (record p { running = update (update_held with_cancel) place p.running }, Running place)
+  | None ↦ elim (turn_of_clip p camera id) [
     | Some at ↦ cancelled_at p at
     | None ↦ (p, No)
   ]

@@ -7,8 +7,8 @@ clip_id store id = store * 64 + id
 
 -- how many frames a store holds, of which it had some at an earlier next number: all that came since, and no more than
 -- all segments but the newest one's free slots
-abbrev pub held_frames : ℕ → ℕ → ℕ → ℕ → ℕ → ℕ
-held_frames segments slots held began next =
+abbrev pub frames_held_since : ℕ → ℕ → ℕ → ℕ → ℕ → ℕ
+frames_held_since segments slots held began next =
     min ((segments - 1) * slots + ((next + (slots - 1)) % slots + 1)) (next - began + held)
 
 -- a file's time is no earlier than this one; the clocks by which they are may differ by a minute

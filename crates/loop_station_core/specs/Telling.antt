@@ -186,8 +186,8 @@ nothing_known now = record {
 }
 
 -- the line of a kind, in their order
-abbrev pub IsAt : Changes → ℕ → Option Change → Type 0
-IsAt c kind line = (kind ≡ 0 → line ≡ c.source) × (kind ≡ 1 → line ≡ c.store) × (kind ≡ 2 → line ≡ c.given_up)
+abbrev pub IsLineOfKind : Changes → ℕ → Option Change → Type 0
+IsLineOfKind c kind line = (kind ≡ 0 → line ≡ c.source) × (kind ≡ 1 → line ≡ c.store) × (kind ≡ 2 → line ≡ c.given_up)
     × (kind ≡ 3 → line ≡ c.locked) × (kind ≡ 4 → line ≡ c.nearly) × (kind ≡ 5 → line ≡ c.behind)
     × (kind ≡ 6 → line ≡ c.waited) × (kind ≡ 7 → line ≡ c.unusable) × (kind ≡ 8 → line ≡ c.making)
     × (kind ≡ 9 → line ≡ c.syncs) × (kind ≡ 10 → line ≡ c.slow)

@@ -47,8 +47,8 @@ abbrev pub counted : ℕ → Option ℕ → ℕ
 counted gaps gap = if is_some gap then min (gaps + 1) (2 ^ 64 - 1) else gaps
 
 -- what is known after a frame with this time and this gap before it, and what is told
-abbrev pub stepped : Timing → Arrival → ℕ → Option ℕ → Timing × Stamped
-stepped t a time gap = (
+abbrev pub stamped_with : Timing → Arrival → ℕ → Option ℕ → Timing × Stamped
+stamped_with t a time gap = (
   record {
     last = Some time;
     streams = true;
@@ -66,27 +66,27 @@ stepped t a time gap = (
 )
 
 -- the same after a frame that has come
-abbrev pub step : Timing → Arrival → Timing × Stamped
-step t a =
+abbrev pub step_timing : Timing → Arrival → Timing × Stamped
+step_timing t a =
     let time = later t.last (said_or_now a) in
-    stepped t a time (gap_of t time a.period)
+    stamped_with t a time (gap_of t time a.period)
 
 -- what is known after frames that have come
 abbrev pub timed_by : Timing → List Arrival → Timing
 timed_by t [] = t
-timed_by t (a ∷ more) = timed_by (step t a).0 more
+timed_by t (a ∷ more) = timed_by (step_timing t a).0 more
 
 -- each frame's time is later than that of the frame before, as long as there are later ones
 abbrev pub EachLater : Timing → List Arrival → Type 0
 EachLater t [] = Unit {0}
 EachLater t (a ∷ more) =
-    IfSome t.last (λ last. last < 2 ^ 64 - 1 → last < (step t a).1.time) × EachLater (step t a).0 more
+    IfSome t.last (λ last. last < 2 ^ 64 - 1 → last < (step_timing t a).1.time) × EachLater (step_timing t a).0 more
 
 -- Times rise, whatever a source says.
-abbrev pub TimesRise : Type 0
-TimesRise = (t : Timing) (frames : List Arrival) → EachLater t frames
+abbrev pub FrameTimesRise : Type 0
+FrameTimesRise = (t : Timing) (frames : List Arrival) → EachLater t frames
 
 -- A gap is told a second after the one before, or later.
 abbrev pub GapsAreToldApart : Type 0
 GapsAreToldApart = (t : Timing) (a : Arrival) (told : ℕ) → t.told ≡ Some told
-    → is_some (step t a).1.gap ≡ true → 1000000 ≤ a.now - told
+    → is_some (step_timing t a).1.gap ≡ true → 1000000 ≤ a.now - told

@@ -1,7 +1,7 @@
 //! A camera's life: whether it is filmed, when a filming ends and what follows, and the state of its source.
 
 ghost use Rattle.std.specs.Prelude.{◌≡◌};
-ghost use Rattle.loop_station_core.specs.Cameras.{after_end, films, is_silent, left, source_seen, step, step_filming, step_source};
+ghost use Rattle.loop_station_core.specs.Cameras.{after_filming, films, is_silent, source_seen, step_camera, step_filming, step_source, without_store};
 
 use crate::SourceSeen;
 
@@ -121,7 +121,7 @@ impl Camera {
 
     /// What a camera is after something happened, and what follows.
     pub fn on(self, event: Event) -> (Camera, Act)
-        ensures { result ≡ step self event }
+        ensures { result ≡ step_camera self event }
     {
         match event {
             Event::Filming(event) => self.on_filming(event),
@@ -166,15 +166,15 @@ impl Camera {
                 camera.moved = true;
                 Act::GoOn
             }
-            FilmingEvent::End(must_reopen) => self.after_end(must_reopen),
-            FilmingEvent::Leave => return self.left(),
+            FilmingEvent::End(must_reopen) => self.after_filming(must_reopen),
+            FilmingEvent::Leave => return self.without_store(),
         };
         (camera, act)
     }
 
     // What follows the end of a filming.
-    fn after_end(&self, must_reopen: bool) -> Act
-        ensures { result ≡ after_end self.now must_reopen }
+    fn after_filming(&self, must_reopen: bool) -> Act
+        ensures { result ≡ after_filming self.now must_reopen }
     {
         if self.stopping {
             return if must_reopen {
@@ -191,8 +191,8 @@ impl Camera {
     }
 
     // Its store isn't there.
-    fn left(self) -> (Camera, Act)
-        ensures { result ≡ left self }
+    fn without_store(self) -> (Camera, Act)
+        ensures { result ≡ without_store self }
     {
         let mut camera = self;
         if self.stopping {

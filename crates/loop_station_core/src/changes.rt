@@ -1,7 +1,7 @@
 //! Which lines about a camera follow from what is seen of it.
 
 ghost use Rattle.std.specs.Prelude.{◌≡◌};
-ghost use Rattle.loop_station_core.specs.Telling.{IsAt, disk_frames, known_after, lines_of, nothing_known, same_source, told_behind, told_locked, told_lost, told_making, told_nearly, told_slow, told_source, told_store, told_syncs, told_unusable, told_waited, wait_goes_on, wait_is_over};
+ghost use Rattle.loop_station_core.specs.Telling.{IsLineOfKind, disk_frames, known_after, lines_of, nothing_known, same_source, told_behind, told_locked, told_lost, told_making, told_nearly, told_slow, told_source, told_store, told_syncs, told_unusable, told_waited, wait_goes_on, wait_is_over};
 
 // From this many microseconds after the program began on, a source or a store that isn't there is told.
 const COMES_SOON: u64 = 1_000_000;
@@ -164,7 +164,7 @@ pub struct Changes {
 impl Changes {
     /// The change of a kind, in the order of the fields; `kind` is below `KINDS`.
     pub fn at(&self, kind: usize) -> Option<Change>
-        ensures { IsAt self.now kind result }
+        ensures { IsLineOfKind self.now kind result }
     {
         match kind {
             0 => self.source,
@@ -416,7 +416,7 @@ fn next_behind(told: u64, behind: u64) -> (u64, Option<Change>)
 }
 
 // A wait for memory goes on: it is told each time that it has become twice as long.
-fn goes_on(told: WaitTold, since: u64, now: u64) -> (WaitTold, Option<Change>)
+fn wait_goes_on(told: WaitTold, since: u64, now: u64) -> (WaitTold, Option<Change>)
     ensures { result ≡ wait_goes_on told since now }
 {
     let micros = now.saturating_sub(since);
@@ -462,7 +462,7 @@ fn next_waited(
     ensures { result ≡ told_waited told waited now stopping }
 {
     if let Some(waits) = waited {
-        return goes_on(told, told.since.unwrap_or(waits), now);
+        return wait_goes_on(told, told.since.unwrap_or(waits), now);
     }
     let Some(since) = told.since else {
         return (told, None);

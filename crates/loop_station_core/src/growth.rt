@@ -2,7 +2,7 @@
 
 ghost use Rattle.std.specs.Prelude.{◌≡◌};
 ghost use Rattle.std.specs.List.{list_any};
-ghost use Rattle.loop_station_core.specs.Growth.{answer_of, end_of, is_of, is_saved_at_start, turn_of};
+ghost use Rattle.loop_station_core.specs.Growth.{answer_to_keep, growth_turn, has_event_number, how_event_ends, is_saved_at_start};
 
 /// Which lines answer a keep of a camera, besides one for each clip and each refusal.
 #[derive(Clone, Copy)]
@@ -18,7 +18,7 @@ pub struct KeptAnswer {
 /// The lines for a keep that has locked so many clips. `refused`: the desk refused to lock more; `is_whole`: nothing of
 /// its time lies ahead.
 pub fn kept_answer(clips: usize, refused: bool, is_whole: bool) -> KeptAnswer
-    ensures { result ≡ answer_of clips refused is_whole }
+    ensures { result ≡ answer_to_keep clips refused is_whole }
 {
     KeptAnswer {
         none: clips == 0 && !refused,
@@ -43,7 +43,7 @@ pub enum GrowthTurn {
 /// What is done next: `covered`: a clip of it lies within a longer one; `is_done`: it is locked to its end; `until`:
 /// its end. At a stop it is left where its end lies ahead.
 pub fn next_growth(covered: bool, is_done: bool, stopping: bool, now: u64, until: u64) -> GrowthTurn
-    ensures { result ≡ turn_of covered is_done stopping now until }
+    ensures { result ≡ growth_turn covered is_done stopping now until }
 {
     if covered {
         return GrowthTurn::Release;
@@ -71,7 +71,7 @@ pub struct OpenEvent {
 
 // Whether one of some events has a number.
 fn has_event(events: &[OpenEvent], number: u64) -> bool
-    ensures { result ≡ list_any (is_of number) events.now }
+    ensures { result ≡ list_any (has_event_number number) events.now }
 {
     events.iter().any(|event| event.event == number)
 }
@@ -98,7 +98,7 @@ pub enum EventEnd {
 
 /// How an event ended of which the store refused to lock more, or not, and all is held, or not.
 pub fn event_end(refused: bool, all_held: bool) -> EventEnd
-    ensures { result ≡ end_of refused all_held }
+    ensures { result ≡ how_event_ends refused all_held }
 {
     if refused {
         EventEnd::Refused

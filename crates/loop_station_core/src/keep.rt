@@ -1,7 +1,7 @@
 //! A keep of one camera: when it locks, and of which times.
 
 ghost use Rattle.std.specs.Prelude.{◌≡◌, ◌+◌, ◌-◌, ◌^◌, ◌<◌, ◌↔◌, IsTrue, max, nat_le, if◌then◌else◌};
-ghost use Rattle.loop_station_core.specs.Keeps.{acts, asked_time, bounds, ended, is_done, is_due, is_free, looked, moved, needed, part_locked, step, steps_of, tag_of};
+ghost use Rattle.loop_station_core.specs.Keeps.{acts, asked_time, bounds, end_seen, is_clear, is_done, looked, needed, part_is_due, part_locked, progress_seen, step_keep, steps_taken, tag_of};
 
 use crate::Tally;
 
@@ -78,7 +78,7 @@ impl Keep {
           tag = tag;
           come = come;
           all = (if nat_le until read then Some come else None);
-          steps = steps_of tally.now;
+          steps = steps_taken tally.now;
           moved = read;
           block = 0;
           part = None;
@@ -116,8 +116,8 @@ impl Keep {
     }
 
     // A frame made progress, or not, since it was last looked at.
-    fn moved(self, steps: u64, now: u64) -> Keep
-        ensures { result ≡ moved self steps now }
+    fn progress_seen(self, steps: u64, now: u64) -> Keep
+        ensures { result ≡ progress_seen self steps now }
     {
         if steps == self.steps {
             return self;
@@ -130,8 +130,8 @@ impl Keep {
     }
 
     // How many frames had come up to its end is known from the first look after that on.
-    fn ended(self, now: u64, come: u64) -> Keep
-        ensures { result ≡ ended self now come }
+    fn end_seen(self, now: u64, come: u64) -> Keep
+        ensures { result ≡ end_seen self now come }
     {
         if self.until <= now && self.all.is_none() {
             return Keep {
@@ -146,13 +146,13 @@ impl Keep {
     fn looked(self, look: &Look) -> Keep
         ensures { result ≡ looked self look.now }
     {
-        self.moved(look.tally.steps(), look.time)
-            .ended(look.time, look.come)
+        self.progress_seen(look.tally.steps(), look.time)
+            .end_seen(look.time, look.come)
     }
 
     // Whether so many frames are at the desk or lost, or none makes progress.
-    fn is_free(&self, needs: u64, look: &Look) -> bool
-        ensures { result ≡ is_free needs self.now look.now }
+    fn is_clear(&self, needs: u64, look: &Look) -> bool
+        ensures { result ≡ is_clear needs self.now look.now }
     {
         look.tally.has_brought(needs) || look.locked || look.time.saturating_sub(self.moved) > STUCK
     }
@@ -171,14 +171,14 @@ impl Keep {
     fn is_done(&self, look: &Look) -> bool
         ensures { result ≡ is_done self.now look.now }
     {
-        (self.all.is_some() || look.stopping) && self.is_free(self.needed(look), look)
+        (self.all.is_some() || look.stopping) && self.is_clear(self.needed(look), look)
     }
 
     // Whether it locks what is there.
-    fn is_due(&self, look: &Look) -> bool
-        ensures { result ≡ is_due self.now look.now }
+    fn part_is_due(&self, look: &Look) -> bool
+        ensures { result ≡ part_is_due self.now look.now }
     {
-        self.is_free(self.come, look) && !(self.part.is_some() && self.block == look.block)
+        self.is_clear(self.come, look) && !(self.part.is_some() && self.block == look.block)
     }
 
     // It locks what is there.
@@ -201,7 +201,7 @@ impl Keep {
         if self.is_done(look) {
             return (self, KeepTurn::Whole);
         }
-        if self.is_due(look) {
+        if self.part_is_due(look) {
             return self.part_locked(look);
         }
         (self, KeepTurn::Wait)
@@ -221,7 +221,7 @@ pub fn next_turn(
     locked: bool,
     stopping: bool,
 ) -> (Keep, KeepTurn)
-    ensures { result ≡ step keep (record {
+    ensures { result ≡ step_keep keep (record {
       tally = tally.now;
       time = now;
       come = come;

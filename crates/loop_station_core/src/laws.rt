@@ -3,7 +3,7 @@
 ghost use Rattle.loop_station_core.specs.Laws.{DisksAreToldOnce, FilmingsGoOn, FoundGapsAreSo, FramesAddUp, GapsAddUp, GapsAreLookedFor, KeepsAreRight, LinesAreSo, LockedLinesAlternate, LostAreToldOnce, MovedStoresAreLeft, OrdersAreAnsweredOnce, OrdersAreHandedOut, OrdersSpareReadClips, ReleasesAreEarned, ReleasesAreFree, SavedClipsAreReleased, SavedTextsAreThere, SavesWaitOnce, SilentSourcesWait, StopsAreForGood, WithdrawnSavesLeaveNothing};
 ghost use Rattle.loop_station_core.specs.Marks.{MarksAreRead};
 ghost use Rattle.loop_station_core.specs.Retries.{RetriesAreDue};
-ghost use Rattle.loop_station_core.specs.Timing.{GapsAreToldApart, TimesRise};
+ghost use Rattle.loop_station_core.specs.Timing.{FrameTimesRise, GapsAreToldApart};
 
 /// Each frame that came is stored, lost, at the desk, or on its way to it.
 pub fn frames_add_up()
@@ -11,8 +11,8 @@ pub fn frames_add_up()
 {}
 
 /// The time of each frame is later than that of the frame before, whatever its source says.
-pub fn times_rise()
-    ensures { TimesRise }
+pub fn frame_times_rise()
+    ensures { FrameTimesRise }
 {}
 
 /// Between two gaps that are told lies a second, or more.

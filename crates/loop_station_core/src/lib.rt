@@ -65,7 +65,7 @@ pub use growth::{
 pub use keep::{
     Keep, KeepPeriod, KeepTurn, Numbers, asked_time, bounds, is_too_far, next_turn, tag_of,
 };
-pub use marks::{bits_of, came_late, is_late, mark};
+pub use marks::{bits_of, came_late, mark};
 pub use orders::{AddedOrder, Attended, MOST_ORDERS, Orders};
 pub use replies::Replies;
 pub use retries::Retries;

@@ -1,7 +1,7 @@
 //! The mark of a frame, which stands in its flags: how many bits its samples have, and whether it came late.
 
 ghost use Rattle.std.specs.Prelude.{◌≡◌};
-ghost use Rattle.loop_station_core.specs.Marks.{bits_of, came_late, is_late, mark};
+ghost use Rattle.loop_station_core.specs.Marks.{bits_of, came_late, mark};
 
 // What the bits of a sample are multiplied by in a mark.
 const BITS: u32 = 16_777_216;
@@ -30,13 +30,6 @@ pub fn bits_of(flags: u32) -> u32
 {
     let bits = flags / BITS % 32;
     if bits == 0 { 8 } else { bits }
-}
-
-/// Whether a frame came while the program stood still, by its flags.
-pub fn is_late(flags: u32) -> bool
-    ensures { result ≡ is_late flags }
-{
-    flags / LATE % 2 == 1
 }
 
 /// Whether a frame that came at `now` came while the program stood still: it was seen to run last too long before, or

@@ -1,7 +1,7 @@
 //! The orders that wait for a camera: how many, whether one is being done, and whether somebody does them.
 
 ghost use Rattle.std.specs.Prelude.{◌≡◌};
-ghost use Rattle.loop_station_core.specs.Orders.{added, after_one, handed, is_idle, no_orders, opened, left};
+ghost use Rattle.loop_station_core.specs.Orders.{after_one, are_done, no_orders, opened, order_added, order_handed, unattended};
 
 /// How many orders of a camera may wait.
 pub const MOST_ORDERS: usize = 256;
@@ -53,7 +53,7 @@ impl Orders {
 
     /// One more comes.
     pub fn add(self) -> (Orders, AddedOrder)
-        ensures { result ≡ added self }
+        ensures { result ≡ order_added self }
     {
         let mut orders = self;
         if orders.attended == Attended::Gone {
@@ -68,7 +68,7 @@ impl Orders {
 
     /// The first one is handed out, if there is one. Whether there is.
     pub fn take(self) -> (Orders, bool)
-        ensures { result ≡ handed self }
+        ensures { result ≡ order_handed self }
     {
         let mut orders = self;
         orders.busy = orders.waiting > 0;
@@ -96,7 +96,7 @@ impl Orders {
 
     /// From now on nobody does. Those that wait have to be handed out, and answered.
     pub fn leave(self) -> Orders
-        ensures { result ≡ left self }
+        ensures { result ≡ unattended self }
     {
         let mut orders = self;
         orders.attended = Attended::Gone;
@@ -105,7 +105,7 @@ impl Orders {
 
     /// Whether none waits, and none is being done.
     pub fn is_idle(self) -> bool
-        ensures { result ≡ is_idle self }
+        ensures { result ≡ are_done self }
     {
         self.waiting == 0 && !self.busy
     }

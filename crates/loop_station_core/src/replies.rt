@@ -2,7 +2,7 @@
 
 ghost use Rattle.std.specs.Prelude.{◌≡◌, ◌<◌, Some, None, IsTrue, is_some, length, not, replicate, slice_set, IfOk};
 ghost use Rattle.std.specs.List.{position};
-ghost use Rattle.loop_station_core.specs.Answers.{gives, is_open};
+ghost use Rattle.loop_station_core.specs.Answers.{gives, is_unanswered};
 
 use std::alloc::{AllocError, Global};
 use std::mem;
@@ -21,8 +21,8 @@ fn missing<L: Drop>(given: &[Option<L>]) -> Option<usize>
 }
 
 // Whether there is a camera at a place, and it hasn't answered.
-fn is_open<L: Drop>(given: &[Option<L>], place: usize) -> bool
-    ensures open { result ≡ is_open given.now place }
+fn is_unanswered<L: Drop>(given: &[Option<L>], place: usize) -> bool
+    ensures open { result ≡ is_unanswered given.now place }
     ensures bound { IsTrue result → place < length given.now }
 {
     match given.get(place) {
@@ -56,7 +56,7 @@ impl<L: Drop> Replies<L> {
     pub fn give(&mut self, place: usize, answer: L) -> bool
         ensures { (self.new.given.items, result) ≡ gives self.old.given.items place answer }
     {
-        if !is_open(&self.given, place) {
+        if !is_unanswered(&self.given, place) {
             return false;
         }
         put(&mut self.given, place, answer);

@@ -2,7 +2,7 @@
 
 ghost use Rattle.std.specs.Prelude.{◌≡◌, ◌<◌, ◌++◌, ◌∷◌, [], IfSome, is_some, length, if◌then◌else◌};
 ghost use Rattle.std.specs.List.{position};
-ghost use Rattle.loop_station_core.specs.Retries.{is_due, reads_clip, taken};
+ghost use Rattle.loop_station_core.specs.Retries.{reads_clip, retry_is_due, taken};
 ghost use Rattle.loop_station_core.specs.Saving.{is_same};
 
 use crate::saves::SaveKey;
@@ -24,7 +24,7 @@ pub struct Retries {
 
 // Where the first save is that is due.
 fn due_at(list: &[Retry], now: u64) -> Option<usize>
-    ensures place { result ≡ position (is_due now) list.now }
+    ensures place { result ≡ position (retry_is_due now) list.now }
     ensures bound { IfSome result (λ i. i < length list.now) }
 {
     list.iter().position(|retry| retry.at <= now)
@@ -66,7 +66,7 @@ impl Retries {
 
     /// The first one that is due is tried now, and is none of these any more. Which of them it was, if there is one.
     pub fn due(&mut self, now: u64) -> Option<usize>
-        ensures { (self.new.list.items, result) ≡ taken (is_due now) self.old.list.items }
+        ensures { (self.new.list.items, result) ≡ taken (retry_is_due now) self.old.list.items }
     {
         let at = due_at(&self.list, now)?;
         self.list.remove(at);

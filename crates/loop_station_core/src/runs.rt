@@ -2,7 +2,7 @@
 
 ghost use Rattle.std.specs.Prelude.{◌≡◌, ◌-◌, ◌^◌, [], IfOk, min, option_to_list};
 ghost use Rattle.std.specs.List.{list_any};
-ghost use Rattle.loop_station_core.specs.Gaps.{gaps, is_within, missing};
+ghost use Rattle.loop_station_core.specs.Gaps.{gaps, lies_within, micros_missing};
 
 use std::alloc::{AllocError, Global};
 
@@ -46,7 +46,7 @@ fn gap_between(at: u64, to: u64, period: u64) -> Option<Gap>
 
 // How long gaps are together, at most the greatest u64.
 fn missing_of(gaps: &[Gap]) -> u64
-    ensures { result ≡ min (missing gaps.now) (2 ^ 64 - 1) }
+    ensures { result ≡ min (micros_missing gaps.now) (2 ^ 64 - 1) }
 {
     let mut micros = 0u64;
     for gap in gaps {
@@ -67,7 +67,7 @@ pub fn shortfall_of(
 ) -> Result<Shortfall, AllocError>
     ensures gaps { IfOk result (λ s. s.gaps.items ≡ gaps period since runs.now until) }
     ensures held { IfOk result (λ s. (s.asked ≡ until - since)
-        × (s.held ≡ s.asked - missing s.gaps.items)) }
+        × (s.held ≡ s.asked - micros_missing s.gaps.items)) }
 {
     let mut gaps = Vec::new(alloc);
     let mut at = since;
@@ -97,7 +97,7 @@ pub struct ClipSpan {
 
 /// Whether a clip lies wholly within one of the others, so that it may be released once that is locked.
 pub fn is_covered(old: &ClipSpan, new: &[ClipSpan]) -> bool
-    ensures { result ≡ list_any (is_within old.now) new.now }
+    ensures { result ≡ list_any (lies_within old.now) new.now }
 {
     new.iter()
         .any(|clip| clip.from <= old.from && old.to <= clip.to)

@@ -2,7 +2,7 @@
 
 ghost use Rattle.std.specs.Prelude.{◌≡◌, ◌≢◌, ◌++◌, ◌∷◌, if◌then◌else◌, ◌<◌, ◌==◌, IfOk, IfSome, Some, None, is_some, not, length, replicate, [], true, false};
 ghost use Rattle.std.specs.List.{list_any, position};
-ghost use Rattle.loop_station_core.specs.Saving.{asked, begun, cancelled, cancelled_at, covers, ended, finished, has_automatic, has_key, held_at, holds, is_of, is_read, is_same, left_by, picks, reads, saves_itself, shown, stopped, wanted, with_wish, withdrawn};
+ghost use Rattle.loop_station_core.specs.Saving.{asked, begun, cancelled, cancelled_at, covers, ended_at, finished, has_automatic, has_key, has_such, held_at, is_of_clip, is_read, is_same, left_to_others, picks, places_of, reads, saves_itself, stopped, wanted, with_wish, withdrawn};
 ghost use Rattle.loop_station_core.specs.declared.saves.Asked.TheVariants.{NoMemory, Waits};
 
 use crate::save_end::{SaveEnd, is_saved};
@@ -129,7 +129,7 @@ fn saves_itself(save: &Save, key: SaveKey) -> bool
 
 // The first place in which such a save runs.
 fn running_itself(running: &[Option<Save>], key: SaveKey) -> Option<usize>
-    ensures { result ≡ position (holds (saves_itself key)) running.now }
+    ensures { result ≡ position (has_such (saves_itself key)) running.now }
 {
     running.iter().position(|place| match place {
         Some(save) => saves_itself(save, key),
@@ -146,7 +146,7 @@ fn waiting_itself(waiting: &[Save], key: SaveKey) -> Option<usize>
 
 // The first place whose save is of the clip of an id, and isn't to end already.
 fn running_at(running: &[Option<Save>], camera: usize, id: u32) -> Option<usize>
-    ensures place { result ≡ position (holds (picks camera id)) running.now }
+    ensures place { result ≡ position (has_such (picks camera id)) running.now }
     ensures bound { IfSome result (λ i. i < length running.now) }
 {
     running.iter().position(|place| match place {
@@ -157,7 +157,7 @@ fn running_at(running: &[Option<Save>], camera: usize, id: u32) -> Option<usize>
 
 // The first place whose save is of a clip.
 fn running_of(running: &[Option<Save>], key: SaveKey) -> Option<usize>
-    ensures place { result ≡ position (holds (is_of key)) running.now }
+    ensures place { result ≡ position (has_such (is_of_clip key)) running.now }
     ensures bound { IfSome result (λ i. i < length running.now) }
 {
     running.iter().position(|place| match place {
@@ -168,7 +168,7 @@ fn running_of(running: &[Option<Save>], key: SaveKey) -> Option<usize>
 
 // The first save that waits and is of a clip.
 fn waiting_of(waiting: &[Save], key: SaveKey) -> Option<usize>
-    ensures place { result ≡ position (is_of key) waiting.now }
+    ensures place { result ≡ position (is_of_clip key) waiting.now }
     ensures bound { IfSome result (λ i. i < length waiting.now) }
 {
     waiting.iter().position(|save| key.is_same(&save.key))
@@ -184,7 +184,7 @@ fn waiting_at(waiting: &[Save], camera: usize, id: u32) -> Option<usize>
 
 // Whether a save that runs reads the clip of an id with this tag.
 fn is_read_running(running: &[Option<Save>], camera: usize, id: u32, tag: Option<u64>) -> bool
-    ensures { result ≡ list_any (holds (has_key (covers camera id tag))) running.now }
+    ensures { result ≡ list_any (has_such (has_key (covers camera id tag))) running.now }
 {
     running.iter().any(|place| match place {
         Some(save) => save.key.covers(camera, id, tag),
@@ -218,7 +218,7 @@ fn free_place(running: &[Option<Save>]) -> Option<usize>
 impl Saves {
     /// No saves, and so many places.
     pub fn new(alloc: Global, places: usize) -> Result<Saves, AllocError>
-        ensures { IfOk result (λ s. shown s
+        ensures { IfOk result (λ s. places_of s
             ≡ record { running = replicate places None; waiting = []; stopped = false }) }
     {
         let mut running = Vec::with_capacity(alloc, places)?;
@@ -235,9 +235,9 @@ impl Saves {
     /// A save is asked for. Where each place is taken it waits, if it is automatic. Nothing changes where there is no
     /// memory for that.
     pub fn ask(&mut self, key: SaveKey, automatic: bool) -> Asked
-        ensures asked { result ≢ NoMemory → (shown self.new, result) ≡ asked (shown self.old) key automatic }
-        ensures full { result ≡ NoMemory → ((asked (shown self.old) key automatic).1 ≡ Waits)
-            × (shown self.new ≡ shown self.old) }
+        ensures asked { result ≢ NoMemory → (places_of self.new, result) ≡ asked (places_of self.old) key automatic }
+        ensures full { result ≡ NoMemory → ((asked (places_of self.old) key automatic).1 ≡ Waits)
+            × (places_of self.new ≡ places_of self.old) }
     {
         if self.stopped {
             return Asked::Stopped;
@@ -268,24 +268,24 @@ impl Saves {
     /// The save that was asked for last, and was to wait, isn't begun: who asked for it has no memory to keep it in. So
     /// no place is given to a save that nobody knows.
     pub fn withdraw(&mut self)
-        ensures { shown self.new ≡ withdrawn (shown self.old) }
+        ensures { places_of self.new ≡ withdrawn (places_of self.old) }
     {
         let _withdrawn = self.waiting.pop();
     }
 
     // A save waits after the others. Whether there was memory for that.
     fn queue(&mut self, save: Save) -> bool
-        ensures { shown self.new ≡ (if result then record (shown self.old) {
-          waiting = (shown self.old).waiting ++ save ∷ [];
-        } else shown self.old) }
+        ensures { places_of self.new ≡ (if result then record (places_of self.old) {
+          waiting = (places_of self.old).waiting ++ save ∷ [];
+        } else places_of self.old) }
     {
         self.waiting.push(save).is_ok()
     }
 
     // The save of a place has ended, whether its text is whole or not. The first one that waits begins in its place.
     // Nothing happens where no save runs there.
-    fn ended(&mut self, place: usize) -> Ended
-        ensures { (shown self.new, result) ≡ ended (shown self.old) place }
+    fn ended_at(&mut self, place: usize) -> Ended
+        ensures { (places_of self.new, result) ≡ ended_at (places_of self.old) place }
     {
         let Some(save) = self.held(place) else {
             return Ended {
@@ -303,16 +303,16 @@ impl Saves {
     /// saved. So is its clip where the save began by itself, and the text is there. The first save that waits begins in
     /// its place. Nothing happens where no save runs there.
     pub fn finish(&mut self, place: usize, end: SaveEnd, releases: bool) -> Ended
-        ensures { (shown self.new, result) ≡ finished (shown self.old) place end releases }
+        ensures { (places_of self.new, result) ≡ finished (places_of self.old) place end releases }
     {
         self.wish(place, end, releases);
-        self.ended(place)
+        self.ended_at(place)
     }
 
     // The clip of the save that runs in a place is to be released once no save reads it, where that follows from this
     // end of the save.
     fn wish(&mut self, place: usize, end: SaveEnd, releases: bool)
-        ensures { shown self.new ≡ with_wish (shown self.old) place end releases }
+        ensures { places_of self.new ≡ with_wish (places_of self.old) place end releases }
     {
         if let Some(save) = self.held(place) {
             if save.automatic && is_saved(end) && releases {
@@ -324,7 +324,7 @@ impl Saves {
 
     // What a place holds.
     fn held(&self, place: usize) -> Option<Save>
-        ensures held { result ≡ held_at (shown self.now) place }
+        ensures held { result ≡ held_at (places_of self.now) place }
         ensures bound { is_some result ≡ true → place < length self.now.running.items }
     {
         if place < self.running.len() {
@@ -335,7 +335,7 @@ impl Saves {
 
     // A save is gone. What it leaves to the others that read its clip; whether the clip is to be released now.
     fn leave(&mut self, save: Save) -> bool
-        ensures { (shown self.new, result) ≡ left_by (shown self.old) save }
+        ensures { (places_of self.new, result) ≡ left_to_others (places_of self.old) save }
     {
         if save.release {
             return !self.wants_release(save.key);
@@ -346,7 +346,7 @@ impl Saves {
     // The first save that waits begins in a free place.
     fn begin_next(&mut self, place: usize) -> Option<SaveKey>
         requires { place < length self.old.running.items }
-        ensures { (shown self.new, result) ≡ begun (shown self.old) place }
+        ensures { (places_of self.new, result) ≡ begun (places_of self.old) place }
     {
         if self.stopped || self.waiting.is_empty() {
             return None;
@@ -358,7 +358,7 @@ impl Saves {
 
     /// Whether a clip is being saved by itself, or waits for that: a second such save of it isn't needed.
     pub fn has_automatic(&self, key: SaveKey) -> bool
-        ensures { result ≡ has_automatic (shown self.now) key }
+        ensures { result ≡ has_automatic (places_of self.now) key }
     {
         running_itself(&self.running, key).is_some() || waiting_itself(&self.waiting, key).is_some()
     }
@@ -366,7 +366,7 @@ impl Saves {
     /// Whether a save that runs or waits reads the clip of an id with this tag, so that it may not be released. No tag:
     /// the clip isn't known.
     pub fn is_read(&self, camera: usize, id: u32, tag: Option<u64>) -> bool
-        ensures { result ≡ is_read (shown self.now) camera id tag }
+        ensures { result ≡ is_read (places_of self.now) camera id tag }
     {
         is_read_running(&self.running, camera, id, tag)
             || is_read_waiting(&self.waiting, camera, id, tag)
@@ -375,7 +375,7 @@ impl Saves {
     // A clip is to be released. Returns whether that waits for the saves of it: then the end of the last one says so
     // (`Ended`). Otherwise it is released now.
     fn wants_release(&mut self, key: SaveKey) -> bool
-        ensures { (shown self.new, result) ≡ wanted (shown self.old) key }
+        ensures { (places_of self.new, result) ≡ wanted (places_of self.old) key }
     {
         if let Some(place) = running_of(&self.running, key) {
             if let Some(save) = &mut self.running[place] {
@@ -392,7 +392,7 @@ impl Saves {
 
     /// A save of a clip is to end before its text is whole: one that runs, or else one that waits.
     pub fn cancel(&mut self, camera: usize, id: u32) -> Cancelled
-        ensures { (shown self.new, result) ≡ cancelled (shown self.old) camera id }
+        ensures { (places_of self.new, result) ≡ cancelled (places_of self.old) camera id }
     {
         if let Some(place) = running_at(&self.running, camera, id) {
             if let Some(save) = &mut self.running[place] {
@@ -409,7 +409,7 @@ impl Saves {
     // A save that waits ends.
     fn cancel_waiting(&mut self, at: usize) -> Cancelled
         requires { at < length self.old.waiting.items }
-        ensures { (shown self.new, result) ≡ cancelled_at (shown self.old) at }
+        ensures { (places_of self.new, result) ≡ cancelled_at (places_of self.old) at }
     {
         let save = self.waiting.remove(at);
         let release = self.leave(save);
@@ -418,7 +418,7 @@ impl Saves {
 
     /// The program ends: ends one save, those that run first. None where no save is left. No save begins any more.
     pub fn stop(&mut self) -> Option<StoppedSave>
-        ensures { (shown self.new, result) ≡ stopped (shown self.old) }
+        ensures { (places_of self.new, result) ≡ stopped (places_of self.old) }
     {
         self.stopped = true;
         if let Some(place) = taken_place(&self.running) {

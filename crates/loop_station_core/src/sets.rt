@@ -1,7 +1,7 @@
 //! What a camera's several stores are together: their clips' ids, what they hold, and which is recorded into first.
 
 ghost use Rattle.std.specs.Prelude.{◌≡◌, ◌≤◌, ◌<◌, ◌+◌, ◌*◌, ◌-◌, ◌/◌, ◌%◌, ◌^◌, min};
-ghost use Rattle.loop_station_core.specs.Sets.{clip_id, held_frames, is_written};
+ghost use Rattle.loop_station_core.specs.Sets.{clip_id, frames_held_since, is_written};
 
 // How many clips a store has at most.
 const CLIPS: u32 = 64;
@@ -28,7 +28,7 @@ pub fn id_parts(id: u32) -> (u32, u32)
 /// How many frames a store holds. It had `held` when its next number was `began`; now that is `next`.
 pub fn held_after(segments: u32, slots: u32, held: u64, began: u64, next: u64) -> u64
     ensures { 1 ≤ slots → began + held < 2 ^ 62 → next < 2 ^ 62
-        → result ≡ held_frames segments slots held began next }
+        → result ≡ frames_held_since segments slots held began next }
 {
     let slots = u64::from(slots.max(1));
     let newest = next.saturating_add(slots - 1) % slots + 1;

@@ -23,7 +23,7 @@ pub struct Tally {
 
 impl Tally {
     ghost use Rattle.std.specs.Prelude.{◌%◌, ◌^◌, ◌↔◌, IsTrue};
-    ghost use Rattle.loop_station_core.specs.Frames.{brings, comes, frames, gives_up, loses, moved, no_frames, stores};
+    ghost use Rattle.loop_station_core.specs.Frames.{brings, comes, frames, gives_up, loses, no_frames, step_flow, stores};
 
     /// Nothing has come.
     pub fn new() -> Tally
@@ -40,7 +40,7 @@ impl Tally {
 
     /// A frame has come from the source. No more are counted than a u64 holds.
     pub fn comes(self) -> Tally
-        ensures { frames result ≡ moved (frames self) comes }
+        ensures { frames result ≡ step_flow (frames self) comes }
     {
         let Tally {
             come,
@@ -60,7 +60,7 @@ impl Tally {
 
     /// The desk has accepted the first frame that was on its way.
     pub fn bring(self) -> Tally
-        ensures { frames result ≡ moved (frames self) brings }
+        ensures { frames result ≡ step_flow (frames self) brings }
     {
         let Tally {
             come,
@@ -83,7 +83,7 @@ impl Tally {
 
     /// The first frame that was on its way was given up: no memory was there for it, or no room at the desk.
     pub fn give_up(self) -> Tally
-        ensures { frames result ≡ moved (frames self) gives_up }
+        ensures { frames result ≡ step_flow (frames self) gives_up }
     {
         let Tally {
             come,
@@ -106,7 +106,7 @@ impl Tally {
 
     /// So many frames that waited at the desk are stored.
     pub fn store(self, count: u32) -> Tally
-        ensures { frames result ≡ moved (frames self) (stores count) }
+        ensures { frames result ≡ step_flow (frames self) (stores count) }
     {
         let Tally {
             come,
@@ -127,7 +127,7 @@ impl Tally {
 
     /// Desk and queue are given up. Of the first `taken` frames that came, each that isn't stored is lost.
     pub fn lose(self, taken: u64) -> Tally
-        ensures { frames result ≡ moved (frames self) (loses taken) }
+        ensures { frames result ≡ step_flow (frames self) (loses taken) }
     {
         let Tally {
             come,

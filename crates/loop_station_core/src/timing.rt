@@ -1,7 +1,7 @@
 //! The times of frames that their source says, and the gaps between them.
 
 ghost use Rattle.std.specs.Prelude.{◌≡◌, false};
-ghost use Rattle.loop_station_core.specs.Timing.{counted, gap_of, goes_back, is_told, later, said_or_now, step};
+ghost use Rattle.loop_station_core.specs.Timing.{counted, gap_of, goes_back, is_told, later, said_or_now, step_timing};
 
 // A gap is told only where the one before was told so many microseconds earlier.
 const TOLD_AGAIN: u64 = 1_000_000;
@@ -72,7 +72,7 @@ impl Timing {
     /// A frame has come. Its time is what its source says, or else when it came, but always later than that of the
     /// frame before.
     pub fn on(self, frame: Arrival) -> (Timing, Stamped)
-        ensures { result ≡ step self frame }
+        ensures { result ≡ step_timing self frame }
     {
         let time = later(self.last, said_or_now(frame));
         let gap = gap_of(self, time, frame.period);

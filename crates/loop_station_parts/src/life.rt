@@ -4,7 +4,7 @@
 use loop_record::Geometry;
 use loop_script::{Likeness, compare_frames};
 use loop_station_core::{Act, Camera, Event, FilmingEvent, SourceEvent, SourceSeen, Tally};
-use loop_station_words::micros_of;
+use loop_station_words::duration_of;
 use std::sync::{Condvar, Mutex, Wait};
 use std::time::{Clock, Duration};
 
@@ -142,7 +142,7 @@ impl Life {
     pub fn look<R: Wait>(&self, rt: &R, now: u64) {
         let mut known = self.known.lock(rt);
         let frame = match (known.camera.source, known.offered) {
-            (SourceSeen::On, Some(geometry)) => micros_of(1, &geometry),
+            (SourceSeen::On, Some(geometry)) => duration_of(1, &geometry),
             _ => 0,
         };
         // Nothing follows.

@@ -8,7 +8,7 @@ ghost use Rattle.std.specs.Prelude.{◌<◌};
 
 use loop_record::Geometry;
 use loop_station_core::{held_after, id_parts, keeps_in};
-use loop_station_words::{MAX_STORES, frames_in, free_blocks, micros_of, newest_block};
+use loop_station_words::{MAX_STORES, duration_of, frames_in, free_blocks, newest_block};
 use loop_store::Clip;
 use std::alloc::Global;
 use std::sync::atomic::{AtomicU64, Ordering};
@@ -97,7 +97,7 @@ impl Stored {
     pub fn begin<R: Wait>(&self, rt: &R, member: Member, wanted: u32, opening: bool) {
         let mut inside = self.inside.lock(rt);
         self.period
-            .store(micros_of(1, &member.geometry), Ordering::SeqCst);
+            .store(duration_of(1, &member.geometry), Ordering::SeqCst);
         inside.members.clear();
         let _untold = inside.members.push(member);
         inside.coming = None;
@@ -335,7 +335,7 @@ impl Inside {
                 member.began,
                 member.next,
             );
-            held = held.saturating_add(micros_of(frames, &member.geometry));
+            held = held.saturating_add(duration_of(frames, &member.geometry));
         }
         Some(Extent {
             open: u32::try_from(self.members.len()).unwrap_or(u32::MAX),

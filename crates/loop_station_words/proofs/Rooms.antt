@@ -4,7 +4,7 @@ use Rattle.std.proofs.lemmas.Grind.{common_steps}
 use Rattle.std.proofs.lemmas.Nat.{le-div}
 use Rattle.loop_clips.specs.declared.clip.Clip.{Clip}
 use Rattle.loop_record.specs.Geometry.{divided_up}
-use Rattle.loop_station_words.specs.Rooms.{is_met, locked_below, lowest_in, lowest_met, meets, nearer}
+use Rattle.loop_station_words.specs.Rooms.{clip_meets, is_met, locked_below, lowest_in, lowest_met, nearer}
 
 -- ---- how many minutes fit
 
@@ -40,9 +40,9 @@ before-nearer k None p h = (refl, h)
 before-nearer k (Some a) None h = (h, refl)
 before-nearer k (Some a) (Some b) h = grind (arith, common_steps)
 
-unmet : (slots from k : ℕ) (c : Clip) → from ≤ k → before k (lowest_in slots from c) ≡ true → meets slots k c ≡ false
+unmet : (slots from k : ℕ) (c : Clip) → from ≤ k → before k (lowest_in slots from c) ≡ true → clip_meets slots k c ≡ false
 unmet slots from k c h b = at (nat_le (max (c.from / slots) from) (c.to / slots)) refl where
-  at : (t : Bool) → nat_le (max (c.from / slots) from) (c.to / slots) ≡ t → meets slots k c ≡ false
+  at : (t : Bool) → nat_le (max (c.from / slots) from) (c.to / slots) ≡ t → clip_meets slots k c ≡ false
   at true e = grind (arith, common_steps)
   at false e = grind (arith, common_steps)
 
@@ -51,13 +51,13 @@ none-before : (slots from k : ℕ) (clips : List Clip) → from ≤ k → before
 none-before slots from k [] h b = refl
 none-before slots from k (c ∷ cs) h b =
     let two = before-nearer k (lowest_in slots from c) (lowest_met slots from cs) b in
-    let one : meets slots k c ≡ false = unmet slots from k c h two.0 in
+    let one : clip_meets slots k c ≡ false = unmet slots from k c h two.0 in
     let more : is_met slots cs k ≡ false = none-before slots from k cs h two.1 in
     grind (arith, common_steps)
 
-met-in : (slots from b : ℕ) (c : Clip) → lowest_in slots from c ≡ Some b → (from ≤ b) × (meets slots b c ≡ true)
+met-in : (slots from b : ℕ) (c : Clip) → lowest_in slots from c ≡ Some b → (from ≤ b) × (clip_meets slots b c ≡ true)
 met-in slots from b c i = at (nat_le (max (c.from / slots) from) (c.to / slots)) refl where
-  at : (t : Bool) → nat_le (max (c.from / slots) from) (c.to / slots) ≡ t → (from ≤ b) × (meets slots b c ≡ true)
+  at : (t : Bool) → nat_le (max (c.from / slots) from) (c.to / slots) ≡ t → (from ≤ b) × (clip_meets slots b c ≡ true)
   at true e = grind (arith, common_steps)
   at false e = grind (arith, common_steps)
 

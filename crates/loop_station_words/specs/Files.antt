@@ -9,8 +9,8 @@ abbrev pub ends_in : List ℕ → List ℕ → Bool
 ends_in end path = bytes_eq (drop (length path - length end) path) end
 
 -- a path without `.loop` at its end, and that end, if it has it
-abbrev pub stem : List ℕ → List ℕ
-stem path = if ends_in (codes ".loop") path then take (length path - 5) path else path
+abbrev pub without_ending : List ℕ → List ℕ
+without_ending path = if ends_in (codes ".loop") path then take (length path - 5) path else path
 
 abbrev pub ending : List ℕ → List ℕ
 ending path = if ends_in (codes ".loop") path then codes ".loop" else []
@@ -26,17 +26,17 @@ number_text n = 46 ∷ (48 + n / 100 % 10) ∷ (48 + n / 10 % 10) ∷ (48 + n % 
 
 -- the path of the store of a number, of a camera that has several: `left.007.loop` for `left.loop`
 abbrev pub numbered : List ℕ → ℕ → List ℕ
-numbered path n = stem path ++ number_text n ++ ending path
+numbered path n = without_ending path ++ number_text n ++ ending path
 
 -- whether bytes are these, a number and those
-abbrev pub has_number : List ℕ → List ℕ → List ℕ → Bool
-has_number before after other = bytes_eq (take (length before) other) before
+abbrev pub has_number_between : List ℕ → List ℕ → List ℕ → Bool
+has_number_between before after other = bytes_eq (take (length before) other) before
     && is_number (take 4 (drop (length before) other))
     && bytes_eq (drop 4 (drop (length before) other)) after
 
 -- whether a path is another one with a number
 abbrev pub is_numbered : List ℕ → List ℕ → Bool
-is_numbered path other = length other == length path + 4 && has_number (stem path) (ending path) other
+is_numbered path other = length other == length path + 4 && has_number_between (without_ending path) (ending path) other
 
 -- whether two cameras with these paths could have one file
 abbrev pub share_file : List ℕ → List ℕ → Bool

@@ -74,9 +74,9 @@ keep_said text = let word = first_word text in keep_in text word.1 (named word.0
 -- ---- release, save and cancel
 
 -- a number that may be left out, where there is one
-abbrev pub tag_of : Option ℕ → Option (Option ℕ)
-tag_of (Some tag) = Some (Some tag)
-tag_of None = None
+abbrev pub said_number : Option ℕ → Option (Option ℕ)
+said_number (Some tag) = Some (Some tag)
+said_number None = None
 
 -- the release of a camera's clip, where there are all parts
 abbrev pub release_of : Option (List ℕ) → Option ℕ → Option (Option ℕ) → Option Order
@@ -86,7 +86,7 @@ release_of _ _ _ = None
 -- the id of a clip, and the number of its first frame, which may be left out
 abbrev pub clip_cut : Option (List ℕ) → List ℕ → Option (List ℕ × List ℕ) → Option Order
 clip_cut camera text None = release_of camera (small_number text) (Some None)
-clip_cut camera text (Some both) = release_of camera (small_number both.0) (tag_of (number both.1))
+clip_cut camera text (Some both) = release_of camera (small_number both.0) (said_number (number both.1))
 
 abbrev pub release_cut : Option (List ℕ × List ℕ) → Option Order
 release_cut None = None
@@ -184,7 +184,7 @@ between_of _ _ _ _ = None
 -- the second time, and the tag after it, if there is one
 abbrev pub until_cut : Option (List ℕ) → Option ℕ → List ℕ → Option (List ℕ × List ℕ) → Option Order
 until_cut camera since text None = between_of camera since (time_said text) (Some None)
-until_cut camera since text (Some last) = between_of camera since (time_said last.0) (tag_of (number last.1))
+until_cut camera since text (Some last) = between_of camera since (time_said last.0) (said_number (number last.1))
 
 -- what follows the first time: `to T`, and a tag
 abbrev pub to_cut : Option (List ℕ) → Option ℕ → Option (List ℕ × List ℕ) → Option Order

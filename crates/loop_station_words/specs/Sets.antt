@@ -10,12 +10,12 @@ abbrev pub held_by : ℕ → RingSize → ℕ
 held_by stores ring = (stores * ring.segments - 1) * ring.slots + 1
 
 -- a camera may have so many stores
-abbrev pub IsCount : ℕ → Type 0
-IsCount stores = (1 ≤ stores) × (stores ≤ 256)
+abbrev pub IsStoreCount : ℕ → Type 0
+IsStoreCount stores = (1 ≤ stores) × (stores ≤ 256)
 
 -- so many stores of a ring hold so many frames, and fewer don't
 pub record IsLeastCount (frames : ℕ) (ring : RingSize) (stores : ℕ) : Type 0 where
-  pub count : IsCount stores
+  pub count : IsStoreCount stores
   pub enough : frames ≤ held_by stores ring
   pub least : (fewer : ℕ) → 1 ≤ fewer → frames ≤ held_by fewer ring → stores ≤ fewer
 
@@ -27,7 +27,7 @@ long_ring slots = record { segments = 64; slots = slots }
 -- fewest slots
 pub record IsLeastSetFor (frame frames : ℕ) (set : SetSize) : Type 0 where
   pub ring : IsRing set.ring
-  pub count : IsCount set.stores
+  pub count : IsStoreCount set.stores
   pub enough : frames ≤ held_by set.stores set.ring
   pub fewest : (other : SetSize) → IsRing other.ring → 1 ≤ other.stores → frames ≤ held_by other.stores other.ring
       → set.stores ≤ other.stores
@@ -39,7 +39,7 @@ pub record IsLeastSetFor (frame frames : ℕ) (set : SetSize) : Type 0 where
 -- the ones with the most slots
 pub record IsSetWithin (frame bytes : ℕ) (set : SetSize) : Type 0 where
   pub ring : IsRing set.ring
-  pub count : IsCount set.stores
+  pub count : IsStoreCount set.stores
   pub fits : set.stores * file_size frame set.ring ≤ bytes
   pub few : 2 ≤ set.stores → (set.stores - 1) * file_size frame (long_ring 256) < bytes
   pub many : set.stores < 256 → bytes ≤ set.stores * file_size frame (long_ring 256)

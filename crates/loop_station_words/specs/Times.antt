@@ -35,13 +35,13 @@ decimals_said word =
     if nat_le (length word) 6 then option_map (λ n. n * 10 ^ (6 - length word)) (small_number word) else None
 
 -- the microseconds of whole seconds and a part
-abbrev pub seconds_of : Option ℕ → Option ℕ → Option ℕ
-seconds_of (Some second) (Some part) = if nat_lt second 60 then Some (second * 1000000 + part) else None
-seconds_of _ _ = None
+abbrev pub micros_of_second : Option ℕ → Option ℕ → Option ℕ
+micros_of_second (Some second) (Some part) = if nat_lt second 60 then Some (second * 1000000 + part) else None
+micros_of_second _ _ = None
 
 abbrev pub seconds_cut : List ℕ → Option (List ℕ × List ℕ) → Option ℕ
-seconds_cut text None = seconds_of (sized 2 text) (Some 0)
-seconds_cut text (Some seconds) = seconds_of (sized 2 seconds.0) (decimals_said seconds.1)
+seconds_cut text None = micros_of_second (sized 2 text) (Some 0)
+seconds_cut text (Some seconds) = micros_of_second (sized 2 seconds.0) (decimals_said seconds.1)
 
 -- the microseconds of `SS`, or of `SS.` with decimals
 unfoldable pub seconds_said : List ℕ → Option ℕ

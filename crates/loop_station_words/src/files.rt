@@ -2,7 +2,7 @@
 ghost use Rattle.std.specs.Prelude.{◌≡◌, ◌≤◌, ◌<◌, ◌+◌, ◌%◌, IfOk, IfSome, IsTrue, length, string_bytes};
 ghost use Rattle.std.specs.Char.{is_ascii_digit};
 ghost use Rattle.std.specs.List.{list_all};
-ghost use Rattle.loop_station_words.specs.Files.{ending, has_number, is_number, is_numbered, number_text, numbered, share_file, stem};
+ghost use Rattle.loop_station_words.specs.Files.{ending, has_number_between, is_number, is_numbered, number_text, numbered, share_file, without_ending};
 
 use std::alloc::{AllocError, Global};
 
@@ -14,7 +14,7 @@ const NUMBER: usize = 4;
 
 // A path without `.loop` at its end, and that end.
 fn parts_of(path: &str) -> (&str, &str)
-    ensures stem { result.0.now ≡ stem path.now }
+    ensures stem { result.0.now ≡ without_ending path.now }
     ensures ending { result.1.now ≡ ending path.now }
 {
     match path.strip_suffix(ENDING) {
@@ -62,9 +62,9 @@ fn has_digits(bytes: &[u8]) -> bool
 }
 
 // Whether bytes are these, a number and those.
-fn has_number(before: &[u8], after: &[u8], other: &[u8]) -> bool
+fn has_number_between(before: &[u8], after: &[u8], other: &[u8]) -> bool
     requires { length before.now + 4 ≤ length other.now }
-    ensures { result ≡ has_number before.now after.now other.now }
+    ensures { result ≡ has_number_between before.now after.now other.now }
 {
     let (front, rest) = other.split_at(before.len());
     let (number, end) = rest.split_at(NUMBER);
@@ -79,7 +79,7 @@ fn is_numbered(path: &str, other: &str) -> bool
         return false;
     }
     let (stem, ending) = parts_of(path);
-    has_number(stem.as_bytes(), ending.as_bytes(), other.as_bytes())
+    has_number_between(stem.as_bytes(), ending.as_bytes(), other.as_bytes())
 }
 
 /// The number of the store of a path, of a camera that has several and this path; None where it isn't one of them.

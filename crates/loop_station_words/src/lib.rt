@@ -49,7 +49,7 @@ pub use name::{Name, is_name};
 pub use order::{Order, label_of, read_order};
 pub use ring::{RingSize, frames_in, ring_for, ring_within};
 pub use room::{
-    NoRing, asked_set, asked_stores, frames_before, free_blocks, held_of_asked, micros_of,
+    NoRing, asked_set, asked_stores, duration_of, frames_before, free_blocks, held_of_asked,
     newest_block, size_of,
 };
 pub use sets::{MAX_STORES, SetSize, set_for, set_within, stores_for, stores_within};

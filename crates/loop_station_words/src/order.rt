@@ -1,7 +1,7 @@
 // Orders: the lines that ask for something. docs/station.md says why it is so.
 ghost use Rattle.std.specs.Prelude.{◌≡◌, option_map};
 ghost use Rattle.loop_station_words.specs.Cuts.{cut};
-ghost use Rattle.loop_station_words.specs.Orders.{after_said, after_seconds, alone_said, between_of, cancel_of, cancel_said, event_said, first_word, from_said, keep_of, keep_said, label_said, order_said, plain_said, release_of, release_said, save_event_of, save_of, save_said, tag_of, tagged, timed_said, times_in, times_kept, times_said, to_cut};
+ghost use Rattle.loop_station_words.specs.Orders.{after_said, after_seconds, alone_said, between_of, cancel_of, cancel_said, event_said, first_word, from_said, keep_of, keep_said, label_said, order_said, plain_said, release_of, release_said, said_number, save_event_of, save_of, save_said, tagged, timed_said, times_in, times_kept, times_said, to_cut};
 
 use crate::cut::cut;
 use crate::name::{Name, is_label, named};
@@ -148,15 +148,20 @@ fn read_to<'a>(camera: Option<Name<'a>>, since: Option<u64>, text: &str) -> Opti
     match cut(text, ' ') {
         Some((word, rest)) if word == "to" => match cut(rest, ' ') {
             None => between_of(camera, since, read_time(rest), Some(None)),
-            Some((until, tag)) => between_of(camera, since, read_time(until), tag_of(number(tag))),
+            Some((until, tag)) => between_of(
+                camera,
+                since,
+                read_time(until),
+                said_number(number(tag)),
+            ),
         },
         _ => None,
     }
 }
 
 // A tag, where there is a number.
-fn tag_of(number: Option<u64>) -> Option<Option<u64>>
-    ensures { result ≡ tag_of number }
+fn said_number(number: Option<u64>) -> Option<Option<u64>>
+    ensures { result ≡ said_number number }
 {
     Some(Some(number?))
 }
@@ -309,7 +314,11 @@ fn read_release<'a>(text: &'a str) -> Option<Order<'a>>
         None => None,
         Some((camera, rest)) => match cut(rest, ' ') {
             None => release_of(named(camera), small_number(rest), Some(None)),
-            Some((id, first)) => release_of(named(camera), small_number(id), tag_of(number(first))),
+            Some((id, first)) => release_of(
+                named(camera),
+                small_number(id),
+                said_number(number(first)),
+            ),
         },
     }
 }

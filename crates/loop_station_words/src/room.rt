@@ -2,7 +2,7 @@
 // free, and how many frames may wait before it.
 ghost use Rattle.std.specs.Prelude.{◌≡◌, ◌≤◌, ◌<◌, ◌+◌, ◌*◌, IsTrue, Some, None, if◌then◌else◌};
 ghost use Rattle.loop_record.specs.Geometry.{frame_bytes, is_good};
-ghost use Rattle.loop_station_words.specs.Rooms.{AreAsked, HoldsLess, IsAsked, IsAskedCount, frames_before, frames_of, free_blocks, held_frames, locked_below, lowest_in, lowest_met, micros_of, most_tenths, newest_block, nearer, ring_of, size_in};
+ghost use Rattle.loop_station_words.specs.Rooms.{AreAsked, HoldsLess, IsAskedCount, IsAskedSet, duration_of, frames_before, frames_in_seconds, free_blocks, held_frames, locked_below, lowest_in, lowest_met, most_tenths, nearer, newest_block, ring_size_of, size_in};
 
 use crate::config::{MemoryLimit, StoreSize};
 use crate::ring::{RingSize, frames_in};
@@ -46,10 +46,13 @@ pub fn size_of(geometry: &Geometry) -> Option<u32>
 /// The stores that have room for as much as the configuration asks, of frames like these. The geometry's own ring means
 /// nothing, but has to be one that a store may have.
 pub fn asked_set(frames: &Geometry, room: StoreSize) -> Result<SetSize, NoRing>
-    ensures { IsAsked frames.now room result }
+    ensures { IsAskedSet frames.now room result }
 {
     match room {
-        StoreSize::Seconds(seconds) => match set_for(frames_of(frames, seconds), size_in(frames)) {
+        StoreSize::Seconds(seconds) => match set_for(
+            frames_in_seconds(frames, seconds),
+            size_in(frames),
+        ) {
             Some(set) => Ok(set),
             None => Err(NoRing::TooManyFrames(most_tenths(frames))),
         },
@@ -72,10 +75,10 @@ pub fn asked_stores(store: &Geometry, room: StoreSize) -> u32
     let Some(size) = size_of(store) else {
         return 1;
     };
-    let ring = ring_of(store);
+    let ring = ring_size_of(store);
     match room {
         StoreSize::Seconds(seconds) => {
-            stores_for(frames_of(store, seconds), ring).unwrap_or(MAX_STORES)
+            stores_for(frames_in_seconds(store, seconds), ring).unwrap_or(MAX_STORES)
         }
         StoreSize::Bytes(bytes) => stores_within(size, bytes, ring),
     }
@@ -89,8 +92,8 @@ fn size_in(frames: &Geometry) -> u32
 }
 
 // The ring of a store.
-fn ring_of(store: &Geometry) -> RingSize
-    ensures { result ≡ ring_of store.now }
+fn ring_size_of(store: &Geometry) -> RingSize
+    ensures { result ≡ ring_size_of store.now }
 {
     RingSize {
         segments: store.segments,
@@ -99,8 +102,8 @@ fn ring_of(store: &Geometry) -> RingSize
 }
 
 // How many of these frames come in so many seconds.
-fn frames_of(frames: &Geometry, seconds: u64) -> u64
-    ensures { result ≡ frames_of frames.now seconds }
+fn frames_in_seconds(frames: &Geometry, seconds: u64) -> u64
+    ensures { result ≡ frames_in_seconds frames.now seconds }
 {
     frames_in(seconds, frames.rate_num, frames.rate_den.max(1))
 }
@@ -108,9 +111,9 @@ fn frames_of(frames: &Geometry, seconds: u64) -> u64
 // How many tenths of a minute of these frames fit into the most stores.
 fn most_tenths(frames: &Geometry) -> u64
     ensures value { result ≡ most_tenths frames.now }
-    ensures fits { 1 ≤ frames.now.rate_den → frames_of frames.now (6 * result) ≤ 4194049 }
+    ensures fits { 1 ≤ frames.now.rate_den → frames_in_seconds frames.now (6 * result) ≤ 4194049 }
     ensures most { 1 ≤ frames.now.rate_num → 1 ≤ frames.now.rate_den
-        → 4194049 < frames_of frames.now (6 * (result + 1)) }
+        → 4194049 < frames_in_seconds frames.now (6 * (result + 1)) }
 {
     MOST_FRAMES * u64::from(frames.rate_den) / (6 * u64::from(frames.rate_num.max(1)))
 }
@@ -120,16 +123,16 @@ fn most_tenths(frames: &Geometry) -> u64
 pub fn held_of_asked(store: &Geometry, stores: u32, room: StoreSize) -> Option<(u64, u64)>
     ensures { HoldsLess store.now stores room result }
 {
-    let held = held_frames(stores, ring_of(store));
+    let held = held_frames(stores, ring_size_of(store));
     let asked = asked_frames(store, room);
     if asked <= held {
         return None;
     }
     let asked = match room {
         StoreSize::Seconds(seconds) => seconds.saturating_mul(1_000_000),
-        StoreSize::Bytes(_) => micros_of(asked, store),
+        StoreSize::Bytes(_) => duration_of(asked, store),
     };
-    Some((micros_of(held, store), asked))
+    Some((duration_of(held, store), asked))
 }
 
 // How many frames like a store's the configuration asks stores to hold; 0 where none are as it asks.
@@ -137,7 +140,7 @@ fn asked_frames(store: &Geometry, room: StoreSize) -> u64
     ensures { AreAsked store.now room result }
 {
     match room {
-        StoreSize::Seconds(seconds) => frames_of(store, seconds),
+        StoreSize::Seconds(seconds) => frames_in_seconds(store, seconds),
         StoreSize::Bytes(_) => match asked_set(store, room) {
             Ok(set) => held_frames(set.stores, set.ring),
             Err(_) => 0,
@@ -156,8 +159,8 @@ fn held_frames(stores: u32, ring: RingSize) -> u64
 }
 
 /// How many microseconds so many frames of a geometry last, at most the greatest u64.
-pub fn micros_of(frames: u64, geometry: &Geometry) -> u64
-    ensures { result ≡ micros_of frames geometry.now }
+pub fn duration_of(frames: u64, geometry: &Geometry) -> u64
+    ensures { result ≡ duration_of frames geometry.now }
 {
     let micros = u128::from(frames) * 1_000_000 * u128::from(geometry.rate_den)
         / u128::from(geometry.rate_num.max(1));
@@ -173,9 +176,9 @@ pub fn frames_before(memory: Option<MemoryLimit>, geometry: &Geometry) -> usize
     };
     let size = u64::from(size.max(1));
     let frames = match memory {
-        Some(MemoryLimit::Seconds(seconds)) => frames_of(geometry, seconds),
+        Some(MemoryLimit::Seconds(seconds)) => frames_in_seconds(geometry, seconds),
         Some(MemoryLimit::Bytes(bytes)) => bytes / size,
-        None => frames_of(geometry, SECONDS).min(MOST_BYTES / size),
+        None => frames_in_seconds(geometry, SECONDS).min(MOST_BYTES / size),
     };
     frames.min(MOST_WAITING) as usize
 }

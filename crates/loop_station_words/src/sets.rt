@@ -2,7 +2,7 @@
 // all with one ring, which are recorded into as one long ring.
 ghost use Rattle.std.specs.Prelude.{◌≡◌, ◌≤◌, ◌<◌, ◌↔◌, ◌+◌, ◌*◌, ◌-◌, ◌^◌, ℕ, IfSome, IsNone};
 ghost use Rattle.loop_station_words.specs.Rings.{IsRing, file_size};
-ghost use Rattle.loop_station_words.specs.Sets.{IsCount, IsLeastCount, IsLeastSetFor, IsSetWithin, held_by, long_ring};
+ghost use Rattle.loop_station_words.specs.Sets.{IsLeastCount, IsLeastSetFor, IsSetWithin, IsStoreCount, held_by, long_ring};
 
 use crate::ring::{RingSize, fitting, ring_for, ring_within, slots_within};
 
@@ -66,7 +66,7 @@ pub fn set_for(frames: u64, frame_bytes: u32) -> Option<SetSize>
 
 // The ring of 64 segments and the fewest slots of which so many stores hold so many frames.
 fn least_ring(stores: u32, frames: u64) -> RingSize
-    requires count { IsCount stores }
+    requires count { IsStoreCount stores }
     requires some { 2 ≤ frames }
     requires enough { frames ≤ held_by stores (long_ring 256) }
     ensures ring { IsRing result }
@@ -121,7 +121,7 @@ fn slots_each(stores: u64, bytes: u64, slot: u64) -> u32
 /// 256 at most.
 pub fn stores_within(frame_bytes: u32, bytes: u64, ring: RingSize) -> u32
     requires { IsRing ring }
-    ensures count { IsCount result }
+    ensures count { IsStoreCount result }
     ensures fits { 2 ≤ result → result * file_size frame_bytes ring ≤ bytes }
     ensures most { (n : ℕ) → n ≤ 256 → n * file_size frame_bytes ring ≤ bytes → n ≤ result }
 {

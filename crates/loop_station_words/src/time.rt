@@ -1,6 +1,6 @@
 // Dates with their times of day, as texts: ISO 8601.
 ghost use Rattle.std.specs.Prelude.{◌≡◌, ◌<◌, ◌≤◌, ◌-◌, ◌^◌};
-ghost use Rattle.loop_station_words.specs.Times.{below, clock_said, day_of, day_said, decimals_said, east, minutes_of, offset_said, seconds_of, seconds_said, sized, sum_of, time_said, west, zoned};
+ghost use Rattle.loop_station_words.specs.Times.{below, clock_said, day_of, day_said, decimals_said, east, micros_of_second, minutes_of, offset_said, seconds_said, sized, sum_of, time_said, west, zoned};
 
 use crate::calendar::{days_before, days_before_month, month_length};
 use crate::cut::cut;
@@ -153,15 +153,15 @@ fn read_seconds(text: &str) -> Option<u64>
     ensures few { below (2 ^ 53) result }
 {
     match cut(text, '.') {
-        None => seconds_of(sized(text, 2), Some(0)),
-        Some((seconds, decimals)) => seconds_of(sized(seconds, 2), read_decimals(decimals)),
+        None => micros_of_second(sized(text, 2), Some(0)),
+        Some((seconds, decimals)) => micros_of_second(sized(seconds, 2), read_decimals(decimals)),
     }
 }
 
 // The microseconds of whole seconds and a part.
-fn seconds_of(seconds: Option<u32>, part: Option<u64>) -> Option<u64>
+fn micros_of_second(seconds: Option<u32>, part: Option<u64>) -> Option<u64>
     requires { below (2 ^ 52) part }
-    ensures seconds { result ≡ seconds_of seconds part }
+    ensures seconds { result ≡ micros_of_second seconds part }
     ensures few { below (2 ^ 53) result }
 {
     let (seconds, part) = (u64::from(seconds?), part?);

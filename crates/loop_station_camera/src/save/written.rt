@@ -3,7 +3,7 @@
 ghost use Rattle.std.specs.Prelude.{◌≡◌, ◌≤◌, All, IfOk, List, OnOk, true, ℕ};
 ghost use Rattle.std.specs.Io.KnownBytes.{Appends};
 ghost use Rattle.loop_y4m.specs.Text.{frame};
-ghost use Rattle.loop_station_camera.specs.Saves.{WroteClips, WrotePiece, clips_of};
+ghost use Rattle.loop_station_camera.specs.Saves.{WroteClips, WrotePiece, clips_read};
 
 use super::pieces::{Piece, next_piece};
 use super::{Save, SaveTarget, Saves};
@@ -162,7 +162,7 @@ fn write_text<R: AllocGlobal + Wait, W: Write>(
     out: &mut W,
 ) -> Result<u64, NotSaved>
     ensures { IfOk result
-        (WroteClips (W.contents out.old) (W.contents out.new) geometry.now (clips_of save.now)) }
+        (WroteClips (W.contents out.old) (W.contents out.new) geometry.now (clips_read save.now)) }
 {
     let mut left = save.clips(rt.alloc())?;
     if !have_frames(&left) {

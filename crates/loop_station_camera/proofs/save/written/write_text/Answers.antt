@@ -1,6 +1,6 @@
 use Rattle.std.proofs.Common.{◌≡◌, ◌++◌, ◌+◌, ◌-◌, [], arith, refl, rules}
 use Rattle.loop_station_camera.proofs.SaveFrames.{begun, counted-more, some-more}
-use Rattle.loop_station_camera.specs.Saves.{frames_in}
+use Rattle.loop_station_camera.specs.Saves.{frames_in_clips}
 use Rattle.loop_station_camera.proofs.save.written.write_text.Goals as goal
 
 pub pieces-init : goal.pieces-init
@@ -15,8 +15,8 @@ pieces-init g c = record {
 
 pub pieces-preserved : goal.pieces-preserved
 pieces-preserved g c =
-    let taken : frames_in c.pieces.left.items
-    ≡ (c.in-Some-2.piece.end + 1 - c.in-Some-2.piece.clip.clip.from) + frames_in c.next_piece.new.left.items =
+    let taken : frames_in_clips c.pieces.left.items
+    ≡ (c.in-Some-2.piece.end + 1 - c.in-Some-2.piece.clip.clip.from) + frames_in_clips c.next_piece.new.left.items =
     search rules in
     let wrote = c.in_ok-written.ensures in
     let more : c.in-Some-checked_add.more ≡ c.pieces.count + c.in_ok-written.written = search rules in
