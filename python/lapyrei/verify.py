@@ -63,9 +63,8 @@ def compare(job: Job, back: Back) -> None:
     count = 0
     for place, picture in enumerate(back.pictures):
         count = place + 1
-        if count > len(job.digests):
-            break
-        for name, wanted in job.digests[place].items():
+        # A table has no pictures.
+        for name, wanted in (job.digests[place] if place < len(job.digests) else {}).items():
             if name not in picture or digest(picture[name]) != wanted:
                 raise ExportFault(f"the pixels of picture {place} ({name})")
     if count != len(job.frames):
