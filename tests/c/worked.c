@@ -447,6 +447,32 @@ static void read_others(void) {
     WANT(lapyrei_open_read(path, &reader), LAPYREI_NOT_FORMATTED);
 }
 
+/* A read of a frame, in which the recorder goes on: it takes the place of the system's. */
+static lapyrei goes_on_in_a_read;
+ssize_t pread(int file, void *to, size_t bytes, off_t place) {
+    lapyrei writer = goes_on_in_a_read;
+    if (writer && bytes == 12) {
+        goes_on_in_a_read = 0;
+        for (int k = 20; k < 27; k++) WANT(put(writer, k), 0);
+    }
+    return syscall(SYS_pread64, file, to, bytes, place);
+}
+
+/* Another frame comes in its place while it is read: it is gone, and never the other one. */
+static void read_over(void) {
+    lapyrei it = made_at("over.loop"), reader;
+    for (int k = 1; k < 6; k++) WANT(put(it, k), 0);
+    WANT(lapyrei_open_read(path, &reader), 0);
+    WANT(lapyrei_read(reader, 4, &got, out, 12), 0);
+    WANT(out[0], 4);
+    goes_on_in_a_read = it;
+    WANT(lapyrei_read(reader, 4, &got, out, 12), LAPYREI_GONE);
+    WANT(lapyrei_newest(reader, &n), 0);
+    WANT(n, 12);
+    WANT(lapyrei_close(reader), 0);
+    WANT(lapyrei_close(it), 0);
+}
+
 /* Frames of one byte each, and a reader that never sees another. */
 enum { PLAIN = 64 * 48 };
 static struct {
@@ -660,6 +686,7 @@ int main(int argc, char **argv) {
     moved_late();
     read_beside();
     read_others();
+    read_over();
     whole_beside();
     if (argc == 2) forked();
     threads();
