@@ -26,7 +26,8 @@ class Lazy:
     def __init__(
         self, frames: Frames, plane: int | None = 0, matrix: str = "bt601", full: bool = False
     ) -> None:
-        self.frames, self.plane, self.matrix, self.full = frames, plane, matrix, full
+        # Places of a store are others once it is refreshed; those of frames stay.
+        self.frames, self.plane, self.matrix, self.full = frames[:], plane, matrix, full
         form = frames.form
         self.dtype: np.dtype[Any] = form.dtype
         self.shape: tuple[int, ...] = (len(frames), *form.planes[plane or 0])

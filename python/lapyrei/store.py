@@ -191,7 +191,9 @@ class Frames:
             count = max(1, BLOCK_BYTES // self._parts[0].geometry.size)
         if operator.index(count) < 1:
             raise ValueError(f"a block has one frame or more, not {count}")
-        return (self.take(slice(it, it + count)) for it in range(0, len(self), count))
+        # Places of a store are others once it is refreshed; those of frames stay.
+        whole = self.take(slice(None))
+        return (whole.take(slice(it, it + count)) for it in range(0, len(whole), count))
 
     def _pixels(self, place: int, arrays: Sequence[Array]) -> None:
         """Fills arrays with a frame's pixels, one after the other, from its first byte on."""

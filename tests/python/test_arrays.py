@@ -218,6 +218,23 @@ def test_blocks_are_all_frames_one_after_the_other(tmp_path, monkeypatch):
             store.blocks(wrong)
 
 
+def test_blocks_and_lazy_arrays_are_of_the_frames_that_were_there(tmp_path):
+    """Also once the store was refreshed, in which each place is another frame then."""
+    pytest.importorskip("dask.array")
+    it, path = ring(9, slots=3), tmp_path / "a.loop"
+    store = lapyrei.open(put(path, it))
+    lazy, blocks, last = store.to_dask(), store.blocks(3), store[-3:].array()
+    for _ in range(6):
+        it.store()
+    with open(path, "r+b") as file:
+        file.write(it.image)
+    assert store.refresh() and int(store.numbers[-1]) == 14
+    assert (lazy[-3:].compute() == last).all()
+    assert [block.numbers.tolist() for block in blocks] == [[0, 1, 2], [3, 4, 5], [6, 7, 8]]
+    with pytest.raises(lapyrei.Gone):
+        lazy[:1].compute()
+
+
 # ------------------------------------------------------------------------------- times
 
 BEYOND = [
