@@ -25,18 +25,23 @@ class CarefulFile(io.RawIOBase):
             raise self.fault
 
     def readable(self) -> bool:
+        """It can be read."""
         return True
 
     def writable(self) -> bool:
+        """It can be written."""
         return True
 
     def seekable(self) -> bool:
+        """Any place can be named."""
         return True
 
     def tell(self) -> int:
+        """The place of the next read or write."""
         return self.at
 
     def seek(self, offset: int, whence: int = os.SEEK_SET) -> int:
+        """Goes to a place."""
         start = {os.SEEK_SET: 0, os.SEEK_CUR: self.at, os.SEEK_END: self.length}[whence]
         self.at = start + offset
         return self.at
