@@ -36,6 +36,20 @@ def changed_copy(name, old, new):
     return make
 
 
+def changed_crate(crate, name, old, new):
+    """A folder with the sources of one crate, in which a file is changed: what makes it, from a
+    folder."""
+
+    def make(folder):
+        there = folder / crate / "src"
+        shutil.copytree(TOP / "crates" / crate / "src", there)
+        changed = changed_copy(f"crates/{crate}/src/{name}", old, new)(folder)
+        shutil.move(changed, there / name)
+        return str(folder)
+
+    return make
+
+
 def changed_links(name, old, new, program="loop_archive"):
     """A copy of the programs that link stations, in which one file is changed: what makes it, from
     a folder."""

@@ -50,15 +50,13 @@ KEEPS = [
     "read_head",
     "sought",
 ]
-LANE = {DESK + "lane.rt": ["lane_run"]}
+LANE = {"crates/loop_lane/src/lane.rt": ["lane_run"]}
 CAMERA = {PIPELINE + "film.rt": ["film_camera"]}
 DESKS = {PIPELINE + "film.rt": ["film_desks"]}
 CAMERAS = {PIPELINE + "several.rt": ["film_all"]}
 # The library of histories and threads: all its public calls.
 RECORDER = {
-    path: None
-    for crate in ("loop_recorder", "loop_sessions")
-    for path in sorted(glob.glob(f"crates/{crate}/src/*.rt"))
+    path: None for path in sorted(glob.glob("crates/loop_recorder/src/*.rt"))
 }
 QUESTIONS = {
     "the store's public calls and the trait Disk": (WHOLE, False),

@@ -1,6 +1,6 @@
 // A recorder's cameras, each fed by a thread of its own, beside one camera that is fed alone.
 ghost use Rattle.std.specs.Prelude.{◌≡◌, ◌≤◌, ◌<◌, All, IfOk, false, length, vec_len};
-ghost use Rattle.loop_sessions.specs.Opened.{IsReady};
+ghost use Rattle.loop_recorder.specs.Opened.{IsReady};
 
 use crate::desk::desk_of;
 use crate::store::geometry;

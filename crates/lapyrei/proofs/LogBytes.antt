@@ -7,7 +7,7 @@ use Rattle.loop_disk.specs.declared.crash.DeviceCall.{DeviceCall}
 use Rattle.loop_disk.specs.Crashing.{call_of}
 use Rattle.loop_disk.specs.Medium.{with_bytes_at}
 use Rattle.loop_disk.proofs.Images.{length-written}
-use Rattle.lapyrei.specs.Bytes.{call_bytes, entry, log_bytes}
+use Rattle.lapyrei.specs.Bytes.{call_bytes, log_bytes, log_entry}
 
 -- what stands before the end of bytes that were written
 grown : (k n : ℕ) (v l : List ℕ) → k ≤ length l → n ≡ k + length v → take n (with_bytes_at k v l) ≡ take k l ++ v
@@ -22,7 +22,7 @@ pub put_one : (k k1 k2 k3 at : ℕ) (v l0 l1 l2 l3 : List ℕ) → k1 ≡ k + 8 
     → l1 ≡ with_bytes_at k (little_bytes 8 at) l0
     → l2 ≡ with_bytes_at k1 (little_bytes 8 (length v)) l1
     → l3 ≡ with_bytes_at k2 v l2
-    → (take k3 l3 ≡ take k l0 ++ entry at v) × (length l3 ≡ length l0)
+    → (take k3 l3 ≡ take k l0 ++ log_entry at v) × (length l3 ≡ length l0)
 put_one k k1 k2 k3 at v l0 l1 l2 l3 e1 e2 e3 fits is1 is2 is3 =
     let a = little_bytes 8 at in
     let b = little_bytes 8 (length v) in
@@ -40,7 +40,7 @@ put_one k k1 k2 k3 at v l0 l1 l2 l3 e1 e2 e3 fits is1 is2 is3 =
       n3,
     )
 
-pub length-entry : (at : ℕ) (v : List ℕ) → length (entry at v) ≡ 16 + length v
+pub length-entry : (at : ℕ) (v : List ℕ) → length (log_entry at v) ≡ 16 + length v
 length-entry at v = length-append (little_bytes 8 at ++ little_bytes 8 (length v)) v
 
 -- one call more

@@ -19,7 +19,7 @@ use Rattle.lapyrei.specs.declared.answer.Head.{Head}
 use Rattle.lapyrei.specs.declared.answer.Run.{Run}
 use Rattle.lapyrei.specs.declared.answer.Shape.{Shape}
 use Rattle.lapyrei.specs.declared.answer.Known.{Known}
-use Rattle.lapyrei.specs.Shown.{clip_run, head_of, put_over, shape_of, span_run}
+use Rattle.lapyrei.specs.Shown.{clip_run, shown_head, put_over, shown_shape, span_run}
 use Rattle.lapyrei.specs.Told.{Deed}
 
 -- these calls of the model were made
@@ -58,7 +58,7 @@ StoresGroup heads bytes old new outcome =
 
 -- C gets the head, where there is one
 abbrev pub IsHead : Result FrameHead StoreFault → Head → Type 0
-IsHead (Ok found) head = head ≡ head_of found
+IsHead (Ok found) head = head ≡ shown_head found
 IsHead (Err fault) head = Unit {0}
 
 -- a frame is read into so much memory, and its number, head and bytes told; memory that isn't as long as a frame is of
@@ -100,7 +100,7 @@ Upgrades old new outcome =
 -- the next number and the shape are told
 abbrev pub Looks : Shape → Deed
 Looks shape old new outcome =
-    (new ≡ old) × ((outcome ≡ Ok old.next) × (shape ≡ shape_of old.geometry old.version))
+    (new ≡ old) × ((outcome ≡ Ok old.next) × (shape ≡ shown_shape old.geometry old.version))
 
 -- the number, or 2^64 - 1 where there is none
 abbrev pub or_none : Option ℕ → ℕ

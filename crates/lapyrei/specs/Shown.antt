@@ -55,8 +55,8 @@ format_numbered n =
     if n == 3 then Some Ym24 else None
 
 -- a geometry and a version of the layout as a shape
-abbrev pub shape_of : Geometry → ℕ → Shape
-shape_of g version = record {
+abbrev pub shown_shape : Geometry → ℕ → Shape
+shown_shape g version = record {
   width = g.width;
   height = g.height;
   format = format_number g.format;
@@ -95,8 +95,8 @@ bytes_of_good bytes (Some g) = if is_good g then bytes g else 0
 -- ---- frames, clips and runs
 
 -- a stored frame's head
-abbrev pub head_of : FrameHead → Head
-head_of found = record {
+abbrev pub shown_head : FrameHead → Head
+shown_head found = record {
   number = found.number;
   timestamp = found.timestamp;
   sequence = found.sequence;

@@ -1,6 +1,6 @@
 // What C gives and gets. c/lapyrei.c has the same structs.
 ghost use Rattle.std.specs.Prelude.{◌≡◌};
-ghost use Rattle.lapyrei.specs.Shown.{clip_run, detail_of, head_of, named_by, refusal_of, shape_of, shaped, span_run};
+ghost use Rattle.lapyrei.specs.Shown.{clip_run, detail_of, shown_head, named_by, refusal_of, shown_shape, shaped, span_run};
 ghost use Rattle.lapyrei.specs.Told.{Values};
 
 use loop_disk::DiskFault;
@@ -146,7 +146,7 @@ fn detail_of(fault: StoreFault) -> u64
 impl Head {
     /// The head of a stored frame.
     pub fn of(head: FrameHead) -> Head
-        ensures { result ≡ head_of head }
+        ensures { result ≡ shown_head head }
     {
         Head {
             number: head.number,
@@ -186,7 +186,7 @@ impl Run {
 impl Shape {
     /// The shape of a store with this geometry, in this version of the layout.
     pub fn of(geometry: Geometry, version: u32) -> Shape
-        ensures { result ≡ shape_of geometry version }
+        ensures { result ≡ shown_shape geometry version }
     {
         Shape {
             width: geometry.width,

@@ -2,7 +2,7 @@
 ghost use Rattle.std.specs.Prelude.{◌≡◌, ◌+◌, ◌-◌, ◌^◌, ◌≤◌, ◌++◌, length, map, min, take};
 ghost use Rattle.loop_disk.specs.Crashing.{call_of};
 ghost use Rattle.loop_disk.specs.Medium.{with_bytes_at};
-ghost use Rattle.lapyrei.specs.Bytes.{call_bytes, entry, log_bytes};
+ghost use Rattle.lapyrei.specs.Bytes.{call_bytes, log_bytes, log_entry};
 
 use loop_disk::DeviceCall;
 use loop_record::put_u64;
@@ -21,9 +21,9 @@ fn put_bytes(out: &mut [u8], at: usize, bytes: &[u8])
 
 // Puts an entry at a place of the log, and returns where it ends.
 fn put_entry(log: &mut [u8], from: usize, at: u64, bytes: &[u8]) -> usize
-    requires { from + length (entry at bytes.now) ≤ length log.old }
-    ensures end { result ≡ from + length (entry at bytes.now) }
-    ensures entry { take result log.new ≡ take from log.old ++ entry at bytes.now }
+    requires { from + length (log_entry at bytes.now) ≤ length log.old }
+    ensures end { result ≡ from + length (log_entry at bytes.now) }
+    ensures entry { take result log.new ≡ take from log.old ++ log_entry at bytes.now }
     ensures size { length log.new ≡ length log.old }
 {
     let begin = from + HEAD;

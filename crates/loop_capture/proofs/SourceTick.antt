@@ -6,7 +6,7 @@ use Rattle.loop_capture.specs.declared.device.Tick.{Tick}
 use Rattle.loop_capture.specs.declared.device.Tick.TheVariants.{Idle, Completed, Failed, Missed, Ended, WrongSize}
 use Rattle.loop_capture.specs.declared.source.Next.{Next}
 use Rattle.loop_capture.specs.declared.source.Next.TheVariants.{More, End, Bad}
-use Rattle.loop_capture.specs.Ticks.{SeenDevice, Ends, Took, Ticked, Ticks, tick_of, end_of, sequence_of, sequence_after}
+use Rattle.loop_capture.specs.Ticks.{SeenDevice, Ends, Took, Ticked, Ticks, tick_of, end_event, sequence_of, sequence_after}
 use Rattle.loop_vb2.specs.Effects.{longest_active, on_body}
 use Rattle.loop_vb2.proofs.Short.{body_seen}
 use Rattle.loop_vb2.specs.Events.{Event, Happens, MayHappen, after_event, take_fresh}
@@ -47,7 +47,7 @@ module _ {S P : Type 0} (gives : S → Next → List ℕ → S → Type 0) (m : 
       let x = step s h in
       let y = ends.1 (on_body body_seen s) x.1 in
       let same : sequence ≡ sequence_of d.next s = is ∙ ap (λ b. cond b 0 d.next) x.0 in
-      let of : ℕ → List Event = λ (k : ℕ). end_of tick (record { sequence = k; timestamp = now }) bytes in
+      let of : ℕ → List Event = λ (k : ℕ). end_event tick (record { sequence = k; timestamp = now }) bytes in
       took_so now tick d e q q' s (record {
         fits = fits ∙ ap (λ b. frame_size b.shape) h.shown.body;
         started = sym (ap (λ b. b.started) h.shown.body) ∙ started;

@@ -12,12 +12,12 @@ use Rattle.loop_ioctl.specs.Names.{Names}
 use Rattle.loop_ioctl.proofs.Device.{completed_linked, failed_linked}
 use Rattle.loop_capture.specs.declared.device.Tick.{Tick}
 use Rattle.loop_capture.specs.declared.device.Tick.TheVariants.{Idle, Completed, Failed, Missed, Ended, WrongSize}
-use Rattle.loop_capture.specs.Ticks.{end_of}
+use Rattle.loop_capture.specs.Ticks.{end_event}
 
 -- a tick is one end of a buffer, or none
 pub tick-linked : (tick : Tick) (stamp : Stamp) (bytes : List ℕ) (s : QueueState) (out : List (ℕ × Plane))
     (n : Names Plane) → IsLinked s.body out n
-    → IsLinked (after_all after_event (on_body body_seen s) (end_of tick stamp bytes)).body out n
+    → IsLinked (after_all after_event (on_body body_seen s) (end_event tick stamp bytes)).body out n
 tick-linked (Completed i) stamp bytes s out n linked = completed_linked i stamp bytes (on_body body_seen s) out n linked
 tick-linked (Failed i) stamp bytes s out n linked = failed_linked i stamp (on_body body_seen s) out n linked
 tick-linked Idle stamp bytes s out n linked = linked

@@ -46,10 +46,10 @@ tick_of More None = Missed
 tick_of Bad None = Missed
 
 -- the one event of the queue that ends a frame, if the tick has one
-abbrev pub end_of : Tick → Stamp → List ℕ → List Event
-end_of (Completed i) stamp bytes = complete i stamp bytes None ∷ []
-end_of (Failed i) stamp bytes = fail i stamp None ∷ []
-end_of tick stamp bytes = []
+abbrev pub end_event : Tick → Stamp → List ℕ → List Event
+end_event (Completed i) stamp bytes = complete i stamp bytes None ∷ []
+end_event (Failed i) stamp bytes = fail i stamp None ∷ []
+end_event tick stamp bytes = []
 
 -- this buffer, or none, has been active longest
 abbrev pub IsLongest : {P : Type 0} → (P → Plane) → Option ℕ → Lined P → Type 0
@@ -59,12 +59,12 @@ IsLongest meaning active queue = (s : QueueState) → StandsQueue meaning queue 
 abbrev pub Ends : {P : Type 0} → (P → Plane) → Next → Stamp → List ℕ → Tick → Lined P → Lined P → Type 0
 Ends meaning answer stamp bytes tick before after =
     ((s : QueueState) → StandsQueue meaning before s → tick ≡ tick_of answer (longest_active s))
-    × Plays queue_machine (StandsQueue meaning before) (StandsQueue meaning after) (end_of tick stamp bytes)
+    × Plays queue_machine (StandsQueue meaning before) (StandsQueue meaning after) (end_event tick stamp bytes)
 
 -- the events of the queue in a tick that asked the source: the start is noticed, and the frame is ended
 abbrev pub tick_events : ℕ → ℕ → Tick → List ℕ → QueueState → List Event
 tick_events now next tick bytes s =
-    take_fresh s.body.fresh ∷ end_of tick (record { sequence = sequence_of next s; timestamp = now }) bytes
+    take_fresh s.body.fresh ∷ end_event tick (record { sequence = sequence_of next s; timestamp = now }) bytes
 
 -- A tick that asked the source: the device had a frame's length and had started, the source gave these bytes, which are
 -- a whole frame at More, and the queue's events happen.

@@ -31,6 +31,6 @@ IsUntouched target (Ok done) = ⊥
 IsUntouched target (Err refused) = refused.target ≡ Some target
 
 -- what refused
-abbrev pub fault_of : {T U : Type 0} → Result U (NotExported T) → Result U ExportFault
-fault_of (Ok done) = Ok done
-fault_of (Err refused) = Err refused.fault
+abbrev pub export_fault : {T U : Type 0} → Result U (NotExported T) → Result U ExportFault
+export_fault (Ok done) = Ok done
+export_fault (Err refused) = Err refused.fault

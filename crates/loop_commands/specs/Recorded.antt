@@ -4,8 +4,8 @@ use Rattle.loop_capture.specs.declared.source.Next.{Next}
 use Rattle.loop_capture.specs.Sources.{GivesFootage, GivesPattern}
 use Rattle.loop_record.specs.declared.geometry.Geometry.{Geometry}
 use Rattle.loop_script.specs.Pattern.{timestamp_of}
-use Rattle.loop_commands.specs.declared.record.RecordSource.{RecordSource}
-use Rattle.loop_commands.specs.declared.record.RecordSource.TheVariants as source
+use Rattle.loop_commands.specs.declared.source.RecordSource.{RecordSource}
+use Rattle.loop_commands.specs.declared.source.RecordSource.TheVariants as source
 
 -- the pattern's next frame, or what the reader of the file or pipe gives
 abbrev pub GivesRecorded : RecordSource → Next → List ℕ → RecordSource → Type 0

@@ -2,7 +2,7 @@
 ghost use Rattle.std.specs.Prelude.{◌≡◌, ◌<◌, false};
 ghost use Rattle.loop_script.specs.Pattern.{timestamp_of};
 
-use crate::record::RecordSource;
+use crate::source::RecordSource;
 use loop_capture::Device;
 use loop_desk::Desk;
 use loop_file::FileDisk;

@@ -5,16 +5,16 @@ ghost use Rattle.loop_record.specs.Geometry.{is_good};
 use crate::on_store::{
     Beneath, ExportTarget, Reported, export_along, export_apart, list, lock, unlock, upgrade,
 };
-use loop_ahead::AheadDisk;
+use crate::undone::{Undone, tell};
 use loop_disk::Disk;
-use loop_file::{FileDisk, FileFault, FilePlace, TextFile};
+use loop_file::{AheadDisk, FileDisk, FileFault, FilePlace, TextFile};
 use loop_record::Geometry;
-use loop_script::{FileCommand, print_line, print_parts, print_refusal};
+use loop_script::{FileCommand, print_line};
 use loop_store::{OpenRefused, Store, StoreFault};
 use loop_y4m::ExportFault;
 use std::alloc::{AllocGlobal, Global};
 use std::fs::File;
-use std::io::{BufWriter, Error, Write};
+use std::io::{BufWriter, Write};
 use std::os::unix::fs::MetadataExt;
 use std::rt::Files;
 use std::{fs, io};
@@ -53,31 +53,6 @@ impl Beneath for Option<TextFile> {
     }
 }
 
-// Why a command wasn't done, or not completely.
-#[derive(Drop)]
-enum Undone<'a> {
-    // The file of this path can't be opened or made.
-    CannotOpen(&'a str),
-    // The file or pipe of this path can't be opened for the text, or the text can't be written to it completely.
-    CannotWrite(&'a str),
-    // The store refused.
-    Refused(StoreFault),
-    // What was done couldn't be printed.
-    Write(Error),
-}
-
-impl From<StoreFault> for Undone<'_> {
-    fn from(fault: StoreFault) -> Self {
-        Undone::Refused(fault)
-    }
-}
-
-impl From<Error> for Undone<'_> {
-    fn from(error: Error) -> Self {
-        Undone::Write(error)
-    }
-}
-
 /// Does a command on the store in the file of this path, and returns the program's status: 0; 1 where the file can't be
 /// opened or the store refuses, which is then printed on `err`, and where `out` or `err` fails.
 pub fn run_on_file<R: AllocGlobal + Files<File = File>, W: Write, E: Write>(
@@ -87,32 +62,14 @@ pub fn run_on_file<R: AllocGlobal + Files<File = File>, W: Write, E: Write>(
     out: &mut W,
     err: &mut E,
 ) -> u8 {
-    match perform(rt, path, command, out) {
+    match run_command(rt, path, command, out) {
         Ok(()) => 0,
         Err(undone) => tell(undone, err),
     }
 }
 
-// Prints why a command wasn't done, and returns the program's status.
-fn tell<E: Write>(undone: Undone<'_>, err: &mut E) -> u8 {
-    // Dropped: the status is the same where this can't be printed.
-    let _ = match undone {
-        Undone::CannotOpen(path) => print_path(err, "cannot open ", path),
-        Undone::CannotWrite(path) => print_path(err, "cannot write ", path),
-        Undone::Refused(fault) => print_refusal(err, fault),
-        Undone::Write(_) => Ok(()),
-    };
-    1
-}
-
-/// Prints what can't be done with a path.
-pub(crate) fn print_path<E: Write>(err: &mut E, what: &str, path: &str) -> io::Result<()> {
-    print_parts(err, what, &[])?;
-    print_line(err, path, &[])
-}
-
 // Does a command, and writes all that it prints at once. Memory for that is taken first.
-fn perform<'a, R: AllocGlobal + Files<File = File>, W: Write>(
+fn run_command<'a, R: AllocGlobal + Files<File = File>, W: Write>(
     rt: &R,
     path: &'a str,
     command: FileCommand<'a>,

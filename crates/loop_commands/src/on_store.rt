@@ -12,7 +12,7 @@ ghost use Rattle.loop_store.specs.Seen.{StandsFor};
 ghost use Rattle.loop_y4m.specs.Export.{OnlyRead, failed_export, frames_between};
 ghost use Rattle.loop_y4m.specs.Text.{text};
 ghost use Rattle.loop_script.specs.Upgrade.{told_of_upgrade};
-ghost use Rattle.loop_commands.specs.Printed.{HoldsNone, IsUntouched, IsText, IsPrinted, fault_of, line_of};
+ghost use Rattle.loop_commands.specs.Printed.{HoldsNone, IsUntouched, IsText, IsPrinted, export_fault, line_of};
 
 use crate::even::EvenWriter;
 use loop_disk::Disk;
@@ -257,7 +257,7 @@ fn export_into<D: Disk + Drop, A: Allocator + Copy, T: ExportTarget + Drop>(
         (frames_between from to r.frames) (T.emptied target) (T.contents done.1) done.0) }
     ensures settled { IfOk result (λ done. Keeps (T.contents done.1) (T.settled done.1)) }
     ensures kept { HoldsNone store.old.numbers from to → IsUntouched target result }
-    ensures store { OnlyRead D.medium store.old store.new (failed_export (fault_of result)) }
+    ensures store { OnlyRead D.medium store.old store.new (failed_export (export_fault result)) }
 {
     if let Some(fault) = refused_before(store, from, to) {
         return Err(NotExported {
@@ -304,7 +304,7 @@ pub fn export_apart<D: Disk + Drop, A: Allocator + Copy, T: ExportTarget + Drop,
         (frames_between from to r.frames) (T.emptied target) (T.contents done.1) done.0) }
     ensures settled { IfOk result.answer (λ done. Keeps (T.contents done.1) (T.settled done.1)) }
     ensures kept { HoldsNone store.old.numbers from to → IsUntouched target result.answer }
-    ensures store { OnlyRead D.medium store.old store.new (failed_export (fault_of result.answer)) }
+    ensures store { OnlyRead D.medium store.old store.new (failed_export (export_fault result.answer)) }
     ensures told { IsPrinted W.contents out.old out.new (λ done. line_of (codes "exported") done.0)
         result.answer result.printed }
 {

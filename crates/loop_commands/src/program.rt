@@ -48,13 +48,13 @@ pub fn run_words<
         },
         Ok(matches) => match task_of(&matches) {
             None => bad_words(err),
-            Some(task) => perform(rt, task, input, out, err),
+            Some(task) => do_task(rt, task, input, out, err),
         },
     }
 }
 
 // Does a task, and returns the program's status.
-fn perform<
+fn do_task<
     R: AllocGlobal + Files<File = File> + Threads + Wait + Clock + Sync,
     I: Read + Drop,
     W: Write,

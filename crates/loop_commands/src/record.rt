@@ -1,22 +1,22 @@
 // Recordings into stores in files.
-ghost use Rattle.std.specs.Prelude.{[], ◌≡◌, IfOk, length, vec_len};
+ghost use Rattle.std.specs.Prelude.{◌≡◌, IfOk, length, vec_len};
 
 use crate::cameras::{Take, Unrecorded, record_stores};
-use crate::files::print_path;
-use loop_capture::{FrameSource, Next, Pattern, Y4mSource};
+use crate::source::RecordSource;
+use crate::undone::{Undone, tell};
+use loop_capture::{Pattern, Y4mSource};
 use loop_disk::Disk;
 use loop_file::{FileDisk, open_to_read};
 use loop_record::Geometry;
 use loop_script::{
     Likeness, RecordTask, compare_frames, print_line, print_other_geometry, print_other_rate,
-    print_refusal,
 };
 use loop_store::{OpenRefused, Store, StoreFault};
 use loop_y4m::Y4mReader;
-use std::alloc::{AllocError, AllocGlobal, Global};
+use std::alloc::{AllocGlobal, Global};
 use std::fs::File;
 use std::io;
-use std::io::{BufReader, BufWriter, Error, Read, Write};
+use std::io::{BufReader, BufWriter, Read, Write};
 use std::rt::Files;
 use std::sync::Wait;
 use std::thread::Threads;
@@ -28,59 +28,6 @@ const PATTERN: &str = "-";
 // How many bytes of a source are fetched at once: as many as a pipe holds.
 const SOURCE_AT_ONCE: usize = 65_536;
 
-// Why nothing was recorded, or why what was recorded couldn't be printed.
-#[derive(Drop)]
-enum NotRecorded<'a> {
-    // The file or pipe of this path can't be opened, or it doesn't begin with the header of a source.
-    CannotOpen(&'a str),
-    // The buffers of a camera of the store in this file need more pages than there are.
-    CannotRecord(&'a str),
-    // A store can't be opened, or memory was refused.
-    Refused(StoreFault),
-    // What was recorded couldn't be printed.
-    Write(Error),
-}
-
-impl From<AllocError> for NotRecorded<'_> {
-    fn from(_: AllocError) -> Self {
-        NotRecorded::Refused(StoreFault::NoMemory)
-    }
-}
-
-impl From<Error> for NotRecorded<'_> {
-    fn from(error: Error) -> Self {
-        NotRecorded::Write(error)
-    }
-}
-
-/// Where a camera's frames come from.
-#[derive(Drop)]
-pub(crate) enum RecordSource {
-    /// The pattern.
-    Pattern(Pattern),
-    /// A file or pipe, and the geometry that its header gives, with a ring of any size.
-    Footage(Y4mSource<BufReader<File>>, Geometry),
-}
-
-impl FrameSource for RecordSource {
-    ghost use Rattle.loop_commands.specs.Recorded.{GivesRecorded};
-
-    ghost next_gives = { GivesRecorded };
-
-    ghost lends = { λ source. [] };
-
-    fn next(&mut self, out: &mut [u8]) -> Next {
-        match self {
-            RecordSource::Pattern(pattern) => pattern.next(out),
-            RecordSource::Footage(footage, _) => footage.next(out),
-        }
-    }
-
-    fn lent(&self) -> &[u8] {
-        &[]
-    }
-}
-
 /// Records into the stores in files, prints each camera's next number, and returns the program's status: 0; 1 where a
 /// file can't be opened, a store can't be opened or can't keep so many blocks, or a camera can't be set up, which is
 /// then printed on `err`, and where `out` or `err` fails. What a store refuses during the recording leaves it at 0;
@@ -90,36 +37,24 @@ pub(crate) fn run_record<
     W: Write,
     E: Write,
 >(rt: &R, recording: RecordTask<'_>, out: &mut W, err: &mut E) -> u8 {
-    match perform(rt, &recording, out, err) {
+    match record_all(rt, &recording, out, err) {
         Ok(()) => 0,
         Err(undone) => tell(undone, err),
     }
 }
 
-// Prints why nothing was recorded, and returns the program's status.
-fn tell<E: Write>(undone: NotRecorded<'_>, err: &mut E) -> u8 {
-    // Dropped: the status is the same where this can't be printed.
-    let _ = match undone {
-        NotRecorded::CannotOpen(path) => print_path(err, "cannot open ", path),
-        NotRecorded::CannotRecord(path) => print_path(err, "cannot record ", path),
-        NotRecorded::Refused(fault) => print_refusal(err, fault),
-        NotRecorded::Write(_) => Ok(()),
-    };
-    1
-}
-
 // Opens each file in the order of the words, records, and prints each camera's next number. Memory to print is taken
 // first. That a source has other frames than a store is printed before the recording; where it can't be printed, the
 // run has failed.
-fn perform<
+fn record_all<
     'a,
     R: AllocGlobal + Files<File = File> + Threads + Wait + Clock + Sync,
     W: Write,
     E: Write,
->(rt: &R, recording: &RecordTask<'a>, out: &mut W, err: &mut E) -> Result<(), NotRecorded<'a>> {
+>(rt: &R, recording: &RecordTask<'a>, out: &mut W, err: &mut E) -> Result<(), Undone<'a>> {
     let paths = recording.paths.words();
     let Ok(mut out) = BufWriter::new(rt.alloc(), &mut *out) else {
-        return Err(NotRecorded::Refused(StoreFault::NoMemory));
+        return Err(Undone::Refused(StoreFault::NoMemory));
     };
     let sources = open_sources(rt, recording.source, paths.len())?;
     let disks = open_disks(rt, paths)?;
@@ -168,13 +103,13 @@ fn tell_others<D: Disk + Drop, E: Write>(
 }
 
 // Why nothing was recorded, with the path of the camera that caused it.
-fn blame<'a>(unrecorded: Unrecorded, paths: &[&'a str]) -> NotRecorded<'a> {
+fn blame<'a>(unrecorded: Unrecorded, paths: &[&'a str]) -> Undone<'a> {
     match unrecorded {
         Unrecorded::TooLarge(camera) => match paths.get(camera as usize) {
-            Some(path) => NotRecorded::CannotRecord(path),
-            None => NotRecorded::Refused(StoreFault::NoMemory),
+            Some(path) => Undone::CannotRecord(path),
+            None => Undone::Refused(StoreFault::NoMemory),
         },
-        Unrecorded::Refused(fault) => NotRecorded::Refused(fault),
+        Unrecorded::Refused(fault) => Undone::Refused(fault),
     }
 }
 
@@ -183,7 +118,7 @@ fn open_sources<'a, R: AllocGlobal + Files<File = File>>(
     rt: &R,
     source: &'a str,
     count: usize,
-) -> Result<Vec<RecordSource>, NotRecorded<'a>>
+) -> Result<Vec<RecordSource>, Undone<'a>>
     ensures { IfOk result (λ sources. vec_len sources ≡ count) }
 {
     let mut sources = Vec::with_capacity(rt.alloc(), count)?;
@@ -197,22 +132,22 @@ fn open_sources<'a, R: AllocGlobal + Files<File = File>>(
 fn open_source<'a, R: AllocGlobal + Files<File = File>>(
     rt: &R,
     source: &'a str,
-) -> Result<RecordSource, NotRecorded<'a>> {
+) -> Result<RecordSource, Undone<'a>> {
     if source == PATTERN {
         return Ok(RecordSource::Pattern(Pattern::new()));
     }
     let Ok(file) = open_to_read(rt, source) else {
-        return Err(NotRecorded::CannotOpen(source));
+        return Err(Undone::CannotOpen(source));
     };
     let Ok(input) = BufReader::with_capacity(rt.alloc(), SOURCE_AT_ONCE, file) else {
-        return Err(NotRecorded::Refused(StoreFault::NoMemory));
+        return Err(Undone::Refused(StoreFault::NoMemory));
     };
     match Y4mReader::open(input) {
         Ok(reader) => {
             let geometry = geometry_of(&reader);
             Ok(RecordSource::Footage(Y4mSource::new(reader), geometry))
         }
-        Err(_) => Err(NotRecorded::CannotOpen(source)),
+        Err(_) => Err(Undone::CannotOpen(source)),
     }
 }
 
@@ -234,13 +169,13 @@ fn geometry_of<I: Read + Drop>(reader: &Y4mReader<I>) -> Geometry {
 fn open_disks<'a, R: AllocGlobal + Files<File = File>>(
     rt: &R,
     paths: &[&'a str],
-) -> Result<Vec<FileDisk>, NotRecorded<'a>>
+) -> Result<Vec<FileDisk>, Undone<'a>>
     ensures { IfOk result (λ disks. vec_len disks ≡ length paths.now) }
 {
     let mut disks = Vec::with_capacity(rt.alloc(), paths.len())?;
     for path in paths {
         match FileDisk::open(rt, path) {
-            Err(_) => return Err(NotRecorded::CannotOpen(path)),
+            Err(_) => return Err(Undone::CannotOpen(path)),
             Ok(disk) => disks.push_reserved(disk),
         }
     }
@@ -252,13 +187,13 @@ fn find_stores<'a, D: Disk + Drop>(
     alloc: Global,
     disks: Vec<D>,
     keep: u32,
-) -> Result<Vec<Store<D>>, NotRecorded<'a>>
+) -> Result<Vec<Store<D>>, Undone<'a>>
     ensures { IfOk result (λ stores. vec_len stores ≡ vec_len disks) }
 {
     let mut stores = Vec::with_capacity(alloc, disks.len())?;
     for disk in disks {
         match Store::open_keeping(alloc, disk, keep) {
-            Err(OpenRefused { fault, disk: _ }) => return Err(NotRecorded::Refused(fault)),
+            Err(OpenRefused { fault, disk: _ }) => return Err(Undone::Refused(fault)),
             Ok(store) => stores.push_reserved(store),
         }
     }

@@ -18,7 +18,7 @@ use Rattle.loop_desk.specs.declared.limits.Flushed.{Flushed}
 use Rattle.loop_desk.specs.declared.limits.Outline.{Outline}
 use Rattle.loop_desk.specs.Bare.{IsBlind, IsOutlineOf, bare, bare_call, bare_frame, bare_read, bare_recording, bare_state, bare_store}
 use Rattle.loop_desk.specs.Desk.{AreDeskAnswers, DeskCall, DeskState, IsDeskAnswer, IsDeskTold, IsFlush, Rules, append_of, clip_locked, clip_unlocked, desk_after, desk_after_calls, flushed, frame_read, group_of, layout_upgraded, pending_after, status_told, store_calls, run_told, submitted}
-use Rattle.loop_desk.specs.Seen.{SeenDesk, StandsAt, TellsOutline}
+use Rattle.loop_desk.specs.Seen.{SeenDesk, DeskStands, TellsOutline}
 use Rattle.loop_record.proofs.Blocks.{blocks-made}
 use Rattle.loop_record.proofs.Names.{free_id, stores_after, blocks_of, with_block}
 use Rattle.loop_store.proofs.Names.{lacks_victim, steps_asked, has_failed, if_answered, steps_or_none}
@@ -394,7 +394,7 @@ numbers-bare [] = refl
 numbers-bare (f ∷ frames) = ap (λ l. f.0 ∷ l) (numbers-bare frames)
 
 pub outline-tells : {D A : Type 0} (medium : D → Medium) (d : SeenDesk D) (outline : Outline A) (s : DeskState)
-    → TellsOutline medium d outline → StandsAt medium d s → (medium d.store.disk).honest → IsOutlineOf s outline
+    → TellsOutline medium d outline → DeskStands medium d s → (medium d.store.disk).honest → IsOutlineOf s outline
 outline-tells medium d outline s told stands now =
     let tells = stands.store.recording.told in
     record {

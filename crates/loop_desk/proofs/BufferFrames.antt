@@ -1,5 +1,5 @@
 -- The frames of a queue's buffers through the events of its model: what is taken of a buffer is what it was completed with.
-use Rattle.std.proofs.Common.{◌≡◌, ℕ, zero, suc, Bool, true, false, ◌||◌, ◌==◌, cond, List, [], ◌∷◌, ◌++◌, length, map, Option, Some, None, Ok, Err, refl, sym, ◌∙◌, ap, subst, append_assoc}
+use Rattle.std.proofs.Common.{◌≡◌, ℕ, zero, suc, ◌<◌, Bool, true, false, ◌||◌, ◌==◌, cond, List, [], ◌∷◌, ◌++◌, length, map, Option, Some, None, Ok, Err, refl, sym, ◌∙◌, ap, subst, append_assoc, arith}
 use Rattle.std.specs.Prelude.{is_some, slice_get}
 use Rattle.std.specs.List.{flat_map, list_any}
 use Rattle.std.proofs.lemmas.Grind.{flat_map-append}
@@ -38,10 +38,13 @@ use Rattle.loop_vb2.proofs.States.{state_at-map}
 use Rattle.loop_vb2.proofs.Steps.{queue_idle, prepare_dequeued, end_within, end_active, held_there}
 use Rattle.loop_desk.specs.Front.{taken_frame, was_given_up}
 use Rattle.loop_desk.proofs.Short.{taken_bytes}
-use Rattle.loop_desk.specs.Lane.{completed_frame, without_flags}
-use Rattle.loop_desk.specs.Waiting.{AllHeld, IsCounted, IsHeld, BringsWhole, dequeued_frame, frames_dequeued, shot}
+use Rattle.loop_desk.specs.Waiting.{AllHeld, IsCounted, IsHeld, BringsWhole, completed_frame, dequeued_frame, frames_dequeued, shot, without_flags}
 use Rattle.loop_desk.proofs.CompleteFrames.{whole_taken}
-use Rattle.loop_desk.proofs.QueueTurns.{get-within}
+
+pub get-within : {X : Type 0} (xs : List X) (i : ℕ) → i < length xs → (x : X) × (slice_get xs i ≡ Some x)
+get-within [] i h = absurd (omega arith)
+get-within (x ∷ xs) zero h = (x, refl)
+get-within (x ∷ xs) (suc i) h = get-within xs i (omega arith)
 
 -- ---- the frames of buffers
 

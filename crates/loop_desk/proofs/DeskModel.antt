@@ -8,7 +8,7 @@ use Rattle.loop_store.specs.Goes.{Stands}
 use Rattle.loop_store.proofs.CheckAnswers.{are-answered-as}
 use Rattle.loop_store.proofs.CallRuns.{told-of}
 use Rattle.loop_desk.specs.Desk.{AreDeskAnswers, AreTold, DeskCall, DeskState, Rules, desk_after, desk_after_calls, store_calls, store_calls_in}
-use Rattle.loop_desk.specs.Seen.{DeskGoes, SeenDesk, StandsAt, TellsDesk, rules_of}
+use Rattle.loop_desk.specs.Seen.{DeskGoes, SeenDesk, DeskStands, TellsDesk, rules_of}
 use Rattle.loop_desk.proofs.Frames.{each-parts}
 
 -- Calls whose own part is answered so, over calls of the store that were answered so, are answers of the model.
@@ -31,13 +31,13 @@ modelled k s (c ∷ list) told said =
     }
 
 -- a desk's answers fit the state for which it stands
-pub desk-told : {D : Type 0} (medium : D → Medium) (d : SeenDesk D) (s : DeskState) → StandsAt medium d s
+pub desk-told : {D : Type 0} (medium : D → Medium) (d : SeenDesk D) (s : DeskState) → DeskStands medium d s
     → TellsDesk d s
 desk-told medium d s stands = record { store = told-of medium d.store s.store stands.store; pending = stands.pending }
 
 pub answers-are : {D : Type 0} (medium : D → Medium) (old new : SeenDesk D) (list : List DeskCall) (s : DeskState)
-    → DeskGoes medium old new list → StandsAt medium old s → (medium old.store.disk).honest
-    → AreDeskAnswers (rules_of old) s list × StandsAt medium new (desk_after_calls (rules_of old) s list)
+    → DeskGoes medium old new list → DeskStands medium old s → (medium old.store.disk).honest
+    → AreDeskAnswers (rules_of old) s list × DeskStands medium new (desk_after_calls (rules_of old) s list)
 answers-are medium old new list s goes stands now =
     let k = rules_of old in
     let at = desk-told medium old s stands in

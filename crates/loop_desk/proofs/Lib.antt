@@ -10,14 +10,9 @@ pub mod FootageRuns
 pub mod DeskModel
 pub mod FrontTurns
 pub mod FrameBytes
-pub mod QueueTurns
-pub mod LaneRuns
-pub mod EventReplies
 pub mod CompleteFrames
 pub mod BufferFrames
 pub mod QueueFrames
-pub mod LaneFrames
-pub mod Order
 pub mod Blind
 pub mod DiskFailures
 pub mod Crossing

@@ -14,10 +14,20 @@ use Rattle.loop_vb2.specs.Laws.{InTurn, IsStill, KeepsOrder}
 use Rattle.loop_vb2.specs.Owner.{waits}
 use Rattle.loop_vb2.specs.State.{Body, Lined, QueueState, StandsQueue}
 use Rattle.loop_vb2.proofs.FrameOrder.{Runs, dequeues_in_order, new_queues_are_still, runs_stopped}
-use Rattle.loop_desk.specs.Lane.{completed_frame, without_flags}
-use Rattle.loop_desk.specs.Waiting.{FramesAreKept, IsCounted, QueuesStaySound, frames_dequeued, frames_waiting, shot}
-use Rattle.loop_desk.proofs.LaneFrames.{each-first, each-second}
+use Rattle.loop_desk.specs.Waiting.{FramesAreKept, IsCounted, QueuesStaySound, completed_frame, frames_dequeued, frames_waiting, shot, without_flags}
 use Rattle.loop_desk.proofs.BufferFrames.{Along, IsHolding, all_fit, all_held, all_shaped, frames_along, held_none, shots, stopped_waits}
+
+-- ---- lists
+
+pub each-first : {S X : Type 0} (after : S → X → S) (P : S → X → Type 0) (s : S) (xs ys : List X)
+    → EachIn after P s (xs ++ ys) → EachIn after P s xs
+each-first after P s [] ys each = tt
+each-first after P s (x ∷ xs) ys each = (each.0, each-first after P (after s x) xs ys each.1)
+
+pub each-second : {S X : Type 0} (after : S → X → S) (P : S → X → Type 0) (s : S) (xs ys : List X)
+    → EachIn after P s (xs ++ ys) → EachIn after P (after_all after s xs) ys
+each-second after P s [] ys each = each
+each-second after P s (x ∷ xs) ys each = each-second after P (after s x) xs ys each.1
 
 -- ---- events
 

@@ -6,11 +6,8 @@ use Rattle.loop_vb2.specs.declared.buffer.Buffer.{Buffer}
 use Rattle.loop_vb2.specs.declared.planes.Shape.{Shape}
 use Rattle.loop_vb2.specs.State.{Body}
 use Rattle.loop_record.specs.Turns.{Machine}
-use Rattle.loop_desk.specs.declared.event.LaneEvent.{LaneEvent}
-use Rattle.loop_desk.specs.declared.event.LaneReply.{LaneReply}
 use Rattle.loop_desk.specs.Desk.{DeskCall, DeskState, IsDeskTold, Rules, desk_after}
-use Rattle.loop_desk.specs.Front.{Front, HandState, empty, hand_of, part}
-use Rattle.loop_desk.specs.Lane.{IsLaneTurn, lane_after}
+use Rattle.loop_desk.specs.Front.{HandState, empty, hand_of, part}
 
 abbrev pub taken_bytes : Shape → Buffer Plane → List ℕ
 taken_bytes shape b = part shape b 0 ++ (part shape b 1 ++ part shape b 2)
@@ -21,7 +18,3 @@ hand_with body index b = option_map_or (hand_of body index) b empty
 -- a desk by its states and its own part of the answers
 abbrev pub desk_model : Rules → Machine DeskState DeskCall
 desk_model k = record { after = desk_after k; May = IsDeskTold k }
-
--- the lane's front as a machine
-abbrev pub lane_machine : {P A : Type 0} → (P → Plane) → Machine Front (LaneEvent P A × LaneReply P A)
-lane_machine meaning = record { after = lane_after meaning; May = IsLaneTurn meaning }

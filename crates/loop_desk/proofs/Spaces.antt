@@ -5,7 +5,7 @@ use Rattle.std.proofs.Math.Nat.{div-mul-le_self, le-div_iff_mul-le}
 use Rattle.loop_record.specs.Recording.{IsWellFormed, Picture, Recording, Ring, block, frame_under, holds, numbers_end, victim}
 use Rattle.loop_record.proofs.Victim.{victim-is}
 use Rattle.loop_store.specs.Numbers.{IsLeastFrom}
-use Rattle.loop_desk.specs.Space.{IsFirstOf, TellsOldest}
+use Rattle.loop_desk.specs.Space.{BeginsBlock, TellsOldest}
 
 -- the block of a later number is no earlier
 block-le : (ring : Ring) (m n : ℕ) → 1 ≤ ring.slots → m ≤ n → block ring m ≤ block ring n
@@ -42,7 +42,7 @@ module _ (ring : Ring) (keep : ℕ) (r : Recording) (v : ℕ) (some : 1 ≤ ring
 
   -- and the least from there on is the block's first
   pub first-held : (m : ℕ) → m < numbers_end → IsLeastFrom among start (Some m)
-      → (p : Picture) × IsFirstOf ring r v m p
+      → (p : Picture) × BeginsBlock ring r v m p
   first-held m low least = go (frame_under r.frames m) refl
     where
       held : (n : ℕ) × ((holds r n ≡ true) × (block ring n ≡ v))
@@ -64,7 +64,7 @@ module _ (ring : Ring) (keep : ℕ) (r : Recording) (v : ℕ) (some : 1 ≤ ring
       of : block ring m ≡ v
       of = omega (arith, block-le ring m held.0 some order, held.1.1, (le-div_iff_mul-le some).1 from)
 
-      go : (o : Option Picture) → frame_under r.frames m ≡ o → (p : Picture) × IsFirstOf ring r v m p
+      go : (o : Option Picture) → frame_under r.frames m ≡ o → (p : Picture) × BeginsBlock ring r v m p
       go None none = absurd (let both : false ≡ true = sym (ap (λ (o : Option Picture). is_some o) none) ∙ (sym (are m) ∙ least.1.0) in cc)
       go (Some p) there = (
         p,
@@ -94,7 +94,7 @@ tells-first ring keep r v some w chosen among are start is first time low least 
           let same : b ≡ v = same-some b v (sym goes ∙ chosen) in (
             first,
             found.0,
-            subst (λ x. IsFirstOf ring r x first found.0) (sym same) found.1,
+            subst (λ x. BeginsBlock ring r x first found.0) (sym same) found.1,
             ap (λ (t : ℕ). let o : Option ℕ = Some t in o) (time-is found.0 found.1.held),
           );
       none = λ nothing. absurd (not-none v (sym chosen ∙ nothing));

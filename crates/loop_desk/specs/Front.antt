@@ -49,6 +49,11 @@ hand_state meaning hand.Empty = empty
 hand_state meaning (hand.Frame index frame planes) = full index (picture frame) (read_given meaning planes)
 hand_state meaning (hand.Spent index planes) = spent index (read_given meaning planes)
 
+-- the frame in the hand
+abbrev pub hand_frame : HandState → List Picture
+hand_frame (full index p planes) = p ∷ []
+hand_frame h = []
+
 -- which buffer it has
 abbrev pub index_in : HandState → Option ℕ
 index_in empty = None

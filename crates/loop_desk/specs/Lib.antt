@@ -5,7 +5,6 @@ pub mod Keeps
 pub mod Space
 pub mod Footage
 pub mod Front
-pub mod Lane
 pub mod Waiting
 pub mod FrontLaws
 pub mod Parts

@@ -38,7 +38,7 @@ pub record TellsDesk {D : Type 0} (d : SeenDesk D) (s : DeskState) : Type 0 wher
   pub pending : d.pending ≡ s.pending
 
 -- the desk stands for a state
-pub record StandsAt {D : Type 0} (medium : D → Medium) (d : SeenDesk D) (s : DeskState) : Type 0 where
+pub record DeskStands {D : Type 0} (medium : D → Medium) (d : SeenDesk D) (s : DeskState) : Type 0 where
   pub store : Stands medium d.store s.store
   pub pending : d.pending ≡ s.pending
 

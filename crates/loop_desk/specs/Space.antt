@@ -4,7 +4,7 @@ use Rattle.loop_record.specs.Recording.{Picture, Recording, Ring, block, frame_u
 use Rattle.loop_desk.specs.declared.limits.Space.{Space}
 
 -- the first held frame of a block, with its number
-pub record IsFirstOf (ring : Ring) (r : Recording) (b number : ℕ) (p : Picture) : Type 0 where
+pub record BeginsBlock (ring : Ring) (r : Recording) (b number : ℕ) (p : Picture) : Type 0 where
   pub held : frame_under r.frames number ≡ Some p
   pub of : block ring number ≡ b
   pub first : (n : ℕ) → holds r n ≡ true → block ring n ≡ b → number ≤ n
@@ -12,7 +12,7 @@ pub record IsFirstOf (ring : Ring) (r : Recording) (b number : ℕ) (p : Picture
 -- the time of the first frame of the block that goes
 pub record TellsOldest (ring : Ring) (keep : ℕ) (r : Recording) (oldest : Option ℕ) : Type 0 where
   pub some : (v : ℕ) → victim ring keep r ≡ Some v
-      → (number : ℕ) × (p : Picture) × IsFirstOf ring r v number p × (oldest ≡ Some p.timestamp)
+      → (number : ℕ) × (p : Picture) × BeginsBlock ring r v number p × (oldest ≡ Some p.timestamp)
   pub none : victim ring keep r ≡ None → oldest ≡ None
 
 -- and whether a segment holds no block

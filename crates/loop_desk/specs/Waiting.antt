@@ -15,7 +15,18 @@ use Rattle.loop_vb2.specs.Owner.{waits}
 use Rattle.loop_vb2.specs.Planes.{frame_size}
 use Rattle.loop_vb2.specs.State.{Lined, QueueState, StandsQueue}
 use Rattle.loop_desk.specs.Front.{taken_frame, was_given_up}
-use Rattle.loop_desk.specs.Lane.{completed_frame, without_flags}
+
+-- ---- the device's frames
+
+-- a frame without its flags, which show whether its buffer was mapped when it was dequeued
+abbrev pub without_flags : Picture → Picture
+without_flags p = record p { flags = 0 }
+
+-- the frame that the device completed by the event
+abbrev pub completed_frame : Event → List Picture
+completed_frame (model.complete index stamp bytes None) =
+    record { sequence = stamp.sequence; flags = 0; timestamp = stamp.timestamp; bytes = bytes } ∷ []
+completed_frame e = []
 
 -- ---- events
 

@@ -62,7 +62,7 @@ fn refuse_held<P: PlaneMemory, A: Allocator + Copy>(
 /// check. While the hand has a buffer, REQBUFS, and QBUF and PREPARE_BUF of that buffer, are refused as `HandHolds`
 /// before any other check, and all planes that they brought come back. A refused event changes nothing. (A lane sends
 /// DQBUF to `dequeue` instead.)
-pub(crate) fn on_queue<P: PlaneMemory, A: Allocator + Copy>(
+pub fn on_queue<P: PlaneMemory, A: Allocator + Copy>(
     queue: &mut Queue<P, A>,
     table: &mut FdTable<P, A>,
     hand: &Hand<P, A>,

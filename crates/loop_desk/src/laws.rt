@@ -6,15 +6,12 @@ ghost use Rattle.loop_store.specs.Goes.{Stands};
 ghost use Rattle.loop_desk.specs.Bare.{IsBlind, IsOutlineOf, bare_state};
 ghost use Rattle.loop_desk.specs.Desk.{AreDeskAnswers, DeskCall, DeskState, Rules, desk_after_calls};
 ghost use Rattle.loop_desk.specs.Footage.{KeepsFootage};
-ghost use Rattle.loop_desk.specs.declared.event.LaneEvent.{LaneEvent};
-ghost use Rattle.loop_desk.specs.declared.event.LaneReply.{LaneReply};
 ghost use Rattle.loop_desk.specs.declared.limits.Outline.{Outline};
 ghost use Rattle.loop_desk.specs.FrontLaws.{NewFrontsStand, WholeFramesAreTaken};
-ghost use Rattle.loop_desk.specs.Lane.{LaneKeeps, LaneRan, LaneTurnsAreEvents};
 ghost use Rattle.loop_desk.specs.Waiting.{FramesAreKept, QueuesStaySound};
-ghost use Rattle.loop_desk.specs.Seen.{DeskGoes, StandsAt, TellsOutline, rules_of};
+ghost use Rattle.loop_desk.specs.Seen.{DeskGoes, DeskStands, TellsOutline, rules_of};
 
-use crate::{Desk, Lane};
+use crate::Desk;
 use loop_disk::Disk;
 use loop_plane::PlaneMemory;
 use std::alloc::Allocator;
@@ -48,11 +45,6 @@ pub fn calls_keep_footage<D: Disk + Drop, A: Allocator>(before: &Desk<D, A>, aft
         → KeepsFootage D.medium before.now after.now calls s }
 {}
 
-/// Turns of a lane, each as its front has it, are events of the queue's own model, and lead to its state.
-pub fn turns_are_events<P: PlaneMemory, A: Allocator>()
-    ensures { LaneTurnsAreEvents A P.plane }
-{}
-
 /// A queue that isn't stopped loses no frame: those that waited, and then those that the device completed, are those
 /// that were dequeued, in that order and with their bytes, and then those that wait. From each stop of the stream on it
 /// is the same again, with nothing that waited.
@@ -66,25 +58,13 @@ pub fn queues_stay_sound<P: PlaneMemory>()
     ensures { QueuesStaySound P.plane }
 {}
 
-/// Two runs of a lane, one after the other, are one run of both lists of events, and it keeps what one run does.
-pub fn runs_join<D: Disk + Drop, P: PlaneMemory, A: Allocator + Copy>(
-    before: &Lane<D, P, A>,
-    between: &Lane<D, P, A>,
-    after: &Lane<D, P, A>,
-)
-    ensures { (es fs : List (LaneEvent P A)) (ps qs : List (LaneReply P A))
-        → LaneRan P.plane D.medium before.now between.now es ps
-        → LaneRan P.plane D.medium between.now after.now fs qs
-        → LaneKeeps P.plane D.medium before.now after.now (es ++ fs) (ps ++ qs) }
-{}
-
 /// Calls of a desk are calls of the model: from a state that the desk stood for, each was answered as the model has
 /// it at its point, and the desk stands for the state after them.
 pub fn calls_are_the_models<D: Disk + Drop, A: Allocator>(before: &Desk<D, A>, after: &Desk<D, A>)
     ensures { (calls : List DeskCall) (s : DeskState) → DeskGoes D.medium before.now after.now calls
-        → StandsAt D.medium before.now s → (D.medium before.now.store.disk).honest
+        → DeskStands D.medium before.now s → (D.medium before.now.store.disk).honest
         → AreDeskAnswers (rules_of before.now) s calls
-        × StandsAt D.medium after.now (desk_after_calls (rules_of before.now) s calls) }
+        × DeskStands D.medium after.now (desk_after_calls (rules_of before.now) s calls) }
 {}
 
 /// No answer of a desk, and no state that it reaches, depends on pixels: calls that were answered as the model has it
@@ -97,6 +77,6 @@ pub fn model_is_blind()
 /// doesn't depend on them either.
 pub fn outlines_are_blind<D: Disk + Drop, A: Allocator>(desk: &Desk<D, A>)
     ensures { (outline : Outline A) (s : DeskState) → TellsOutline D.medium desk.now outline
-        → StandsAt D.medium desk.now s → (D.medium desk.now.store.disk).honest
+        → DeskStands D.medium desk.now s → (D.medium desk.now.store.disk).honest
         → IsOutlineOf s outline × IsOutlineOf (bare_state s) outline }
 {}

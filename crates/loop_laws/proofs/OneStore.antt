@@ -11,7 +11,7 @@ use Rattle.loop_record.proofs.Names.{blocks_of, stores_after}
 use Rattle.loop_record.proofs.Steps.{plain-stores}
 use Rattle.loop_record.proofs.TestFacts.{differ_test, equal_test}
 use Rattle.loop_desk.specs.declared.limits.Space.{Space}
-use Rattle.loop_desk.specs.Space.{IsFirstOf, TellsOldest, TellsSpace}
+use Rattle.loop_desk.specs.Space.{BeginsBlock, TellsOldest, TellsSpace}
 use Rattle.loop_laws.proofs.Chunks.{Between, Chunk, Fit, all_numbered, chunks-blocks, first-goes, grown, is_out, numbered, numbered-grown, numbered-push, numbers}
 
 -- the store holds the frames of these blocks, and nothing is locked
@@ -80,7 +80,7 @@ under-first ring r c cs has =
     ∙ ap (λ (t : Bool). cond t (Some c.first) (frame_under more n)) (equal_test n n refl)
 
 first-picture : (ring : Ring) (r : Recording) (c : Chunk) (cs : List Chunk) (number : ℕ) (p : Picture) → 1 ≤ ring.slots
-    → Has ring r (c ∷ cs) → IsFirstOf ring r c.number number p → p ≡ c.first
+    → Has ring r (c ∷ cs) → BeginsBlock ring r c.number number p → p ≡ c.first
 first-picture ring r c cs number p some has first =
     let n = c.number * ring.slots in
     let there : frame_under r.frames n ≡ Some c.first = under-first ring r c cs has in
@@ -113,15 +113,15 @@ space-there ring keep r low high cs some has f h = go cs has f h (cases_lt (max 
     free : Bool
     free = ltb (length (held_blocks ring r)) ring.segments
 
-    is_free : (free ≡ true) ↔ (length (held_blocks ring r) < ring.segments)
-    is_free = (ltb-true (length (held_blocks ring r)) ring.segments, lt-ltb (length (held_blocks ring r)) ring.segments)
+    has_free : (free ≡ true) ↔ (length (held_blocks ring r) < ring.segments)
+    has_free = (ltb-true (length (held_blocks ring r)) ring.segments, lt-ltb (length (held_blocks ring r)) ring.segments)
 
     go : (cs : List Chunk) → Has ring r cs → Fit ring.slots cs → Between low high cs → (max 1 keep < length cs)
         ⊎ (length cs ≤ max 1 keep) → (space : Space) × TellsSpace ring keep r space
     go cs has f h (inr few) = (
       record { free = free; oldest = None },
       record {
-        free = is_free;
+        free = has_free;
         oldest = record { some = λ v chosen. absurd (never v chosen); none = λ e. refl };
       },
     )
@@ -134,7 +134,7 @@ space-there ring keep r low high cs some has f h = go cs has f h (cases_lt (max 
     go (c ∷ cs) has f h (inl more) = (
       record { free = free; oldest = Some c.first.timestamp },
       record {
-        free = is_free;
+        free = has_free;
         oldest = record {
           some = λ v e. (c.number * ring.slots, c.first, first v (some-same c.number v (sym chosen ∙ e)), refl);
           none = λ e. absurd (never e);
@@ -148,7 +148,7 @@ space-there ring keep r low high cs some has f h = go cs has f h (cases_lt (max 
         never : victim ring keep r ≡ None → ⊥
         never e = let no : None ≡ Some c.number = sym e ∙ chosen in absurd cc
 
-        first : (v : ℕ) → c.number ≡ v → IsFirstOf ring r v (c.number * ring.slots) c.first
+        first : (v : ℕ) → c.number ≡ v → BeginsBlock ring r v (c.number * ring.slots) c.first
         first v same = record {
           held = under-first ring r c cs has;
           of = mul-div_cancel c.number some ∙ same;

@@ -9,7 +9,7 @@ use Rattle.std.specs.Prelude.{slice_get}
 use Rattle.std.specs.List.{filter, flat_map}
 use Rattle.loop_record.specs.Recording.{Picture}
 use Rattle.loop_record.proofs.TestFacts.{differ_test, equal_test}
-use Rattle.loop_laws.specs.Laws.{taken_by}
+use Rattle.loop_laws.specs.Laws.{taken_at}
 use Rattle.loop_laws.proofs.Chunks.{Chunk, Full, grown, pictures}
 
 -- ---- the blocks of one place
@@ -160,31 +160,31 @@ spread-count slots (c ∷ q) h =
 -- ---- what one place took
 
 taken-append : (place : ℕ) (xs ys : List (ℕ × Picture))
-    → taken_by place (xs ++ ys) ≡ taken_by place xs ++ taken_by place ys
+    → taken_at place (xs ++ ys) ≡ taken_at place xs ++ taken_at place ys
 taken-append place xs ys =
     ap (map (λ t. t.1)) (filter-append (λ (t : ℕ × Picture). eqb t.0 place) xs ys)
     ∙ map-append (λ (t : ℕ × Picture). t.1) (filter (λ t. eqb t.0 place) xs) (filter (λ t. eqb t.0 place) ys)
 
-taken-here : (place k : ℕ) (ps : List Picture) → eqb k place ≡ true → taken_by place (map (λ p. (k, p)) ps) ≡ ps
+taken-here : (place k : ℕ) (ps : List Picture) → eqb k place ≡ true → taken_at place (map (λ p. (k, p)) ps) ≡ ps
 taken-here place k [] e = refl
 taken-here place k (p ∷ ps) e =
     let rest = filter (λ (t : ℕ × Picture). eqb t.0 place) (map (λ q. (k, q)) ps) in
     ap (λ (t : Bool). map (λ (u : ℕ × Picture). u.1) (cond t ((k, p) ∷ rest) rest)) e
     ∙ ap (λ x. p ∷ x) (taken-here place k ps e)
 
-taken-apart : (place k : ℕ) (ps : List Picture) → eqb k place ≡ false → taken_by place (map (λ p. (k, p)) ps) ≡ []
+taken-apart : (place k : ℕ) (ps : List Picture) → eqb k place ≡ false → taken_at place (map (λ p. (k, p)) ps) ≡ []
 taken-apart place k [] e = refl
 taken-apart place k (p ∷ ps) e =
     let rest = filter (λ (t : ℕ × Picture). eqb t.0 place) (map (λ q. (k, q)) ps) in
     ap (λ (t : Bool). map (λ (u : ℕ × Picture). u.1) (cond t ((k, p) ∷ rest) rest)) e ∙ taken-apart place k ps e
 
-pub taken-spread : (place : ℕ) (q : List Chunk) → taken_by place (spread q) ≡ flat_map pictures (at place q)
+pub taken-spread : (place : ℕ) (q : List Chunk) → taken_at place (spread q) ≡ flat_map pictures (at place q)
 taken-spread place [] = refl
 taken-spread place (c ∷ q) =
     taken-append place (came_of c) (spread q) ∙ go (eqb c.place place) refl (taken-spread place q)
   where
-    go : (t : Bool) → eqb c.place place ≡ t → taken_by place (spread q) ≡ flat_map pictures (at place q)
-        → taken_by place (came_of c) ++ taken_by place (spread q)
+    go : (t : Bool) → eqb c.place place ≡ t → taken_at place (spread q) ≡ flat_map pictures (at place q)
+        → taken_at place (came_of c) ++ taken_at place (spread q)
         ≡ flat_map pictures (cond t (c ∷ at place q) (at place q))
     go true e rest = let here = taken-here place c.place (pictures c) e in λ i. here i ++ rest i
     go false e rest = let here = taken-apart place c.place (pictures c) e in λ i. here i ++ rest i

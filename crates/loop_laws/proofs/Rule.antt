@@ -10,7 +10,7 @@ use Rattle.loop_record.specs.Recording.{Recording, Ring}
 use Rattle.loop_record.proofs.TestFacts.{not_below}
 use Rattle.loop_desk.specs.declared.limits.Space.{Space}
 use Rattle.loop_desk.specs.Space.{TellsSpace}
-use Rattle.loop_pipeline.specs.Nexts.{IsEarliest, IsElsewhere, IsFreeAt, IsNext, is_free}
+use Rattle.loop_pipeline.specs.Nexts.{IsEarliest, IsElsewhere, IsFreeAt, TakesNext, has_free}
 use Rattle.loop_laws.specs.Stores.{EachTells}
 use Rattle.loop_laws.proofs.Sets.{some-same}
 
@@ -41,21 +41,21 @@ FreeOrEarliest spaces place =
     IsFreeAt spaces place
     ⊎ (((i : ℕ) (s : Space) → slice_get spaces i ≡ Some s → s.free ≡ false) × IsEarliest spaces place)
 
-pub free-or-earliest : (active : ℕ) (spaces : List Space) (place : ℕ) → IsNext active spaces (Some place)
+pub free-or-earliest : (active : ℕ) (spaces : List Space) (place : ℕ) → TakesNext active spaces (Some place)
     → FreeOrEarliest spaces place
 free-or-earliest active spaces place (inl here) =
     inl (subst (IsFreeAt spaces) (sym (some-same place active here.1)) here.0)
-free-or-earliest active spaces place (inr other) = go (position is_free spaces) refl other.1
+free-or-earliest active spaces place (inr other) = go (position has_free spaces) refl other.1
   where
     none : Space
     none = record { free = false; oldest = None }
 
-    go : (o : Option ℕ) → position is_free spaces ≡ o → IsElsewhere spaces o (Some place) → FreeOrEarliest spaces place
+    go : (o : Option ℕ) → position has_free spaces ≡ o → IsElsewhere spaces o (Some place) → FreeOrEarliest spaces place
     go (Some free) found is =
-        let f = position-Some is_free spaces free none found in
+        let f = position-Some has_free spaces free none found in
         inl (subst (IsFreeAt spaces) (sym (some-same place free is))
         (get_or spaces free none, slice_get-get_or spaces free none f.0, f.1))
-    go None found earliest = inr ((λ i s there. none-passes is_free spaces i s found there), earliest)
+    go None found earliest = inr ((λ i s there. none-passes has_free spaces i s found there), earliest)
 
 -- ---- the earliest of spaces
 

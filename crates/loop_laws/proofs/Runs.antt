@@ -9,9 +9,9 @@ use Rattle.std.proofs.lemmas.List.Elements.{All-nil}
 use Rattle.std.specs.Prelude.{All, max, min, replicate, slice_get}
 use Rattle.loop_record.specs.Recording.{Picture, Recording, Ring, Step, empty, plain, room, steps, store}
 use Rattle.loop_desk.specs.declared.limits.Space.{Space}
-use Rattle.loop_pipeline.specs.Nexts.{IsNext}
-use Rattle.loop_laws.specs.Stores.{EachTells, Run, Stores, TakesGroup, empty_stores, frames_of}
-use Rattle.loop_laws.specs.Laws.{GoOn, HoldNewest, NumbersLast, StoresGoOn, StoresHoldNewest, TimesRiseByBlocks, least_held, taken_by}
+use Rattle.loop_pipeline.specs.Nexts.{TakesNext}
+use Rattle.loop_laws.specs.Stores.{EachTells, Run, LongRing, TakesGroup, empty_stores, frames_placed}
+use Rattle.loop_laws.specs.Laws.{GoOn, HoldNewest, NumbersLast, StoresGoOn, StoresHoldNewest, TimesRiseByBlocks, least_held, taken_at}
 use Rattle.loop_laws.proofs.Chunks.{Chunk, end-of, pictures, pictures-numbered}
 use Rattle.loop_laws.proofs.OneStore.{Has, plain-append, stores-made, within-steps}
 use Rattle.loop_laws.proofs.Queues.{Earlier, at, came_of, count-all, earlier-all, get-left, get-seam, group_at, push-apart, push-here, spread, spread-count, spread-push, taken-spread}
@@ -22,7 +22,7 @@ use Rattle.loop_laws.proofs.Turns.{begins, choose, some-takes, steps-there, tell
 -- ---- one group
 
 -- frames that begin a block
-takes-first : (ring : Ring) (keep count : ℕ) (old new : Stores) (came lost : List (ℕ × Picture)) (queue : List Chunk)
+takes-first : (ring : Ring) (keep count : ℕ) (old new : LongRing) (came lost : List (ℕ × Picture)) (queue : List Chunk)
     (place : ℕ) (p : Picture) (ps : List Picture) → 1 ≤ ring.slots
     → Settled ring count old.recordings came lost queue → (g : TakesGroup ring keep old new place (p ∷ ps))
     → g.active.next % ring.slots ≡ 0 → Earlier queue p.timestamp
@@ -37,16 +37,16 @@ takes-first ring keep count old new came lost queue place p ps some s g edge ear
     let same : stores_with old.recordings place (plain ring b.left (map store (p ∷ ps))) ≡ new =
     ap (stores_with old.recordings place) (sym b.is) ∙ sym g.leaves in
     let fits = g.fits in
-    subst (λ (st : Stores). Filling ring count st (came ++ group_at place (p ∷ ps))) same
+    subst (λ (st : LongRing). Filling ring count st (came ++ group_at place (p ∷ ps))) same
     (start ring count old.recordings place b.left came p ps (omega (arith, fits, begun)) b.ready)
 
 -- frames within a block
-takes-more : (ring : Ring) (keep count : ℕ) (old new : Stores) (came : List (ℕ × Picture)) (place : ℕ)
+takes-more : (ring : Ring) (keep count : ℕ) (old new : LongRing) (came : List (ℕ × Picture)) (place : ℕ)
     (ps : List Picture) → (s : Filling ring count old came) → (g : TakesGroup ring keep old new place ps)
     → g.active.next % ring.slots ≢ 0 → Filling ring count new (came ++ group_at place ps)
 takes-more ring keep count old new came place ps s g apart =
     subst (λ (k : ℕ). Filling ring count new (came ++ group_at k ps)) (sym is)
-    (subst (λ (st : Stores). Filling ring count st (came ++ group_at s.last.place ps)) same
+    (subst (λ (st : LongRing). Filling ring count st (came ++ group_at s.last.place ps)) same
     (grow ring count old came ps g.taker s there room_left))
   where
     is : place ≡ s.last.place
@@ -92,7 +92,7 @@ takes-more ring keep count old new came place ps s g apart =
         ∙ ap (λ (k : ℕ). stores_with old.recordings k (plain ring g.taker g.made)) (sym is) ∙ sym g.leaves
 
 -- where the next number begins a block, the last block is full
-ends : (ring : Ring) (count : ℕ) (stores : Stores) (came : List (ℕ × Picture)) (active : Recording)
+ends : (ring : Ring) (count : ℕ) (stores : LongRing) (came : List (ℕ × Picture)) (active : Recording)
     (s : Filling ring count stores came) → slice_get stores.recordings s.last.place ≡ Some active
     → active.next % ring.slots ≡ 0 → length s.last.rest + 1 ≡ ring.slots
 ends ring count stores came active s there edge = let fits = s.fits in omega (arith, fits, never)
@@ -104,7 +104,7 @@ ends ring count stores came active s there edge = let fits = s.fits in omega (ar
         ∙ mod-mul-add s.last.number ring.slots (length s.last.rest + 1) less in
         absurd (omega (arith, edge, e))
 
-takes : (ring : Ring) (keep count : ℕ) (old new : Stores) (came : List (ℕ × Picture)) (place : ℕ) (p : Picture)
+takes : (ring : Ring) (keep count : ℕ) (old new : LongRing) (came : List (ℕ × Picture)) (place : ℕ) (p : Picture)
     (ps : List Picture) → 1 ≤ ring.slots → Filling ring count old came → TakesGroup ring keep old new place (p ∷ ps)
     → ((i : ℕ) (u : ℕ × Picture) → slice_get came i ≡ Some u → i + ring.slots ≤ length came
     → u.1.timestamp < p.timestamp)
@@ -122,17 +122,17 @@ takes ring keep count old new came place p ps some s g later = go (cases_eq (g.a
 
 -- ---- a run
 
-runs : (ring : Ring) (keep count : ℕ) (gs : List (ℕ × List Picture)) (old new : Stores) (came : List (ℕ × Picture))
+runs : (ring : Ring) (keep count : ℕ) (gs : List (ℕ × List Picture)) (old new : LongRing) (came : List (ℕ × Picture))
     → 1 ≤ ring.slots → Filling ring count old came → Run ring keep old gs new
-    → TimesRiseByBlocks ring (came ++ frames_of gs) → Filling ring count new (came ++ frames_of gs)
+    → TimesRiseByBlocks ring (came ++ frames_placed gs) → Filling ring count new (came ++ frames_placed gs)
 runs ring keep count [] old new came some s run rise =
     subst (λ (x : List (ℕ × Picture)). Filling ring count new x) (sym (append-nil came))
-    (subst (λ (st : Stores). Filling ring count st came) (sym run) s)
+    (subst (λ (st : LongRing). Filling ring count st came) (sym run) s)
 runs ring keep count ((place, []) ∷ gs) old new came some s run rise =
     let any = run.1.some in absurd (omega (arith, any))
 runs ring keep count ((place, p ∷ ps) ∷ gs) old new came some s run rise =
-    let more = group_at place ps ++ frames_of gs in
-    let path = append_assoc came (group_at place (p ∷ ps)) (frames_of gs) in
+    let more = group_at place ps ++ frames_placed gs in
+    let path = append_assoc came (group_at place (p ∷ ps)) (frames_placed gs) in
     let next = takes ring keep count old run.0 came place p ps some s run.1
     (λ i u there l. rise i (length came) u (place, p) (get-left came ((place, p) ∷ more) i u there)
     (get-seam came (place, p) more) l) in
@@ -172,7 +172,7 @@ settled-empty ring count first = record {
 
 -- ---- what is held
 
-newest : (ring : Ring) (count : ℕ) (stores : Stores) (came : List (ℕ × Picture)) → Filling ring count stores came
+newest : (ring : Ring) (count : ℕ) (stores : LongRing) (came : List (ℕ × Picture)) → Filling ring count stores came
     → HoldNewest ring stores came
 newest ring count stores came s = record {
   placed = subst (λ (n : ℕ). All (λ (t : ℕ × Picture). t.0 < n) came) (sym s.many) s.all;
@@ -194,11 +194,11 @@ newest ring count stores came s = record {
         subst (Has ring r) (sym (push-apart place s.front s.last apart)) (s.rest place r apart there).has
 
     hold : (place : ℕ) (r : Recording) → Has ring r (at place (s.front ++ s.last ∷ []))
-        → map (λ (f : ℕ × Picture). f.1) r.frames ≡ taken_by place (drop (length s.lost) came)
+        → map (λ (f : ℕ × Picture). f.1) r.frames ≡ taken_at place (drop (length s.lost) came)
     hold place r h =
         ap (map (λ (f : ℕ × Picture). f.1)) h.frames
         ∙ pictures-numbered ring.slots (at place (s.front ++ s.last ∷ []))
-        ∙ sym (taken-spread place (s.front ++ s.last ∷ [])) ∙ ap (taken_by place) (sym left)
+        ∙ sym (taken-spread place (s.front ++ s.last ∷ [])) ∙ ap (taken_at place) (sym left)
 
     -- all that came: what was lost, the full blocks and the last one
     all : length came ≡ length s.lost + (length s.front * ring.slots + (length s.last.rest + 1))
@@ -243,7 +243,7 @@ nothing-came ring count first = record {
     small b = omega arith
 
 -- the first group
-first-taken : (ring : Ring) (keep count first : ℕ) (mid : Stores) (place : ℕ) (p : Picture) (ps : List Picture)
+first-taken : (ring : Ring) (keep count first : ℕ) (mid : LongRing) (place : ℕ) (p : Picture) (ps : List Picture)
     → 1 ≤ ring.slots → TakesGroup ring keep (empty_stores count first) mid place (p ∷ ps)
     → Filling ring count mid (group_at place (p ∷ ps))
 first-taken ring keep count first mid place p ps some g =
@@ -255,26 +255,26 @@ first-taken ring keep count first mid place p ps some g =
 
 -- where frames came, the stores fill a block
 all-runs : (ring : Ring) (keep count first place : ℕ) (p : Picture) (ps : List Picture)
-    (gs : List (ℕ × List Picture)) (stores : Stores) → 1 ≤ ring.slots
+    (gs : List (ℕ × List Picture)) (stores : LongRing) → 1 ≤ ring.slots
     → Run ring keep (empty_stores count first) ((place, p ∷ ps) ∷ gs) stores
-    → TimesRiseByBlocks ring (frames_of ((place, p ∷ ps) ∷ gs))
-    → Filling ring count stores (frames_of ((place, p ∷ ps) ∷ gs))
+    → TimesRiseByBlocks ring (frames_placed ((place, p ∷ ps) ∷ gs))
+    → Filling ring count stores (frames_placed ((place, p ∷ ps) ∷ gs))
 all-runs ring keep count first place p ps gs stores some run rise =
     runs ring keep count gs run.0 stores (group_at place (p ∷ ps)) some
     (first-taken ring keep count first run.0 place p ps some run.1) run.2 rise
 
 pub stores-hold_newest : StoresHoldNewest
 stores-hold_newest ring keep count first [] stores some run rise =
-    subst (λ (st : Stores). HoldNewest ring st []) (sym run) (nothing-came ring count first)
+    subst (λ (st : LongRing). HoldNewest ring st []) (sym run) (nothing-came ring count first)
 stores-hold_newest ring keep count first ((place, []) ∷ gs) stores some run rise =
     let any = run.1.some in absurd (omega (arith, any))
 stores-hold_newest ring keep count first ((place, p ∷ ps) ∷ gs) stores some run rise =
-    newest ring count stores (frames_of ((place, p ∷ ps) ∷ gs))
+    newest ring count stores (frames_placed ((place, p ∷ ps) ∷ gs))
     (all-runs ring keep count first place p ps gs stores some run rise)
 
 -- ---- the stores go on
 
-go-on-settled : (ring : Ring) (keep count : ℕ) (stores : Stores) (came lost : List (ℕ × Picture)) (queue : List Chunk)
+go-on-settled : (ring : Ring) (keep count : ℕ) (stores : LongRing) (came lost : List (ℕ × Picture)) (queue : List Chunk)
     (active : Recording) → 1 ≤ ring.slots → Settled ring count stores.recordings came lost queue
     → slice_get stores.recordings stores.active ≡ Some active → max 1 keep < ring.segments
     → active.next % ring.slots ≡ 0 → GoOn ring keep stores active
@@ -286,7 +286,7 @@ go-on-settled ring keep count stores came lost queue active some s there more ed
   where
     taken : NumbersLast ring stores.recordings → (group : List Picture) → 1 ≤ length group
         → length group ≤ room ring active
-        → (place : ℕ) × ((new : Stores) × TakesGroup ring keep stores new place group)
+        → (place : ℕ) × ((new : LongRing) × TakesGroup ring keep stores new place group)
     taken left group any fits =
         let rs = stores.recordings in
         let tell = tell-there ring keep count rs came lost some queue s in
@@ -300,10 +300,10 @@ go-on-settled ring keep count stores came lost queue active some s there more ed
       where
         -- the taker takes the group by these steps
         so : (place : ℕ) (spaces : List Space) → EachTells ring keep stores.recordings spaces
-            → IsNext stores.active spaces (Some place) → (taker : Recording)
+            → TakesNext stores.active spaces (Some place) → (taker : Recording)
             → slice_get stores.recordings place ≡ Some taker → (made : List Step)
             → steps ring keep taker group ≡ Some made
-            → (new : Stores) × TakesGroup ring keep stores new place group
+            → (new : LongRing) × TakesGroup ring keep stores new place group
         so place spaces tell next taker is_taker made by =
             let mine = s.rest place taker is_taker in
             let same : taker.next % ring.slots ≡ 0 =
@@ -324,7 +324,7 @@ go-on-settled ring keep count stores came lost queue active some s there more ed
               },
             )
 
-go-on-filling : (ring : Ring) (keep count : ℕ) (stores : Stores) (came : List (ℕ × Picture)) (active : Recording)
+go-on-filling : (ring : Ring) (keep count : ℕ) (stores : LongRing) (came : List (ℕ × Picture)) (active : Recording)
     → 1 ≤ ring.slots → Filling ring count stores came → slice_get stores.recordings stores.active ≡ Some active
     → max 1 keep < ring.segments → GoOn ring keep stores active
 go-on-filling ring keep count stores came active some s there more = go (cases_eq (active.next % ring.slots) 0)
@@ -361,14 +361,14 @@ go-on-filling ring keep count stores came active some s there more = go (cases_e
 pub stores-go_on : StoresGoOn
 stores-go_on ring keep count first [] stores active some more run rise there =
     let s : Settled ring count stores.recordings [] [] [] =
-    subst (λ (st : Stores). Settled ring count st.recordings [] [] []) (sym run) (settled-empty ring count first) in
+    subst (λ (st : LongRing). Settled ring count st.recordings [] [] []) (sym run) (settled-empty ring count first) in
     let is : slice_get (empty_stores count first).recordings stores.active ≡ Some active =
-    ap (λ (st : Stores). slice_get st.recordings stores.active) (sym run) ∙ there in
+    ap (λ (st : LongRing). slice_get st.recordings stores.active) (sym run) ∙ there in
     let next : active.next ≡ 0 =
     ap (λ (r : Recording). r.next) (sym (get-replicate count stores.active empty active is)) in
     go-on-settled ring keep count stores [] [] [] active some s there more (omega (arith, next, some))
 stores-go_on ring keep count first ((place, []) ∷ gs) stores active some more run rise there =
     let any = run.1.some in absurd (omega (arith, any))
 stores-go_on ring keep count first ((place, p ∷ ps) ∷ gs) stores active some more run rise there =
-    go-on-filling ring keep count stores (frames_of ((place, p ∷ ps) ∷ gs)) active some
+    go-on-filling ring keep count stores (frames_placed ((place, p ∷ ps) ∷ gs)) active some
     (all-runs ring keep count first place p ps gs stores some run rise) there more

@@ -5,7 +5,7 @@ use Rattle.std.proofs.lemmas.List.{length-append, length-set}
 use Rattle.std.proofs.lemmas.List.Elements.{All-append, All-map}
 use Rattle.std.specs.Prelude.{All, slice_get, slice_set}
 use Rattle.loop_record.specs.Recording.{Picture, Recording, Ring, after_step, plain, recycle, store}
-use Rattle.loop_laws.specs.Stores.{Stores}
+use Rattle.loop_laws.specs.Stores.{LongRing}
 use Rattle.loop_laws.proofs.Chunks.{Between, Chunk, Fit, Full, between-lower, between-push, end-of, full-push, grown}
 use Rattle.loop_laws.proofs.OneStore.{Has, has-begun, has-grown, has-recycled, next-after}
 use Rattle.loop_laws.proofs.Queues.{Earlier, Placed, Rising, at, count-push, group_at, placed-front, placed-push, push-apart, push-here, rising-last, rising-push, spread, spread-grown, spread-push}
@@ -67,7 +67,7 @@ pub record Settled (ring : Ring) (count : ℕ) (rs : List Recording) (came lost 
   pub whole : Whole ring count lost queue
 
 -- the active store is within the last block, all others are between two
-pub record Filling (ring : Ring) (count : ℕ) (stores : Stores) (came : List (ℕ × Picture)) : Type 0 where
+pub record Filling (ring : Ring) (count : ℕ) (stores : LongRing) (came : List (ℕ × Picture)) : Type 0 where
   pub many : length stores.recordings ≡ count
   pub all : ArePlaced count came
   pub lost : List (ℕ × Picture)
@@ -87,11 +87,11 @@ pub record Filling (ring : Ring) (count : ℕ) (stores : Stores) (came : List (�
   pub whole : Whole ring count lost (front ++ last ∷ [])
 
 -- the store at a place is changed, and is the active one
-abbrev pub stores_with : List Recording → ℕ → Recording → Stores
+abbrev pub stores_with : List Recording → ℕ → Recording → LongRing
 stores_with rs place r = record { recordings = slice_set rs place r; active = place }
 
 -- where the last block is full, all stores are between two
-pub settle : (ring : Ring) (count : ℕ) (stores : Stores) (came : List (ℕ × Picture))
+pub settle : (ring : Ring) (count : ℕ) (stores : LongRing) (came : List (ℕ × Picture))
     (s : Filling ring count stores came) → length s.last.rest + 1 ≡ ring.slots
     → Settled ring count stores.recordings came s.lost (s.front ++ s.last ∷ [])
 settle ring count stores came s full = record {
@@ -142,7 +142,7 @@ group-placed count place came ps all within =
 
 -- ---- frames within a block
 
-pub grow : (ring : Ring) (count : ℕ) (stores : Stores) (came : List (ℕ × Picture)) (ps : List Picture)
+pub grow : (ring : Ring) (count : ℕ) (stores : LongRing) (came : List (ℕ × Picture)) (ps : List Picture)
     (taker : Recording) (s : Filling ring count stores came) → slice_get stores.recordings s.last.place ≡ Some taker
     → length s.last.rest + 1 + length ps ≤ ring.slots
     → Filling ring count (stores_with stores.recordings s.last.place (plain ring taker (map store ps)))

@@ -10,7 +10,7 @@ use Rattle.loop_record.specs.Recording.{Picture, Recording, Ring, Step, after_st
 use Rattle.loop_record.proofs.TestFacts.{clash}
 use Rattle.loop_desk.specs.declared.limits.Space.{Space}
 use Rattle.loop_desk.specs.Space.{TellsSpace}
-use Rattle.loop_pipeline.specs.Nexts.{IsEarliest, IsElsewhere, IsFreeAt, IsNext, is_free}
+use Rattle.loop_pipeline.specs.Nexts.{IsEarliest, IsElsewhere, IsFreeAt, TakesNext, has_free}
 use Rattle.loop_laws.specs.Stores.{EachTells}
 use Rattle.loop_laws.proofs.Chunks.{Chunk, Fit, full-fit}
 use Rattle.loop_laws.proofs.OneStore.{count-held, free-steps, full-steps, plain-append, recycles-made, recycling-append, space-there, stores-made, tells-first, tells-none, victim-first}
@@ -240,7 +240,7 @@ module _ (ring : Ring) (keep count : ℕ) (rs : List Recording) (came lost : Lis
 
   -- by the rule, the taker has room for a block once its first block has gone if it had to
   pub begins : (queue : List Chunk) → Settled ring count rs came lost queue → (active place : ℕ) (spaces : List Space)
-      → EachTells ring keep rs spaces → IsNext active spaces (Some place) → (taker : Recording) (p : Picture)
+      → EachTells ring keep rs spaces → TakesNext active spaces (Some place) → (taker : Recording) (p : Picture)
       (ps : List Picture) (made : List Step) → slice_get rs place ≡ Some taker
       → steps ring keep taker (p ∷ ps) ≡ Some made
       → taker.next % ring.slots ≡ 0 → Earlier queue p.timestamp → Begins ring count rs came place taker p ps made
@@ -290,17 +290,17 @@ module _ (ring : Ring) (keep count : ℕ) (rs : List Recording) (came lost : Lis
 
   pub some-takes : (queue : List Chunk) → Settled ring count rs came lost queue → (active : ℕ) (r : Recording)
       (spaces : List Space) → slice_get rs active ≡ Some r → EachTells ring keep rs spaces → max 1 keep < ring.segments
-      → IsNext active spaces None → ⊥
+      → TakesNext active spaces None → ⊥
   some-takes queue s active r spaces there tell more (inl here) = let e = here.1 in absurd cc
-  some-takes queue s active r spaces there tell more (inr other) = go (position is_free spaces) refl other.1
+  some-takes queue s active r spaces there tell more (inr other) = go (position has_free spaces) refl other.1
     where
-      go : (o : Option ℕ) → position is_free spaces ≡ o → IsElsewhere spaces o None → ⊥
+      go : (o : Option ℕ) → position has_free spaces ≡ o → IsElsewhere spaces o None → ⊥
       go (Some free) found is = absurd cc
       go None found none =
           let many = s.many in
           let all = tell.all in
           let l = slice_get_within rs active r there in
-          let full = each-full queue s spaces tell (λ i x at. none-passes is_free spaces i x found at) active
+          let full = each-full queue s spaces tell (λ i x at. none-passes has_free spaces i x found at) active
           (omega (arith, l, many)) in
           let space = get-within spaces active (omega (arith, l, all)) in
           let tells = tell.tells active r space.0 there space.1 in
@@ -313,7 +313,7 @@ module _ (ring : Ring) (keep count : ℕ) (rs : List Recording) (came lost : Lis
   -- and by what the stores tell, the rule names one
   pub choose : (queue : List Chunk) → Settled ring count rs came lost queue → (active : ℕ) (r : Recording)
       (spaces : List Space) → slice_get rs active ≡ Some r → EachTells ring keep rs spaces → max 1 keep < ring.segments
-      → (place : ℕ) × (place < length spaces) × IsNext active spaces (Some place)
+      → (place : ℕ) × (place < length spaces) × TakesNext active spaces (Some place)
   choose queue s active r spaces there tell more = here space.0.free refl
     where
       l : active < length rs
@@ -325,33 +325,33 @@ module _ (ring : Ring) (keep count : ℕ) (rs : List Recording) (came lost : Lis
       space : (x : Space) × (slice_get spaces active ≡ Some x)
       space = get-within spaces active within
 
-      go : (IsFreeAt spaces active → ⊥) → (o : Option ℕ) → position is_free spaces ≡ o
-          → (place : ℕ) × (place < length spaces) × IsNext active spaces (Some place)
+      go : (IsFreeAt spaces active → ⊥) → (o : Option ℕ) → position has_free spaces ≡ o
+          → (place : ℕ) × (place < length spaces) × TakesNext active spaces (Some place)
       go apart (Some free) found =
-          let is : IsElsewhere spaces (position is_free spaces) (Some free) =
+          let is : IsElsewhere spaces (position has_free spaces) (Some free) =
           subst (λ (o : Option ℕ). IsElsewhere spaces o (Some free)) (sym found) refl in
-          (free, (position-Some is_free spaces free space.0 found).0, inr (apart, is))
+          (free, (position-Some has_free spaces free space.0 found).0, inr (apart, is))
       go apart None found = pick (earliest spaces)
         where
           pick : NoneMayGo spaces ⊎ ((place : ℕ) × IsEarliest spaces place)
-              → (place : ℕ) × (place < length spaces) × IsNext active spaces (Some place)
+              → (place : ℕ) × (place < length spaces) × TakesNext active spaces (Some place)
           pick (inl none) =
               let many = s.many in
-              let full = each-full queue s spaces tell (λ i x at. none-passes is_free spaces i x found at) active
+              let full = each-full queue s spaces tell (λ i x at. none-passes has_free spaces i x found at) active
               (omega (arith, l, many)) in
               let time = oldest-there queue s active r space.0 there (tell.tells active r space.0 there space.1) more
               full in
               let no : None ≡ Some time.0 = sym (none active space.0 space.1) ∙ time.1 in
               absurd cc
           pick (inr first) =
-              let is : IsElsewhere spaces (position is_free spaces) (Some first.0) =
+              let is : IsElsewhere spaces (position has_free spaces) (Some first.0) =
               subst (λ (o : Option ℕ). IsElsewhere spaces o (Some first.0)) (sym found) first.1 in
               (first.0, slice_get_within spaces first.0 first.1.space first.1.at, inr (apart, is))
 
       here : (t : Bool) → space.0.free ≡ t
-          → (place : ℕ) × (place < length spaces) × IsNext active spaces (Some place)
+          → (place : ℕ) × (place < length spaces) × TakesNext active spaces (Some place)
       here true is = (active, within, inl ((space.0, space.1, is), refl))
-      here false is = go apart (position is_free spaces) refl
+      here false is = go apart (position has_free spaces) refl
         where
           apart : IsFreeAt spaces active → ⊥
           apart h =
@@ -360,7 +360,7 @@ module _ (ring : Ring) (keep count : ℕ) (rs : List Recording) (came lost : Lis
 
   -- the taker has the steps for a group, unless its numbers are spent
   pub steps-there : (queue : List Chunk) → Settled ring count rs came lost queue → (active place : ℕ)
-      (spaces : List Space) → EachTells ring keep rs spaces → IsNext active spaces (Some place) → (taker : Recording)
+      (spaces : List Space) → EachTells ring keep rs spaces → TakesNext active spaces (Some place) → (taker : Recording)
       (ps : List Picture) → slice_get rs place ≡ Some taker → taker.next ≢ last_number ring
       → max 1 keep < ring.segments → (made : List Step) × (steps ring keep taker ps ≡ Some made)
   steps-there queue s active place spaces tell next taker ps there left more =

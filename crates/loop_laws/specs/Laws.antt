@@ -2,9 +2,9 @@
 use Rattle.std.specs.Prelude.{◌≡◌, ◌≢◌, ◌≤◌, ◌<◌, ◌==◌, ◌+◌, ◌-◌, ◌*◌, ◌%◌, ℕ, Some, None, List, All, drop, length, map, max, min, slice_get}
 use Rattle.std.specs.List.{filter}
 use Rattle.loop_record.specs.Recording.{Picture, Recording, Ring, last_number, room}
-use Rattle.loop_pipeline.specs.Nexts.{IsNext}
+use Rattle.loop_pipeline.specs.Nexts.{TakesNext}
 use Rattle.loop_desk.specs.declared.limits.Space.{Space}
-use Rattle.loop_laws.specs.Stores.{EachTells, Run, Stores, TakesGroup, empty_stores, frames_of}
+use Rattle.loop_laws.specs.Stores.{EachTells, Run, LongRing, TakesGroup, empty_stores, frames_placed}
 
 -- of two frames of which one comes at least a block's frames after the other, it is later
 abbrev pub TimesRiseByBlocks : Ring → List (ℕ × Picture) → Type 0
@@ -13,8 +13,8 @@ TimesRiseByBlocks ring came =
     → t.1.timestamp < u.1.timestamp
 
 -- the frames that the store at a place took, in order
-abbrev pub taken_by : ℕ → List (ℕ × Picture) → List Picture
-taken_by place came = map (λ t. t.1) (filter (λ t. t.0 == place) came)
+abbrev pub taken_at : ℕ → List (ℕ × Picture) → List Picture
+taken_at place came = map (λ t. t.1) (filter (λ t. t.0 == place) came)
 
 -- of this many frames that came so many are held at least, the newest ones: all; or as many as fill all segments of all
 -- stores but one, and one more
@@ -23,19 +23,19 @@ least_held ring stores came = min came ((stores * ring.segments - 1) * ring.slot
 
 -- The stores hold just the newest of all frames that came, each store those that it took: all but this many of the
 -- first are held.
-pub record HoldNewest (ring : Ring) (stores : Stores) (came : List (ℕ × Picture)) : Type 0 where
+pub record HoldNewest (ring : Ring) (stores : LongRing) (came : List (ℕ × Picture)) : Type 0 where
   pub placed : All (λ t. t.0 < length stores.recordings) came
   pub gone : ℕ
   pub hold : (place : ℕ) (r : Recording) → slice_get stores.recordings place ≡ Some r
-      → map (λ f. f.1) r.frames ≡ taken_by place (drop gone came)
+      → map (λ f. f.1) r.frames ≡ taken_at place (drop gone came)
   pub enough : least_held ring (length stores.recordings) (length came) ≤ length came - gone
 
 -- Stores in which nothing was recorded at first and nothing is locked hold the newest of all frames that came.
 abbrev pub StoresHoldNewest : Type 0
 StoresHoldNewest =
-    (ring : Ring) (keep count first : ℕ) (groups : List (ℕ × List Picture)) (stores : Stores) → 1 ≤ ring.slots
-    → Run ring keep (empty_stores count first) groups stores → TimesRiseByBlocks ring (frames_of groups)
-    → HoldNewest ring stores (frames_of groups)
+    (ring : Ring) (keep count first : ℕ) (groups : List (ℕ × List Picture)) (stores : LongRing) → 1 ≤ ring.slots
+    → Run ring keep (empty_stores count first) groups stores → TimesRiseByBlocks ring (frames_placed groups)
+    → HoldNewest ring stores (frames_placed groups)
 
 -- no store has spent its numbers
 abbrev pub NumbersLast : Ring → List Recording → Type 0
@@ -43,16 +43,16 @@ NumbersLast ring rs = (place : ℕ) (r : Recording) → slice_get rs place ≡ S
 
 -- Whatever the stores tell, one of them takes the next block; and each group is taken that the active store's block has
 -- room for.
-pub record GoOn (ring : Ring) (keep : ℕ) (stores : Stores) (active : Recording) : Type 0 where
+pub record GoOn (ring : Ring) (keep : ℕ) (stores : LongRing) (active : Recording) : Type 0 where
   pub turns : active.next % ring.slots ≡ 0 → (spaces : List Space) → EachTells ring keep stores.recordings spaces
-      → IsNext stores.active spaces None → ⊥
+      → TakesNext stores.active spaces None → ⊥
   pub takes : NumbersLast ring stores.recordings → (group : List Picture) → 1 ≤ length group
-      → length group ≤ room ring active → (place : ℕ) × ((new : Stores) × TakesGroup ring keep stores new place group)
+      → length group ≤ room ring active → (place : ℕ) × ((new : LongRing) × TakesGroup ring keep stores new place group)
 
 -- And they go on, where fewer blocks are kept than a store has segments.
 abbrev pub StoresGoOn : Type 0
 StoresGoOn =
-    (ring : Ring) (keep count first : ℕ) (groups : List (ℕ × List Picture)) (stores : Stores) (active : Recording)
+    (ring : Ring) (keep count first : ℕ) (groups : List (ℕ × List Picture)) (stores : LongRing) (active : Recording)
     → 1 ≤ ring.slots → max 1 keep < ring.segments → Run ring keep (empty_stores count first) groups stores
-    → TimesRiseByBlocks ring (frames_of groups) → slice_get stores.recordings stores.active ≡ Some active
+    → TimesRiseByBlocks ring (frames_placed groups) → slice_get stores.recordings stores.active ≡ Some active
     → GoOn ring keep stores active

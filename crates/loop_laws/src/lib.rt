@@ -1,9 +1,9 @@
 //! What holds of several stores that are used as one long ring, as those of a camera are.
 //!
 //! `specs/Stores` says how frames come to them: what each store tells of the room that it has (`TellsSpace` of
-//! `loop_desk`), the rule by which one of them takes the next block (`IsNext` of `loop_pipeline`), and the steps of an
-//! append (`loop_record`). `specs/Laws` says how much they hold then. The functions do nothing: their contracts are the
-//! laws.
+//! `loop_desk`), the rule by which one of them takes the next block (`TakesNext` of `loop_pipeline`), and the steps of
+//! an append (`loop_record`). `specs/Laws` says how much they hold then. The functions do nothing: their contracts are
+//! the laws.
 //!
 //! The laws are of plain recordings. That a camera's stores stand for such ones, and that a back turns by this rule, is
 //! said by the contracts of `loop_store`, `loop_desk` and `loop_pipeline`.

@@ -12,7 +12,7 @@ use Rattle.loop_pipeline.specs.declared.film.Unfilmed.{Unfilmed}
 use Rattle.loop_pipeline.specs.declared.film.Unfilmed.TheVariants.{NoMemory, NoThread}
 use Rattle.loop_pipeline.specs.Cameras.{CameraKeeps, KeepsJoined, SeenCamera}
 use Rattle.loop_pipeline.specs.Fronts.{IsRegular}
-use Rattle.loop_pipeline.specs.Returns.{GivesBack, GivesJoined}
+use Rattle.loop_pipeline.specs.Returns.{IsReturned, GivesJoined}
 
 module _ {S D P : Type 0} (medium : D → Medium) (gives : S → Next → List ℕ → S → Type 0) (meaning : P → Plane)
     (asks : DeskCall → Type 0) (gives_up : StoreFault → Type 0) (due : ℕ → ℕ → Type 0) (ends : ℕ → Type 0)
@@ -36,7 +36,7 @@ module _ {S D P : Type 0} (medium : D → Medium) (gives : S → Next → List �
 
   pub given-alone : {G : Type 0} (filmed : Result (CameraEnd S D P G Global) (Unfilmed S D P G))
       → IfErr filmed (GivesJoined medium gives meaning asks gives_up due ends shut camera)
-      → IfErr filmed (GivesBack medium gives meaning asks gives_up due ends camera)
+      → IfErr filmed (IsReturned medium gives meaning asks gives_up due ends camera)
   given-alone (Ok e) kept = kept
   given-alone (Err (NoMemory c)) kept = kept
   given-alone (Err (NoThread e)) (device, queue, port, kept) =

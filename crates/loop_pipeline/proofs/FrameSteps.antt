@@ -31,11 +31,10 @@ use Rattle.loop_desk.specs.declared.hand.Hand.TheVariants as hand
 use Rattle.loop_desk.specs.declared.hand.LaneFault.{LaneFault}
 use Rattle.loop_desk.specs.declared.hand.LaneFault.TheVariants.{Queue, Store}
 use Rattle.loop_vb2.specs.Answers.{buffer_answer}
-use Rattle.loop_desk.specs.Front.{Front, HandState, IsDequeue, IsOneEvent, IsRequeue, StandsFront, TurnsBeside, dequeue_event, dequeued, empty, front_after, full, hand_state, kind_of, planes_held, requeue_event, requeued, spent, taken_frame, was_given_up}
+use Rattle.loop_desk.specs.Front.{Front, HandState, IsDequeue, IsOneEvent, IsRequeue, StandsFront, TurnsBeside, dequeue_event, dequeued, empty, front_after, full, hand_state, kind_of, planes_held, requeue_event, requeued, spent, taken_frame, was_given_up, hand_frame}
 use Rattle.loop_desk.proofs.Short.{hand_with}
-use Rattle.loop_desk.specs.Lane.{completed_frame, hand_frame, without_flags}
-use Rattle.loop_desk.specs.Waiting.{IsCounted, frames_dequeued, shot}
-use Rattle.loop_pipeline.specs.Fronts.{IsApart, IsOut, emptied, frame_of, marked_frame, shown}
+use Rattle.loop_desk.specs.Waiting.{IsCounted, frames_dequeued, shot, completed_frame, without_flags}
+use Rattle.loop_pipeline.specs.Fronts.{IsApart, IsOut, emptied, frame_of, marked_frame, shown_of}
 use Rattle.loop_pipeline.proofs.FrontRuns.{Adds}
 
 -- ---- a buffer that is dequeued
@@ -230,7 +229,7 @@ module _ {S P A : Type 0} (gives : S → Next → List ℕ → S → Type 0) (m 
             ∙ ap (λ x. map picture (sent to) ++ x) (frame-read k ∙ (ap hand_frame t.1.hand
             ∙ sym (event-frames s (kind_of f.queue) index b refl one))))));
         source = refl;
-        shows = ap (map shown) (event-completes (kind_of f.queue) index b);
+        shows = ap (map shown_of) (event-completes (kind_of f.queue) index b);
       }
     where
       free-hand : (j : IoctlState) (x : HandState) → IsDequeue j x (Ok index)

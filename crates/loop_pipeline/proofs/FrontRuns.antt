@@ -23,13 +23,11 @@ use Rattle.loop_capture.specs.declared.source.Next.{Next}
 use Rattle.loop_capture.specs.Ticks.{SeenDevice}
 use Rattle.loop_desk.specs.declared.hand.Hand.{Hand}
 use Rattle.loop_desk.specs.declared.hand.Hand.TheVariants as hand
-use Rattle.loop_desk.specs.Front.{Front, StandsFront, empty, hand_state}
-use Rattle.loop_desk.specs.Lane.{completed_frame, hand_frame, without_flags}
-use Rattle.loop_desk.specs.Waiting.{AllHeld, FramesAreKept, IsCounted, IsSoundQueue, QueuesStaySound, dequeued_frame, frames_dequeued, frames_waiting}
-use Rattle.loop_sessions.specs.Ports.{StandsPort}
+use Rattle.loop_desk.specs.Front.{Front, StandsFront, empty, hand_state, hand_frame}
+use Rattle.loop_desk.specs.Waiting.{AllHeld, FramesAreKept, IsCounted, IsSoundQueue, QueuesStaySound, dequeued_frame, frames_dequeued, frames_waiting, completed_frame, without_flags}
 use Rattle.loop_capture.specs.declared.device.Tick.{Tick}
 use Rattle.loop_capture.specs.declared.device.Tick.TheVariants.{Idle, Completed, Failed, Missed, Ended, WrongSize}
-use Rattle.loop_pipeline.specs.Fronts.{AreDue, AreTold, FrontKeeps, GoesOn, HasMoved, IsApart, IsHeld, IsOut, IsRegular, Leaves, SeenFront, TickRecord, count_failed, count_missed, fails, is_last, misses, shown, shown_given}
+use Rattle.loop_pipeline.specs.Fronts.{AreDue, AreTicksTold, FrontKeeps, GoesOn, HasMoved, IsApart, HandIsSpent, IsOut, IsRegular, Leaves, SeenFront, TickRecord, count_failed, count_missed, fails, is_last, misses, shown_of, shown_given, StandsPort}
 use Rattle.loop_pipeline.proofs.OutPlanes.{forgotten}
 
 add-assoc : (a b c : ℕ) → (a + b) + c ≡ a + (b + c)
@@ -116,7 +114,7 @@ pub record Adds {S P A : Type 0} (gives : S → Next → List ℕ → S → Type
   pub went : map without_flags (map picture (sent up))
       ≡ map without_flags (map picture (sent to) ++ frames_dequeued s events)
   pub source : GoesOn gives d given e
-  pub shows : map shown (flat_map completed_frame events) ≡ flat_map shown_given given
+  pub shows : map shown_of (flat_map completed_frame events) ≡ flat_map shown_given given
 
 -- what a tick adds: itself, at this time
 abbrev pub TickAdds : {S P A : Type 0} → (S → Next → List ℕ → S → Type 0) → (P → Plane) → Fds P → QueueState
@@ -239,7 +237,7 @@ module _ {S P G A : Type 0} (gives : S → Next → List ℕ → S → Type 0) (
   pub held : (seen : SeenFront S P G A) (device : SeenDevice S) (queue : Lined P) (table : Fds P) (h : Hand P A)
       (to : Producer (Frame A) A AnyItems) (ticks missed failed : ℕ) (over : Bool)
       → HasMoved gives m due ends seen device queue table h to ticks missed failed over
-      → IsHeld queue h
+      → HandIsSpent queue h
   held seen device queue table h to ticks missed failed over has =
       by h has.stands.hand
     where
@@ -248,7 +246,7 @@ module _ {S P G A : Type 0} (gives : S → Next → List ℕ → S → Type 0) (
           let read = subst (λ (b : Body Plane). IsOut b i) (sym has.stands.queue.queue.shown.body) is in
           (subst (λ n. i < n) (length_read m queue.body.buffers) read.0, sym (state_read m queue.body.buffers i) ∙ read.1)
 
-      by : (k : Hand P A) → hand_state m k ≡ has.now.hand → IsHeld queue k
+      by : (k : Hand P A) → hand_state m k ≡ has.now.hand → HandIsSpent queue k
       by hand.Empty is = tt
       by (hand.Frame i frame planes) is =
           absurd (let none : hand_frame (hand_state m (hand.Frame i frame planes)) ≡ [] = ap hand_frame is ∙ has.free in cc)
@@ -297,8 +295,8 @@ module _ (due : ℕ → ℕ → Type 0) (ends : ℕ → Type 0) where
 
   -- one tick more: it was at a time that is due for its number
   told-more : (missed failed : ℕ) (over : Bool) (xs : List TickRecord) (y : TickRecord)
-      → AreTold due ends missed failed over xs → due (length xs) y.now
-      → AreTold due ends (missed + misses y.tick) (failed + fails y.tick) (is_last y.tick) (xs ++ y ∷ [])
+      → AreTicksTold due ends missed failed over xs → due (length xs) y.now
+      → AreTicksTold due ends (missed + misses y.tick) (failed + fails y.tick) (is_last y.tick) (xs ++ y ∷ [])
   told-more missed failed over xs y told is = record {
     timed = due-behind 0 xs (y ∷ []) told.timed (subst (λ k. AreDue due k (y ∷ [])) (sym (none-plus (length xs))) (is, tt));
     missing = missed-behind xs (y ∷ []) ∙ (λ i. told.missing i + plus-none (misses y.tick) i);
@@ -317,7 +315,7 @@ module _ {S P G A : Type 0} (gives : S → Next → List ℕ → S → Type 0) (
       (given : List TickRecord) (before : HasMoved gives m due ends seen d q table h to ticks missed failed over)
       → Adds gives m table before.now.queue.queue d e q r k to up given
       → length (before.given ++ given) ≡ new_ticks
-      → AreTold due ends new_missed new_failed new_over (before.given ++ given)
+      → AreTicksTold due ends new_missed new_failed new_over (before.given ++ given)
       → HasMoved gives m due ends seen e r table k up new_ticks new_missed new_failed new_over
   moved d e q r h k to up ticks missed failed over new_ticks new_missed new_failed new_over given before adds counted told =
       let s = before.first in
@@ -348,9 +346,9 @@ module _ {S P G A : Type 0} (gives : S → Next → List ℕ → S → Type 0) (
         source = goes-behind gives seen.device d e before.given given before.source adds.source;
         counted = counted;
         told = told;
-        shows = ap (map shown) (flat_map-append completed_frame old new)
-            ∙ (map-append shown (flat_map completed_frame old) (flat_map completed_frame new)
-            ∙ (ap (λ l. l ++ map shown (flat_map completed_frame new)) before.shows
+        shows = ap (map shown_of) (flat_map-append completed_frame old new)
+            ∙ (map-append shown_of (flat_map completed_frame old) (flat_map completed_frame new)
+            ∙ (ap (λ l. l ++ map shown_of (flat_map completed_frame new)) before.shows
             ∙ (ap (λ l. flat_map shown_given before.given ++ l) adds.shows
             ∙ sym (flat_map-append shown_given before.given given))));
       }
@@ -364,7 +362,7 @@ module _ {S P G A : Type 0} (gives : S → Next → List ℕ → S → Type 0) (
   stirred d e q r h k to up ticks missed failed over before adds =
       let none : before.given ++ [] ≡ before.given = append-nil before.given in
       moved d e q r h k to up ticks missed failed over ticks missed failed over [] before adds
-      (ap length none ∙ before.counted) (subst (AreTold due ends missed failed over) (sym none) before.told)
+      (ap length none ∙ before.counted) (subst (AreTicksTold due ends missed failed over) (sym none) before.told)
 
   -- a tick, at a time that is due
   pub ticked : (d e : SeenDevice S) (q r : Lined P) (h k : Hand P A) (to up : Producer (Frame A) A AnyItems)
@@ -379,7 +377,7 @@ module _ {S P G A : Type 0} (gives : S → Next → List ℕ → S → Type 0) (
       moved d e q r h k to up ticks missed failed over (ticks + 1) (missed + misses tick) (failed + fails tick) (is_last tick)
       (g ∷ []) before adds.3
       (length-append before.given (g ∷ []) ∙ ap (λ n. n + 1) before.counted)
-      (subst (λ t. AreTold due ends (missed + misses t) (failed + fails t) (is_last t) (before.given ++ g ∷ [])) adds.2 told)
+      (subst (λ t. AreTicksTold due ends (missed + misses t) (failed + fails t) (is_last t) (before.given ++ g ∷ [])) adds.2 told)
 
   -- no count is above that of the ticks
   pub few : (d : SeenDevice S) (q : Lined P) (h : Hand P A) (to : Producer (Frame A) A AnyItems)

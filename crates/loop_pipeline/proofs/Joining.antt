@@ -13,7 +13,7 @@ use Rattle.loop_capture.specs.declared.source.Next.{Next}
 use Rattle.loop_capture.specs.Ticks.{SeenDevice}
 use Rattle.loop_desk.specs.Desk.{DeskCall}
 use Rattle.loop_desk.specs.Seen.{SeenDesk}
-use Rattle.loop_pipeline.specs.Backs.{Joins, SeenBack, joined}
+use Rattle.loop_pipeline.specs.Backs.{Joins, SeenBack, with_joined}
 use Rattle.loop_pipeline.specs.Cameras.{CameraKeeps, KeepsJoined, SeenCamera}
 use Rattle.loop_pipeline.specs.Fronts.{IsRegular, SeenFront}
 
@@ -43,7 +43,7 @@ module _ {D A : Type 0} (shut : Type 0) where
 
 -- one, or it came back
 pub joins-one : {D A : Type 0} (old new : SeenBack D A) (desk : SeenDesk D) (r : Result ℕ (SeenDesk D))
-    → IfOk r (λ place. (place ≡ length old.desks) × (new ≡ joined desk old))
+    → IfOk r (λ place. (place ≡ length old.desks) × (new ≡ with_joined desk old))
     → IfErr r (λ back. (back ≡ desk) × (new ≡ old)) → Joins ⊥ old new
 joins-one old new desk (Ok place) done refused =
     record { others = desk ∷ []; none = λ s. absurd s; began = ap (λ b. b.began) done.1; from = ap (λ b. b.from) done.1 }

@@ -1,3 +1,4 @@
+pub mod Seating
 mod Alone
 mod BackRuns
 mod Earliest

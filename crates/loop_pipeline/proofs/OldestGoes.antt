@@ -4,7 +4,7 @@ use Rattle.std.proofs.lemmas.Bool.Decides.{eqb_tells}
 use Rattle.std.proofs.Math.Nat.{div-mul-le_self, le-div_iff_mul-le}
 use Rattle.loop_record.specs.Recording.{IsWellFormed, MayGo, Picture, Recording, Ring, block, frame_under, victim}
 use Rattle.loop_record.proofs.Victim.{victim-is, victim-none}
-use Rattle.loop_desk.specs.Space.{IsFirstOf}
+use Rattle.loop_desk.specs.Space.{BeginsBlock}
 use Rattle.loop_pipeline.specs.Nexts.{OldestGoes}
 
 -- the block of a later number is no earlier
@@ -13,7 +13,7 @@ block-le ring m n some order = (le-div_iff_mul-le some).1 (omega (arith, order, 
 
 -- the first frame of the victim is no later than any of a block that may go
 first-before : (ring : Ring) (keep : ℕ) (r : Recording) (v b m n : ℕ) (p q : Picture) → 1 ≤ ring.slots → IsWellFormed r
-    → victim ring keep r ≡ Some v → MayGo ring keep r b → IsFirstOf ring r v m p → frame_under r.frames n ≡ Some q
+    → victim ring keep r ≡ Some v → MayGo ring keep r b → BeginsBlock ring r v m p → frame_under r.frames n ≡ Some q
     → block ring n ≡ b → m ≤ n
 first-before ring keep r v b m n p q some w chosen may first held of = go (eqb_tells v b)
   where

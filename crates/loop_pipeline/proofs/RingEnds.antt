@@ -16,9 +16,8 @@ use Rattle.loop_capture.specs.declared.source.Next.{Next}
 use Rattle.loop_capture.specs.Ticks.{SeenDevice}
 use Rattle.loop_store.specs.declared.fault.StoreFault.{StoreFault}
 use Rattle.loop_desk.specs.Desk.{DeskCall}
-use Rattle.loop_desk.specs.Lane.{without_flags}
 use Rattle.loop_desk.specs.Seen.{SeenDesk}
-use Rattle.loop_desk.specs.Waiting.{frames_waiting}
+use Rattle.loop_desk.specs.Waiting.{frames_waiting, without_flags}
 use Rattle.loop_desk.proofs.FootageRuns.{keeps-footage}
 use Rattle.loop_pipeline.specs.Backs.{BackKeeps, Came, IsFed, MayGiveUpAt, SeenBack, calls_at, calls_by, lost_by, picture_of, placed_calls, unasked, unasked_by}
 use Rattle.loop_pipeline.specs.Cameras.{CameraKeeps}

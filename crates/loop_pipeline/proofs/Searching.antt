@@ -8,7 +8,7 @@ use Rattle.std.proofs.lemmas.List.Sums.{fails_before_first, prefix_len-le-length
 use Rattle.std.proofs.lemmas.List.{length-append}
 use Rattle.std.proofs.lemmas.Option.{slice_get_within, slice_get-get_or, get_or_from_slice_get}
 use Rattle.loop_desk.specs.declared.limits.Space.{Space}
-use Rattle.loop_pipeline.specs.Nexts.{IsBest, IsElsewhere, IsFreeAt, IsFull, IsNext, IsSearch, is_free, with_last}
+use Rattle.loop_pipeline.specs.Nexts.{IsBest, IsElsewhere, IsFreeAt, IsFull, TakesNext, IsSearch, has_free, with_last}
 use Rattle.loop_pipeline.specs.declared.next.Search.{Search}
 use Rattle.loop_pipeline.proofs.Earliest.{best-of-all, none-of-all}
 use Rattle.loop_pipeline.proofs.Places.{get-joined}
@@ -156,7 +156,7 @@ pub search-more : (active place : ℕ) (spaces : List Space) (space : Space) (se
 search-more active place spaces space search here free oldest count is at first best = record {
   here = (λ e. to (at.0 e), λ f. at.1 (back (free-split active spaces space f)));
   free = first ∙ (ap (λ o. with_last o space.free place) is.free
-      ∙ (ap (λ n. with_last (position is_free spaces) space.free n) count ∙ sym (position-push is_free spaces space)));
+      ∙ (ap (λ n. with_last (position has_free spaces) space.free n) count ∙ sym (position-push has_free spaces space)));
   oldest = subst (λ n. IsBest (spaces ++ space ∷ []) n oldest) (sym (length-append spaces (space ∷ []) ∙ ap (λ n. n + 1) (sym count)))
       (best (subst (λ n. IsBest spaces n search.oldest) (sym count) is.oldest));
 }
@@ -175,8 +175,8 @@ search-more active place spaces space search here free oldest count is at first 
 module _ (active : ℕ) (spaces : List Space) where
   -- the earliest that begins, or none, where no store has a free segment
   pub elsewhere-best : (best : Option (ℕ × ℕ)) (next : Option ℕ) → IfSome best (λ b. next ≡ Some b.0)
-      → (best ≡ None → next ≡ None) → position is_free spaces ≡ None → IsBest spaces (length spaces) best
-      → (IsFreeAt spaces active → ⊥) → IsNext active spaces next
+      → (best ≡ None → next ≡ None) → position has_free spaces ≡ None → IsBest spaces (length spaces) best
+      → (IsFreeAt spaces active → ⊥) → TakesNext active spaces next
   elsewhere-best (Some b) next some none is said never =
       inr (
         never,
@@ -191,11 +191,11 @@ module _ (active : ℕ) (spaces : List Space) where
       )
 
   -- where no desk takes the next block, no store has room for one
-  pub all-full : IsNext active spaces None → All IsFull spaces
+  pub all-full : TakesNext active spaces None → All IsFull spaces
   all-full (inl here) = absurd (let e : None ≡ Some active = here.1 in cc)
-  all-full (inr rest) = go (position is_free spaces) refl rest.1
+  all-full (inr rest) = go (position has_free spaces) refl rest.1
     where
-      go : (o : Option ℕ) → position is_free spaces ≡ o → IsElsewhere spaces o None → All IsFull spaces
+      go : (o : Option ℕ) → position has_free spaces ≡ o → IsElsewhere spaces o None → All IsFull spaces
       go (Some free) is e = absurd (let no : None ≡ Some free = e in cc)
       go None is all = λ k d less.
-          (none-passes is_free spaces k (slice_index_or spaces k d) is (slice_get-get_or spaces k d less), all k d less)
+          (none-passes has_free spaces k (slice_index_or spaces k d) is (slice_get-get_or spaces k d less), all k d less)

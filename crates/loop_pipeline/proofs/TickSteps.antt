@@ -30,13 +30,12 @@ use Rattle.loop_capture.specs.declared.device.Tick.{Tick}
 use Rattle.loop_capture.specs.declared.device.Tick.TheVariants.{Idle, Completed, Failed, Missed, Ended, WrongSize}
 use Rattle.loop_capture.specs.declared.source.Next.{Next}
 use Rattle.loop_capture.specs.declared.source.Next.TheVariants.{More, End, Bad}
-use Rattle.loop_capture.specs.Ticks.{SeenDevice, Ticks, Took, end_of, sequence_after, sequence_of, tick_events, tick_of}
+use Rattle.loop_capture.specs.Ticks.{SeenDevice, Ticks, Took, end_event, sequence_after, sequence_of, tick_events, tick_of}
 use Rattle.loop_capture.proofs.TickLinks.{tick-linked}
 use Rattle.loop_desk.specs.declared.hand.Hand.{Hand}
-use Rattle.loop_desk.specs.Front.{Front, HandState, StandsFront, empty, full, planes_held, spent}
-use Rattle.loop_desk.specs.Lane.{completed_frame, hand_frame, without_flags}
-use Rattle.loop_desk.specs.Waiting.{IsCounted, frames_dequeued}
-use Rattle.loop_pipeline.specs.Fronts.{GaveBy, IsApart, IsOut, TickRecord, IsToldBy, shown, shown_given}
+use Rattle.loop_desk.specs.Front.{Front, HandState, StandsFront, empty, full, planes_held, spent, hand_frame}
+use Rattle.loop_desk.specs.Waiting.{IsCounted, frames_dequeued, completed_frame, without_flags}
+use Rattle.loop_pipeline.specs.Fronts.{GaveBy, IsApart, IsOut, TickRecord, IsToldBy, shown_of, shown_given}
 use Rattle.loop_pipeline.proofs.FrontRuns.{TickAdds}
 
 -- for such a tick the source was asked
@@ -75,9 +74,9 @@ fresh-or-next false next = inl refl
 -- ---- what the end of a buffer is, or none
 
 end-counted : (tick : Tick) (stamp : Stamp) (bytes : List ℕ) (s : QueueState)
-    → EachIn after_event MayHappen s (end_of tick stamp bytes)
+    → EachIn after_event MayHappen s (end_event tick stamp bytes)
     → ((i : ℕ) → tick ≡ Completed i → length bytes ≡ frame_size s.body.shape)
-    → EachIn after_event IsCounted s (end_of tick stamp bytes)
+    → EachIn after_event IsCounted s (end_event tick stamp bytes)
 end-counted (Completed i) stamp bytes s may whole = ((may.0, whole i refl), tt)
 end-counted (Failed i) stamp bytes s may whole = ((may.0, tt), tt)
 end-counted Idle stamp bytes s may whole = tt
@@ -85,7 +84,7 @@ end-counted Missed stamp bytes s may whole = tt
 end-counted Ended stamp bytes s may whole = tt
 end-counted WrongSize stamp bytes s may whole = tt
 
-end-flows : (tick : Tick) (stamp : Stamp) (bytes : List ℕ) → list_any stops (end_of tick stamp bytes) ≡ false
+end-flows : (tick : Tick) (stamp : Stamp) (bytes : List ℕ) → list_any stops (end_event tick stamp bytes) ≡ false
 end-flows (Completed i) stamp bytes = refl
 end-flows (Failed i) stamp bytes = refl
 end-flows Idle stamp bytes = refl
@@ -93,7 +92,7 @@ end-flows Missed stamp bytes = refl
 end-flows Ended stamp bytes = refl
 end-flows WrongSize stamp bytes = refl
 
-end-frames : (tick : Tick) (stamp : Stamp) (bytes : List ℕ) (s : QueueState) → frames_dequeued s (end_of tick stamp bytes) ≡ []
+end-frames : (tick : Tick) (stamp : Stamp) (bytes : List ℕ) (s : QueueState) → frames_dequeued s (end_event tick stamp bytes) ≡ []
 end-frames (Completed i) stamp bytes s = refl
 end-frames (Failed i) stamp bytes s = refl
 end-frames Idle stamp bytes s = refl
@@ -102,7 +101,7 @@ end-frames Ended stamp bytes s = refl
 end-frames WrongSize stamp bytes s = refl
 
 end-shown : (tick : Tick) (sequence now : ℕ) (bytes : List ℕ)
-    → map shown (flat_map completed_frame (end_of tick (record { sequence = sequence; timestamp = now }) bytes))
+    → map shown_of (flat_map completed_frame (end_event tick (record { sequence = sequence; timestamp = now }) bytes))
     ≡ flat_map shown_given (record { now = now; tick = tick; sequence = sequence; bytes = bytes } ∷ [])
 end-shown (Completed i) sequence now bytes = refl
 end-shown (Failed i) sequence now bytes = refl
@@ -112,7 +111,7 @@ end-shown Ended sequence now bytes = refl
 end-shown WrongSize sequence now bytes = refl
 
 end-kind : (tick : Tick) (stamp : Stamp) (bytes : List ℕ) (s : QueueState)
-    → (after_all after_event s (end_of tick stamp bytes)).body.kind ≡ s.body.kind
+    → (after_all after_event s (end_event tick stamp bytes)).body.kind ≡ s.body.kind
 end-kind (Completed i) stamp bytes s = refl
 end-kind (Failed i) stamp bytes s = refl
 end-kind Idle stamp bytes s = refl
@@ -121,7 +120,7 @@ end-kind Ended stamp bytes s = refl
 end-kind WrongSize stamp bytes s = refl
 
 end-streams : (tick : Tick) (stamp : Stamp) (bytes : List ℕ) (s : QueueState)
-    → (after_all after_event s (end_of tick stamp bytes)).body.streaming ≡ s.body.streaming
+    → (after_all after_event s (end_event tick stamp bytes)).body.streaming ≡ s.body.streaming
 end-streams (Completed i) stamp bytes s = refl
 end-streams (Failed i) stamp bytes s = refl
 end-streams Idle stamp bytes s = refl
@@ -142,8 +141,8 @@ kept-out bs k i state out device = by (k == i) refl
         let both : owner Dequeued ≡ Device = ap owner (sym it) ∙ device in cc)
 
 stays-out : (tick : Tick) (stamp : Stamp) (bytes : List ℕ) (s : QueueState) → InStep s.body
-    → EachIn after_event MayHappen s (end_of tick stamp bytes) → (k : ℕ) → IsOut s.body k
-    → IsOut (after_all after_event s (end_of tick stamp bytes)).body k
+    → EachIn after_event MayHappen s (end_event tick stamp bytes) → (k : ℕ) → IsOut s.body k
+    → IsOut (after_all after_event s (end_event tick stamp bytes)).body k
 stays-out (Completed i) stamp bytes s step may k out =
     let law = handed_over_by_owners s (complete i stamp bytes None) step may.0 in
     let bs = s.body.buffers in (
@@ -162,8 +161,8 @@ stays-out Ended stamp bytes s step may k out = out
 stays-out WrongSize stamp bytes s step may k out = out
 
 stays-apart : (tick : Tick) (stamp : Stamp) (bytes : List ℕ) (s : QueueState) → InStep s.body
-    → EachIn after_event MayHappen s (end_of tick stamp bytes) → (h : HandState) → IsApart s.body h
-    → IsApart (after_all after_event s (end_of tick stamp bytes)).body h
+    → EachIn after_event MayHappen s (end_event tick stamp bytes) → (h : HandState) → IsApart s.body h
+    → IsApart (after_all after_event s (end_event tick stamp bytes)).body h
 stays-apart tick stamp bytes s step may empty is = tt
 stays-apart tick stamp bytes s step may (full k p planes) is = stays-out tick stamp bytes s step may k is
 stays-apart tick stamp bytes s step may (spent k planes) is = stays-out tick stamp bytes s step may k is

@@ -6,8 +6,8 @@ use Rattle.loop_disk.specs.Medium.{Medium}
 use Rattle.loop_desk.specs.declared.limits.Space.{Space}
 use Rattle.loop_desk.specs.Seen.{SeenDesk}
 use Rattle.loop_pipeline.specs.declared.next.Search.{Search}
-use Rattle.loop_pipeline.specs.Backs.{IsAt, SeenBack, turned}
-use Rattle.loop_pipeline.specs.Nexts.{IsFull, IsNext, IsSearch}
+use Rattle.loop_pipeline.specs.Backs.{IsSoAt, SeenBack, turned}
+use Rattle.loop_pipeline.specs.Nexts.{IsFull, TakesNext, IsSearch}
 use Rattle.loop_pipeline.specs.Turns.{AllLocked, Chooses, IsBetween, MayBegin, MayTurn, Searches, TellsRoom}
 use Rattle.loop_pipeline.proofs.DeskPlaces.{same-desk}
 use Rattle.loop_pipeline.proofs.Places.{get-joined, some-same}
@@ -47,7 +47,7 @@ module _ {D A : Type 0} (medium : D → Medium) where
   -- all have told
   pub search-ends : (inside now : SeenBack D A) (n : ℕ) (search : Search) (next : Option ℕ) → inside ≡ now
       → n ≡ length inside.desks → Searches medium now n search
-      → ((spaces : List Space) → IsSearch inside.active spaces search → IsNext inside.active spaces next)
+      → ((spaces : List Space) → IsSearch inside.active spaces search → TakesNext inside.active spaces next)
       → Chooses medium now next
   search-ends inside now n search next view all told then =
       subst (λ b. Chooses medium b next) view (ends (subst (λ b. Searches medium b n search) (sym view) told))
@@ -72,8 +72,8 @@ module _ {D A : Type 0} (medium : D → Medium) where
       (record { may = may; spaces = none.spaces; tell = none.tell; full = all-full old.active none.spaces none.is })
 
   -- the active desk isn't between two blocks
-  pub begins-not : (back : SeenBack D A) (b : Bool) → IsAt back.active back (λ d. (b ≡ true) ↔ IsBetween d) → b ≡ false
-      → IsAt back.active back (MayBegin medium)
+  pub begins-not : (back : SeenBack D A) (b : Bool) → IsSoAt back.active back (λ d. (b ≡ true) ↔ IsBetween d) → b ≡ false
+      → IsSoAt back.active back (MayBegin medium)
   begins-not back b said is =
       let both = same-desk (λ d. (b ≡ true) ↔ IsBetween d) back.desks back.active said.0 said.1 said in
       (said.0, said.1, λ between. absurd (let e : true ≡ false = sym (both.1 between) ∙ is in cc))
@@ -81,9 +81,9 @@ module _ {D A : Type 0} (medium : D → Medium) where
   -- or its store has room
   pub begins-with : (inside now : SeenBack D A) (desk : SeenDesk D) (space : Space) (full : Bool) → inside ≡ now
       → slice_get inside.desks inside.active ≡ Some desk → TellsRoom medium desk space → ((full ≡ true) ↔ IsFull space)
-      → full ≡ false → IsAt now.active now (MayBegin medium)
+      → full ≡ false → IsSoAt now.active now (MayBegin medium)
   begins-with inside now desk space full view at tells said is =
-      subst (λ (b : SeenBack D A). IsAt b.active b (MayBegin medium)) view
+      subst (λ (b : SeenBack D A). IsSoAt b.active b (MayBegin medium)) view
       (desk, at, λ between. (space, tells, λ f. absurd (let e : true ≡ false = sym (said.1 f) ∙ is in cc)))
 
 module _ {D : Type 0} (d : SeenDesk D) (pending room slots : ℕ) (waits : pending ≡ length d.pending)
@@ -104,7 +104,7 @@ pub not-true : (b : Bool) → not b ≡ true → b ≡ false
 not-true true e = absurd (cc)
 not-true false e = refl
 
-module _ {D A : Type 0} (back : SeenBack D A) (b : Bool) (said : IsAt back.active back (λ d. (b ≡ true) ↔ IsBetween d)) where
+module _ {D A : Type 0} (back : SeenBack D A) (b : Bool) (said : IsSoAt back.active back (λ d. (b ≡ true) ↔ IsBetween d)) where
   pub may-turn : 2 ≤ length back.desks → b ≡ true → MayTurn back
   may-turn several is =
       let both = same-desk (λ d. (b ≡ true) ↔ IsBetween d) back.desks back.active said.0 said.1 said in

@@ -152,8 +152,8 @@ pub record GoesAt {D A : Type 0} (place : ℕ) (old new : SeenBack D A) (P : See
   pub same : new ≡ record old { desks = slice_set old.desks place after }
 
 -- there is a desk at a place, and this is true of it
-abbrev pub IsAt : {D A : Type 0} → ℕ → SeenBack D A → (SeenDesk D → Type 0) → Type 0
-IsAt {D} place back P = (desk : SeenDesk D) × (slice_get back.desks place ≡ Some desk) × P desk
+abbrev pub IsSoAt : {D A : Type 0} → ℕ → SeenBack D A → (SeenDesk D → Type 0) → Type 0
+IsSoAt {D} place back P = (desk : SeenDesk D) × (slice_get back.desks place ≡ Some desk) × P desk
 
 -- nothing changed but the desk at a place
 abbrev pub IsChangedAt : {D A : Type 0} → ℕ → SeenBack D A → SeenBack D A → Type 0
@@ -171,8 +171,8 @@ abbrev pub turned : {D A : Type 0} → ℕ → SeenBack D A → SeenBack D A
 turned place back = record back { active = place }
 
 -- a desk joins the others
-abbrev pub joined : {D A : Type 0} → SeenDesk D → SeenBack D A → SeenBack D A
-joined desk back = record back { began = back.began ++ desk ∷ []; desks = back.desks ++ desk ∷ [] }
+abbrev pub with_joined : {D A : Type 0} → SeenDesk D → SeenBack D A → SeenBack D A
+with_joined desk back = record back { began = back.began ++ desk ∷ []; desks = back.desks ++ desk ∷ [] }
 
 -- Some desks joined; none where the door is shut. Those that were there may have gone on, and another one may be
 -- active.

@@ -12,11 +12,10 @@ use Rattle.loop_capture.specs.declared.source.Next.{Next}
 use Rattle.loop_capture.specs.Ticks.{SeenDevice}
 use Rattle.loop_desk.specs.Desk.{DeskCall, submitted}
 use Rattle.loop_desk.specs.Footage.{KeepsFootage}
-use Rattle.loop_desk.specs.Lane.{without_flags}
-use Rattle.loop_desk.specs.Waiting.{frames_waiting}
+use Rattle.loop_desk.specs.Waiting.{frames_waiting, without_flags}
 use Rattle.loop_desk.specs.Seen.{DeskGoes, SeenDesk}
 use Rattle.loop_pipeline.specs.Backs.{Came, EachServed, GoesBy, IsRightful, MayGiveUp, MayGiveUpAt, Part, asked, calls_at, calls_by, calls_of, is_placed_submit, is_submit, lost_by, picture_of, placed_calls, unasked, unasked_by}
-use Rattle.loop_pipeline.specs.Fronts.{AreTold, GoesOn, TickRecord, shown, shown_given}
+use Rattle.loop_pipeline.specs.Fronts.{AreTicksTold, GoesOn, TickRecord, shown_of, shown_given}
 
 -- a camera: its device, its queue, its desk, and those that joined it
 pub record SeenCamera (S D P : Type 0) : Type 0 where
@@ -40,9 +39,9 @@ pub record CameraKeeps {S D P : Type 0} (medium : D → Medium) (gives : S → N
   -- the device, by its ticks
   pub given : List TickRecord
   pub source : GoesOn gives old.device given new.device
-  pub told : AreTold due ends missed failed over given
+  pub told : AreTicksTold due ends missed failed over given
   pub completed : List Picture
-  pub shows : map shown completed ≡ flat_map shown_given given
+  pub shows : map shown_of completed ≡ flat_map shown_given given
   -- the way of the frames
   pub first : QueueState
   pub last : QueueState

@@ -16,6 +16,7 @@ use Rattle.loop_vb2.specs.Buffers.{state_at}
 use Rattle.loop_vb2.specs.Events.{Event, after_event, stops}
 use Rattle.loop_vb2.specs.First.{shape_of}
 use Rattle.loop_vb2.specs.State.{Body, Lined, QueueState, StandsQueue}
+use Rattle.loop_ioctl.specs.Calls.{IoctlState, StandsIoctl}
 use Rattle.loop_capture.specs.declared.device.Tick.{Tick}
 use Rattle.loop_capture.specs.declared.device.Tick.TheVariants.{Idle, Completed, Failed, Missed, Ended, WrongSize}
 use Rattle.loop_capture.specs.declared.source.Next.{Next}
@@ -23,13 +24,11 @@ use Rattle.loop_capture.specs.declared.source.Next.TheVariants.{More, End, Bad}
 use Rattle.loop_capture.specs.Ticks.{SeenDevice, sequence_after}
 use Rattle.loop_desk.specs.declared.hand.Hand.{Hand}
 use Rattle.loop_desk.specs.declared.hand.Hand.TheVariants as hand
-use Rattle.loop_desk.specs.Front.{Front, HandState, StandsFront, empty, full, spent}
-use Rattle.loop_desk.specs.Lane.{completed_frame, hand_frame, without_flags}
-use Rattle.loop_sessions.specs.Ports.{StandsPort}
+use Rattle.loop_desk.specs.Front.{Front, HandState, StandsFront, empty, full, spent, hand_frame}
 use Rattle.loop_pipeline.specs.declared.film.Left.{Left}
 use Rattle.loop_pipeline.specs.declared.front.Begun.{Begun}
 use Rattle.loop_pipeline.specs.declared.front.FrontParts.{FrontParts}
-use Rattle.loop_desk.specs.Waiting.{IsCounted, IsSoundQueue, frames_dequeued, frames_waiting}
+use Rattle.loop_desk.specs.Waiting.{IsCounted, IsSoundQueue, frames_dequeued, frames_waiting, completed_frame, without_flags}
 
 -- ---- ticks of a device
 
@@ -64,8 +63,8 @@ module _ {S : Type 0} (gives : S → Next → List ℕ → S → Type 0) where
   GoesOn d (g ∷ gs) e = (between : SeenDevice S) × GaveBy g.tick g.sequence g.bytes d between × GoesOn between gs e
 
 -- what a frame shows of its source: its sequence, its time and its bytes
-abbrev pub shown : Picture → ℕ × ℕ × List ℕ
-shown p = (p.sequence, p.timestamp, p.bytes)
+abbrev pub shown_of : Picture → ℕ × ℕ × List ℕ
+shown_of p = (p.sequence, p.timestamp, p.bytes)
 
 -- what a tick that completed a buffer shows
 abbrev pub shown_at : Tick → ℕ × ℕ × List ℕ → List (ℕ × ℕ × List ℕ)
@@ -108,7 +107,7 @@ IsOver ends given =
     ends (length given) ⊎ (list_any (λ g. is_last g.tick) given ≡ true) ⊎ (2 ^ 64 ≤ length given + 1)
 
 -- What the guide said of ticks, and what is told of them: when each was, how many lost a frame, and why they are over.
-pub record AreTold (due : ℕ → ℕ → Type 0) (ends : ℕ → Type 0) (missed failed : ℕ) (over : Bool)
+pub record AreTicksTold (due : ℕ → ℕ → Type 0) (ends : ℕ → Type 0) (missed failed : ℕ) (over : Bool)
     (given : List TickRecord) : Type 0 where
   pub timed : AreDue due 0 given
   pub missing : count_missed given ≡ missed
@@ -138,6 +137,11 @@ pub record IsRegular {P : Type 0} (meaning : P → Plane) (queue : Lined P) : Ty
   pub sound : IsSoundQueue queue state
   pub shaped : IsShaped queue
 
+-- a queue and its table stand for a state
+pub record StandsPort {P : Type 0} (meaning : P → Plane) (queue : Lined P) (table : Fds P) : Type 0 where
+  pub state : IoctlState
+  pub stands : StandsIoctl meaning queue table state
+
 -- a queue and its table stand for a state, and the queue is regular
 pub record IsOpen {P : Type 0} (meaning : P → Plane) (queue : Lined P) (table : Fds P) : Type 0 where
   pub port : StandsPort meaning queue table
@@ -153,10 +157,10 @@ abbrev pub IsOut : {P : Type 0} → Body P → ℕ → Type 0
 IsOut body index = (index < length body.buffers) × (state_at body.buffers index ≡ Dequeued)
 
 -- a buffer in the hand is out of the queue, and its frame is gone
-abbrev pub IsHeld : {P A : Type 0} → Lined P → Hand P A → Type 0
-IsHeld queue hand.Empty = Unit {0}
-IsHeld queue (hand.Frame index frame planes) = ⊥
-IsHeld queue (hand.Spent index planes) = IsOut queue.body index
+abbrev pub HandIsSpent : {P A : Type 0} → Lined P → Hand P A → Type 0
+HandIsSpent queue hand.Empty = Unit {0}
+HandIsSpent queue (hand.Frame index frame planes) = ⊥
+HandIsSpent queue (hand.Spent index planes) = IsOut queue.body index
 
 -- What waited and then what the device completed is what was pushed into the ring, in order and with all bytes, and
 -- then what waits now. What the device completed is what its source gave, at the times that are due.
@@ -170,9 +174,9 @@ pub record FrontKeeps {S P G A : Type 0} (gives : S → Next → List ℕ → S 
   pub streams : queue.body.streaming ≡ seen.queue.body.streaming
   pub given : List TickRecord
   pub source : GoesOn gives seen.device given device
-  pub told : AreTold due ends missed failed over given
+  pub told : AreTicksTold due ends missed failed over given
   pub completed : List Picture
-  pub shows : map shown completed ≡ flat_map shown_given given
+  pub shows : map shown_of completed ≡ flat_map shown_given given
   pub whole : map without_flags (frames_waiting seen.queue first) ++ completed
       ≡ map without_flags (map picture (sent to)) ++ map without_flags (frames_waiting queue last)
 
@@ -193,7 +197,7 @@ pub record Leaves {S P G A : Type 0} (gives : S → Next → List ℕ → S → 
       parts.missed parts.failed parts.over
   pub port : StandsPort meaning parts.queue parts.table
   pub regular : IsRegular meaning seen.queue → IsRegular meaning parts.queue
-  pub held : IsHeld parts.queue parts.hand
+  pub held : HandIsSpent parts.queue parts.hand
 
 -- ---- to another thread and back (private contracts alone)
 
@@ -265,5 +269,5 @@ pub record HasMoved {S P G A : Type 0} (gives : S → Next → List ℕ → S �
   pub given : List TickRecord
   pub source : GoesOn gives seen.device given device
   pub counted : length given ≡ ticks
-  pub told : AreTold due ends missed failed over given
-  pub shows : map shown (flat_map completed_frame events) ≡ flat_map shown_given given
+  pub told : AreTicksTold due ends missed failed over given
+  pub shows : map shown_of (flat_map completed_frame events) ≡ flat_map shown_given given

@@ -1,3 +1,5 @@
+pub mod Notes
+pub mod Seats
 pub mod Backs
 pub mod Cameras
 pub mod Fronts

@@ -6,8 +6,8 @@ use Rattle.loop_desk.specs.declared.limits.Space.{Space}
 use Rattle.loop_desk.specs.Space.{TellsSpace}
 use Rattle.loop_pipeline.specs.declared.next.Search.{Search}
 
-abbrev pub is_free : Space → Bool
-is_free s = s.free
+abbrev pub has_free : Space → Bool
+has_free s = s.free
 
 -- no block may go
 abbrev pub HasNone : Space → Type 0
@@ -36,16 +36,16 @@ IsElsewhere spaces (Some free) result = result ≡ Some free
 IsElsewhere spaces None None = All HasNone spaces
 IsElsewhere spaces None (Some place) = IsEarliest spaces place
 
-abbrev pub IsNext : ℕ → List Space → Option ℕ → Type 0
-IsNext active spaces result =
+abbrev pub TakesNext : ℕ → List Space → Option ℕ → Type 0
+TakesNext active spaces result =
     IsFreeAt spaces active × (result ≡ Some active)
-    ⊎ (IsFreeAt spaces active → ⊥) × IsElsewhere spaces (position is_free spaces) result
+    ⊎ (IsFreeAt spaces active → ⊥) × IsElsewhere spaces (position has_free spaces) result
 
 -- ---- what goes is the oldest
 
 -- the times of the frames rise with their numbers
-abbrev pub TimesRise : Recording → Type 0
-TimesRise r =
+abbrev pub TimesRiseWithNumbers : Recording → Type 0
+TimesRiseWithNumbers r =
     (m n : ℕ) (p q : Picture) → frame_under r.frames m ≡ Some p → frame_under r.frames n ≡ Some q → m ≤ n
     → p.timestamp ≤ q.timestamp
 
@@ -54,7 +54,7 @@ abbrev pub OldestGoes : Type 0
 OldestGoes =
     (spaces : List Space) (place : ℕ) (earliest : IsEarliest spaces place) (i : ℕ) (s : Space)
     → slice_get spaces i ≡ Some s → (ring : Ring) (keep : ℕ) (r : Recording) → 1 ≤ ring.slots → IsWellFormed r
-    → TimesRise r → TellsSpace ring keep r s → (b : ℕ) → MayGo ring keep r b → (n : ℕ) (p : Picture)
+    → TimesRiseWithNumbers r → TellsSpace ring keep r s → (b : ℕ) → MayGo ring keep r b → (n : ℕ) (p : Picture)
     → frame_under r.frames n ≡ Some p → block ring n ≡ b → earliest.time ≤ p.timestamp
 
 -- ---- of the first places (private contracts alone)
@@ -80,5 +80,5 @@ with_last None passes place = if passes then Some place else None
 -- what the first stores have told is of these spaces
 pub record IsSearch (active : ℕ) (spaces : List Space) (search : Search) : Type 0 where
   pub here : (search.here ≡ true) ↔ IsFreeAt spaces active
-  pub free : search.free ≡ position is_free spaces
+  pub free : search.free ≡ position has_free spaces
   pub oldest : IsBest spaces (length spaces) search.oldest

@@ -8,16 +8,15 @@ use Rattle.loop_desk.specs.Desk.{DeskCall}
 use Rattle.loop_pipeline.specs.declared.film.Unfilmed.{Unfilmed}
 use Rattle.loop_pipeline.specs.declared.film.Unfilmed.TheVariants.{NoMemory, NoThread}
 use Rattle.loop_pipeline.specs.Cameras.{CameraKeeps, KeepsJoined, SeenCamera}
-use Rattle.loop_pipeline.specs.Fronts.{IsRegular}
-use Rattle.loop_sessions.specs.Ports.{StandsPort}
+use Rattle.loop_pipeline.specs.Fronts.{IsRegular, StandsPort}
 
 -- what comes back where a camera wasn't filmed: the camera; or what is left of it, with the device and the queue as
 -- they were, and with what waited at the desk kept, if the queue was regular
-abbrev pub GivesBack : {S D P G : Type 0} → (D → Medium) → (S → Next → List ℕ → S → Type 0) → (P → Plane)
+abbrev pub IsReturned : {S D P G : Type 0} → (D → Medium) → (S → Next → List ℕ → S → Type 0) → (P → Plane)
     → (DeskCall → Type 0) → (StoreFault → Type 0) → (ℕ → ℕ → Type 0) → (ℕ → Type 0) → SeenCamera S D P
     → Unfilmed S D P G → Type 0
-GivesBack medium gives meaning asks gives_up due ends camera (NoMemory c) = c ≡ camera
-GivesBack medium gives meaning asks gives_up due ends camera (NoThread e) =
+IsReturned medium gives meaning asks gives_up due ends camera (NoMemory c) = c ≡ camera
+IsReturned medium gives meaning asks gives_up due ends camera (NoThread e) =
     (e.device ≡ camera.device) × (e.queue ≡ camera.queue) × StandsPort meaning e.queue e.table
     × (IsRegular meaning camera.queue → CameraKeeps medium gives meaning asks gives_up due ends camera
     (record { device = e.device; queue = e.queue; desk = e.desk; joined = e.joined.items })

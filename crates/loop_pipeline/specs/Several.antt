@@ -12,8 +12,8 @@ use Rattle.loop_pipeline.specs.declared.several.Outcome.{Outcome}
 use Rattle.loop_pipeline.specs.declared.several.Running.{Running}
 use Rattle.loop_pipeline.specs.declared.several.Shot.{Shot}
 use Rattle.loop_pipeline.specs.Cameras.{CameraKeeps, SeenCamera}
-use Rattle.loop_pipeline.specs.Fronts.{IsHeld, IsRegular, StaysOpen}
-use Rattle.loop_pipeline.specs.Returns.{GivesBack}
+use Rattle.loop_pipeline.specs.Fronts.{HandIsSpent, IsRegular, StaysOpen}
+use Rattle.loop_pipeline.specs.Returns.{IsReturned}
 
 -- What filming a camera answers: at the end the camera has kept its frames, if its queue was regular, and was ended by
 -- its guide or its source; or it comes back, or what is left of it, which kept the same.
@@ -27,8 +27,8 @@ pub record IsFilmed {S D P G : Type 0} (medium : D → Medium) (gives : S → Ne
       e.given_up e.left e.missed e.failed e.over)
   pub ended : IfOk filmed (λ e. e.over ≡ true)
   pub again : IfOk filmed (λ e. StaysOpen meaning camera.queue e.queue e.table)
-  pub held : IfOk filmed (λ e. IsHeld e.queue e.hand)
-  pub refused : IfErr filmed (GivesBack medium gives meaning asks gives_up due ends camera)
+  pub held : IfOk filmed (λ e. HandIsSpent e.queue e.hand)
+  pub refused : IfErr filmed (IsReturned medium gives meaning asks gives_up due ends camera)
 
 -- the camera with its guide, as it was before
 abbrev pub shot_of : {S D P G : Type 0} → Outcome S D P G → Shot S D P G

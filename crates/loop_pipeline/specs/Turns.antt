@@ -7,8 +7,8 @@ use Rattle.loop_desk.specs.declared.limits.Space.{Space}
 use Rattle.loop_desk.specs.Seen.{SeenDesk}
 use Rattle.loop_desk.specs.Space.{TellsSpace}
 use Rattle.loop_pipeline.specs.declared.next.Search.{Search}
-use Rattle.loop_pipeline.specs.Backs.{IsAt, SeenBack, turned}
-use Rattle.loop_pipeline.specs.Nexts.{IsFull, IsNext, IsSearch}
+use Rattle.loop_pipeline.specs.Backs.{IsSoAt, SeenBack, turned}
+use Rattle.loop_pipeline.specs.Nexts.{IsFull, TakesNext, IsSearch}
 
 -- nothing waits at the desk, and its next number begins a block: that takes as many frames as there are slots
 abbrev pub IsBetween : {D : Type 0} → SeenDesk D → Type 0
@@ -19,7 +19,7 @@ IsBetween d =
 -- there are several desks, and the active one is between two blocks
 pub record MayTurn {D A : Type 0} (back : SeenBack D A) : Type 0 where
   pub several : 2 ≤ length back.desks
-  pub between : IsAt back.active back IsBetween
+  pub between : IsSoAt back.active back IsBetween
 
 -- a store tells the room that it has, of the recording that it stands for
 abbrev pub TellsRoom : {D : Type 0} → (D → Medium) → SeenDesk D → Space → Type 0
@@ -40,14 +40,14 @@ pub record TellEach {D : Type 0} (medium : D → Medium) (desks : List (SeenDesk
 pub record Chooses {D A : Type 0} (medium : D → Medium) (back : SeenBack D A) (next : Option ℕ) : Type 0 where
   pub spaces : List Space
   pub tell : TellEach medium back.desks spaces
-  pub is : IsNext back.active spaces next
+  pub is : TakesNext back.active spaces next
 
 abbrev pub turned_by : {D A : Type 0} → Option ℕ → SeenBack D A → SeenBack D A
 turned_by None back = back
 turned_by (Some place) back = turned place back
 
 -- the desk that takes the next block becomes the active one; or all is locked, and nothing changes
-pub record Turns {D A : Type 0} (medium : D → Medium) (old new : SeenBack D A) (locked : Bool) : Type 0 where
+pub record TurnsTo {D A : Type 0} (medium : D → Medium) (old new : SeenBack D A) (locked : Bool) : Type 0 where
   pub next : Option ℕ
   pub chosen : Chooses medium old next
   pub turns : new ≡ turned_by next old

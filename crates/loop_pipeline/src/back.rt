@@ -6,19 +6,18 @@ ghost use Rattle.loop_desk.specs.Desk.{clip_unlocked, flushed, frame_read};
 ghost use Rattle.loop_desk.specs.Keeps.{HaveTime, KeepsTime};
 ghost use Rattle.loop_desk.specs.Seen.{DeskGoes, OutlineRefuses, TellsOutline, TellsStatus};
 ghost use Rattle.loop_pipeline.specs.declared.back.Brought.TheVariants.{Submitted};
-ghost use Rattle.loop_pipeline.specs.Backs.{BackKeeps, FitsBlock, GoesAt, HasRoom, IsAt, IsBrought, IsChangedAt, IsLast, MayKeep, WasRefused, joined, turned};
-ghost use Rattle.loop_pipeline.specs.Turns.{AllLocked, Chooses, IsBetween, MayBegin, MayTurn, Searches, Turns};
+ghost use Rattle.loop_pipeline.specs.Backs.{BackKeeps, FitsBlock, GoesAt, HasRoom, IsSoAt, IsBrought, IsChangedAt, IsLast, MayKeep, WasRefused, turned, with_joined};
+ghost use Rattle.loop_pipeline.specs.Turns.{AllLocked, Chooses, IsBetween, MayBegin, MayTurn, Searches, TurnsTo};
 ghost use Rattle.loop_record.specs.declared.frame.FrameHead.{FrameHead};
 ghost use Rattle.loop_store.specs.declared.fault.StoreFault.{StoreFault};
 ghost use Rattle.loop_store.specs.Calls.{read_with};
 ghost use Rattle.loop_store.specs.Runs.{read_of};
 
 use crate::next::{Search, is_full};
-use crate::{Guide, Visits};
+use crate::{Guide, Seat, Taken, Visits};
 use loop_desk::{Flushed, Kept, Outline, Status};
 use loop_disk::Disk;
 use loop_record::{Frame, FrameHead, Times};
-use loop_sessions::{Seat, Taken};
 use loop_store::{ReadFrame, StoreFault};
 use rtrb::Consumer;
 use std::alloc::{Allocator, Global};
@@ -152,9 +151,9 @@ impl<D: Disk + Drop, K: Visits, A: Allocator + Copy> Back<D, K, A> {
         ensures told { IsBrought D.medium self.new result }
         ensures same { IsChangedAt self.old.active self.old self.new }
         ensures fits { (n : ℕ) → result ≡ Submitted n → 2 ≤ length self.old.desks
-            → IsAt self.old.active self.new FitsBlock }
+            → IsSoAt self.old.active self.new FitsBlock }
         ensures begins { (n : ℕ) → result ≡ Submitted n → anyway ≡ false → 2 ≤ length self.old.desks
-            → IsAt self.old.active self.old (MayBegin D.medium) }
+            → IsSoAt self.old.active self.old (MayBegin D.medium) }
     {
         if self.given_up == u64::MAX {
             return Brought::Nothing;
@@ -245,7 +244,7 @@ impl<D: Disk + Drop, K: Visits, A: Allocator + Copy> Back<D, K, A> {
     /// The counts of the desk at a place, as `Desk::status`.
     pub fn status(&self, place: usize) -> Status
         requires { place < length self.now.desks }
-        ensures { IsAt place self.now (λ desk. TellsStatus D.medium desk result) }
+        ensures { IsSoAt place self.now (λ desk. TellsStatus D.medium desk result) }
     {
         self.desks[place].status()
     }
@@ -254,9 +253,9 @@ impl<D: Disk + Drop, K: Visits, A: Allocator + Copy> Back<D, K, A> {
     /// takes one frame more than those that wait, and its store has room for that block, unless frames are brought
     /// `anyway`.
     pub fn has_room(&self, anyway: bool) -> bool
-        ensures frame { result ≡ true → 2 ≤ length self.now.desks → IsAt self.now.active self.now HasRoom }
+        ensures frame { result ≡ true → 2 ≤ length self.now.desks → IsSoAt self.now.active self.now HasRoom }
         ensures block { result ≡ true → anyway ≡ false → 2 ≤ length self.now.desks
-            → IsAt self.now.active self.now (MayBegin D.medium) }
+            → IsSoAt self.now.active self.now (MayBegin D.medium) }
     {
         let desk = self.desks[self.active].desk();
         let waiting = desk.status().pending;
@@ -337,7 +336,7 @@ impl<D: Disk + Drop, K: Visits, A: Allocator + Copy> Back<D, K, A> {
 
     // Whether the active desk is between two blocks: nothing waits there, and its next number begins a block.
     fn is_between(&self) -> bool
-        ensures { IsAt self.now.active self.now (λ desk. (result ≡ true) ↔ IsBetween desk) }
+        ensures { IsSoAt self.now.active self.now (λ desk. (result ≡ true) ↔ IsBetween desk) }
     {
         let desk = self.desks[self.active].desk();
         desk.status().pending == 0 && desk.room() == desk.geometry().slots
@@ -345,7 +344,7 @@ impl<D: Disk + Drop, K: Visits, A: Allocator + Copy> Back<D, K, A> {
 
     // Whether the active desk is between two blocks, and its store has no room for a block.
     fn is_locked(&self) -> bool
-        ensures { result ≡ false → IsAt self.now.active self.now (MayBegin D.medium) }
+        ensures { result ≡ false → IsSoAt self.now.active self.now (MayBegin D.medium) }
     {
         if !self.is_between() {
             return false;
@@ -378,7 +377,7 @@ impl<D: Disk + Drop, K: Visits, A: Allocator + Copy> Back<D, K, A> {
     /// Where there are several desks and the active one is between two blocks, makes the desk active that takes the
     /// next block (`next_desk`). Returns whether there is none: all is locked. It takes no memory.
     pub fn turn(&mut self) -> bool
-        ensures turns { MayTurn self.old → Turns D.medium self.old self.new result }
+        ensures turns { MayTurn self.old → TurnsTo D.medium self.old self.new result }
         ensures stays { (MayTurn self.old → ⊥) → (self.new ≡ self.old) × (result ≡ false) }
         ensures locked { result ≡ true → AllLocked D.medium self.new }
         ensures same { self.new ≡ record self.old { active = self.new.active } }
@@ -403,7 +402,7 @@ impl<D: Disk + Drop, K: Visits, A: Allocator + Copy> Back<D, K, A> {
 
     /// Takes another desk, and returns its place; if there is no memory for it, it comes back.
     pub fn join(&mut self, desk: Seat<D, K, A>) -> Result<usize, Seat<D, K, A>>
-        ensures done { IfOk result (λ place. (place ≡ length self.old.desks) × (self.new ≡ joined desk self.old)) }
+        ensures done { IfOk result (λ place. (place ≡ length self.old.desks) × (self.new ≡ with_joined desk self.old)) }
         ensures refused { IfErr result (λ back. (back ≡ desk) × (self.new ≡ self.old)) }
     {
         let place = self.desks.len();
@@ -421,8 +420,8 @@ impl<D: Disk + Drop, K: Visits, A: Allocator + Copy> Back<D, K, A> {
     /// What the desk at a place holds, as `Desk::outline`.
     pub fn outline(&self, alloc: A, place: usize) -> Result<Outline<A>, StoreFault>
         requires { place < length self.now.desks }
-        ensures outline { IfOk result (λ outline. IsAt place self.now (λ desk. TellsOutline D.medium desk outline)) }
-        ensures refused { IfErr result (λ fault. IsAt place self.now (λ desk. OutlineRefuses desk fault)) }
+        ensures outline { IfOk result (λ outline. IsSoAt place self.now (λ desk. TellsOutline D.medium desk outline)) }
+        ensures refused { IfErr result (λ fault. IsSoAt place self.now (λ desk. OutlineRefuses desk fault)) }
     {
         self.desks[place].desk().outline(alloc)
     }
@@ -485,7 +484,7 @@ impl<D: Disk + Drop, K: Visits, A: Allocator + Copy> Back<D, K, A> {
         requires plain { K.NOTED ≡ false }
         requires may { MayKeep K.asks }
         ensures goes { GoesAt place self.old self.new (λ d e. KeepsTime D.medium times tag d e result) }
-        ensures whole { result.fault ≡ None → IsAt place self.old (λ desk. HaveTime times desk result.clips.items) }
+        ensures whole { result.fault ≡ None → IsSoAt place self.old (λ desk. HaveTime times desk result.clips.items) }
     {
         self.desks[place].keep_time(alloc, times, tag)
     }

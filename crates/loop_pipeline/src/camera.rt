@@ -1,14 +1,13 @@
 //! A camera: its device, its queue and its desk.
 
 ghost use Rattle.std.specs.Prelude.{◌≡◌, [], false};
-ghost use Rattle.loop_sessions.specs.Ports.{StandsPort};
+ghost use Rattle.loop_pipeline.specs.Fronts.{StandsPort};
 
-use crate::Visits;
+use crate::{Seat, Visits};
 use loop_capture::{Device, FrameSource};
 use loop_desk::Desk;
 use loop_disk::Disk;
 use loop_plane::{FdTable, PlaneMemory};
-use loop_sessions::Seat;
 use loop_vb2::Queue;
 use std::marker::Model;
 
@@ -24,7 +23,7 @@ pub struct Camera<S: FrameSource + Drop, D: Disk + Drop, P: PlaneMemory, G: Visi
 impl<S: FrameSource + Drop, D: Disk + Drop, P: PlaneMemory, G: Visits> Model
     for Camera<S, D, P, G> {
     ghost use Rattle.std.specs.Prelude.{[]};
-    ghost use Rattle.loop_sessions.specs.Ports.{StandsPort};
+    ghost use Rattle.loop_pipeline.specs.Fronts.{StandsPort};
     ghost use Rattle.loop_pipeline.specs.Cameras.{SeenCamera};
 
     ghost Value = { SeenCamera S D P };

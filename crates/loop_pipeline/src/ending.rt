@@ -4,14 +4,13 @@ ghost use Rattle.std.specs.Prelude.{◌≡◌, ◌∷◌, List};
 ghost use Rattle.rtrb.specs.Ring.{IsPair};
 ghost use Rattle.loop_desk.specs.Seen.{SeenDesk};
 ghost use Rattle.loop_pipeline.specs.Cameras.{CameraKeeps};
-ghost use Rattle.loop_pipeline.specs.Fronts.{IsHeld, IsRegular, Leaves, StaysOpen, made_of};
+ghost use Rattle.loop_pipeline.specs.Fronts.{HandIsSpent, IsRegular, Leaves, StaysOpen, made_of};
 
-use crate::{Back, BackParts, Begun, FrontParts, Guide, Visits};
+use crate::{Back, BackParts, Begun, FrontParts, Guide, Seat, Visits};
 use loop_capture::{Device, FrameSource};
 use loop_desk::Hand;
 use loop_disk::Disk;
 use loop_plane::{FdTable, PlaneMemory};
-use loop_sessions::Seat;
 use loop_vb2::Queue;
 use std::alloc::{Allocator, Global};
 
@@ -65,7 +64,7 @@ pub fn end<S: FrameSource + Drop, D: Disk + Drop, P: PlaneMemory, G: Guide, A: A
         (record { device = result.device; queue = result.queue; desk = result.desk; joined = result.joined.items })
         result.given_up result.left result.missed result.failed result.over }
     ensures again { StaysOpen P.plane begun.queue.value result.queue result.table }
-    ensures held { IsHeld result.queue result.hand }
+    ensures held { HandIsSpent result.queue result.hand }
     ensures desks { result.desk ∷ result.joined.items ≡ back.desks }
     ensures front { (result.device ≡ front.device) × (result.queue ≡ front.queue) × (result.over ≡ front.over) }
 {

@@ -2,25 +2,23 @@
 
 ghost use Rattle.std.specs.Prelude.{◌≡◌, ◌∷◌, [], IfErr, IfOk, List, false, true};
 ghost use Rattle.loop_desk.specs.Seen.{SeenDesk};
-ghost use Rattle.loop_sessions.specs.Ports.{StandsPort};
 ghost use Rattle.loop_pipeline.specs.Backs.{Joins};
 ghost use Rattle.loop_pipeline.specs.Cameras.{CameraKeeps, KeepsJoined};
-ghost use Rattle.loop_pipeline.specs.Returns.{GivesBack, GivesJoined};
+ghost use Rattle.loop_pipeline.specs.Returns.{IsReturned, GivesJoined};
 ghost use Rattle.rtrb.specs.Ring.{IsPair, sent};
-ghost use Rattle.loop_pipeline.specs.Fronts.{IsHeld, IsRegular, Leaves, LeavesCarried, StaysOpen, made_of};
+ghost use Rattle.loop_pipeline.specs.Fronts.{HandIsSpent, IsRegular, Leaves, LeavesCarried, StaysOpen, made_of, StandsPort};
 
 use crate::bell::Bell;
 use crate::start_barrier::StartBarrier;
 use crate::{
-    Back, Begun, Brought, Camera, CameraEnd, Door, Front, FrontParts, Guide, TakeOutcome, Visits,
-    end,
+    Back, Begun, Brought, Camera, CameraEnd, Door, Front, FrontParts, Guide, Seat, TakeOutcome,
+    Visits, end,
 };
 use loop_capture::{Device, FrameSource};
 use loop_desk::Hand;
 use loop_disk::Disk;
 use loop_plane::{FdTable, PlaneMemory};
 use loop_record::Frame;
-use loop_sessions::Seat;
 use loop_vb2::Queue;
 use rtrb::{Producer, RingBuffer};
 use std::alloc::{AllocError, Global};
@@ -586,7 +584,7 @@ fn end_both<S: FrameSource + Drop, D: Disk + Drop, P: PlaneMemory, G: Guide, W: 
         (record { device = result.device; queue = result.queue; desk = result.desk; joined = result.joined.items })
         result.given_up result.left result.missed result.failed result.over }
     ensures again { StaysOpen P.plane begun.queue.value result.queue result.table }
-    ensures held { IsHeld result.queue result.hand }
+    ensures held { HandIsSpent result.queue result.hand }
     ensures rests { result.over ≡ false
         → (result.device ≡ begun.device.value) × (result.queue ≡ begun.queue.value) }
 {
@@ -650,7 +648,7 @@ pub fn film_desks<
         e.given_up e.left e.missed e.failed e.over) }
     ensures ended { IfOk result (λ e. e.over ≡ true) }
     ensures again { IfOk result (λ e. StaysOpen P.plane camera.queue e.queue e.table) }
-    ensures held { IfOk result (λ e. IsHeld e.queue e.hand) }
+    ensures held { IfOk result (λ e. HandIsSpent e.queue e.hand) }
     ensures refused { IfErr result (GivesJoined D.medium S.next_gives P.plane G.asks G.gives_up
         (G.due guide.now) (G.ends guide.now) (door.now ≡ false) camera) }
 {
@@ -718,8 +716,8 @@ pub fn film_camera<
         e.given_up e.left e.missed e.failed e.over) }
     ensures ended { IfOk result (λ e. e.over ≡ true) }
     ensures again { IfOk result (λ e. StaysOpen P.plane camera.queue e.queue e.table) }
-    ensures held { IfOk result (λ e. IsHeld e.queue e.hand) }
-    ensures refused { IfErr result (GivesBack D.medium S.next_gives P.plane G.asks G.gives_up
+    ensures held { IfOk result (λ e. HandIsSpent e.queue e.hand) }
+    ensures refused { IfErr result (IsReturned D.medium S.next_gives P.plane G.asks G.gives_up
         (G.due guide.now) (G.ends guide.now) camera) }
 {
     let door = Door::shut(alloc);

@@ -3,8 +3,7 @@
 ghost use Rattle.std.specs.Prelude.{◌≡◌, ◌<◌, ◌≤◌, ◌++◌, [], IfErr, IfOk, get_or, true};
 ghost use Rattle.rtrb.specs.Ring.{SameProducer, known_free, sent};
 ghost use Rattle.loop_desk.specs.Front.{hand_state};
-ghost use Rattle.loop_sessions.specs.Ports.{StandsPort};
-ghost use Rattle.loop_pipeline.specs.Fronts.{Leaves, emptied, fails, is_last, made_of, marked_frame, misses};
+ghost use Rattle.loop_pipeline.specs.Fronts.{Leaves, emptied, fails, is_last, made_of, marked_frame, misses, StandsPort};
 
 use crate::Guide;
 use loop_capture::{Device, FrameSource, Tick};

@@ -6,6 +6,8 @@
 //!   camera meanwhile; `guide`: what they ask and report; `visits`: what visitors of the desks may call; `bell`: where
 //!   one sleeps until the other has work for it; `laws`: what follows;
 //! - `next`: which desk takes the next block;
+//! - `seat`: a desk that one thread owns, alone or with its calls noted; `entry`: what is noted of a call, and a
+//!   caller's pass; `notes`: how it is noted;
 //! - `several`: `film_all`, which films several cameras; `start_barrier`: where they wait until all have begun;
 //! - `start`: a queue that a front may begin with, and how it is started; `buffers`: the memory of its buffers.
 //!
@@ -15,7 +17,8 @@
 //! that came was accepted or is counted; and of those that were accepted the footage is kept, whenever the power fails:
 //! there is a desk after each answered call, so at each moment all is there that was answered before.
 //!
-//! Both programs film by it: `loop_cli record` and `loop_station`.
+//! Both programs film by it: `loop_cli record` and `loop_station`. Their desks' calls aren't noted; a recorder's are
+//! (loop_recorder), and what was noted leads from a desk's opening to the desk (`specs/Notes`, `HasGoneOn`).
 //!
 //! docs/threads.md says why it is so.
 #![tactic(auto)]
@@ -26,11 +29,14 @@ mod buffers;
 mod camera;
 mod door;
 mod ending;
+mod entry;
 mod film;
 mod front;
 mod guide;
 pub mod laws;
 mod next;
+pub mod notes;
+mod seat;
 mod several;
 mod start;
 mod start_barrier;
@@ -42,10 +48,11 @@ pub use buffers::{Start, heap_start, mapped_start};
 pub use camera::Camera;
 pub use door::Door;
 pub use ending::{CameraEnd, end};
+pub use entry::{Entry, FrameInfo, Noted, Pass, Receipt};
 pub use film::{Link, Unfilmed, film_back, film_camera, film_desks, film_front};
 pub use front::{Begun, Front, FrontParts, TakeOutcome};
 pub use guide::Guide;
-pub use loop_sessions::{Noting, Seat};
+pub use seat::{Notes, Noting, Seat, Taken};
 pub use several::{Filmed, Outcome, Shot, film_all};
 pub use start::{new_queue, start_queue};
 pub use start_barrier::StartBarrier;

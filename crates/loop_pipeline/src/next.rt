@@ -2,7 +2,7 @@
 
 ghost use Rattle.std.specs.Prelude.{◌≡◌, ◌∷◌, ◌+◌, ◌++◌, ◌↔◌, ℕ, IfSome, List, None, Some, [], length, true};
 ghost use Rattle.loop_desk.specs.declared.limits.Space.{Space};
-ghost use Rattle.loop_pipeline.specs.Nexts.{IsBest, IsFull, IsNext, IsSearch, with_last};
+ghost use Rattle.loop_pipeline.specs.Nexts.{IsBest, IsFull, TakesNext, IsSearch, with_last};
 
 use loop_desk::Space;
 
@@ -87,7 +87,7 @@ impl Search {
     /// the first that has one; else the one whose block that may go begins earliest, the first of such. None where no
     /// block may go.
     pub(crate) fn next(self, active: usize) -> Option<usize>
-        ensures { (spaces : List Space) → IsSearch active spaces self → IsNext active spaces result }
+        ensures { (spaces : List Space) → IsSearch active spaces self → TakesNext active spaces result }
     {
         if self.here {
             return Some(active);

@@ -1,6 +1,6 @@
 //! What visitors of a desk may call, and when its frames may be given up.
 
-use loop_sessions::Noting;
+use crate::Noting;
 
 /// What visitors of a camera's desk may call, between what its filming does by itself: submits and flushes; and whether
 /// each call is noted.

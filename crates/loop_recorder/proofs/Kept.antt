@@ -22,10 +22,10 @@ use Rattle.loop_pipeline.specs.declared.several.Shot.{Shot}
 use Rattle.loop_pipeline.specs.Cameras.{CameraKeeps, SeenCamera}
 use Rattle.loop_pipeline.specs.Fronts.{GaveBy, GoesOn, IsRegular, TickRecord}
 use Rattle.loop_pipeline.specs.Several.{IsFilmed, IsOutcome, shot_of}
-use Rattle.loop_sessions.specs.declared.opening.OpenCamera.{OpenCamera}
+use Rattle.loop_recorder.specs.declared.opened.OpenCamera.{OpenCamera}
 use Rattle.loop_recorder.specs.declared.post.Post.{Post}
 use Rattle.loop_recorder.specs.declared.room.Returned.{Returned}
-use Rattle.loop_recorder.specs.Recordings.{AreFilmed, EachKept, HasKept, IsGuided, IsPeriod, IsRead, SeenLeft, had_by, had_in, left_by, left_in, lender, lender_of, rest_left, without_source}
+use Rattle.loop_recorder.specs.Recordings.{AreFilmed, EachKept, HasKept, IsGuided, IsRead, IsTickTime, SeenLeft, had_by, had_in, outcome_left, lender, lender_of, outcome_rest, rest_left, seen_filmed, seen_left, without_source}
 use Rattle.loop_recorder.proofs.Places.{all-at, made-from, makes, same-some}
 
 module _ {B S : Type 0} (source : B → S) (gives : S → Next → List ℕ → S → Type 0) where
@@ -99,12 +99,12 @@ module _ {S D P G : Type 0} (medium : D → Medium) (gives : S → Next → List
     (frames : ℕ) (geometry : Geometry) where
   -- of a camera that had one desk
   pub kept-of : (camera : SeenCamera S D P) (filmed : Result (CameraEnd S D P G Global) (Unfilmed S D P G))
-      → IsFilmed medium gives meaning IsRead (λ fault. ⊤) (IsPeriod geometry) (λ n. frames ≤ n) camera filmed
+      → IsFilmed medium gives meaning IsRead (λ fault. ⊤) (IsTickTime geometry) (λ n. frames ≤ n) camera filmed
       → camera.joined ≡ [] → IsRegular meaning camera.queue
-      → IfSome (left_by filmed).lost (HasKept medium gives meaning frames geometry camera (rest_left filmed)
-      (left_by filmed).queue (left_by filmed).desk)
+      → IfSome (seen_left filmed).lost (HasKept medium gives meaning frames geometry camera (rest_left filmed)
+      (seen_left filmed).queue (seen_left filmed).desk)
   kept-of camera (Ok e) is alone regular =
-      let kept : CameraKeeps medium gives meaning IsRead (λ fault. ⊤) (IsPeriod geometry) (λ n. frames ≤ n) camera
+      let kept : CameraKeeps medium gives meaning IsRead (λ fault. ⊤) (IsTickTime geometry) (λ n. frames ≤ n) camera
       (record { device = e.device; queue = e.queue; desk = e.desk; joined = e.joined.items })
       e.given_up e.left e.missed e.failed e.over = is.keeps regular in
       let none : e.joined.items ≡ [] = nil_from_length e.joined.items (kept.all ∙ ap length alone) in
@@ -117,10 +117,10 @@ module _ {S D P G : Type 0} (medium : D → Medium) (gives : S → Next → List
         failed = e.failed;
         counted = omega arith;
         keeps =
-            subst (λ over. CameraKeeps medium gives meaning IsRead (λ fault. ⊤) (IsPeriod geometry) (λ n. frames ≤ n)
+            subst (λ over. CameraKeeps medium gives meaning IsRead (λ fault. ⊤) (IsTickTime geometry) (λ n. frames ≤ n)
             camera (record { device = e.device; queue = e.queue; desk = e.desk; joined = [] })
             e.given_up e.left e.missed e.failed over) is.ended
-            (subst (λ joined. CameraKeeps medium gives meaning IsRead (λ fault. ⊤) (IsPeriod geometry)
+            (subst (λ joined. CameraKeeps medium gives meaning IsRead (λ fault. ⊤) (IsTickTime geometry)
             (λ n. frames ≤ n) camera (record { device = e.device; queue = e.queue; desk = e.desk; joined = joined })
             e.given_up e.left e.missed e.failed e.over) none kept);
       }
@@ -131,28 +131,26 @@ module _ {S D P G : Type 0} (medium : D → Medium) (gives : S → Next → List
 module _ {S D P W : Type 0} (medium : D → Medium) (gives : S → Next → List ℕ → S → Type 0) (meaning : P → Plane)
     (shots : List (Shot S D P (Post W))) (r : Returned D P) where
   pub are-filmed : (outcomes : List (Outcome S D P (Post W))) → map shot_of outcomes ≡ shots
-      → All (IsOutcome medium gives meaning IsRead (λ fault. ⊤) (λ (post : Post W) n now. IsPeriod post.geometry n now)
+      → All (IsOutcome medium gives meaning IsRead (λ fault. ⊤) (λ (post : Post W) n now. IsTickTime post.geometry n now)
       (λ post n. post.frames ≤ n)) outcomes
-      → r.rests.items ≡ map (λ o. rest_left o.filmed) outcomes
-      → map left_in r.filmed.items ≡ map (λ o. left_by o.filmed) outcomes → AreFilmed medium gives meaning shots r
+      → r.rests.items ≡ map outcome_rest outcomes
+      → map seen_filmed r.filmed.items ≡ map outcome_left outcomes → AreFilmed medium gives meaning shots r
   are-filmed outcomes same each rests left k s rest e is-s is-rest is-e alone regular =
-      let after : Outcome S D P (Post W) → SeenRest = λ o. rest_left o.filmed in
-      let all : Outcome S D P (Post W) → SeenLeft D P = λ o. left_by o.filmed in
       let at = made-from shot_of outcomes k s (subst (λ l. slice_get l k ≡ Some s) (sym same) is-s) in
       let o = at.0 in
       let shot = shot_of o in
-      let the-rest : after o ≡ rest =
-      same-some (after o) rest
-      (sym (makes after outcomes k o at.1) ∙ sym (ap (λ l. slice_get l k) rests) ∙ is-rest) in
-      let the-left : all o ≡ left_in e =
-      same-some (all o) (left_in e)
-      (sym (makes all outcomes k o at.1) ∙ sym (ap (λ l. slice_get l k) left)
-      ∙ makes left_in r.filmed.items k e is-e) in
-      let kept : IfSome (all o).lost (HasKept medium gives meaning shot.guide.frames shot.guide.geometry shot.camera
-      (after o) (all o).queue (all o).desk) =
+      let the-rest : outcome_rest o ≡ rest =
+      same-some (outcome_rest o) rest
+      (sym (makes outcome_rest outcomes k o at.1) ∙ sym (ap (λ l. slice_get l k) rests) ∙ is-rest) in
+      let the-left : outcome_left o ≡ seen_filmed e =
+      same-some (outcome_left o) (seen_filmed e)
+      (sym (makes outcome_left outcomes k o at.1) ∙ sym (ap (λ l. slice_get l k) left)
+      ∙ makes seen_filmed r.filmed.items k e is-e) in
+      let kept : IfSome (outcome_left o).lost (HasKept medium gives meaning shot.guide.frames shot.guide.geometry shot.camera
+      (outcome_rest o) (outcome_left o).queue (outcome_left o).desk) =
       kept-of medium gives meaning shot.guide.frames shot.guide.geometry shot.camera o.filmed
       (all-at (IsOutcome medium gives meaning IsRead (λ fault. ⊤)
-      (λ (post : Post W) n now. IsPeriod post.geometry n now) (λ post n. post.frames ≤ n)) outcomes k o each at.1)
+      (λ (post : Post W) n now. IsTickTime post.geometry n now) (λ post n. post.frames ≤ n)) outcomes k o each at.1)
       (subst (λ (z : Shot S D P (Post W)). z.camera.joined ≡ []) (sym at.2) alone)
       (subst (λ (z : Shot S D P (Post W)). IsRegular meaning z.camera.queue) (sym at.2) regular) in
       subst (λ (z : Shot S D P (Post W)). IfSome e.given_up (HasKept medium gives meaning z.guide.frames
@@ -160,16 +158,16 @@ module _ {S D P W : Type 0} (medium : D → Medium) (gives : S → Next → List
       (subst (λ z. IfSome e.given_up (HasKept medium gives meaning shot.guide.frames shot.guide.geometry shot.camera z
       e.camera.port.queue e.camera.session.desk)) the-rest
       (subst (λ (z : SeenLeft D P). IfSome z.lost (HasKept medium gives meaning shot.guide.frames shot.guide.geometry
-      shot.camera (after o) z.queue z.desk)) the-left kept))
+      shot.camera (outcome_rest o) z.queue z.desk)) the-left kept))
 
   -- where none was filmed, nothing is promised
-  pub none-filmed : All (λ (l : SeenLeft D P). l.lost ≡ None) (map left_in r.filmed.items)
+  pub none-filmed : All (λ (l : SeenLeft D P). l.lost ≡ None) (map seen_filmed r.filmed.items)
       → AreFilmed medium gives meaning shots r
   none-filmed none k s rest e is-s is-rest is-e alone regular =
       subst (λ lost. IfSome lost (HasKept medium gives meaning s.guide.frames s.guide.geometry s.camera rest
       e.camera.port.queue e.camera.session.desk))
-      (sym (all-at (λ (l : SeenLeft D P). l.lost ≡ None) (map left_in r.filmed.items) k (left_in e) none
-      (makes left_in r.filmed.items k e is-e))) tt
+      (sym (all-at (λ (l : SeenLeft D P). l.lost ≡ None) (map seen_filmed r.filmed.items) k (seen_filmed e) none
+      (makes seen_filmed r.filmed.items k e is-e))) tt
 
 if-some : {X : Type 0} (P Q : X → Type 0) (o : Option X) → ((x : X) → P x → Q x) → IfSome o P → IfSome o Q
 if-some P Q None more is = tt

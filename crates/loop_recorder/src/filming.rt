@@ -7,12 +7,11 @@ ghost use Rattle.loop_recorder.specs.Recordings.{EachKept, IsGuided, had_by, had
 use crate::post::{Post, Watch};
 use crate::returns::film;
 use crate::room::{FilmedCamera, Recorded, Returned, returned_for};
-use crate::{Pace, Pass};
+use crate::{OpenCamera, Pace, Pass};
 use loop_capture::{Device, FrameSource, Loan, Rest};
 use loop_disk::Disk;
 use loop_pipeline::{Camera, Shot};
 use loop_plane::PlaneMemory;
-use loop_sessions::{OpenCamera, Seat};
 use std::alloc::Global;
 use std::sync::Wait;
 use std::sync::atomic::AtomicU64;
@@ -34,7 +33,7 @@ fn shot_of<'a, S: FrameSource + Drop, D: Disk + Drop, P: PlaneMemory, Q: Pace>(
 {
     let OpenCamera { session, port } = camera;
     let (queue, table) = port.into_parts();
-    let seat = Seat::noting(session, number, pass);
+    let seat = session.into_seat(number, pass);
     let guide = Post {
         pace: Watch(pace),
         camera: number,

@@ -1,14 +1,13 @@
 //! What guides a camera of a recording.
 
-ghost use Rattle.loop_recorder.specs.Recordings.{IsPeriod};
+ghost use Rattle.loop_recorder.specs.Recordings.{IsTickTime};
 
 use crate::{Pace, Step};
 use loop_capture::Tick;
 use loop_desk::Flushed;
 use loop_disk::Disk;
-use loop_pipeline::{Back, Guide, Visits};
+use loop_pipeline::{Back, Guide, Noting, Visits};
 use loop_record::Geometry;
-use loop_sessions::Noting;
 use loop_store::StoreFault;
 use std::alloc::Global;
 use std::sync::Wait;
@@ -43,7 +42,7 @@ impl<'a, Q: Pace> Pace for Watch<'a, Q> {
 
 // When tick `n` is, in microseconds, at the rate of a store, rounded down; at most 2^64 - 1.
 fn tick_time(n: u64, geometry: &Geometry) -> u64
-    ensures { IsPeriod geometry.now n result }
+    ensures { IsTickTime geometry.now n result }
 {
     let rate_num = u128::from(geometry.rate_num.max(1));
     let micros = u128::from(n) * 1_000_000 * u128::from(geometry.rate_den) / rate_num;
@@ -70,9 +69,9 @@ impl<W: Pace> Visits for Post<W> {
 
 impl<W: Pace> Guide for Post<W> {
     ghost use Rattle.std.specs.Prelude.{◌≤◌};
-    ghost use Rattle.loop_recorder.specs.Recordings.{IsPeriod};
+    ghost use Rattle.loop_recorder.specs.Recordings.{IsTickTime};
 
-    ghost due = { λ post n now. IsPeriod post.geometry n now };
+    ghost due = { λ post n now. IsTickTime post.geometry n now };
 
     ghost ends = { λ post n. post.frames ≤ n };
 

@@ -1,17 +1,16 @@
 //! How the cameras of a recording come back.
 
 ghost use Rattle.std.specs.Prelude.{◌≡◌, ◌+◌, ◌++◌, ◌∷◌, ℕ, [], All, None, Some, map, vec_len};
-ghost use Rattle.loop_recorder.specs.Recordings.{AreFilmed, HoldsAll, StandsAfter, left_by, left_in, lost_of, rest_left, without_source};
-ghost use Rattle.loop_sessions.specs.Ports.{StandsPort};
+ghost use Rattle.loop_recorder.specs.Recordings.{AreFilmed, HoldsAll, StandsAfter, StandsOutcome, outcome_left, lost_of, outcome_rest, rest_left, seen_filmed, seen_left, without_source};
+ghost use Rattle.loop_pipeline.specs.Fronts.{StandsPort};
 
 use crate::post::{Post, Watch};
 use crate::room::{FilmedCamera, Recorded, Returned};
-use crate::{Pace, Port};
+use crate::{OpenCamera, Pace, Port, Session};
 use loop_capture::{Device, FrameSource};
 use loop_disk::Disk;
-use loop_pipeline::{CameraEnd, Filmed, Outcome, Shot, Unfilmed, film_all};
+use loop_pipeline::{CameraEnd, Filmed, Outcome, Seat, Shot, Unfilmed, film_all};
 use loop_plane::{FdTable, PlaneMemory};
-use loop_sessions::{OpenCamera, Seat};
 use loop_vb2::Queue;
 use std::alloc::Global;
 use std::sync::Wait;
@@ -71,7 +70,7 @@ fn parts_of<'a, S: FrameSource + Drop, D: Disk + Drop, P: PlaneMemory, Q: Pace>(
     requires { StandsAfter P.plane filmed }
     ensures stands { StandsPort P.plane result.queue result.table }
     ensures rest { without_source result.device ≡ rest_left filmed.entry }
-    ensures left { record { queue = result.queue; desk = result.seat; lost = result.lost } ≡ left_by filmed.entry }
+    ensures left { record { queue = result.queue; desk = result.seat; lost = result.lost } ≡ seen_left filmed.entry }
 {
     match filmed {
         Ok(ended) => parts_left(ended),
@@ -101,8 +100,8 @@ fn put_back<'a, S: FrameSource + Drop, D: Disk + Drop, P: PlaneMemory, Q: Pace>(
     requires room { HoldsAll (vec_len returned.filmed + 1) returned }
     ensures one { vec_len result.filmed ≡ vec_len returned.filmed + 1 }
     ensures rests { result.rests.items ≡ returned.rests.items ++ rest_left filmed.entry ∷ [] }
-    ensures filmed { map left_in result.filmed.items
-        ≡ map left_in returned.filmed.items ++ left_by filmed.entry ∷ [] }
+    ensures filmed { map seen_filmed result.filmed.items
+        ≡ map seen_filmed returned.filmed.items ++ seen_left filmed.entry ∷ [] }
     ensures room { (all : ℕ) → HoldsAll all returned → HoldsAll all result }
 {
     let Returned {
@@ -116,7 +115,7 @@ fn put_back<'a, S: FrameSource + Drop, D: Disk + Drop, P: PlaneMemory, Q: Pace>(
         seat,
         lost,
     } = parts_of(filmed);
-    let (session, pass) = seat.into_noted();
+    let (session, pass) = Session::from_seat(seat);
     let port = Port::new(queue, table);
     rests.push_reserved(device.into_rest());
     list.push_reserved(FilmedCamera {
@@ -135,11 +134,11 @@ fn outcomes_back<'a, S: FrameSource + Drop, D: Disk + Drop, P: PlaneMemory, Q: P
     outcomes: Vec<Outcome<S, D, P, Post<Watch<'a, Q>>>>,
     mut returned: Returned<D, P>,
 ) -> Returned<D, P>
-    requires each { All (λ o. StandsAfter P.plane o.filmed) outcomes.items }
+    requires each { All (StandsOutcome P.plane) outcomes.items }
     requires none { (returned.rests.items ≡ []) × (returned.filmed.items ≡ []) }
     requires room { HoldsAll (vec_len outcomes) returned }
-    ensures rests { result.rests.items ≡ map (λ o. rest_left o.filmed) outcomes.entry.items }
-    ensures filmed { map left_in result.filmed.items ≡ map (λ o. left_by o.filmed) outcomes.entry.items }
+    ensures rests { result.rests.items ≡ map outcome_rest outcomes.entry.items }
+    ensures filmed { map seen_filmed result.filmed.items ≡ map outcome_left outcomes.entry.items }
 {
     for outcome in outcomes {
         let Outcome { shot: _, filmed } = outcome;
@@ -156,7 +155,7 @@ fn shots_back<'a, S: FrameSource + Drop, D: Disk + Drop, P: PlaneMemory, Q: Pace
     requires none { (returned.rests.items ≡ []) × (returned.filmed.items ≡ []) }
     requires room { HoldsAll (vec_len shots) returned }
     ensures count { (vec_len result.rests ≡ vec_len shots.entry) × (vec_len result.filmed ≡ vec_len shots.entry) }
-    ensures none { All (λ l. l.lost ≡ None) (map left_in result.filmed.items) }
+    ensures none { All (λ l. l.lost ≡ None) (map seen_filmed result.filmed.items) }
 {
     for shot in shots {
         let Shot { guide: _, camera } = shot;

@@ -4,13 +4,12 @@ ghost use Rattle.std.specs.Prelude.{[], ◌≡◌, ◌≤◌, IfSome, length, ve
 ghost use Rattle.std.specs.Vec.{vec_capacity};
 ghost use Rattle.loop_recorder.specs.Recordings.{HoldsAll};
 
-use crate::Pass;
 use crate::post::{Post, Watch};
+use crate::{OpenCamera, Pace, Pass};
 use loop_capture::{FrameSource, Rest};
 use loop_disk::Disk;
 use loop_pipeline::Shot;
 use loop_plane::PlaneMemory;
-use loop_sessions::{OpenCamera, Pace};
 use std::alloc::Global;
 
 /// A camera of a recording with its guide.

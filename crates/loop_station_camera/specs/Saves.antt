@@ -5,8 +5,8 @@ use Rattle.std.specs.List.{flat_map}
 use Rattle.loop_record.specs.declared.geometry.Geometry.{Geometry}
 use Rattle.loop_y4m.specs.declared.depth.Depth.{Depth}
 use Rattle.loop_y4m.specs.Text.{deep_text, frame, may_have}
-use Rattle.loop_station_parts.specs.declared.found.FoundClip.{FoundClip}
-use Rattle.loop_station_camera.specs.declared.save.Save.{Save}
+use Rattle.loop_station_shared.specs.declared.found.FoundClip.{FoundClip}
+use Rattle.loop_station_camera.specs.declared.saves.Save.{Save}
 use Rattle.loop_station_camera.specs.declared.save.pieces.Piece.{Piece}
 
 -- the clips that a save reads

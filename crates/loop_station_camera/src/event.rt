@@ -2,12 +2,12 @@
 
 ghost use Rattle.std.specs.Prelude.{◌≡◌, ◌<◌, length};
 
-use crate::clerk::found_of;
+use crate::reading::found_of;
 use crate::state::CameraState;
 use loop_disk::Disk;
 use loop_pipeline::Back;
 use loop_station_core::clip_id;
-use loop_station_parts::FoundClip;
+use loop_station_shared::FoundClip;
 use loop_store::{Clip, StoreFault};
 use std::alloc::Global;
 use std::sync::Wait;

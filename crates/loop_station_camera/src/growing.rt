@@ -1,14 +1,12 @@
 //! Events whose end lies ahead: what is there is locked at once, and the rest as it comes.
 
-use crate::clerk::Waiting;
-use crate::state::CameraState;
 use circular_buffer::HeapCircularBuffer;
 use loop_desk::Kept;
 use loop_station_core::{ClipSpan, Keep, SaveKey, is_covered};
-use loop_station_parts::store_of;
+use loop_station_shared::{Answering, Stored, store_of};
 use loop_store::{Clip, StoreFault};
 use std::alloc::{AllocError, Global};
-use std::sync::{Mutex, Wait};
+use std::sync::{Arc, Mutex, Wait};
 
 /// How many events of a camera may be open at once.
 pub(crate) const MOST_OPEN: usize = 16;
@@ -165,6 +163,14 @@ fn span_of(clip: &Clip) -> ClipSpan {
     }
 }
 
+/// A keep that waits for the frames that had come before it, and the order that asked for it.
+#[derive(Drop)]
+pub(crate) struct Waiting {
+    pub keep: Keep,
+    pub answering: Arc<Answering>,
+    pub place: usize,
+}
+
 #[derive(Drop)]
 struct Inner {
     waiting: Option<Waiting>,
@@ -270,14 +276,14 @@ impl Ongoing {
             .any(|growing| growing.keep.event == event)
     }
 
-    /// Takes the clips of a store that was opened into the events that they belong to.
-    pub fn adopt<R: Wait>(&self, rt: &R, place: usize, state: &CameraState) {
+    /// Takes the clips of the store at a place, which was opened, into the events that they belong to.
+    pub fn adopt<R: Wait>(&self, rt: &R, alloc: Global, place: usize, stored: &Stored) {
         let mut inner = self.inner.lock(rt);
         for _ in 0..inner.growing.len() {
             let Some(mut growing) = inner.growing.pop_front() else {
                 break;
             };
-            let clips = state.clips_tagged(rt, state.alloc, place, growing.keep.event);
+            let clips = stored.tagged_at(rt, alloc, place, growing.keep.event);
             growing.adopt(&clips);
             inner.growing.push_back(growing);
         }

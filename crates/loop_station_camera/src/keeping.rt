@@ -1,20 +1,62 @@
-//! How a keep locks in each of a camera's stores.
+//! What a keep does now, and how it locks in each of a camera's stores.
 
 ghost use Rattle.std.specs.Prelude.{◌≡◌, ◌≢◌, ◌<◌, ◌++◌, None, [], false, length, map, true};
 ghost use Rattle.loop_pipeline.specs.Backs.{GoesAt};
 ghost use Rattle.loop_station_camera.specs.Keeping.{StoresAll, StoresAndKeepsEach, TakesKept, known, or_fault};
 
-use crate::clerk::head_at;
 use crate::growing::Growing;
+use crate::reading::head_at;
 use crate::state::CameraState;
 use loop_desk::Kept;
 use loop_disk::Disk;
 use loop_pipeline::{Back, Guide};
 use loop_record::Times;
-use loop_station_core::clip_id;
+use loop_station_core::{Keep, KeepTurn, clip_id, next_turn};
 use loop_store::{Clip, StoreFault};
 use std::alloc::Global;
 use std::sync::Wait;
+use std::time::Clock;
+
+/// The part of a keep's time that is locked now: up to when, and whether nothing of it lies ahead.
+#[derive(Clone, Copy)]
+pub(crate) struct KeepPart {
+    pub until: u64,
+    pub is_whole: bool,
+}
+
+/// What a keep does now.
+pub(crate) fn turn_of<R: Wait + Clock>(
+    rt: &R,
+    state: &CameraState,
+    keep: Keep,
+) -> (Keep, KeepTurn) {
+    let now = state.timeline.now(rt);
+    let come = state.feed.come(rt, now.min(keep.until));
+    next_turn(
+        keep,
+        &state.tally(rt),
+        now,
+        come,
+        state.newest_block(rt),
+        state.is_locked(rt),
+        state.is_stopped(rt),
+    )
+}
+
+/// What a keep locks now; None where it waits.
+pub(crate) fn part_of(keep: Keep, turn: KeepTurn) -> Option<KeepPart> {
+    match turn {
+        KeepTurn::Wait => None,
+        KeepTurn::Part { until } => Some(KeepPart {
+            until,
+            is_whole: false,
+        }),
+        KeepTurn::Whole => Some(KeepPart {
+            until: keep.until,
+            is_whole: true,
+        }),
+    }
+}
 
 /// Stores what waits at the active desk, and locks the held frames of a time in each store. Returns what was locked, by
 /// the ids that users know, and why not all that waited could be stored before that, if so.

@@ -1,9 +1,12 @@
 //! A camera of a station: what its threads share, and the orders that the thread of its desks does.
 //!
-//! `state` is what the threads of a camera share, and guides them. `clerk` does a camera's orders, one after the other,
-//! between the flushes, and `keeping` locks in each of its stores; `growing` has the events whose end lies ahead, and
-//! what else waits at the desk. `save` writes clips meanwhile, and `event` finds those of an event. `replies` prints
-//! answers as lines, and `times` tells what a source says of its frames.
+//! Each module names only those before it. `growing` has the events whose end lies ahead, and what else waits at the
+//! desk; `saves` which saves run and wait. `state` is what the threads of a camera share. `times` tells what a source
+//! says of its frames.
+//!
+//! `reading` reads at the desks, `keeping` locks in each of a camera's stores, `replies` prints answers as lines, and
+//! `releasing` unlocks. `event` finds the clips of an event, `growth` goes on with one, and `save` writes clips
+//! meanwhile. `clerk` does a camera's orders by these, one after the other, between the flushes, and `guide` lets it.
 //!
 //! A keep locks exactly the held frames of its time, as `Back::keep` of loop_pipeline ensures.
 #![tactic(auto)]
@@ -11,13 +14,19 @@
 mod clerk;
 mod event;
 mod growing;
+mod growth;
+mod guide;
 mod keeping;
+mod reading;
+mod releasing;
 mod replies;
 mod save;
+mod saves;
 mod state;
 mod times;
 
 pub use replies::tell_status;
-pub use save::{MOST_SAVES, Save, SaveTarget, Saves, automatic, begin, run_saves, tell_ended};
-pub use state::CameraState;
+pub use save::{automatic, begin, run_saves, tell_ended};
+pub use saves::{MOST_SAVES, Save, SaveTarget, Saves};
+pub use state::{CameraState, Common};
 pub use times::{said_of, tell_other, tell_source_on, tell_times};

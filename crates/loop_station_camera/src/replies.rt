@@ -1,44 +1,55 @@
 //! The answers of cameras, as lines.
 
-use crate::clerk::LEAST_GAP;
+use crate::keeping::KeepPart;
 use crate::state::CameraState;
 use crate::times::gaps_of;
 use loop_desk::{Kept, Outline};
 use loop_script::Listing;
 use loop_station_core::{Keep, Run, clip_id, kept_answer, shortfall_of};
-use loop_station_parts::{Absent, FoundClip, source_name};
+use loop_station_outside::Absent;
+use loop_station_shared::{FoundClip, source_name};
 use loop_station_words::{CameraStatus, Lines, StoresStatus};
 use loop_store::StoreFault;
 use std::io;
 use std::sync::Wait;
 
+// Where the next frame comes within so many microseconds, none is missing: it came late.
+const LEAST_GAP: u64 = 250_000;
+
+/// What came of a keep: what was locked of a part of its time, the times of its clips, when their frames came, and why
+/// not all that waited could be stored before, if so.
+#[derive(Drop)]
+pub(crate) struct KeepOutcome {
+    pub keep: Keep,
+    pub part: KeepPart,
+    pub kept: Kept,
+    pub refused: Option<StoreFault>,
+    pub found: Vec<FoundClip>,
+    pub runs: Vec<Run>,
+}
+
 /// Tells what a keep has locked up to a time, a line for each clip, and why not everything was locked. Where nothing
 /// of its time lies ahead, it also tells how much of it is held, and where frames are missing.
 pub(crate) fn tell_kept(
     state: &CameraState,
-    keep: &Keep,
-    until: u64,
-    is_whole: bool,
-    kept: &Kept,
-    found: &[FoundClip],
-    runs: &[Run],
-    refused: Option<StoreFault>,
+    outcome: &KeepOutcome,
     lines: &mut Lines,
 ) -> io::Result<()> {
-    let name = state.config.name.as_str();
-    let answer = kept_answer(kept.clips.len(), kept.fault.is_some(), is_whole);
+    let (name, keep, part) = (state.config.name.as_str(), &outcome.keep, &outcome.part);
+    let kept = &outcome.kept;
+    let answer = kept_answer(kept.clips.len(), kept.fault.is_some(), part.is_whole);
     if answer.none {
         lines.kept_none(name, keep.event)?;
     }
-    tell_clips(state, keep, found, lines)?;
-    if let Some(fault) = refused {
+    tell_clips(state, keep, &outcome.found, lines)?;
+    if let Some(fault) = outcome.refused {
         lines.refused(name, fault)?;
     }
     if let Some(fault) = kept.fault {
         lines.refused(name, fault)?;
     }
     if answer.held {
-        tell_shortfall(state, keep, until, runs, lines)?;
+        tell_shortfall(state, keep, part.until, &outcome.runs, lines)?;
     }
     if answer.begun {
         lines.event_begun(keep.event, keep.since, keep.until)?;

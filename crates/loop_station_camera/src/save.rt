@@ -1,406 +1,98 @@
-//! Saves: clips are written as YUV4MPEG2 while their cameras record. `written` has the files, and `pieces` the order
-//! in which the frames of several clips are written.
+//! How clips are saved: they are written as YUV4MPEG2 while their cameras record. `written` has the files, `pieces` the
+//! order in which the frames of several clips are written, and `frames` reads them.
 //!
-//! There are places for so many saves at once, each with a thread of its own. Which save begins when, and which clip
-//! may be released meanwhile, is decided by loop_station_core. A save that an order asks for is refused where each
-//! place is taken; one that begins by itself waits. Whoever ends a save first tells its result: its own thread, or a
-//! stop of the program or a `cancel` where that thread waits for a pipe that nobody reads.
+//! Whoever ends a save first tells its result: its own thread, or a stop of the program or a `cancel` where that thread
+//! waits for a pipe that nobody reads.
 
-ghost use Rattle.std.specs.Prelude.{◌≡◌, IfErr, IfOk};
-ghost use Rattle.loop_station_camera.specs.Saves.{clips_read};
-ghost use Rattle.loop_station_core.specs.Saving.{places_of, withdrawn};
-
+mod frames;
 mod pieces;
 mod written;
 
+use crate::saves::{NotBegun, Save, SaveTarget, Saves};
 use crate::state::CameraState;
-use loop_station_core::laws::withdrawn_saves_leave_nothing;
-use loop_station_core::{Asked, Cancelled, Retries, SaveEnd, SaveKey, SaveLine, after_save};
-use loop_station_parts::{Answering, FoundClip, KeptClip, NotSaved, Places, SaveOrder};
+use loop_station_core::{SaveEnd, SaveLine, after_save};
+use loop_station_outside::{NotSaved, Places};
+use loop_station_shared::{Answering, FoundClip, KeptClip, SaveOrder};
 use loop_station_words::Lines;
+use loop_store::StoreFault;
 use std::alloc::{AllocError, AllocGlobal, Global};
 use std::sync::atomic::{AtomicBool, Ordering};
-use std::sync::{Arc, Condvar, Mutex, Wait};
-use std::thread;
-use std::time::{Clock, Duration};
+use std::sync::{Arc, Wait};
+use std::time::Clock;
 use written::{path_for, write};
 
-// How many clips may be saved at once.
-pub const MOST_SAVES: usize = 16;
-
-// How often a stop waits ten milliseconds for saves that are about to end.
-const STOP_STEPS: u32 = 70;
-
-/// Where a clip is saved to.
-#[derive(Drop)]
-pub enum SaveTarget {
-    /// To the path of an order, which may replace a file that exists.
-    Path(String, bool),
-    /// To the camera's folder, by itself. An earlier run may have saved it there.
-    Folder(bool),
-}
-
-/// What is saved: a clip, or the clips of an event, as they were when they were found; and where it is written to.
-#[derive(Drop)]
-pub struct Save {
-    camera: usize,
-    // The clip, or the first one.
-    found: FoundClip,
-    // The clips of an event, by rising times.
-    event: Option<Vec<FoundClip>>,
-    target: SaveTarget,
-    // The order that asked for it, and the camera's place among those that it means.
-    order: Option<Arc<Answering>>,
-    // It has been told that it waits and is tried again.
-    is_told: AtomicBool,
-    // It is to end before its text is whole.
-    ended: AtomicBool,
-}
-
-impl Save {
-    /// The place of its camera in the configuration.
-    pub fn camera(&self) -> usize {
-        self.camera
-    }
-
-    /// The clip that it reads, or the first one, as loop_station_core names it.
-    pub fn key(&self) -> SaveKey {
-        SaveKey {
-            whole: self.event.is_some(),
-            ..self.found.key(self.camera)
-        }
-    }
-
-    // The clips that it reads.
-    fn clips(&self, alloc: Global) -> Result<Vec<FoundClip>, AllocError>
-        ensures { IfOk result (λ clips. clips.items ≡ clips_read self.now) }
-    {
-        let mut clips = Vec::new(alloc);
-        match &self.event {
-            Some(event) => clips.extend_from_slice(event)?,
-            None => clips.push(self.found)?,
-        }
-        Ok(clips)
-    }
-
-    // Whether it begins by itself.
-    fn is_automatic(&self) -> bool {
-        self.order.is_none()
-    }
-}
-
-// A place for a save.
-#[derive(Drop)]
-struct SavePlace {
-    // The save that has it.
-    save: Option<Arc<Save>>,
-    // Its thread hasn't seen that save yet.
-    is_new: bool,
-    // Its result is told: a cancel has ended it. The place is free once its thread has ended it too.
-    is_told: bool,
-}
-
-impl SavePlace {
-    // The save, whose result is to be told now, unless it was told before.
-    fn take_untold(&mut self) -> Option<Arc<Save>> {
-        let save = self.save.take();
-        if self.is_told { None } else { save }
-    }
-
-    // Ends the save before its text is whole. Returns it, unless its result was told before.
-    fn cancel(&mut self) -> Option<Arc<Save>> {
-        let save = self.save.as_ref()?;
-        save.ended.store(true, Ordering::SeqCst);
-        if self.is_told {
-            return None;
-        }
-        let ours = Arc::try_clone(save).ok()?;
-        self.is_told = true;
-        Some(ours)
-    }
-}
-
-#[derive(Drop)]
-struct Inside {
-    decided: loop_station_core::Saves,
-    places: Vec<SavePlace>,
-    // The saves that wait for a place.
-    waiting: Vec<Arc<Save>>,
-    // The saves that began by themselves and failed, and when each is tried again.
-    failed: Vec<Arc<Save>>,
-    retries: Retries,
-}
-
-/// The saves that are in progress.
-#[derive(Drop)]
-pub struct Saves {
-    inside: Mutex<Inside>,
-    changed: Condvar,
-    stopped: AtomicBool,
-    /// The files and pipes of the station, which no clip is written to.
-    taken: Vec<String>,
-    /// The paths of the cameras' stores: no clip is written to one with a number either.
-    stores: Vec<String>,
-    /// The only folder in which orders may write, if there is one.
-    folder: Option<String>,
-}
-
-impl Saves {
-    /// No saves yet. No clip is written to these files and pipes and the stores with a number of these, and by orders
-    /// only into this folder, if there is one.
-    pub fn new(
-        alloc: Global,
-        taken: Vec<String>,
-        stores: Vec<String>,
-        folder: Option<String>,
-    ) -> Result<Saves, AllocError> {
-        let mut places = Vec::with_capacity(alloc, MOST_SAVES)?;
-        for _ in 0..MOST_SAVES {
-            places.push(SavePlace {
-                save: None,
-                is_new: false,
-                is_told: false,
-            })?;
-        }
-        Ok(Saves {
-            inside: Mutex::new(Inside {
-                decided: loop_station_core::Saves::new(alloc, MOST_SAVES)?,
-                places,
-                waiting: Vec::new(alloc),
-                failed: Vec::new(alloc),
-                retries: Retries::new(alloc),
-            }),
-            changed: Condvar::new(),
-            stopped: AtomicBool::new(false),
-            taken,
-            stores,
-            folder,
-        })
-    }
-
-    // Whether a path leads to a file or pipe of the station.
-    fn is_taken<R: Places>(&self, rt: &R, path: &str) -> bool {
-        for taken in self.taken.as_slice() {
-            if rt.is_same(path, taken.as_str()) {
-                return true;
-            }
-        }
-        for store in self.stores.as_slice() {
-            if rt.is_numbered(path, store.as_str()) {
-                return true;
-            }
-        }
-        false
-    }
-
-    /// Whether a save that runs or waits reads the clip of an id of a camera, which has this tag, where that is known.
-    pub fn reads<R: Wait>(&self, rt: &R, camera: usize, id: u32, tag: Option<u64>) -> bool {
-        self.inside.lock(rt).decided.is_read(camera, id, tag)
-    }
-
-    // Begins a save, or lets it wait.
-    fn begin<R: Wait>(&self, rt: &R, save: Arc<Save>) -> Result<(), NotBegun> {
-        let mut inside = self.inside.lock(rt);
-        if save.is_automatic() && inside.has_automatic(save.key()) {
-            return Ok(());
-        }
-        inside.ask(save)?;
-        self.changed.notify_all();
-        Ok(())
-    }
-
-    // Waits for the next save of a place.
-    fn next<R: Wait>(&self, rt: &R, at: usize) -> Option<Arc<Save>> {
-        let mut inside = self.changed.wait_while(
-            rt,
-            self.inside.lock(rt),
-            |inside| match inside.places.get(at) {
-                Some(place) => !place.is_new,
-                None => false,
-            },
-        );
-        let place = inside.places.get_mut(at)?;
-        let save = Arc::try_clone(place.save.as_ref()?).ok();
-        place.is_new = false;
-        save
-    }
-
-    // The save of a place has ended so; `releases`: clips of its camera are released once they are saved. Returns the
-    // save, unless someone else told its result already, and whether its clip is released now.
-    fn end<R: Wait>(
+impl CameraState {
+    /// The clip that an order saves was looked for: the save begins, and its clip is read from now on. Otherwise the
+    /// order is answered.
+    pub(crate) fn begin_save<R: Wait>(
         &self,
         rt: &R,
-        at: usize,
-        end: SaveEnd,
-        releases: bool,
-    ) -> (Option<Arc<Save>>, bool) {
-        let mut inside = self.inside.lock(rt);
-        let save = match inside.places.get_mut(at) {
-            Some(place) => place.take_untold(),
-            None => None,
+        alloc: Global,
+        order: SaveOrder,
+        id: u32,
+        found: Result<Option<FoundClip>, StoreFault>,
+    ) {
+        let name = self.config.name.as_str();
+        let mut lines = self.lines(alloc);
+        let (place, path) = (order.place, order.path.as_str());
+        let told = match found {
+            Ok(Some(found)) => {
+                begin_ordered(rt, alloc, self, order, found, None);
+                return;
+            }
+            Ok(None) => lines.not_saved(name, id, path, &"NoSuchClip"),
+            Err(fault) => lines.not_saved(name, id, path, &fault.name()),
         };
-        let ended = inside.decided.finish(at, end, releases);
-        if let Some(key) = ended.begun {
-            inside.begin_waiting(at, key);
-            self.changed.notify_all();
-        }
-        (save, ended.release)
+        // Where memory for the line is refused, it isn't printed.
+        let _ = told;
+        self.posts.answer(rt, order.answering, place, lines, None);
     }
 
-    // A save that began by itself failed, and is tried again at a time.
-    fn retry<R: Wait>(&self, rt: &R, save: Arc<Save>, at: u64) {
-        let mut inside = self.inside.lock(rt);
-        let key = save.key();
-        // Where memory is refused, it is tried again at the next start.
-        if inside.failed.push(save).is_ok() && !inside.retries.add(key, at) {
-            let _left_out = inside.failed.pop();
-        }
+    /// The clips of the event that an order saves were looked for: the save begins, and they are read from now on.
+    /// Otherwise the order is answered.
+    pub(crate) fn begin_event<R: Wait>(
+        &self,
+        rt: &R,
+        alloc: Global,
+        order: SaveOrder,
+        found: Result<Vec<FoundClip>, StoreFault>,
+    ) {
+        let fault = match found {
+            Ok(found) => match found.first() {
+                Some(first) => {
+                    let first = *first;
+                    begin_ordered(rt, alloc, self, order, first, Some(found));
+                    return;
+                }
+                None => StoreFault::NoSuchClip,
+            },
+            Err(fault) => fault,
+        };
+        let mut lines = self.lines(alloc);
+        // Where memory for the line is refused, it isn't printed.
+        let _ = lines.refused(self.config.name.as_str(), fault);
+        self.posts
+            .answer(rt, order.answering, order.place, lines, None);
     }
 
-    /// The saves that are due to be tried again.
-    pub fn due<R: Wait>(&self, rt: &R, now: u64) -> Option<Arc<Save>> {
-        let mut inside = self.inside.lock(rt);
-        let at = inside.retries.due(now)?;
-        inside.take_failed(at)
-    }
-
-    /// Ends a save of the clip of an id of a camera. Returns it, since it has to be told, and whether its clip is
-    /// released now; None where no save reads that clip.
-    pub fn cancel<R: Wait>(&self, rt: &R, camera: usize, id: u32) -> Option<(Arc<Save>, bool)> {
-        let mut inside = self.inside.lock(rt);
-        if let Some(at) = inside.retries.cancel(camera, id) {
-            return Some((inside.take_failed(at)?, false));
-        }
-        match inside.decided.cancel(camera, id) {
-            Cancelled::Running(place) => Some((inside.places.get_mut(place)?.cancel()?, false)),
-            Cancelled::Waiting { release } => Some((inside.take_waiting(camera, id)?, release)),
-            Cancelled::No => None,
-        }
-    }
-
-    // Whether a save is in progress.
-    fn is_busy<R: Wait>(&self, rt: &R) -> bool {
-        self.inside
-            .lock(rt)
-            .places
-            .iter()
-            .any(|place| place.save.is_some() && !place.is_told)
-    }
-
-    /// Ends all saves, within a second. Returns one that hasn't ended by itself shortly: its thread tells nothing more.
-    pub fn stop<R: Wait + Clock>(&self, rt: &R) {
-        for _ in 0..STOP_STEPS {
-            if !self.is_busy(rt) {
-                break;
+    /// Ends a save of the clip of an id, and tells that of the save. Returns whether there was one.
+    pub fn cancel_save<R: Wait>(&self, rt: &R, id: u32) -> bool {
+        match self.saves.cancel(rt, self.place, id) {
+            Some((save, is_released)) => {
+                tell_ended(rt, self, &save, NotSaved::Cancelled);
+                if is_released {
+                    self.release_saved(rt, save.key());
+                }
+                true
             }
-            thread::sleep(rt, Duration::from_millis(10));
+            None => false,
         }
-        self.stopped.store(true, Ordering::SeqCst);
-    }
-
-    /// A save that a stop has ended, if one is left.
-    pub fn next_stopped<R: Wait>(&self, rt: &R) -> Option<Arc<Save>> {
-        let mut inside = self.inside.lock(rt);
-        for _ in 0..u64::MAX {
-            let stopped = inside.decided.stop()?;
-            let save = match stopped.place {
-                Some(place) => inside.places.get_mut(place)?.take_untold(),
-                None => inside.take_waiting(stopped.key.camera, stopped.key.id),
-            };
-            if save.is_some() {
-                return save;
-            }
-        }
-        None
     }
 }
 
-// Why a save doesn't begin.
-#[derive(Clone, Copy)]
-enum NotBegun {
-    /// Each place is taken.
-    TooMany,
-    /// Memory was refused.
-    NoMemory,
-    /// The program ends.
-    Stopped,
-}
-
-impl Inside {
-    // Asks for a place for a save: it begins there, or waits for one. Where it does neither, nothing is changed, and so
-    // no place is taken for it.
-    fn ask(&mut self, save: Arc<Save>) -> Result<(), NotBegun>
-        ensures refused { IfErr result (λ why. places_of self.new.decided ≡ places_of self.old.decided) }
-    {
-        // A save that is told to wait, and for which there is no memory, is withdrawn: that leaves nothing of it.
-        withdrawn_saves_leave_nothing();
-        match self.decided.ask(save.key(), save.is_automatic()) {
-            Asked::Begins(place) => {
-                self.put(place, save);
-                Ok(())
-            }
-            Asked::Waits => self.queue(save),
-            Asked::TooMany => Err(NotBegun::TooMany),
-            Asked::NoMemory => Err(NotBegun::NoMemory),
-            Asked::Stopped => Err(NotBegun::Stopped),
-        }
-    }
-
-    // A save waits that was told to wait. Where there is no memory to keep it in, it is withdrawn.
-    fn queue(&mut self, save: Arc<Save>) -> Result<(), NotBegun>
-        ensures { IfErr result (λ why. places_of self.new.decided ≡ withdrawn (places_of self.old.decided)) }
-    {
-        match self.waiting.push(save) {
-            Ok(()) => Ok(()),
-            Err(_) => {
-                self.decided.withdraw();
-                Err(NotBegun::NoMemory)
-            }
-        }
-    }
-
-    // A save gets a place.
-    fn put(&mut self, place: usize, save: Arc<Save>) {
-        if let Some(place) = self.places.get_mut(place) {
-            place.save = Some(save);
-            place.is_new = true;
-            place.is_told = false;
-        }
-    }
-
-    // The save that waits for a clip begins in a place.
-    fn begin_waiting(&mut self, place: usize, key: SaveKey) {
-        if let Some(save) = self.take_waiting(key.camera, key.id) {
-            self.put(place, save);
-        }
-    }
-
-    // Takes the first save that waits and reads the clip of an id.
-    fn take_waiting(&mut self, camera: usize, id: u32) -> Option<Arc<Save>> {
-        let at = self
-            .waiting
-            .iter()
-            .position(|save| save.camera == camera && save.found.clip.id == id)?;
-        Some(self.waiting.remove(at))
-    }
-
-    // Takes a save that failed.
-    fn take_failed(&mut self, at: usize) -> Option<Arc<Save>> {
-        if at < self.failed.len() {
-            return Some(self.failed.remove(at));
-        }
-        None
-    }
-
-    // Whether a clip is being saved by itself, or is going to be.
-    fn has_automatic(&self, key: SaveKey) -> bool {
-        self.decided.has_automatic(key) || self.retries.has(key)
-    }
-}
-
-/// Begins the save that an order asks for: of a clip, or of the clips of an event, of which this is the first. Where
-/// memory is refused, the order isn't answered.
-pub fn begin_ordered<R: Wait>(
+// Begins the save that an order asks for: of a clip, or of the clips of an event, of which this is the first. Where
+// memory is refused, the order isn't answered.
+fn begin_ordered<R: Wait>(
     rt: &R,
     alloc: Global,
     state: &CameraState,
@@ -489,7 +181,7 @@ pub fn run_saves<R: AllocGlobal + Places + Wait + Clock>(
     for _ in rt.forever() {
         if let Some(save) = saves.next(rt, at) {
             if let Some(state) = cameras.get(save.camera) {
-                run_save(rt, saves, state, at, &save);
+                run_save(rt, state, at, &save);
             }
         }
     }
@@ -498,7 +190,6 @@ pub fn run_saves<R: AllocGlobal + Places + Wait + Clock>(
 // Writes the clip of a save, and tells the result.
 fn run_save<R: AllocGlobal + Places + Wait + Clock>(
     rt: &R,
-    saves: &Saves,
     state: &CameraState,
     at: usize,
     save: &Save,
@@ -506,14 +197,14 @@ fn run_save<R: AllocGlobal + Places + Wait + Clock>(
     let (path, came) = match path_for(rt, state, save) {
         Ok((path, true)) => (path, Ok(None)),
         Ok((path, false)) => {
-            let came = write(rt, saves, state, save, path.as_str());
+            let came = write(rt, state, save, path.as_str());
             (path, came.map(|count| Some(count)))
         }
         Err(why) => (String::new(rt.alloc()), Err(why)),
     };
-    let (ours, is_released) = saves.end(rt, at, end_of(&came), state.config.release);
+    let (ours, is_released) = state.saves.end(rt, at, end_of(&came), state.config.release);
     if let Some(ours) = ours {
-        tell_save(rt, saves, state, ours, path.as_str(), came);
+        tell_save(rt, state, ours, path.as_str(), came);
     }
     if is_released {
         state.release_saved(rt, save.key());
@@ -533,7 +224,6 @@ fn end_of(came: &Result<Option<u64>, NotSaved>) -> SaveEnd {
 // were written, or nothing where the clip was saved already.
 fn tell_save<R: AllocGlobal + Wait + Clock>(
     rt: &R,
-    saves: &Saves,
     state: &CameraState,
     save: Arc<Save>,
     path: &str,
@@ -547,7 +237,7 @@ fn tell_save<R: AllocGlobal + Wait + Clock>(
     if let Some(again) = after.again {
         save.is_told.store(true, Ordering::SeqCst);
         if let Ok(kept) = Arc::try_clone(&save) {
-            saves.retry(rt, kept, again);
+            state.saves.retry(rt, kept, again);
         }
     }
     // Where memory for the line is refused, it isn't printed.

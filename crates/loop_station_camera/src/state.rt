@@ -1,50 +1,43 @@
-//! What the threads of one camera share, and how that guides them.
+//! What the threads of one camera share.
 
-ghost use Rattle.std.specs.Prelude.{◌≡◌, false};
+ghost use Rattle.std.specs.Prelude.{false};
 
-use crate::clerk::{attend, one_must_reopen, take_joined};
-use crate::growing::{Growing, Ongoing};
-use crate::replies::{tell_clips, tell_shortfall};
-use crate::save::{Saves, begin_ordered, tell_ended};
-use loop_capture::Tick;
-use loop_desk::Flushed;
-use loop_disk::Disk;
-use loop_pipeline::{Back, Guide, Link, LostFrame, Noting, Visits};
-use loop_station_core::{
-    Act, EventEnd, FilmingEvent, Keep, MayRelease, OpenEvent, Run, SaveKey, Tally, event_end,
-    may_release, may_release_saved,
-};
-use loop_station_parts::{
-    Absent, Answering, Feed, FoundClip, Inbox, Job, Jobs, KeptClip, Life, Maker, Member, Message,
-    NotSaved, NotTaken, Note, Posts, Request, Room, SaveOrder, Stored, Timeline,
+use crate::growing::Ongoing;
+use crate::saves::Saves;
+use loop_pipeline::{Link, Noting, Visits};
+use loop_station_core::{FilmingEvent, SaveKey, Tally};
+use loop_station_outside::{Absent, Maker, Timeline};
+use loop_station_shared::{
+    Answering, Feed, FoundClip, Inbox, Job, Jobs, KeptClip, Life, Member, Message, NotTaken, Posts,
+    Request, Room, Stored,
 };
 use loop_station_words::{CameraConfig, Lines, duration_of, numbered};
 use loop_store::{Clip, ReadFrame, StoreFault};
 use std::alloc::{AllocError, Global};
-use std::io;
 use std::sync::{Arc, Wait};
-use std::time::{Clock, Duration};
 
-// How many milliseconds a device waits for a frame before it looks whether its filming is over.
-const LOOK_AGAIN: u64 = 50;
-
-/// Why a clip isn't released.
-#[derive(Clone, Copy)]
-pub(crate) enum NotReleased {
-    /// It is being saved.
-    Saving,
-    /// The clip of its id begins with another frame than the order says.
-    Other(u64),
+/// What the cameras of a station have in common.
+#[derive(Drop)]
+pub struct Common {
+    /// Answers are wanted as JSON too.
+    pub json: bool,
+    /// The time that frames get.
+    pub timeline: Timeline,
+    /// Where answers go.
+    pub posts: Arc<Posts>,
+    /// The saves of all cameras.
+    pub saves: Arc<Saves>,
 }
 
-impl NotReleased {
-    /// Tells it.
-    pub fn tell(self, state: &CameraState, id: u32, lines: &mut Lines) -> io::Result<()> {
-        let name = state.config.name.as_str();
-        match self {
-            NotReleased::Saving => lines.saving(name),
-            NotReleased::Other(first) => lines.not_released(name, id, first),
-        }
+impl Common {
+    /// The same, for one more camera.
+    pub fn share(&self) -> Result<Common, AllocError> {
+        Ok(Common {
+            json: self.json,
+            timeline: self.timeline,
+            posts: Arc::try_clone(&self.posts)?,
+            saves: Arc::try_clone(&self.saves)?,
+        })
     }
 }
 
@@ -85,12 +78,15 @@ impl CameraState {
     pub fn new(
         alloc: Global,
         place: usize,
-        json: bool,
         config: CameraConfig,
-        timeline: Timeline,
-        posts: Arc<Posts>,
-        saves: Arc<Saves>,
+        common: Common,
     ) -> Result<CameraState, AllocError> {
+        let Common {
+            json,
+            timeline,
+            posts,
+            saves,
+        } = common;
         Ok(CameraState {
             alloc,
             place,
@@ -170,37 +166,6 @@ impl CameraState {
         self.saves.reads(rt, self.place, id, tag)
     }
 
-    /// Whether a clip may be released now: it isn't being saved, and begins with the frame that is given, if one is.
-    pub(crate) fn may_release<R: Wait>(
-        &self,
-        rt: &R,
-        id: u32,
-        first: Option<u64>,
-    ) -> Result<(), NotReleased> {
-        let clip = self.stored.clip_of(rt, id);
-        let is_read = self.is_read(rt, id, clip.map(|clip| clip.tag));
-        match may_release(is_read, first, clip.map(|clip| clip.from)) {
-            MayRelease::Now => Ok(()),
-            MayRelease::Saving => Err(NotReleased::Saving),
-            MayRelease::Other(first) => Err(NotReleased::Other(first)),
-        }
-    }
-
-    /// Whether a clip is released now that is saved; `there`: the clip that has its id by now, if one has.
-    pub(crate) fn may_release_saved<R: Wait>(
-        &self,
-        rt: &R,
-        saved: SaveKey,
-        there: Option<FoundClip>,
-    ) -> MayRelease {
-        let is_read = self.is_read(rt, saved.id, Some(saved.tag));
-        let there = match there {
-            Some(found) => Some(found.key(self.place)),
-            None => None,
-        };
-        may_release_saved(is_read, saved, there)
-    }
-
     /// The clips of a keep, for the saves that begin by themselves. None where the camera has no folder for them, or
     /// memory is refused.
     pub fn kept_clips(&self, alloc: Global, found: &[FoundClip]) -> Option<Vec<KeptClip>> {
@@ -218,144 +183,6 @@ impl CameraState {
             }
         }
         Some(kept)
-    }
-
-    /// The clip that an order saves was looked for: the save begins, and its clip is read from now on. Otherwise the
-    /// order is answered.
-    pub(crate) fn begin_save<R: Wait>(
-        &self,
-        rt: &R,
-        alloc: Global,
-        order: SaveOrder,
-        id: u32,
-        found: Result<Option<FoundClip>, StoreFault>,
-    ) {
-        let name = self.config.name.as_str();
-        let mut lines = self.lines(alloc);
-        let (place, path) = (order.place, order.path.as_str());
-        let told = match found {
-            Ok(Some(found)) => {
-                begin_ordered(rt, alloc, self, order, found, None);
-                return;
-            }
-            Ok(None) => lines.not_saved(name, id, path, &"NoSuchClip"),
-            Err(fault) => lines.not_saved(name, id, path, &fault.name()),
-        };
-        // Where memory for the line is refused, it isn't printed.
-        let _ = told;
-        self.posts.answer(rt, order.answering, place, lines, None);
-    }
-
-    /// The clips of the event that an order saves were looked for: the save begins, and they are read from now on.
-    /// Otherwise the order is answered.
-    pub(crate) fn begin_event<R: Wait>(
-        &self,
-        rt: &R,
-        alloc: Global,
-        order: SaveOrder,
-        found: Result<Vec<FoundClip>, StoreFault>,
-    ) {
-        let fault = match found {
-            Ok(found) => match found.first() {
-                Some(first) => {
-                    let first = *first;
-                    begin_ordered(rt, alloc, self, order, first, Some(found));
-                    return;
-                }
-                None => StoreFault::NoSuchClip,
-            },
-            Err(fault) => fault,
-        };
-        let mut lines = self.lines(alloc);
-        // Where memory for the line is refused, it isn't printed.
-        let _ = lines.refused(self.config.name.as_str(), fault);
-        self.posts
-            .answer(rt, order.answering, order.place, lines, None);
-    }
-
-    /// Ends a save of the clip of an id, and tells that of the save. Returns whether there was one.
-    pub fn cancel_save<R: Wait>(&self, rt: &R, id: u32) -> bool {
-        match self.saves.cancel(rt, self.place, id) {
-            Some((save, is_released)) => {
-                tell_ended(rt, self, &save, NotSaved::Cancelled);
-                if is_released {
-                    self.release_saved(rt, save.key());
-                }
-                true
-            }
-            None => false,
-        }
-    }
-
-    /// An event goes on: its end lies ahead, and these clips of it are locked. Returns whether it does: not where too
-    /// many do.
-    pub fn begin_growing<R: Wait>(
-        &self,
-        rt: &R,
-        alloc: Global,
-        keep: Keep,
-        clips: Vec<Clip>,
-    ) -> bool {
-        let event = keep.event;
-        let goes_on = self
-            .desk
-            .put_growing(rt, Growing::new(alloc, keep, clips))
-            .is_none();
-        if !goes_on {
-            let mut lines = self.lines(alloc);
-            let name = self.config.name.as_str();
-            // Where memory for the line is refused, it isn't printed.
-            let _ = lines.event_not_whole(event, name, &"TooManyEvents");
-            self.tell(rt, lines, None);
-        }
-        self.note_open(rt, alloc);
-        goes_on
-    }
-
-    /// Clips with which no event goes on are saved by themselves, where the camera has a folder for them.
-    pub(crate) fn save_found<R: Wait>(&self, rt: &R, alloc: Global, found: &[FoundClip]) {
-        self.tell(rt, self.lines(alloc), self.kept_clips(alloc, found));
-    }
-
-    /// An event is over, and these are its clips. It is told whether all of it is held.
-    pub(crate) fn end_growing<R: Wait>(
-        &self,
-        rt: &R,
-        alloc: Global,
-        growing: Growing,
-        found: &[FoundClip],
-        runs: &[Run],
-    ) {
-        let mut lines = self.lines(alloc);
-        // Where memory for the lines is refused, they aren't printed.
-        let _ = self.tell_event(&growing, found, runs, &mut lines);
-        self.tell(rt, lines, self.kept_clips(alloc, found));
-        self.note_open(rt, alloc);
-    }
-
-    // Tells how an event ended.
-    fn tell_event(
-        &self,
-        growing: &Growing,
-        found: &[FoundClip],
-        runs: &[Run],
-        lines: &mut Lines,
-    ) -> io::Result<()> {
-        let (name, keep) = (self.config.name.as_str(), growing.keep);
-        tell_clips(self, &keep, found, lines)?;
-        let is_whole = tell_shortfall(self, &keep, keep.until, runs, lines)?;
-        match (
-            event_end(growing.fault().is_some(), is_whole),
-            growing.fault(),
-        ) {
-            (EventEnd::Whole, _) => lines.event_whole(keep.event, name),
-            (EventEnd::Refused, Some(fault)) => {
-                lines.event_not_whole(keep.event, name, &fault.name())
-            }
-            (EventEnd::Refused | EventEnd::Gaps, _) => {
-                lines.event_not_whole(keep.event, name, &"Gaps")
-            }
-        }
     }
 
     /// A clip is released, since it is saved. An answer that can't be given is none that anybody waits for.
@@ -386,26 +213,6 @@ impl CameraState {
             None => Vec::new(self.alloc),
         };
         self.posts.printer.put(rt, Message::Told(lines, kept));
-    }
-
-    // The events that are open now go into the camera's file of events.
-    fn note_open<R: Wait>(&self, rt: &R, alloc: Global) {
-        let Some(keeps) = self.desk.keeps(rt, alloc) else {
-            return;
-        };
-        let mut open = Vec::new(alloc);
-        for keep in keeps.as_slice() {
-            let event = OpenEvent {
-                event: keep.event,
-                since: keep.since,
-                until: keep.until,
-                tag: keep.tag,
-            };
-            if open.push(event).is_err() {
-                return;
-            }
-        }
-        self.posts.notes.put(rt, Note::Open(self.place, open));
     }
 
     /// The clips with a tag, of the store at a place.
@@ -455,7 +262,7 @@ impl CameraState {
         self.life.on(rt, FilmingEvent::Begin);
         self.jobs.open(rt);
         self.reader.open(rt);
-        self.desk.adopt(rt, 0, self);
+        self.desk.adopt(rt, self.alloc, 0, &self.stored);
     }
 
     /// Its store was moved away: one is made anew for the frames that come, and events go on there with nothing locked.
@@ -524,14 +331,14 @@ impl CameraState {
         self.life.camera(rt).locked
     }
 
-    // How many frames have come from its source.
-    fn come<R: Wait>(&self, rt: &R) -> u64 {
+    /// How many frames have come from its source.
+    pub(crate) fn come<R: Wait>(&self, rt: &R) -> u64 {
         let (come, _) = self.feed.counts(rt);
         come
     }
 
-    // A frame was given up on its way to the desk.
-    fn give_up<R: Wait>(&self, rt: &R) {
+    /// A frame was given up on its way to the desk.
+    pub(crate) fn give_up<R: Wait>(&self, rt: &R) {
         self.life.give_up(rt, self.come(rt));
     }
 
@@ -580,80 +387,5 @@ impl Maker for CameraState {
 
     fn is_filmed<R: Wait>(&self, rt: &R) -> bool {
         CameraState::is_filmed(self, rt)
-    }
-}
-
-impl Guide for CameraState {
-    /// A tick for each frame of the source, at the time when it came.
-    fn next_tick<R: Wait + Clock>(&self, rt: &R, _n: u64) -> Option<u64> {
-        for _ in rt.forever() {
-            let (come, taken) = self.feed.counts(rt);
-            if !self.life.camera(rt).films(come, taken) {
-                return None;
-            }
-            if let Some(time) = self.feed.make_ready(rt, Duration::from_millis(LOOK_AGAIN)) {
-                return Some(time);
-            }
-        }
-        unreachable!()
-    }
-
-    fn ticked<R: Wait>(&self, rt: &R, tick: Tick) {
-        match tick {
-            Tick::Completed(_) | Tick::Failed(_) => {}
-            Tick::Missed => self.give_up(rt),
-            Tick::Idle | Tick::Ended | Tick::WrongSize => {
-                self.life.on(rt, FilmingEvent::Break);
-            }
-        }
-    }
-
-    fn lacked<R: Wait>(&self, rt: &R) {
-        self.give_up(rt);
-    }
-
-    fn brought<R: Wait, D: Disk + Drop>(&self, rt: &R, _back: &Back<D, CameraState>, _number: u64) {
-        self.life.bring(rt, self.come(rt));
-    }
-
-    fn gave_up<R: Wait, D: Disk + Drop>(
-        &self,
-        rt: &R,
-        _back: &Back<D, CameraState>,
-        _frame: LostFrame,
-    ) {
-        self.give_up(rt);
-    }
-
-    fn stored<R: Wait, D: Disk + Drop>(&self, rt: &R, back: &Back<D, CameraState>, done: Flushed) {
-        self.life.store_frames(rt, done.stored);
-        self.stored.grow(rt, back.active(), done.stored);
-    }
-
-    /// Where each block is locked, the frames wait until the program ends. Where the disk failed, the filming ends, and
-    /// the store is opened again.
-    fn flushes_again<R: Wait>(&self, rt: &R, fault: StoreFault) -> bool {
-        let event = match fault {
-            StoreFault::AllLocked => FilmingEvent::AllLocked,
-            _ => FilmingEvent::Break,
-        };
-        self.life.on(rt, event) == Act::FlushAgain
-    }
-
-    /// Orders are done only while the desk works. Once it is broken the filming ends, and the store is opened again.
-    fn visit<R: Wait + Clock, D: Disk + Drop>(
-        &self,
-        rt: &R,
-        alloc: Global,
-        back: &mut Back<D, CameraState>,
-    ) {
-        take_joined(rt, self, back.count());
-        if !self.life.camera(rt).over {
-            attend(rt, alloc, self, back);
-        }
-        // A lock or an unlock may have failed on a disk while no frame waits, so no flush would report it.
-        if one_must_reopen(back) {
-            self.life.on(rt, FilmingEvent::Break);
-        }
     }
 }

@@ -2,7 +2,7 @@
 
 use crate::state::CameraState;
 use loop_record::Geometry;
-use loop_station_parts::Said;
+use loop_station_shared::Said;
 use loop_station_words::{Lines, TimesFrom, duration_of};
 use std::io;
 use std::sync::Wait;

@@ -1,22 +1,22 @@
-//! A camera's thread: it films the camera into its stores, again and again. `opening` has how they are opened and made.
-
-ghost use Rattle.std.specs.Prelude.{◌≡◌, ◌≤◌};
+//! A camera's thread: it films the camera into its stores, again and again. `opening` has how they are opened and made, and
+//! `stores` what they are.
 
 use crate::notes::read_events;
-use crate::opening::{OpenStore, Opened, member_of, open_first, open_others};
+use crate::opening::{OpenStore, Opened, Unopened, member_of, open_first, open_others};
+use crate::stores::{limits_for, tell_clips};
 use loop_capture::Device;
-use loop_desk::{Desk, DeskLimits};
+use loop_desk::Desk;
 use loop_file::FileDisk;
 use loop_pipeline::{
     Camera, CameraEnd, Door, Unfilmed, film_desks, heap_start, new_queue, start_queue,
 };
 use loop_plane::HeapPlane;
-use loop_record::Geometry;
 use loop_station_camera::CameraState;
-use loop_station_core::{Act, FilmingEvent, Keep, OpenEvent, bits_of, is_saved_at_start};
-use loop_station_parts::{Absent, FeedSource, FoundClip, Message, Outlet, Places};
-use loop_station_words::{RingSize, size_of};
-use loop_store::{Clip, Store, StoreFault};
+use loop_station_core::{Act, FilmingEvent, Keep, OpenEvent, bits_of};
+use loop_station_outside::{Absent, Places};
+use loop_station_shared::{FeedSource, Outlet};
+use loop_station_words::size_of;
+use loop_store::{Store, StoreFault};
 use std::alloc::{AllocGlobal, Global};
 use std::io::Write;
 use std::sync::{Arc, Wait};
@@ -30,19 +30,8 @@ const OPEN_AGAIN: u64 = 1_000;
 // How many milliseconds pass before a store is made in the place of one that was moved away.
 const MOVED_AGAIN: u64 = 250;
 
-// How many milliseconds it waits for a header before it looks whether the program ends.
-const LOOK_AGAIN: u64 = 100;
-
-// The most frames that a camera's flush stores, and the fewest that it may store where they are large.
-const MOST: u32 = 64;
-
-const FEWEST: u32 = 8;
-
 // How many desks may wait to join a camera.
 const DESKS: usize = 256;
-
-// How many bytes the frames of a flush have together at most, where they are more than the fewest.
-const FLUSH_BYTES: u32 = 67_108_864;
 
 // A camera in front of a store in a file.
 type FileCamera = Camera<FeedSource, FileDisk, HeapPlane, CameraState>;
@@ -123,33 +112,6 @@ fn tell_absence<R: AllocGlobal + Wait + Clock, W: Write + Drop>(
     true
 }
 
-/// What the source's header says, once it is there; None where the camera is stopped before that.
-pub(crate) fn wait_header<R: Wait + Clock>(rt: &R, state: &CameraState) -> Option<Geometry> {
-    for _ in rt.forever() {
-        if state.is_stopped(rt) {
-            return None;
-        }
-        if let Some(header) = state.life.header(rt, Duration::from_millis(LOOK_AGAIN)) {
-            return Some(header);
-        }
-    }
-    unreachable!()
-}
-
-/// The geometry of a store with this ring for a header.
-pub(crate) fn geometry_for(header: &Geometry, ring: RingSize) -> Result<Geometry, Absent> {
-    let RingSize { segments, slots } = ring;
-    let geometry = Geometry {
-        segments,
-        slots,
-        ..*header
-    };
-    match geometry.check() {
-        Ok(()) => Ok(geometry),
-        Err(_) => Err(Absent::NoGeometry),
-    }
-}
-
 // Films into the stores of a camera, until it is stopped or one of them must be reopened. Returns why it ended.
 fn film_into<R: AllocGlobal + Places + Threads + Wait + Clock + Sync, W: Write + Drop + Send>(
     rt: &R,
@@ -204,51 +166,6 @@ fn take_store<R: Wait>(rt: &R, state: &CameraState, store: &mut Store<FileDisk>)
     if !state.life.set_store(rt, store.geometry(), bits) {
         state.feed.clear(rt);
         state.lose_rest(rt);
-    }
-}
-
-// What the thread that opens the other stores begins with.
-#[derive(Drop)]
-struct Unopened {
-    geometry: Geometry,
-    number: Option<u32>,
-    others: Vec<OpenStore>,
-    there: Vec<u32>,
-    events: Vec<OpenEvent>,
-    wanted: u32,
-}
-
-/// Tells the printer which clips a store has, by the ids that users know: those that aren't saved yet are saved by
-/// themselves, where the camera has a folder for them (`is_saved_at_start`). A clip whose frames can't be read is left
-/// out.
-pub(crate) fn tell_clips<R: AllocGlobal + Wait>(
-    rt: &R,
-    state: &CameraState,
-    store: &mut Store<FileDisk>,
-    clips: &[Clip],
-    events: &[OpenEvent],
-) {
-    if state.config.save_to.is_none() {
-        return;
-    }
-    let mut found = Vec::new(rt.alloc());
-    for clip in clips {
-        if !is_saved_at_start(clip.tag, events) {
-            continue;
-        }
-        let (Ok(first), Ok(last)) = (store.read_head(clip.from), store.read_head(clip.to)) else {
-            continue;
-        };
-        let clip = FoundClip {
-            clip: *clip,
-            first: first.timestamp,
-            last: last.timestamp,
-        };
-        // Where memory is refused, the clip is saved at the next start.
-        let _ = found.push(clip);
-    }
-    if let Some(kept) = state.kept_clips(rt.alloc(), found.as_slice()) {
-        state.posts.printer.put(rt, Message::Opened(kept));
     }
 }
 
@@ -308,19 +225,6 @@ fn why_ended<R: Wait>(rt: &R, state: &CameraState, filmed: Filmed) -> Absent {
     }
 }
 
-/// How much the desk of a camera accepts. A flush costs two syncs, however many frames it stores; as many come while it
-/// lasts, and wait in memory.
-pub(crate) fn limits_for(frame_bytes: u32) -> DeskLimits
-    ensures pending { result.pending ≡ 64 }
-    ensures group { (1 ≤ result.group) × (result.group ≤ 64) }
-{
-    DeskLimits {
-        pending: MOST,
-        group: (FLUSH_BYTES / frame_bytes.max(1)).max(FEWEST).min(MOST),
-        calls: 1_000_000,
-    }
-}
-
 // A camera in front of a store: its queue streams, and nothing waits at its desk. None where memory was refused.
 fn camera_before(alloc: Global, state: &CameraState, store: Store<FileDisk>) -> Option<FileCamera> {
     let geometry = store.geometry();
@@ -359,40 +263,10 @@ fn film<R: AllocGlobal + Places + Threads + Wait + Clock + Sync, W: Write + Drop
     thread::scope(thread::scope_env(), rt, move |scope| -> Filmed {
         if door.is_open() {
             // Where a thread is refused, the camera is filmed into the one store that is open.
-            let _alone = scope.spawn(move || open_rest(rt, state, outlet, door, rest));
+            let _alone = scope.spawn(move || open_others(rt, state, outlet, door, rest));
         }
         let filmed = film_desks(rt, rt.alloc(), scope, &state.threads, state, door, camera);
         state.stored.close(rt);
         filmed
     })
-}
-
-// Opens and makes the other stores of a camera, until its filming ends.
-fn open_rest<R: AllocGlobal + Places + Wait + Clock, W: Write + Drop>(
-    rt: &R,
-    state: &CameraState,
-    outlet: &Outlet<W>,
-    door: &Door<FileDisk>,
-    rest: Unopened,
-) {
-    let Unopened {
-        geometry,
-        number,
-        others,
-        there,
-        events,
-        wanted,
-    } = rest;
-    open_others(
-        rt,
-        state,
-        outlet,
-        door,
-        geometry,
-        number.unwrap_or(0),
-        others,
-        there.as_slice(),
-        events.as_slice(),
-        wanted,
-    );
 }

@@ -2,12 +2,12 @@
 //!
 //! Each camera has a thread for its source (`source`), which puts frames into its feed, and two threads that film it
 //! (`filming`): the store is opened or made, and `film_desks` of loop_pipeline brings the frames to it. Where a camera
-//! has several stores, one more thread opens and makes the others meanwhile (`opening`).
+//! has several stores, one more thread opens and makes the others meanwhile (`opening`); `stores` says what they are.
 //!
 //! `run` starts all that. `orders` reads orders and asks the cameras, `printer` prints what they answer and begins
 //! saves, and `notes` writes down what goes on at the next start. `events` prints what happens without an order,
 //! and `watch` sees that a source is silent, that a store was moved away, and that the program stood still. What the
-//! threads share stands in loop_station_parts, and what a camera does of its orders in loop_station_camera.
+//! threads share stands in loop_station_shared, and what a camera does of its orders in loop_station_camera.
 //!
 //! What an order means, and the choice of a store's size, is proved in loop_station_words, and what a station decides
 //! in loop_station_core. Each frame of the source comes to the desk, in order and whole, or is counted, and its footage
@@ -24,7 +24,8 @@ mod orders;
 mod printer;
 mod run;
 mod source;
+mod stores;
 mod watch;
 
-pub use loop_station_parts::Places;
+pub use loop_station_outside::Places;
 pub use run::{NotBegun, run_station};

@@ -4,9 +4,8 @@
 use loop_script::{MAX_LINE, next_line};
 use loop_station_camera::{CameraState, Saves, tell_status};
 use loop_station_core::{KeepPeriod, Numbers, asked_time, is_too_far, tag_of};
-use loop_station_parts::{
-    Answering, AskedKeep, Job, Message, NotTaken, Outlet, Places, Posts, Request, Timeline,
-};
+use loop_station_outside::{Places, Timeline};
+use loop_station_shared::{Answering, AskedKeep, Job, NotTaken, Outlet, Posts, Request};
 use loop_station_words::{Lines, Name, Order, label_of, read_order};
 use std::alloc::{AllocError, AllocGlobal, Global};
 use std::io::{BufRead, Write};
@@ -139,7 +138,7 @@ fn do_line<R: AllocGlobal + Places + Wait + Clock, W: Write + Drop>(
         }
         // Where memory is refused, the order isn't answered.
         Some(order) => {
-            let _unanswered = perform(rt, station, read, label, order);
+            let _unanswered = hand_out(rt, station, read, label, order);
         }
         None => bad_order(rt, station, line),
     }
@@ -183,7 +182,7 @@ fn bad_order<R: Wait, W: Write + Drop>(rt: &R, station: &Station<W>, line: &[u8]
 }
 
 // Hands an order to the cameras that it means, or answers it.
-fn perform<R: AllocGlobal + Places + Wait + Clock, W: Write + Drop>(
+fn hand_out<R: AllocGlobal + Places + Wait + Clock, W: Write + Drop>(
     rt: &R,
     station: &Station<W>,
     read: u64,
@@ -197,8 +196,12 @@ fn perform<R: AllocGlobal + Places + Wait + Clock, W: Write + Drop>(
             after,
             tag,
         } => {
-            let period = KeepPeriod::Around(seconds, after);
-            keep(rt, station, read, label, &camera, period, tag)
+            let asked = KeepOrder {
+                camera: &camera,
+                period: KeepPeriod::Around(seconds, after),
+                tag,
+            };
+            keep(rt, station, read, label, asked)
         }
         Order::KeepBetween {
             camera,
@@ -206,20 +209,24 @@ fn perform<R: AllocGlobal + Places + Wait + Clock, W: Write + Drop>(
             until,
             tag,
         } => {
-            let period = KeepPeriod::Between(since, until);
-            keep(rt, station, read, label, &camera, period, tag)
+            let asked = KeepOrder {
+                camera: &camera,
+                period: KeepPeriod::Between(since, until),
+                tag,
+            };
+            keep(rt, station, read, label, asked)
         }
         Order::List => list(rt, station, label),
         Order::Status | Order::Help | Order::Stop => {
             tell_all(rt, station, label, matches!(order, Order::Help));
             Ok(())
         }
-        order => perform_on_clip(rt, station, label, order),
+        order => hand_out_for_clip(rt, station, label, order),
     }
 }
 
 // Hands an order about a clip to the clip's camera, or answers it.
-fn perform_on_clip<R: Wait, W: Write + Drop>(
+fn hand_out_for_clip<R: Wait, W: Write + Drop>(
     rt: &R,
     station: &Station<W>,
     label: Option<&str>,
@@ -318,16 +325,26 @@ fn asked_keep<R: Wait + Clock>(
     }
 }
 
+// What a line asks to keep: of one camera, or of all, with this tag or their own.
+struct KeepOrder<'a> {
+    camera: &'a Option<Name<'a>>,
+    period: KeepPeriod,
+    tag: Option<u64>,
+}
+
 // Locks what one camera, or all, held in a time. Each camera is asked before any has to answer.
 fn keep<R: Wait + Clock, W: Write + Drop>(
     rt: &R,
     station: &Station<W>,
     read: u64,
     label: Option<&str>,
-    camera: &Option<Name<'_>>,
-    period: KeepPeriod,
-    tag: Option<u64>,
+    asked: KeepOrder<'_>,
 ) -> Result<(), AllocError> {
+    let KeepOrder {
+        camera,
+        period,
+        tag,
+    } = asked;
     let name = match camera {
         Some(name) => Some(name.text()),
         None => None,

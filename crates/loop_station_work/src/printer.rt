@@ -3,7 +3,8 @@
 
 use crate::orders::Station;
 use loop_station_camera::{automatic, begin, tell_ended};
-use loop_station_parts::{Answering, KeptClip, Message, NotSaved};
+use loop_station_outside::NotSaved;
+use loop_station_shared::{Answering, KeptClip, Message};
 use std::alloc::AllocGlobal;
 use std::io::Write;
 use std::sync::Wait;

@@ -9,11 +9,10 @@ use crate::printer::{run_printer, stop_saves};
 use crate::source::{known_frames, run_source};
 use crate::watch::run_watch;
 use loop_script::MAX_LINE;
-use loop_station_camera::{CameraState, MOST_SAVES, Saves, begin, run_saves};
+use loop_station_camera::{CameraState, Common, MOST_SAVES, Saves, begin, run_saves};
 use loop_station_core::Numbers;
-use loop_station_parts::{
-    Message, Note, Outlet, PathKind, Places, Posts, Tap, Timeline, run_outlet, run_tap,
-};
+use loop_station_outside::{PathKind, Places, Timeline};
+use loop_station_shared::{LineForm, Message, Note, Outlet, Posts, Tap, run_outlet, run_tap};
 use loop_station_words::{AnswersForm, CameraConfig, Config, Lines, NoRing, Source, asked_set};
 use std::alloc::{AllocError, AllocGlobal, Global};
 use std::io::{BufReader, Read, Write};
@@ -71,7 +70,12 @@ pub fn run_station<
     let Ok(input) = BufReader::new(alloc, input) else {
         return Err(NotBegun::NoMemory);
     };
-    if !run_behind(rt, &station, orders, input, line, Vec::new(alloc), watched) {
+    let reader = OrderReader {
+        path: orders,
+        input,
+        line,
+    };
+    if !run_behind(rt, &station, reader, Vec::new(alloc), watched) {
         return Err(NotBegun::NoMemory);
     }
     station.tell_end(rt);
@@ -103,9 +107,15 @@ fn station_of<R: AllocGlobal + Places + Wait + Clock, W: Write + Drop>(
     let timeline = timeline_of(rt)?;
     let saves = shared(alloc, Saves::new(alloc, taken, stores, saves)?)?;
     let posts = shared(alloc, Posts::new(alloc)?)?;
-    let states = states_of(alloc, cameras, timeline, json, &posts, &saves)?;
+    let common = Common {
+        json,
+        timeline,
+        posts,
+        saves,
+    };
+    let cameras = states_of(alloc, cameras, &common)?;
     let times = times.then_some(timeline);
-    let tap = tap_of(rt, answers, times)?;
+    let tap = tap_of(rt, answers, LineForm { json, times })?;
     let ours = match &tap {
         Some(tap) => Some(Arc::try_clone(tap)?),
         None => None,
@@ -114,10 +124,10 @@ fn station_of<R: AllocGlobal + Places + Wait + Clock, W: Write + Drop>(
     let station = Station {
         alloc,
         timeline,
-        cameras: states,
+        cameras,
         outlet: shared(alloc, outlet)?,
-        saves,
-        posts,
+        saves: common.saves,
+        posts: common.posts,
         json,
         events,
         numbers: Mutex::new(Numbers::after(0)),
@@ -138,16 +148,12 @@ fn timeline_of<R: Clock>(rt: &R) -> Result<Timeline, NotBegun> {
 fn states_of(
     alloc: Global,
     cameras: Vec<CameraConfig>,
-    timeline: Timeline,
-    json: bool,
-    posts: &Arc<Posts>,
-    saves: &Arc<Saves>,
+    common: &Common,
 ) -> Result<Vec<Arc<CameraState>>, NotBegun> {
     let mut states = Vec::new(alloc);
     let mut place = 0usize;
     for camera in cameras {
-        let (posts, saves) = (Arc::try_clone(posts)?, Arc::try_clone(saves)?);
-        let state = CameraState::new(alloc, place, json, camera, timeline, posts, saves)?;
+        let state = CameraState::new(alloc, place, camera, common.share()?)?;
         if states.push(shared(alloc, state)?).is_err() {
             return Err(NotBegun::NoMemory);
         }
@@ -277,13 +283,13 @@ fn add_path(alloc: Global, paths: &mut Vec<String>, path: &str) -> Result<(), No
 fn tap_of<R: AllocGlobal + Places>(
     rt: &R,
     answers: Option<String>,
-    times: Option<Timeline>,
+    form: LineForm,
 ) -> Result<Option<Arc<Tap>>, NotBegun> {
     let Some(path) = answers else {
         return Ok(None);
     };
     let is_pipe = rt.path_kind(path.as_str()) == PathKind::Pipe;
-    let tap = shared(rt.alloc(), Tap::new(rt.alloc(), path, is_pipe, times)?)?;
+    let tap = shared(rt.alloc(), Tap::new(rt.alloc(), path, is_pipe, form)?)?;
     Ok(Some(tap))
 }
 
@@ -347,6 +353,14 @@ fn start_sources<
     Ok(())
 }
 
+// Where orders come from: the pipe or file of a path, or else the input; and the memory of a line.
+#[derive(Drop)]
+struct OrderReader<I: Read + Drop> {
+    path: Option<String>,
+    input: BufReader<I>,
+    line: Vec<u8>,
+}
+
 // The scope that the cameras' threads run in.
 fn run_behind<
     R: AllocGlobal + Places + Threads + Wait + Clock + Clone + Drop + Send + Sync + 'static,
@@ -355,15 +369,13 @@ fn run_behind<
 >(
     rt: &R,
     station: &Station<W>,
-    orders: Option<String>,
-    input: BufReader<I>,
-    line: Vec<u8>,
+    reader: OrderReader<I>,
     handles: Vec<JoinHandle<()>>,
     watched: bool,
 ) -> bool {
     let (rt, station) = (&*rt, &*station);
     thread::scope(thread::scope_env(), rt, move |scope| -> bool {
-        run_in(rt, scope, station, orders, input, line, handles, watched)
+        run_in(rt, scope, station, reader, handles, watched)
     })
 }
 
@@ -379,9 +391,7 @@ fn run_in<
     rt: &'s R,
     scope: &Scope<'s, E>,
     station: &'s Station<W>,
-    orders: Option<String>,
-    input: BufReader<I>,
-    line: Vec<u8>,
+    reader: OrderReader<I>,
     handles: Vec<JoinHandle<()>>,
     watched: bool,
 ) -> bool {
@@ -391,7 +401,7 @@ fn run_in<
     };
     let notes = scope.spawn(move || run_notes(rt, station));
     let all = notes.is_ok() && start_cameras(rt, scope, station, &mut handles, watched);
-    if !all || serve(rt, station, orders, input, line) {
+    if !all || serve(rt, station, reader) {
         finish_orders(rt, station);
         stop_saves(rt, station);
         for state in station.cameras.as_slice() {
@@ -527,15 +537,13 @@ fn serve<
     R: AllocGlobal + Places + Threads + Wait + Clock + Clone + Drop + Send + Sync + 'static,
     I: Read + Drop,
     W: Write + Drop + Send + 'static,
->(
-    rt: &R,
-    station: &Station<W>,
-    orders: Option<String>,
-    input: BufReader<I>,
-    line: Vec<u8>,
-) -> bool {
-    let (mut input, mut line) = (input, line);
-    let Some(path) = orders else {
+>(rt: &R, station: &Station<W>, reader: OrderReader<I>) -> bool {
+    let OrderReader {
+        path,
+        mut input,
+        mut line,
+    } = reader;
+    let Some(path) = path else {
         return take_orders(rt, station, &mut input, &mut line);
     };
     for _ in rt.forever() {

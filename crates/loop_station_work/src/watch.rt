@@ -4,7 +4,7 @@
 use crate::orders::Station;
 use loop_station_camera::CameraState;
 use loop_station_core::{is_moved, stood_still};
-use loop_station_parts::Places;
+use loop_station_outside::Places;
 use std::alloc::AllocGlobal;
 use std::io::Write;
 use std::sync::Wait;

@@ -3,9 +3,10 @@
 ghost use Rattle.std.specs.Prelude.{◌≡◌, length};
 
 use crate::asserts::same;
-use loop_desk::{Desk, DeskLimits, Hand, Lane, LaneEvent, LaneFault, LaneReply, lane_run};
+use loop_desk::{Desk, DeskLimits, Hand, LaneFault};
 use loop_disk::{Disk, MemDisk};
 use loop_ioctl::{BufferMemory, BufferType, Ioctl, IoctlReply, QueueEvent, QueueReply};
+use loop_lane::{Lane, LaneEvent, LaneReply, lane_run};
 use loop_pages::{PageHold, PageLedger};
 use loop_plane::{FdTable, Memory, MmapPlane, PlaneMemory};
 use loop_record::{Frame, Geometry, PixelFormat};

@@ -3,9 +3,8 @@
 use crate::asserts::same;
 use crate::common::*;
 use crate::text::FIFTEEN;
-use loop_desk::{Lane, LaneEvent};
 use loop_disk::{CrashDisk, Disk, Spoil};
-use loop_lane_text::run_and_reopen;
+use loop_lane::{Lane, LaneEvent, run_and_reopen};
 use loop_plane::{MmapPlane, PlaneMemory};
 use std::alloc::{Allocator, Global};
 use std::process::Abort;

@@ -2,7 +2,7 @@
 
 use crate::asserts::{holds, same};
 use crate::calls::{Call, plays, read_at, write_at};
-use loop_ahead::AheadDisk;
+use loop_file::AheadDisk;
 use loop_disk::{Disk, MemDisk};
 use std::alloc::Allocator;
 use std::process::Abort;

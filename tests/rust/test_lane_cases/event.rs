@@ -2,7 +2,7 @@
 use crate::frame::frame;
 use crate::line::{Call, Verb};
 use crate::plane::AnyPlane;
-use loop_desk::LaneEvent;
+use loop_lane::LaneEvent;
 use loop_ioctl::{BufferMemory, BufferType, Ioctl, PlaneFds, QueueEvent};
 use loop_plane::Memory;
 use loop_record::{PixelFormat, Span};

@@ -6,7 +6,7 @@ use crate::plane::AnyPlane;
 use crate::queue::back;
 use crate::told;
 use anyhow::{Result, anyhow};
-use loop_desk::{Lane, LaneEvent, LaneReply, lane_run};
+use loop_lane::{Lane, LaneEvent, LaneReply, lane_run};
 use loop_disk::{Disk, MemDisk};
 use loop_vb2::PlaneSet;
 use std::alloc::Global;

@@ -2,8 +2,9 @@
 use crate::frame::is_whole;
 use crate::plane::AnyPlane;
 use bitflags::Flags;
-use loop_desk::{Flushed, LaneFault, LaneReply};
+use loop_desk::{Flushed, LaneFault};
 use loop_ioctl::{IoctlReply, QueueReply};
+use loop_lane::LaneReply;
 use loop_record::Span;
 use loop_store::{ReadFrame, StoreFault};
 use loop_vb2::{Errno, Refused};

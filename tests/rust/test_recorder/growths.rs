@@ -1,7 +1,7 @@
 //! Each growth is refused in turn: nothing changes, and with one more growth the call succeeds.
 
 ghost use Rattle.std.specs.Prelude.{◌≡◌, ◌<◌, All, false, length, vec_len};
-ghost use Rattle.loop_sessions.specs.Opened.{IsReady};
+ghost use Rattle.loop_recorder.specs.Opened.{IsReady};
 
 use crate::asserts::same;
 use crate::calls::*;
@@ -27,9 +27,10 @@ type Thrifty<'a, P> = Recorder<MemDisk, P, &'a Budget>;
 type Passes<'a> = Vec<Pass<&'a Budget>, &'a Budget>;
 
 // The growths of a new recorder of two cameras, each with a frame and a clip. There are two lists of locks, the lists
-// for the end and for what is given up, the passes, and two lists of outlines. Each outline takes a growth for its
+// for the end and for what is given up, that of the cameras before they are locked, the passes, and two lists of
+// outlines. Each outline takes a growth for its
 // frames and one for its clips.
-const NEW: u64 = 15;
+const NEW: u64 = 16;
 
 // With this many growths granted no recorder is made, and the cameras come back as they were.
 fn is_refused<'a, P: PlaneMemory>(

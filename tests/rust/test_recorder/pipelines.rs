@@ -2,9 +2,8 @@
 //! read and unlocked meanwhile; and the text of what was filmed.
 
 ghost use Rattle.std.specs.Prelude.{◌≡◌, ⊤, [], false};
-ghost use Rattle.loop_pipeline.specs.Fronts.{IsOpen};
+ghost use Rattle.loop_pipeline.specs.Fronts.{IsOpen, StandsPort};
 ghost use Rattle.loop_plane.specs.Kinds.{heap_plane};
-ghost use Rattle.loop_sessions.specs.Ports.{StandsPort};
 ghost use Rattle.rtrb.specs.Ring.{received};
 
 use crate::asserts::{holds, same};
@@ -12,7 +11,7 @@ use crate::common::*;
 use loop_capture::{Device, Pattern, Tick};
 use loop_desk::{Desk, Flushed, Hand, LaneFault};
 use loop_disk::{Disk, FuseDisk, MemDisk};
-use loop_lane_text::{LostFrames, film_and_export};
+use loop_lane::{LostFrames, film_and_export};
 use loop_pipeline::{
     Back, Begun, Brought, Camera, CameraEnd, Front, Guide, Link, LostFrame, Noting, Outcome, Seat,
     Shot, TakeOutcome, Visits, end, film_all, film_camera, heap_start, new_queue, start_queue,

@@ -5,12 +5,14 @@ ghost use Rattle.std.specs.Io.KnownBytes.{Appends};
 ghost use Rattle.loop_y4m.specs.Text.{frame};
 ghost use Rattle.loop_station_camera.specs.Saves.{WroteClips, WrotePiece, clips_read};
 
+use super::frames::read_one;
 use super::pieces::{Piece, next_piece};
-use super::{Save, SaveTarget, Saves};
+use crate::saves::{Save, SaveTarget};
 use crate::state::CameraState;
 use loop_record::Geometry;
 use loop_station_core::bits_of;
-use loop_station_parts::{Absent, FoundClip, NotSaved, PartFile, PathKind, Places, store_of};
+use loop_station_outside::{Absent, NotSaved, PartFile, PathKind, Places};
+use loop_station_shared::FoundClip;
 use loop_station_words::print_clip_path;
 use loop_store::ReadFrame;
 use loop_y4m::{Depth, may_have, write_deep_header, write_frame};
@@ -90,7 +92,6 @@ pub(super) fn path_for<R: AllocGlobal + Places>(
 /// Writes a clip. Returns how many frames it has, once the file would survive a loss of power.
 pub(super) fn write<R: AllocGlobal + Places + Wait>(
     rt: &R,
-    saves: &Saves,
     state: &CameraState,
     save: &Save,
     path: &str,
@@ -98,12 +99,12 @@ pub(super) fn write<R: AllocGlobal + Places + Wait>(
     if save.ended.load(Ordering::SeqCst) {
         return Err(NotSaved::Cancelled);
     }
-    if saves.is_taken(rt, path) {
+    if state.saves.is_taken(rt, path) {
         return Err(NotSaved::InUse);
     }
     let replace = match &save.target {
         SaveTarget::Path(_, replace) => {
-            if let Some(folder) = &saves.folder {
+            if let Some(folder) = &state.saves.folder {
                 if !rt.lies_in(path, folder.as_str()) {
                     return Err(NotSaved::OtherFolder);
                 }
@@ -116,7 +117,7 @@ pub(super) fn write<R: AllocGlobal + Places + Wait>(
         return Err(NotSaved::Absent(Absent::NoStore));
     };
     let mut file = rt.open_text(path, replace)?;
-    let came = write_clips(rt, saves, state, save, &geometry, &mut file);
+    let came = write_clips(rt, state, save, &geometry, &mut file);
     match came {
         Ok(count) => match rt.finish_text(&file) {
             Ok(()) => Ok(count),
@@ -135,7 +136,6 @@ pub(super) fn write<R: AllocGlobal + Places + Wait>(
 // Writes the text of a save into a file.
 fn write_clips<R: AllocGlobal + Wait>(
     rt: &R,
-    saves: &Saves,
     state: &CameraState,
     save: &Save,
     geometry: &Geometry,
@@ -144,7 +144,7 @@ fn write_clips<R: AllocGlobal + Wait>(
     let Ok(mut out) = BufWriter::with_capacity(rt.alloc(), AT_ONCE, file) else {
         return Err(NotSaved::NoMemory);
     };
-    let count = write_text(rt, saves, state, save, geometry, &mut out)?;
+    let count = write_text(rt, state, save, geometry, &mut out)?;
     match out.flush() {
         Ok(()) => Ok(count),
         Err(_) => Err(NotSaved::CannotWrite),
@@ -155,7 +155,6 @@ fn write_clips<R: AllocGlobal + Wait>(
 // samples, and their frames, in the order of their times. Returns how many frames there are.
 fn write_text<R: AllocGlobal + Wait, W: Write>(
     rt: &R,
-    saves: &Saves,
     state: &CameraState,
     save: &Save,
     geometry: &Geometry,
@@ -182,7 +181,7 @@ fn write_text<R: AllocGlobal + Wait, W: Write>(
         let Some(piece) = next_piece(rt, state, u64::from(geometry.slots), &mut left)? else {
             return Ok(count);
         };
-        let written = write_piece(rt, saves, state, save, &piece, depth, out)?;
+        let written = write_piece(rt, state, save, &piece, depth, out)?;
         let Some(more) = count.checked_add(written) else {
             return Err(NotSaved::NoSuchClip);
         };
@@ -201,7 +200,6 @@ fn have_frames(clips: &[FoundClip]) -> bool
 // Writes the frames of a piece, unless the save is to end before. Returns how many there are.
 fn write_piece<R: Wait, W: Write>(
     rt: &R,
-    saves: &Saves,
     state: &CameraState,
     save: &Save,
     piece: &Piece,
@@ -216,7 +214,7 @@ fn write_piece<R: Wait, W: Write>(
     }
     let count = to - from + 1;
     'frames: for at in 0..count {
-        if saves.stopped.load(Ordering::SeqCst) {
+        if state.saves.stopped.load(Ordering::SeqCst) {
             return Err(NotSaved::Stopped);
         }
         if save.ended.load(Ordering::SeqCst) {
@@ -230,47 +228,6 @@ fn write_piece<R: Wait, W: Write>(
 // How many bits the samples of a frame have, by its flags.
 fn depth_of(frame: &ReadFrame) -> Result<Depth, NotSaved> {
     Depth::of_bits(bits_of(frame.head.flags)).ok_or(NotSaved::MixedBits)
-}
-
-// Reads a frame of a clip.
-fn read_one<R: Wait>(
-    rt: &R,
-    state: &CameraState,
-    found: &FoundClip,
-    number: u64,
-) -> Result<ReadFrame, NotSaved> {
-    let frame = read_at(rt, state, found.clip.id, number)?;
-    if found.fits(number, frame.head.timestamp) {
-        Ok(frame)
-    } else {
-        Err(NotSaved::NoSuchClip)
-    }
-}
-
-// Reads a frame of the store that has the clip of an id.
-fn read_at<R: Wait>(
-    rt: &R,
-    state: &CameraState,
-    id: u32,
-    number: u64,
-) -> Result<ReadFrame, NotSaved> {
-    state.ask_frame(rt, store_of(id), number);
-    match state.reader.answer(rt) {
-        Some(Ok(Ok(frame))) => Ok(frame),
-        Some(Ok(Err(fault))) => Err(NotSaved::Refused(fault)),
-        Some(Err(why)) => Err(NotSaved::Absent(why)),
-        None => Err(NotSaved::NoMemory),
-    }
-}
-
-/// When a frame came of the store that has the clip of an id.
-pub(super) fn time_at<R: Wait>(
-    rt: &R,
-    state: &CameraState,
-    id: u32,
-    number: u64,
-) -> Result<u64, NotSaved> {
-    Ok(read_at(rt, state, id, number)?.head.timestamp)
 }
 
 // Reads a frame, whose samples have to have so many bits, and writes it.

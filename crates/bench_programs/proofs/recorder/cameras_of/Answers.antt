@@ -1,6 +1,6 @@
 use Rattle.std.proofs.Common.{arith}
 use Rattle.std.proofs.lemmas.List.Elements.{All-push}
-use Rattle.loop_sessions.specs.Opened.{CameraOf, IsReady}
+use Rattle.loop_recorder.specs.Opened.{CameraOf, IsReady}
 use Rattle.bench_programs.proofs.recorder.cameras_of.Goals as goal
 
 pub loop-store-preserved : goal.loop-store-preserved

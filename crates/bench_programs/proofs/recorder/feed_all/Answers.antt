@@ -1,6 +1,6 @@
 use denote.Param.Send.{sendable}
 use Rattle.std.proofs.Crossing.{crosses}
-use Rattle.loop_sessions.proofs.Crossing.{pass_send, recorder_sync}
+use Rattle.loop_recorder.proofs.Crossing.{pass_send, recorder_sync}
 use Rattle.bench_programs.proofs.recorder.feed_all.Goals as goal
 
 pub map_vec-requires-sync-F : goal.map_vec-requires-sync-F

@@ -1,5 +1,5 @@
 use Rattle.std.proofs.Common.{arith}
-use Rattle.loop_sessions.proofs.OutlineSteps.{tell-count}
+use Rattle.loop_recorder.proofs.OutlineSteps.{tell-count}
 use Rattle.bench_programs.proofs.recorder.recorder_of.Goals as goal
 
 pub returns-in-Ok : goal.returns-in-Ok

@@ -1,11 +1,7 @@
 use Rattle.std.proofs.Common.{◌≡◌, ap, arith, length, vec_len}
 use Rattle.std.proofs.lemmas.List.{length-map}
-use Rattle.loop_capture.specs.Ticks.{SeenRest}
-use Rattle.loop_pipeline.specs.declared.several.Outcome.{Outcome}
 use Rattle.loop_pipeline.specs.Several.{shot_of}
-use Rattle.loop_recorder.specs.declared.post.Post.{Post}
-use Rattle.loop_recorder.specs.declared.post.Watch.{Watch}
-use Rattle.loop_recorder.specs.Recordings.{SeenLeft, left_by, left_in, rest_left}
+use Rattle.loop_recorder.specs.Recordings.{outcome_left, outcome_rest, seen_filmed}
 use Rattle.loop_recorder.proofs.Kept.{are-filmed, none-filmed}
 use Rattle.loop_recorder.proofs.Standing.{holds-fewer, stands-after}
 use Rattle.loop_recorder.proofs.returns.film.Goals as goal
@@ -28,21 +24,17 @@ outcomes_back-requires-clause-room g c κs within =
 
 pub returns-in-Ok-clause-count : goal.returns-in-Ok-clause-count
 returns-in-Ok-clause-count g c =
-    let rest : Outcome g.row.S.Denot g.row.D.Denot g.row.P.Denot (Post (Watch g.row.Q.Denot)) → SeenRest =
-    λ o. rest_left o.filmed in
-    let left : Outcome g.row.S.Denot g.row.D.Denot g.row.P.Denot (Post (Watch g.row.Q.Denot))
-    → SeenLeft g.row.D.Denot g.row.P.Denot = λ o. left_by o.filmed in
     let outcomes = c.in-Ok.outcomes.items in
     let back = c.outcomes_back in
     let count : length outcomes ≡ vec_len c.args.shots =
     omega (arith, length-map outcomes shot_of, ap length c.in-Ok.ensures.shots, c.args.shots.ok.0) in (
-      omega (arith, count, ap length back.ensures.rests, length-map outcomes rest, back.result.rests.ok.0),
+      omega (arith, count, ap length back.ensures.rests, length-map outcomes outcome_rest, back.result.rests.ok.0),
       omega (
         arith,
         count,
         ap length back.ensures.filmed,
-        length-map outcomes left,
-        length-map back.result.filmed.items left_in,
+        length-map outcomes outcome_left,
+        length-map back.result.filmed.items seen_filmed,
         back.result.filmed.ok.0,
       ),
     )

@@ -1,7 +1,7 @@
 use Rattle.std.proofs.Common.{◌≡◌, arith, length}
 use Rattle.std.specs.Global.{Global}
-use Rattle.loop_sessions.specs.Refused.{BreaksTie}
-use Rattle.loop_sessions.proofs.Ends.{broken-counted, end-counted}
+use Rattle.loop_recorder.specs.Refused.{BreaksTie}
+use Rattle.loop_recorder.proofs.Ends.{broken-counted, end-counted}
 use Rattle.loop_recorder.proofs.running.end_counted.Goals as goal
 
 pub returns-in-Ok-clause-ended : goal.returns-in-Ok-clause-ended

@@ -1,7 +1,7 @@
 use Rattle.std.proofs.Common.{◌≡◌, ◌+◌, ◌++◌, ◌≤◌, map, vec_len}
 use Rattle.std.specs.Vec.{vec_capacity}
 use Rattle.std.specs.Vec.Iter.{into_iter_items, into_iter_len}
-use Rattle.loop_sessions.specs.Receipts.{pass_number}
+use Rattle.loop_pipeline.specs.Notes.{pass_number}
 use Rattle.loop_recorder.proofs.running.with_copies.Given as goal
 
 abbrev pub invariant-loop-pass : goal.invariant-loop-pass

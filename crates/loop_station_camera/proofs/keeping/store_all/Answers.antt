@@ -3,7 +3,7 @@ use Rattle.std.specs.Global.{Global}
 use Rattle.std.proofs.lemmas.List.{nil_from_length}
 use Rattle.loop_desk.specs.Desk.{flushed}
 use Rattle.loop_desk.specs.Seen.{DeskGoes, TellsStatus}
-use Rattle.loop_pipeline.specs.Backs.{GoesAt, IsAt, SeenBack}
+use Rattle.loop_pipeline.specs.Backs.{GoesAt, IsSoAt, SeenBack}
 use Rattle.loop_pipeline.proofs.DeskPlaces.{but-desks, goes-still, goes-then, same-but-desks, same-desk, still-within, there-now}
 use Rattle.loop_station_camera.proofs.FlushRuns.{one-more}
 use Rattle.loop_station_camera.proofs.Served.{as-many}
@@ -43,7 +43,7 @@ returns-then-status-eq0 g c =
     let so = c.flushes.invariant in
     let told = same-desk (λ desk. TellsStatus g.D.Disk.medium desk c.status.result) c.flushes.back.desks
     c.args.back.now.active so.went.after (there-now _ _ _ _ so.went)
-    (subst (λ n. IsAt n c.flushes.back (λ desk. TellsStatus g.D.Disk.medium desk c.status.result)) so.place c.status.ensures) in
+    (subst (λ n. IsSoAt n c.flushes.back (λ desk. TellsStatus g.D.Disk.medium desk c.status.result)) so.place c.status.ensures) in
     record {
       goes = record {
         before = so.went.before;

@@ -1,8 +1,8 @@
 use Rattle.std.proofs.Common.{◌≡◌, Err, Some, slice_get, slice_set, subst, sym, ap}
 use Rattle.loop_record.specs.Recording.{picture}
 use Rattle.loop_desk.specs.Seen.{SeenDesk}
-use Rattle.loop_sessions.specs.declared.entry.FrameInfo.{FrameInfo}
-use Rattle.loop_pipeline.specs.Backs.{FitsBlock, HasRoom, IsAt, SeenBack}
+use Rattle.loop_pipeline.specs.declared.entry.FrameInfo.{FrameInfo}
+use Rattle.loop_pipeline.specs.Backs.{FitsBlock, HasRoom, IsSoAt, SeenBack}
 use Rattle.loop_pipeline.proofs.BackRuns.{accepted, brought, last, nothing}
 use Rattle.loop_pipeline.proofs.DeskPlaces.{answered, changed, same-desk, still-fits, unchanged}
 use Rattle.loop_pipeline.proofs.Places.{get-set-same, read-at, set-same}
@@ -58,7 +58,7 @@ pub returns-in-Asked-default-Ok-clause-fits : goal.returns-in-Asked-default-Ok-c
 returns-in-Asked-default-Ok-clause-fits g c n is several =
     let asked = c.in-Asked-default-Ok.ensures.takes in
     let at = read-at _ _ _ c.self.invariant.inside c.index_mut.ensures.value in
-    let room = subst (λ (b : SeenBack g.row.D.Denot g.row.A.Denot). IsAt b.active b HasRoom) (sym c.self.view_is)
+    let room = subst (λ (b : SeenBack g.row.D.Denot g.row.A.Denot). IsSoAt b.active b HasRoom) (sym c.self.view_is)
     (c.has_room.ensures.frame c.if-not-has_room.false several) in
     subst (λ (b : SeenBack g.row.D.Denot g.row.A.Denot). (x : SeenDesk g.row.D.Denot)
     × (slice_get (slice_set c.self.inside.desks.items c.self.inside.active c.submit_from.new.self) b.active ≡ Some x) × FitsBlock x)

@@ -1,12 +1,12 @@
 use Rattle.std.proofs.Common.{subst, arith, Some, ap, sym, ◌∙◌}
-use Rattle.loop_pipeline.specs.Backs.{HasRoom, IsAt, SeenBack}
+use Rattle.loop_pipeline.specs.Backs.{HasRoom, IsSoAt, SeenBack}
 use Rattle.loop_pipeline.proofs.Places.{read-at}
 use Rattle.loop_pipeline.proofs.Turning.{not-true}
 use Rattle.loop_pipeline.proofs.back.Back.has_room.Goals as goal
 
 pub returns-then-anyway-clause-frame : goal.returns-then-anyway-clause-frame
 returns-then-anyway-clause-frame g c e several =
-    subst (λ (b : SeenBack g.row.D.Denot g.row.A.Denot). IsAt b.active b HasRoom) c.self.view_is (
+    subst (λ (b : SeenBack g.row.D.Denot g.row.A.Denot). IsSoAt b.active b HasRoom) c.self.view_is (
       c.desk-desk.result.now,
       read-at _ _ _ c.self.invariant.inside c.index.ensures ∙ ap Some (sym c.desk-desk.ensures),
       grind (arith, c.if-waiting-room.false, c.status-waiting.ensures.pending, c.room.ensures),
@@ -14,7 +14,7 @@ returns-then-anyway-clause-frame g c e several =
 
 pub returns-else-anyway-clause-frame : goal.returns-else-anyway-clause-frame
 returns-else-anyway-clause-frame g c e several =
-    subst (λ (b : SeenBack g.row.D.Denot g.row.A.Denot). IsAt b.active b HasRoom) c.self.view_is (
+    subst (λ (b : SeenBack g.row.D.Denot g.row.A.Denot). IsSoAt b.active b HasRoom) c.self.view_is (
       c.desk-desk.result.now,
       read-at _ _ _ c.self.invariant.inside c.index.ensures ∙ ap Some (sym c.desk-desk.ensures),
       grind (arith, c.if-waiting-room.false, c.status-waiting.ensures.pending, c.room.ensures),

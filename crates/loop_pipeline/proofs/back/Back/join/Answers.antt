@@ -1,6 +1,6 @@
 use Rattle.std.proofs.Common.{◌∷◌, [], ap, length, ◌∙◌, subst}
 use Rattle.std.proofs.lemmas.List.{map-append}
-use Rattle.loop_pipeline.specs.Backs.{SeenBack, joined}
+use Rattle.loop_pipeline.specs.Backs.{SeenBack, with_joined}
 use Rattle.loop_store.specs.Reopen.{TellsOne}
 use Rattle.loop_pipeline.proofs.BackRuns.{one-more}
 use Rattle.loop_pipeline.proofs.back.Back.join.Goals as goal
@@ -15,5 +15,5 @@ pub returns-clause-done : goal.returns-clause-done
 returns-clause-done g c =
     rw (c.push_reserved.ensures.items, c.push_reserved-2.ensures.items, map-append (λ s. s.value) c.self.inside.desks_before.items (c.of.result ∷ []), c.of.ensures) (
       c.len-place.ensures ∙ (c.self.inside.desks.ok.0 ∙ ap (λ (b : SeenBack g.row.D.Denot g.row.A.Denot). length b.desks) c.self.view_is),
-      ap (λ (b : SeenBack g.row.D.Denot g.row.A.Denot). joined c.args.desk b) c.self.view_is,
+      ap (λ (b : SeenBack g.row.D.Denot g.row.A.Denot). with_joined c.args.desk b) c.self.view_is,
     )

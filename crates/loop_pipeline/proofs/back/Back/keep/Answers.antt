@@ -1,6 +1,6 @@
 use Rattle.std.proofs.Common.{subst}
 use Rattle.loop_desk.specs.Keeps.{HaveTime}
-use Rattle.loop_pipeline.specs.Backs.{IsAt, SeenBack}
+use Rattle.loop_pipeline.specs.Backs.{IsSoAt, SeenBack}
 use Rattle.loop_pipeline.proofs.BackRuns.{visits}
 use Rattle.loop_pipeline.proofs.DeskPlaces.{goes-at, within}
 use Rattle.loop_pipeline.proofs.KeepCalls.{all-asked, none-submitted}
@@ -22,7 +22,7 @@ returns-clause-goes g c =
 pub returns-clause-whole : goal.returns-clause-whole
 returns-clause-whole g c none =
     subst (λ (b : SeenBack g.row.D.Denot g.row.A.Denot).
-    IsAt c.args.place b (λ desk. HaveTime c.args.times desk c.keep_time.result.clips.items)) c.self.view_is (
+    IsSoAt c.args.place b (λ desk. HaveTime c.args.times desk c.keep_time.result.clips.items)) c.self.view_is (
       c.index_mut.result.now,
       read-at _ _ _ (within c.self.view_is c.requires.place) c.index_mut.ensures.value,
       c.keep_time.ensures.whole none,

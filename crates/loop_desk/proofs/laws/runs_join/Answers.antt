@@ -1,7 +1,0 @@
-use Rattle.loop_desk.proofs.Order.{keeps}
-use Rattle.loop_desk.proofs.LaneRuns.{ran-joined}
-use Rattle.loop_desk.proofs.laws.runs_join.Goals as goal
-
-pub returns : goal.returns
-returns g c = λ es fs ps qs before behind. keeps g.P.PlaneMemory.plane g.D.Disk.medium _ _ _ _
-    (ran-joined g.P.PlaneMemory.plane g.D.Disk.medium _ _ _ es fs ps qs before behind)

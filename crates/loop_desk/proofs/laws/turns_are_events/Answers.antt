@@ -1,5 +1,0 @@
-use Rattle.loop_desk.proofs.QueueTurns.{lane-turns-are-events}
-use Rattle.loop_desk.proofs.laws.turns_are_events.Goals as goal
-
-pub returns : goal.returns
-returns g c = lane-turns-are-events g.row.A.Denot g.P.PlaneMemory.plane

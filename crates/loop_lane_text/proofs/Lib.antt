@@ -1,3 +1,0 @@
-pub mod RecordTexts
-pub mod StopImages
-pub mod NewestHeld

@@ -1,4 +1,0 @@
-pub mod Refused
-pub mod Reopened
-pub mod Filmed
-pub mod RingHolds

@@ -1,9 +1,0 @@
-pub mod HistorySteps
-pub mod ReceiptPlaces
-pub mod OutlineSteps
-pub mod QueueLinks
-pub mod Crossing
-pub mod Apart
-pub mod Mapped
-pub mod Ends
-pub mod Seating

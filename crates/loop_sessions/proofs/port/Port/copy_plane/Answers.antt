@@ -1,4 +1,0 @@
-use Rattle.loop_sessions.proofs.port.Port.copy_plane.Goals as goal
-
-pub returns : goal.returns
-returns g c = let s = c.self.invariant in ((s.state.queue, (c.copy_plane.ensures.step s.state.queue s.stands.queue).0), c.copy_plane.ensures.same)

@@ -1,0 +1,189 @@
+//! How events grow whose end lies ahead: what has come of them is locked, up to their end.
+
+ghost use Rattle.std.specs.Prelude.{◌≡◌};
+
+use crate::growing::Growing;
+use crate::keeping::{part_of, store_and_keep_more, turn_of};
+use crate::reading::{runs_of, times_of};
+use crate::releasing::unlock;
+use crate::replies::{tell_clips, tell_shortfall};
+use crate::state::CameraState;
+use loop_disk::Disk;
+use loop_pipeline::Back;
+use loop_record::Times;
+use loop_station_core::{EventEnd, GrowthTurn, Keep, OpenEvent, Run, event_end, next_growth};
+use loop_station_shared::{FoundClip, Note};
+use loop_station_words::Lines;
+use loop_store::Clip;
+use std::alloc::Global;
+use std::io;
+use std::sync::Wait;
+use std::time::Clock;
+
+impl CameraState {
+    /// An event goes on: its end lies ahead, and these clips of it are locked. Returns whether it does: not where too
+    /// many do.
+    pub fn begin_growing<R: Wait>(
+        &self,
+        rt: &R,
+        alloc: Global,
+        keep: Keep,
+        clips: Vec<Clip>,
+    ) -> bool {
+        let event = keep.event;
+        let goes_on = self
+            .desk
+            .put_growing(rt, Growing::new(alloc, keep, clips))
+            .is_none();
+        if !goes_on {
+            let mut lines = self.lines(alloc);
+            let name = self.config.name.as_str();
+            // Where memory for the line is refused, it isn't printed.
+            let _ = lines.event_not_whole(event, name, &"TooManyEvents");
+            self.tell(rt, lines, None);
+        }
+        self.note_open(rt, alloc);
+        goes_on
+    }
+
+    /// Clips with which no event goes on are saved by themselves, where the camera has a folder for them.
+    pub(crate) fn save_found<R: Wait>(&self, rt: &R, alloc: Global, found: &[FoundClip]) {
+        self.tell(rt, self.lines(alloc), self.kept_clips(alloc, found));
+    }
+
+    // An event is over, and these are its clips. It is told whether all of it is held.
+    fn end_growing<R: Wait>(
+        &self,
+        rt: &R,
+        alloc: Global,
+        growing: Growing,
+        found: &[FoundClip],
+        runs: &[Run],
+    ) {
+        let mut lines = self.lines(alloc);
+        // Where memory for the lines is refused, they aren't printed.
+        let _ = self.tell_event(&growing, found, runs, &mut lines);
+        self.tell(rt, lines, self.kept_clips(alloc, found));
+        self.note_open(rt, alloc);
+    }
+
+    // Tells how an event ended.
+    fn tell_event(
+        &self,
+        growing: &Growing,
+        found: &[FoundClip],
+        runs: &[Run],
+        lines: &mut Lines,
+    ) -> io::Result<()> {
+        let (name, keep) = (self.config.name.as_str(), growing.keep);
+        tell_clips(self, &keep, found, lines)?;
+        let is_whole = tell_shortfall(self, &keep, keep.until, runs, lines)?;
+        match (
+            event_end(growing.fault().is_some(), is_whole),
+            growing.fault(),
+        ) {
+            (EventEnd::Whole, _) => lines.event_whole(keep.event, name),
+            (EventEnd::Refused, Some(fault)) => {
+                lines.event_not_whole(keep.event, name, &fault.name())
+            }
+            (EventEnd::Refused | EventEnd::Gaps, _) => {
+                lines.event_not_whole(keep.event, name, &"Gaps")
+            }
+        }
+    }
+
+    // The events that are open now go into the camera's file of events.
+    fn note_open<R: Wait>(&self, rt: &R, alloc: Global) {
+        let Some(keeps) = self.desk.keeps(rt, alloc) else {
+            return;
+        };
+        let mut open = Vec::new(alloc);
+        for keep in keeps.as_slice() {
+            let event = OpenEvent {
+                event: keep.event,
+                since: keep.since,
+                until: keep.until,
+                tag: keep.tag,
+            };
+            if open.push(event).is_err() {
+                return;
+            }
+        }
+        self.posts.notes.put(rt, Note::Open(self.place, open));
+    }
+}
+
+/// Goes on with an event of which a part is locked. A part that a longer one covers is released; at the end it is told
+/// that the event is whole, or why it isn't.
+pub(crate) fn grow<R: Wait + Clock, D: Disk + Drop>(
+    rt: &R,
+    alloc: Global,
+    state: &CameraState,
+    back: &mut Back<D, CameraState>,
+    growing: Growing,
+)
+    ensures { back.new ≡ record back.old { desks = back.new.desks } }
+{
+    let (now, stopping) = (state.timeline.now(rt), state.is_stopped(rt));
+    match next_growth(
+        growing.has_covered(),
+        growing.is_done(),
+        stopping,
+        now,
+        growing.keep.until,
+    ) {
+        GrowthTurn::Release => release_covered(rt, state, back, growing),
+        GrowthTurn::End => {
+            let found = times_of(rt, alloc, state, back, growing.clips());
+            let runs = runs_of(rt, alloc, state, back, &found);
+            state.end_growing(rt, alloc, growing, &found, &runs);
+        }
+        GrowthTurn::Leave => {
+            state.desk.put_growing(rt, growing);
+        }
+        GrowthTurn::Keep => lengthen(rt, alloc, state, back, growing),
+    }
+}
+
+// Releases a part of an event that a longer one covers.
+fn release_covered<R: Wait, D: Disk + Drop>(
+    rt: &R,
+    state: &CameraState,
+    back: &mut Back<D, CameraState>,
+    growing: Growing,
+)
+    ensures { back.new ≡ record back.old { desks = back.new.desks } }
+{
+    let mut growing = growing;
+    if let Some(id) = growing.next_covered() {
+        // Where that is refused, it stays locked.
+        let _stays = unlock(rt, state, back, id);
+    }
+    state.desk.put_growing(rt, growing);
+}
+
+// Locks what has come of an event, if its keep doesn't wait.
+fn lengthen<R: Wait + Clock, D: Disk + Drop>(
+    rt: &R,
+    alloc: Global,
+    state: &CameraState,
+    back: &mut Back<D, CameraState>,
+    growing: Growing,
+)
+    ensures { back.new ≡ record back.old { desks = back.new.desks } }
+{
+    let mut growing = growing;
+    let (keep, turn) = turn_of(rt, state, growing.keep);
+    growing.keep = keep;
+    let Some(part) = part_of(keep, turn) else {
+        state.desk.put_growing(rt, growing);
+        return;
+    };
+    let times = Times {
+        since: keep.since,
+        until: part.until,
+    };
+    let (kept, refused) = store_and_keep_more(rt, alloc, state, back, times, &mut growing);
+    growing.lengthen(alloc, kept, refused, part.is_whole);
+    state.desk.put_growing(rt, growing);
+}

@@ -1,0 +1,182 @@
+//! Which clips may be released, and how they are unlocked.
+
+ghost use Rattle.std.specs.Prelude.{◌≡◌, ◌<◌, length};
+
+use crate::reading::{find, place_in};
+use crate::replies::tell_released;
+use crate::state::CameraState;
+use loop_disk::Disk;
+use loop_pipeline::Back;
+use loop_station_core::{MayRelease, SaveKey, id_parts, may_release, may_release_saved};
+use loop_station_shared::{FoundClip, store_of};
+use loop_station_words::Lines;
+use loop_store::StoreFault;
+use std::alloc::Global;
+use std::io;
+use std::sync::Wait;
+
+// Why a clip isn't released.
+#[derive(Clone, Copy)]
+enum NotReleased {
+    /// It is being saved.
+    Saving,
+    /// The clip of its id begins with another frame than the order says.
+    Other(u64),
+}
+
+impl NotReleased {
+    // Tells it.
+    fn tell(self, state: &CameraState, id: u32, lines: &mut Lines) -> io::Result<()> {
+        let name = state.config.name.as_str();
+        match self {
+            NotReleased::Saving => lines.saving(name),
+            NotReleased::Other(first) => lines.not_released(name, id, first),
+        }
+    }
+}
+
+impl CameraState {
+    // Whether a clip may be released now: it isn't being saved, and begins with the frame that is given, if one is.
+    fn may_release<R: Wait>(&self, rt: &R, id: u32, first: Option<u64>) -> Result<(), NotReleased> {
+        let clip = self.stored.clip_of(rt, id);
+        let is_read = self.is_read(rt, id, clip.map(|clip| clip.tag));
+        match may_release(is_read, first, clip.map(|clip| clip.from)) {
+            MayRelease::Now => Ok(()),
+            MayRelease::Saving => Err(NotReleased::Saving),
+            MayRelease::Other(first) => Err(NotReleased::Other(first)),
+        }
+    }
+
+    // Whether a clip is released now that is saved; `there`: the clip that has its id by now, if one has.
+    fn may_release_saved<R: Wait>(
+        &self,
+        rt: &R,
+        saved: SaveKey,
+        there: Option<FoundClip>,
+    ) -> MayRelease {
+        let is_read = self.is_read(rt, saved.id, Some(saved.tag));
+        let there = match there {
+            Some(found) => Some(found.key(self.place)),
+            None => None,
+        };
+        may_release_saved(is_read, saved, there)
+    }
+}
+
+/// Unlocks a clip, unless it is being saved, or begins with another frame than the order says.
+pub(crate) fn release<R: Wait, D: Disk + Drop>(
+    rt: &R,
+    state: &CameraState,
+    back: &mut Back<D, CameraState>,
+    id: u32,
+    first: Option<u64>,
+    lines: &mut Lines,
+)
+    ensures { back.new ≡ record back.old { desks = back.new.desks } }
+{
+    let may = state.may_release(rt, id, first);
+    match may {
+        Ok(()) => unlock_and_tell(rt, state, back, id, lines),
+        Err(why) => {
+            // Where memory for the line is refused, it isn't printed.
+            let _ = why.tell(state, id, lines);
+        }
+    }
+}
+
+// Unlocks a clip, and tells it.
+fn unlock_and_tell<R: Wait, D: Disk + Drop>(
+    rt: &R,
+    state: &CameraState,
+    back: &mut Back<D, CameraState>,
+    id: u32,
+    lines: &mut Lines,
+)
+    ensures { back.new ≡ record back.old { desks = back.new.desks } }
+{
+    let released = unlock(rt, state, back, id);
+    state.desk.unsettle(rt, store_of(id));
+    // Where memory for the line is refused, it isn't printed.
+    let _ = tell_released(state, id, released, lines);
+}
+
+/// Unlocks a clip that is saved, if it is still there. Where a save that an order has begun since reads it, that waits
+/// for the end of that save. Where another clip has its id by now, as after its store was moved away, nothing is told:
+/// nobody asked for it.
+pub(crate) fn release_saved<R: Wait, D: Disk + Drop>(
+    rt: &R,
+    alloc: Global,
+    state: &CameraState,
+    back: &mut Back<D, CameraState>,
+    saved: SaveKey,
+    lines: &mut Lines,
+)
+    ensures { back.new ≡ record back.old { desks = back.new.desks } }
+{
+    let there = match find(rt, alloc, state, back, saved.id) {
+        Ok(there) => there,
+        Err(fault) => {
+            // Where memory for the line is refused, it isn't printed.
+            let _ = tell_released(state, saved.id, Err(fault), lines);
+            return;
+        }
+    };
+    match state.may_release_saved(rt, saved, there) {
+        MayRelease::Now => unlock_and_tell(rt, state, back, saved.id, lines),
+        MayRelease::Saving => state.desk.put_saved(rt, saved),
+        MayRelease::Other(_) => {}
+    }
+}
+
+/// Unlocks a clip that is saved, and that had to wait for another save of it, or for other orders.
+pub(crate) fn release_later<R: Wait, D: Disk + Drop>(
+    rt: &R,
+    alloc: Global,
+    state: &CameraState,
+    back: &mut Back<D, CameraState>,
+    saved: SaveKey,
+)
+    ensures { back.new ≡ record back.old { desks = back.new.desks } }
+{
+    // The store isn't looked at as long as it has to wait.
+    if state.is_read(rt, saved.id, Some(saved.tag)) {
+        state.desk.put_saved(rt, saved);
+        return;
+    }
+    let mut lines = state.lines(alloc);
+    release_saved(rt, alloc, state, back, saved, &mut lines);
+    if !lines.is_empty() {
+        state.tell(rt, lines, None);
+    }
+}
+
+/// Unlocks a clip in the store that has it.
+pub(crate) fn unlock<R: Wait, D: Disk + Drop>(
+    rt: &R,
+    state: &CameraState,
+    back: &mut Back<D, CameraState>,
+    id: u32,
+) -> Result<(), StoreFault>
+    ensures { back.new ≡ record back.old { desks = back.new.desks } }
+{
+    let Some(place) = place_in(rt, state, back, id) else {
+        return Err(StoreFault::NoSuchClip);
+    };
+    let released = unlock_at(back, place, id_parts(id).1);
+    if released.is_ok() {
+        state.remove_clip(rt, id);
+    }
+    released
+}
+
+// Unlocks the clip that has an id in the store at a place.
+fn unlock_at<D: Disk + Drop>(
+    back: &mut Back<D, CameraState>,
+    place: usize,
+    id: u32,
+) -> Result<(), StoreFault>
+    requires { place < length back.old.desks }
+    ensures { back.new ≡ record back.old { desks = back.new.desks } }
+{
+    back.unlock_clip(place, id)
+}

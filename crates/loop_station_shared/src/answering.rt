@@ -1,0 +1,170 @@
+//! Orders that are being answered, and what the printer's thread is told.
+
+use crate::found::FoundClip;
+use crate::post::Post;
+use loop_station_core::{OpenEvent, Replies};
+use loop_station_outside::Absent;
+use loop_station_words::Lines;
+use std::alloc::{AllocError, Global};
+use std::sync::{Arc, Mutex, Wait};
+
+/// A clip that a keep made, of the camera at this place.
+#[derive(Clone, Copy)]
+pub struct KeptClip {
+    pub camera: usize,
+    pub found: FoundClip,
+}
+
+// What has come of an order so far.
+#[derive(Drop)]
+struct Answers {
+    // The lines of each camera that is meant, in the order of the configuration.
+    replies: Replies<Lines>,
+    // The clips that were made.
+    kept: Vec<KeptClip>,
+}
+
+/// An order that is being answered, by as many cameras as it means. The lines of all of them stay together: they are
+/// printed once the last one has answered.
+#[derive(Drop)]
+pub struct Answering {
+    /// The label of its line.
+    pub label: Option<String>,
+    /// The number of the event, of a keep.
+    pub event: u64,
+    answers: Mutex<Answers>,
+}
+
+impl Answering {
+    /// An order of so many cameras.
+    pub fn new(
+        alloc: Global,
+        label: Option<String>,
+        event: u64,
+        cameras: usize,
+    ) -> Result<Answering, AllocError> {
+        Ok(Answering {
+            label,
+            event,
+            answers: Mutex::new(Answers {
+                replies: Replies::new(alloc, cameras)?,
+                kept: Vec::new(alloc),
+            }),
+        })
+    }
+
+    /// The camera at a place among those that are meant has answered. Returns whether the order is answered by that.
+    pub fn fill<R: Wait>(
+        &self,
+        rt: &R,
+        place: usize,
+        lines: Lines,
+        kept: Option<Vec<KeptClip>>,
+    ) -> bool {
+        let mut answers = self.answers.lock(rt);
+        if let Some(kept) = kept {
+            // Where memory is refused, these clips aren't saved by themselves until the next start.
+            let _saved_later = answers.kept.extend_from_slice(&kept);
+        }
+        answers.replies.give(place, lines)
+    }
+
+    /// All lines, and the clips that were made. Nothing is left of them.
+    pub fn take<R: Wait>(&self, rt: &R, alloc: Global) -> (Vec<Option<Lines>>, Vec<KeptClip>) {
+        let mut answers = self.answers.lock(rt);
+        let lines = answers.replies.take(alloc);
+        let kept = std::mem::replace(&mut answers.kept, Vec::new(alloc));
+        (lines, kept)
+    }
+}
+
+/// An order that saves a clip, and where it is to be written.
+#[derive(Drop)]
+pub struct SaveOrder {
+    pub answering: Arc<Answering>,
+    /// The camera's place among those that the order means.
+    pub place: usize,
+    pub path: String,
+    /// A file that exists is replaced.
+    pub replace: bool,
+}
+
+impl SaveOrder {
+    /// A save at a path, which the camera at this place answers.
+    pub fn new(answering: Arc<Answering>, place: usize, path: String, replace: bool) -> SaveOrder {
+        SaveOrder {
+            answering,
+            place,
+            path,
+            replace,
+        }
+    }
+}
+
+/// What the printer's thread is told.
+#[derive(Drop)]
+pub enum Message {
+    /// All cameras have answered an order.
+    Answered(Arc<Answering>),
+    /// Lines that answer no order, and clips that an event has made by its end.
+    Told(Lines, Vec<KeptClip>),
+    /// The store of a camera was opened: it has these clips.
+    Opened(Vec<KeptClip>),
+    /// The program ends.
+    End,
+}
+
+/// What the thread of the events' files is told.
+#[derive(Drop)]
+pub enum Note {
+    /// The camera at a place has these open events, and no others.
+    Open(usize, Vec<OpenEvent>),
+    /// The program ends.
+    End,
+}
+
+/// The lists into which the threads of a camera put what others do.
+#[derive(Drop)]
+pub struct Posts {
+    pub printer: Post<Message>,
+    pub notes: Post<Note>,
+}
+
+// How many messages may wait.
+const MOST_MESSAGES: usize = 4_096;
+
+// How many changes of the events' files may wait.
+const MOST_NOTES: usize = 1_024;
+
+impl Posts {
+    /// Empty lists.
+    pub fn new(alloc: Global) -> Result<Posts, AllocError> {
+        Ok(Posts {
+            printer: Post::new(alloc, MOST_MESSAGES)?,
+            notes: Post::new(alloc, MOST_NOTES)?,
+        })
+    }
+
+    /// A camera's answer to an order; where it was the last one, the printer is told.
+    pub fn answer<R: Wait>(
+        &self,
+        rt: &R,
+        answering: Arc<Answering>,
+        place: usize,
+        lines: Lines,
+        kept: Option<Vec<KeptClip>>,
+    ) {
+        if answering.fill(rt, place, lines, kept) {
+            self.printer.put(rt, Message::Answered(answering));
+        }
+    }
+}
+
+/// Why a job wasn't taken.
+#[derive(Clone, Copy)]
+pub enum NotTaken {
+    /// The camera's store isn't there.
+    Absent(Absent),
+    /// As many orders wait for the camera as may.
+    TooMany,
+}

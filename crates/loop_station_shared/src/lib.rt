@@ -1,0 +1,34 @@
+//! What the threads of a station share. It knows no camera's desk.
+//!
+//! `feed` has the frames that come, `inbox` and `jobs` what a camera is asked for, `answering` orders that are being
+//! answered, `post` what a thread is told. `life` is what is known and counted of a camera under one lock, `stored`
+//! what its stores hold, and `found` a clip with its times.
+//!
+//! All lines go through `outlet`, and `tap` copies them to a further file or pipe; `spool` has those that wait for the
+//! threads of `writers`.
+#![tactic(auto)]
+
+mod answering;
+mod feed;
+mod found;
+mod inbox;
+mod jobs;
+mod life;
+mod outlet;
+mod post;
+mod spool;
+mod stored;
+mod tap;
+mod writers;
+
+pub use answering::{Answering, KeptClip, Message, NotTaken, Note, Posts, SaveOrder};
+pub use feed::{Feed, FeedSource, Said};
+pub use found::FoundClip;
+pub use inbox::Inbox;
+pub use jobs::{AskedKeep, Job, Jobs, Request};
+pub use life::{Life, source_name};
+pub use outlet::Outlet;
+pub use spool::LineForm;
+pub use stored::{Extent, Member, Room, Stored, store_of};
+pub use tap::Tap;
+pub use writers::{run_outlet, run_tap};
