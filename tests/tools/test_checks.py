@@ -1,5 +1,6 @@
 """How checks are found, how rows and pages are read, and which wrong bodies fit."""
 import subprocess
+from pathlib import Path
 
 import pytest
 from conftest import TOP
@@ -95,3 +96,31 @@ def test_an_edit_that_fits_and_one_that_does_not(tmp_path, monkeypatch):
 def test_all_wrong_bodies_fit():
     done = subprocess.run([TOP / "tests/checks/edits_check"], capture_output=True, text=True)
     assert done.returncode == 0, done.stderr
+
+
+def test_a_call_is_seen_by_its_type_and_by_a_dot_near_it(tool):
+    uses = tool("tests/checks/uses_check")
+    retire = uses.Call("loop_ring", Path("loop_ring/src/ring.rt"), "Ring", "retire", True)
+    assert uses.is_called(retire, "ring.retire(disk, 1)", True)
+    assert not uses.is_called(retire, "ring.retire(disk, 1)", False)
+    assert uses.is_called(retire, "Ring::<A>::retire(&ring, disk, 1)", False)
+    store = uses.Call("loop_disk", Path("loop_disk/src/steps.rt"), "", "store", False)
+    assert uses.is_called(store, "store(disk, 0, &bytes)?;", False)
+    assert not uses.is_called(store, "desk.store(1); Command::store(2)", False)
+
+
+def test_only_public_calls_that_require_something_are_asked_for(tool):
+    uses = tool("tests/checks/uses_check")
+    disk = {str(it) for it in uses.calls_of("loop_disk")}
+    assert {"loop_disk: store", "loop_disk: Disk::read", "loop_disk: CrashDisk::crash"} <= disk
+    assert not {"loop_disk: store_rows", "loop_disk: Disk::sync", "loop_disk: put_rows"} & disk
+
+
+def test_what_a_call_of_itself_is_made_by_does_not_count(tool):
+    uses = tool("tests/checks/uses_check")
+    path = Path("loop_disk/src/rows.rt")
+    call = uses.Call("loop_disk", path, "", "length_of", False)
+    itself = {path: "fn length_of (rows)\n{\n    length_of(others)\n}\n"}
+    assert not list(uses.callers(call, [itself], {"length_of": 1}))
+    other = {path: itself[path] + "fn put (rows)\n{\n    length_of(rows)\n}\n"}
+    assert list(uses.callers(call, [other], {"length_of": 1})) == [path]

@@ -116,11 +116,7 @@ fn station_of<R: AllocGlobal + Places + Wait + Clock, W: Write + Drop>(
     let cameras = states_of(alloc, cameras, &common)?;
     let times = times.then_some(timeline);
     let tap = tap_of(rt, answers, LineForm { json, times })?;
-    let ours = match &tap {
-        Some(tap) => Some(Arc::try_clone(tap)?),
-        None => None,
-    };
-    let outlet = Outlet::new(alloc, out, times, ours, json)?;
+    let outlet = outlet_of(alloc, out, times, &tap, json)?;
     let station = Station {
         alloc,
         timeline,
@@ -134,6 +130,21 @@ fn station_of<R: AllocGlobal + Places + Wait + Clock, W: Write + Drop>(
         last: Mutex::new(None),
     };
     Ok((station, tap, orders))
+}
+
+// What prints the lines of a station, and gives them to its tap.
+fn outlet_of<W: Write + Drop>(
+    alloc: Global,
+    out: W,
+    times: Option<Timeline>,
+    tap: &Option<Arc<Tap>>,
+    json: bool,
+) -> Result<Outlet<W>, NotBegun> {
+    let ours = match tap {
+        Some(tap) => Some(Arc::try_clone(tap)?),
+        None => None,
+    };
+    Ok(Outlet::new(alloc, out, times, ours, json)?)
 }
 
 // The timeline of the frames, which begins now.

@@ -33,8 +33,8 @@ new-requires-clause-writable g c =
     let P : CameraOf g.row.D.Denot g.row.P.Denot → Type 0 = IsReady g.P.PlaneMemory.plane in
     (All-head P _ _ (subst (λ l. All P l) c.in-Some.ensures.steps.0 c.loop-camera.invariant.ready)).desk
 
-pub new-requires-in-loop-camera-2 : goal.new-requires-in-loop-camera-2
-new-requires-in-loop-camera-2 g c =
+pub new-requires-in-loop-camera : goal.new-requires-in-loop-camera
+new-requires-in-loop-camera g c =
     let P : CameraOf g.row.D.Denot g.row.P.Denot → Type 0 = IsReady g.P.PlaneMemory.plane in
     (All-head P _ _ (subst (λ l. All P l) c.in-Some.ensures.steps.0 c.loop-camera.invariant.ready)).port
 
