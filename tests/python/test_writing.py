@@ -1076,7 +1076,7 @@ for call in (lambda: lapyrei.open(sys.argv[1], "r+"),
 
 
 def test_a_library_of_another_version_is_refused(tmp_path):
-    (tmp_path / "other.c").write_text("unsigned lapyrei_abi(void) { return 2; }\n")
+    (tmp_path / "other.c").write_text("unsigned lapyrei_abi(void) { return 1; }\n")
     words = ["cc", "-shared", "-o", tmp_path / "other.so", tmp_path / "other.c"]
     subprocess.run(words, check=True)
     code = """
@@ -1087,7 +1087,7 @@ except lapyrei.NoLibrary as missing:
 """
     env = dict(os.environ, LAPYREI_LIBRARY=path_in(tmp_path, "other.so"))
     done = child(code, path_in(tmp_path), env=env)
-    assert "other.so is of another version (2)" in done.stdout, done
+    assert "other.so is of another version (1)" in done.stdout, done
 
 
 def test_the_library_is_found_beside_an_installed_module(tmp_path, monkeypatch):
