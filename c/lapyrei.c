@@ -18,6 +18,7 @@
 #include <sys/file.h>
 #include <sys/mman.h>
 #include <sys/stat.h>
+#include <time.h>
 #include <unistd.h>
 
 /* crates/lapyrei/src/answer.rt and calls.rt. Rattle's slices are a pointer and a length, and Global takes no bytes. */
@@ -51,15 +52,19 @@ enum {
     FIRST_LOG = 1 << 16, /* a log's first length */
     MOST_PAGES = 1 << 15, /* pages that are kept from call to call: 128 MB */
     MOST_AHEAD = 1 << 9, /* reads that are foreseen at once */
-    LARGE = 1 << 14      /* a read of more bytes is a frame's, which isn't kept */
+    LARGE = 1 << 14,     /* a read of more bytes is a frame's, which isn't kept */
+    TRIES = 200          /* how often a store is read again that changes meanwhile */
 };
+/* Places of docs/layout.md, for reads beside a recorder. */
+enum { OPEN = 0xa5, SHAPE = 44, FRONT = 2560, HEADER = 512, GATES = 256, HEAD = 32, MOST_SEGMENTS = 64, MOST_SLOTS = 256 };
 static const uint64_t A_SYNC = UINT64_MAX;
 
 typedef struct {
     pthread_mutex_t lock; /* of all below but `owner` */
     _Atomic pid_t owner;  /* 0: this place is free */
     uint32_t generation, keep;
-    int file, broken, unsynced;
+    int file, broken, unsynced, reads; /* reads: it has no lock of the file, and never writes */
+    char *path;                        /* the file's own, from the root on */
     uint64_t size, pages, loaded;
     uint8_t *image, *present, *log;
     size_t log_room;
@@ -67,9 +72,10 @@ typedef struct {
     uint64_t last_at, stride, ahead, large_at, large_count;
     size_t frame_bytes;
     lapyrei_shape shape;
+    uint8_t top[SHAPE]; /* of a store that is only read: the superblock, but for its version */
 } slot;
 
-static slot slots[STORES] = {[0 ... STORES - 1] = {.lock = PTHREAD_MUTEX_INITIALIZER}};
+static slot slots[STORES] = {[0 ... STORES - 1] = {.lock = PTHREAD_MUTEX_INITIALIZER, .file = -1}};
 static _Thread_local uint64_t last_detail;
 
 static int refuse(int refusal, uint64_t detail) {
@@ -292,29 +298,225 @@ static answer make_upgrade(slot *it, asked *a) { (void)a; return lapyrei_rt_upgr
 static answer make_clips(slot *it, asked *a) { return lapyrei_rt_clips(IT, it->keep, a->runs, a->count); }
 static answer make_sought(slot *it, asked *a) { return lapyrei_rt_sought(IT, it->keep, a->since, a->until, a->runs, a->count); }
 
-/* Makes a call, as often as it needs other bytes or a longer log, and carries its log out. */
+/* Asks as often as it needs other bytes or a longer log: an answer, or what is refused. */
+static int ask(slot *it, maker *call, asked *a, answer *told) {
+    for (;;) {
+        *told = call(it, a);
+        if (told->state == MADE) return 0;
+        if (told->state == WANTS_BYTES && !load(it, told->at, told->count)) return refuse(LAPYREI_DISK, 1);
+        if (told->state == WANTS_LOG && !longer_log(it, told->count)) return refuse(LAPYREI_NO_MEMORY, 0);
+    }
+}
+
+/* Whether the file is where its users look for it. */
+static int is_there(slot *it) {
+    struct stat is, there;
+    return !fstat(it->file, &is) && is.st_nlink && !stat(it->path, &there) && there.st_ino == is.st_ino && there.st_dev == is.st_dev;
+}
+
+static int writes(maker *call) {
+    return call == make_append || call == make_lock || call == make_unlock || call == make_upgrade;
+}
+
+static int make_beside(slot *it, maker *call, asked *a, uint64_t *value);
+
+/* Makes a call, and carries its log out. One that writes isn't begun where the file was removed or renamed, and isn't told as
+ * made where that came before its last sync: nobody would find what it stored. */
 static int make(slot *it, maker *call, asked *a, uint64_t *value) {
+    answer told;
+    if (it->reads) return writes(call) ? refuse(LAPYREI_READ_ONLY, 0) : make_beside(it, call, a, value);
     if (it->broken) return refuse(LAPYREI_MUST_REOPEN, 0);
     if (!is_whole(it)) return refuse(LAPYREI_DISK, 4);
-    for (;;) {
-        answer told = call(it, a);
-        if (told.state == WANTS_BYTES) {
-            if (load(it, told.at, told.count)) continue;
-            return refuse(LAPYREI_DISK, 1);
-        }
-        if (told.state == WANTS_LOG) {
-            if (longer_log(it, told.count)) continue;
-            return refuse(LAPYREI_NO_MEMORY, 0);
-        }
-        int failed = carry_out(it, told.log);
-        if (!stays_whole(it) && !failed) failed = 4;
-        if (failed) {
-            it->broken = 1;
-            return refuse(LAPYREI_DISK, (uint64_t)failed);
-        }
-        if (value && !told.refusal) *value = told.value;
-        return refuse((int)told.refusal, told.detail);
+    if (writes(call) && !is_there(it)) return refuse(LAPYREI_MOVED, 0);
+    int refusal = ask(it, call, a, &told);
+    if (refusal) return refusal;
+    int failed = carry_out(it, told.log);
+    if (!stays_whole(it) && !failed) failed = 4;
+    if (failed) {
+        it->broken = 1;
+        return refuse(LAPYREI_DISK, (uint64_t)failed);
     }
+    if (writes(call) && told.log && !is_there(it)) {
+        it->broken = 1;
+        return refuse(LAPYREI_MOVED, 0);
+    }
+    if (value && !told.refusal) *value = told.value;
+    return refuse((int)told.refusal, told.detail);
+}
+
+/* ---- reads beside a recorder
+ *
+ * The recorder writes to a block's slots only while its gates are closed, so what stands around a frame's bytes before and
+ * after they were read says whether they are that frame's. A call of the proved code is made over bytes of one moment: the
+ * segments' headers as they were when it began, and frames that were whole then. They are, if each segment has the same block
+ * at the end. Its log is what an opening would clear, and is left. */
+
+static uint32_t word_at(const uint8_t *bytes) {
+    uint32_t word;
+    memcpy(&word, bytes, 4);
+    return word;
+}
+static uint64_t block_of(const uint8_t *header) {
+    uint64_t block;
+    memcpy(&block, header + 8, 8);
+    return block;
+}
+/* By the superblock: segments, slots of one, and the bytes of a frame. */
+static uint32_t segments_in(const uint8_t *top) { return word_at(top + 32) <= MOST_SEGMENTS ? word_at(top + 32) : 0; }
+static uint32_t slots_in(const uint8_t *top) { return word_at(top + 36) <= MOST_SLOTS ? word_at(top + 36) : 0; }
+static uint64_t segment_at(const uint8_t *top, uint64_t index) {
+    return FRONT + index * (HEADER + slots_in(top) * (HEAD + (uint64_t)word_at(top + 40)));
+}
+static uint64_t slot_at(const uint8_t *top, uint64_t index, uint64_t slot) {
+    return segment_at(top, index) + HEADER + slot * (HEAD + (uint64_t)word_at(top + 40));
+}
+/* How many frames of an open segment are whole. */
+static uint32_t whole_in(const uint8_t *header, uint32_t slots) {
+    uint32_t count = 0;
+    while (header[0] == OPEN && count < slots && header[GATES + count] == OPEN) count++;
+    return count;
+}
+
+/* Whether it is still the store that was opened; else what is refused. */
+static int is_same(slot *it) {
+    struct stat now;
+    uint8_t top[SHAPE];
+    if (fstat(it->file, &now) || (uint64_t)now.st_size != it->size) return refuse(LAPYREI_DISK, 4);
+    if (!read_all(it->file, top, SHAPE, 0)) return refuse(LAPYREI_DISK, 1);
+    return memcmp(top, it->top, SHAPE) ? refuse(LAPYREI_MUST_REOPEN, 0) : 0;
+}
+
+/* Whether bytes of the file are in memory. */
+static int is_present(const slot *it, uint64_t at, uint64_t count) {
+    for (uint64_t page = at / PAGE; page <= (at + count - 1) / PAGE; page++)
+        if (!it->present[page]) return 0;
+    return 1;
+}
+
+static void forget_bytes(slot *it, uint64_t from, uint64_t to) {
+    uint64_t end = (to + PAGE - 1) / PAGE;
+    forget_pages(it, from / PAGE, end < it->pages ? end : it->pages);
+}
+
+/* Reads the headers anew, and forgets what others may have changed since. */
+static int renew(slot *it) {
+    uint8_t now[HEADER];
+    uint32_t slots = slots_in(it->top), segments = segments_in(it->top);
+    for (uint32_t i = 0; i < segments; i++) {
+        uint64_t at = segment_at(it->top, i), end = segment_at(it->top, i + 1);
+        if (end > it->size) return 1; /* no store, as the call will say */
+        const uint8_t *old = it->image + at;
+        if (!is_present(it, at, HEADER)) { forget_bytes(it, at, end); continue; }
+        if (!read_all(it->file, now, HEADER, at)) return 0;
+        uint32_t kept = whole_in(old, slots);
+        if (old[0] != now[0] || block_of(old) != block_of(now) || kept > whole_in(now, slots)) forget_bytes(it, at, end);
+        else if (kept < slots) forget_bytes(it, slot_at(it->top, i, kept), end);
+        forget_bytes(it, at, at + HEADER);
+    }
+    forget_bytes(it, 0, FRONT);
+    if (it->size < FRONT || !load_part(it, 0, FRONT)) return it->size < FRONT;
+    for (uint32_t i = 0; i < segments; i++)
+        if (!load_part(it, segment_at(it->top, i), HEADER)) return 0;
+    return 1;
+}
+
+/* Whether each segment still has its block, and the superblock and the clips are the same; `all`: each byte of the headers. */
+static int stayed(slot *it, int all) {
+    uint8_t now[FRONT];
+    if (it->size < FRONT) return 1;
+    if (!read_all(it->file, now, FRONT, 0) || memcmp(now, it->image, FRONT)) return 0;
+    for (uint32_t i = 0; i < segments_in(it->top); i++) {
+        uint64_t at = segment_at(it->top, i);
+        if (segment_at(it->top, i + 1) > it->size) return 1;
+        if (!read_all(it->file, now, HEADER, at) || memcmp(now, it->image + at, all ? HEADER : 16)) return 0;
+    }
+    return 1;
+}
+
+static void sleep_micros(uint64_t micros) {
+    struct timespec time = {(time_t)(micros / 1000000), (long)(micros % 1000000 * 1000)};
+    nanosleep(&time, NULL);
+}
+
+static int make_beside(slot *it, maker *call, asked *a, uint64_t *value) {
+    answer told;
+    for (int tries = 0; tries < TRIES; tries++) {
+        int refusal = is_same(it);
+        if (refusal) return refusal;
+        if (!renew(it)) return refuse(LAPYREI_DISK, 1);
+        refusal = ask(it, call, a, &told);
+        if (refusal) return refusal;
+        it->large_count = it->last_at = it->stride = it->ahead = 0;
+        int is_settled = stayed(it, told.refusal == LAPYREI_NOT_FORMATTED || told.refusal == LAPYREI_DAMAGED);
+        if (it->loaded > MOST_PAGES) forget_pages(it, 0, it->pages);
+        if (is_settled) {
+            if (value && !told.refusal) *value = told.value;
+            return refuse((int)told.refusal, told.detail);
+        }
+        sleep_micros(2000);
+    }
+    return refuse(LAPYREI_UNSETTLED, 0);
+}
+
+/* The number of the newest frame; LAPYREI_NONE where there is none. */
+static int newest(slot *it, uint64_t *number) {
+    uint8_t header[HEADER], again[16];
+    uint32_t slots = slots_in(it->top);
+    for (int tries = 0; tries < TRIES; tries++) {
+        uint64_t next = 0, place = 0, held = LAPYREI_NONE;
+        int refusal = is_same(it);
+        if (refusal) return refusal;
+        for (uint32_t i = 0; i < segments_in(it->top); i++) {
+            if (!read_all(it->file, header, HEADER, segment_at(it->top, i))) return refuse(LAPYREI_DISK, 1);
+            uint32_t whole = whole_in(header, slots);
+            if (whole && block_of(header) * slots + whole > next) {
+                next = block_of(header) * slots + whole, place = i, held = next - 1;
+                memcpy(again, header, 16);
+            }
+        }
+        if (held != LAPYREI_NONE && !read_all(it->file, header, 16, segment_at(it->top, place))) return refuse(LAPYREI_DISK, 1);
+        if (held == LAPYREI_NONE || !memcmp(header, again, 16)) {
+            *number = held;
+            return refuse(0, 0);
+        }
+    }
+    return refuse(LAPYREI_UNSETTLED, 0);
+}
+
+/* What says that a slot has a frame: its segment's header, and its own head. Answers the segment's place, or -1. */
+static int look(slot *it, uint64_t number, uint8_t *header, uint8_t *head) {
+    uint32_t slots = slots_in(it->top);
+    uint64_t found;
+    for (uint32_t i = 0; i < segments_in(it->top); i++) {
+        if (!read_all(it->file, header, 16, segment_at(it->top, i)) || header[0] != OPEN || block_of(header) != number / slots) continue;
+        if (!read_all(it->file, header, HEADER, segment_at(it->top, i)) || block_of(header) != number / slots) continue;
+        if (whole_in(header, slots) <= number % slots || !read_all(it->file, head, HEAD, slot_at(it->top, i, number % slots))) continue;
+        memcpy(&found, head, 8);
+        if (found == number && word_at(head + 24) == word_at(it->top + 40)) return (int)i;
+    }
+    return -1;
+}
+
+/* A frame, whole, or LAPYREI_GONE. A null pointer takes its head alone. */
+static int read_whole(slot *it, uint64_t number, lapyrei_head *out, uint8_t *frame, size_t length) {
+    uint8_t before[HEADER], after[HEADER], head[HEAD], again[HEAD];
+    if (frame && length != it->frame_bytes) return refuse(LAPYREI_WRONG_SIZE, 0);
+    int refusal = is_same(it);
+    if (refusal) return refusal;
+    int place = look(it, number, before, head);
+    if (place >= 0 && frame && !read_all(it->file, frame, length, slot_at(it->top, (uint64_t)place, number % slots_in(it->top)) + HEAD))
+        return refuse(LAPYREI_DISK, 1);
+    refusal = is_same(it);
+    if (refusal) return refusal;
+    if (place < 0 || look(it, number, after, again) != place || memcmp(before, after, GATES) || memcmp(head, again, HEAD)) {
+        uint64_t last = LAPYREI_NONE;
+        refusal = newest(it, &last);
+        if (refusal) return refusal;
+        return refuse(last == LAPYREI_NONE || number > last ? LAPYREI_NOT_HELD : LAPYREI_GONE, 0);
+    }
+    out->number = number, out->sequence = word_at(head + 8), out->flags = word_at(head + 12);
+    memcpy(&out->timestamp, head + 16, 8);
+    return refuse(0, 0);
 }
 
 /* ---- handles */
@@ -353,18 +555,34 @@ static void give_back(slot *it) {
     if (it->present) munmap(it->present, it->pages);
     if (it->log) munmap(it->log, it->log_room);
     it->image = it->present = it->log = NULL;
-    if (it->file >= 0) close(it->file);
+    free(it->path);
+    it->path = NULL;
+    int file = it->file;
     it->file = -1;
+    if (file < 0) return;
+    /* The lock is the opening's: a child that was forked meanwhile has it too. */
+    if (!it->reads) flock(file, LOCK_UN);
+    close(file);
 }
+
+/* In a child that was forked: the stores are its parent's, which the lock is to end with. */
+static void leave_files(void) {
+    for (int i = 0; i < STORES; i++) {
+        int file = slots[i].file;
+        slots[i].file = -1;
+        if (file >= 0) close(file);
+    }
+}
+static void at_forks(void) { pthread_atfork(NULL, NULL, leave_files); }
 
 static uint8_t *memory(uint64_t length) {
     void *at = length > SIZE_MAX / 2 ? MAP_FAILED : mmap(NULL, length, PROT_READ | PROT_WRITE, MAP_PRIVATE | MAP_ANONYMOUS | MAP_NORESERVE, -1, 0);
     return at == MAP_FAILED ? NULL : at;
 }
 
-/* Opens a file for this process alone, above the standard streams. */
-static int take_file(const char *path, int makes, int *made, int *refusal) {
-    int how = O_RDWR | O_CLOEXEC | O_NOCTTY | O_NONBLOCK, file = -1;
+/* Opens a file above the standard streams: for this process alone, or to read beside others. */
+static int take_file(const char *path, int makes, int reads, int *made, int *refusal) {
+    int how = (reads ? O_RDONLY : O_RDWR) | O_CLOEXEC | O_NOCTTY | O_NONBLOCK, file = -1;
     *made = 0;
     if (makes && (file = open(path, how | O_CREAT | O_EXCL, 0666)) >= 0) *made = 1;
     if (file < 0 && (!makes || errno == EEXIST)) file = open(path, how);
@@ -378,7 +596,7 @@ static int take_file(const char *path, int makes, int *made, int *refusal) {
     *refusal = 0;
     if (file < 0 || fstat(file, &is)) *refusal = refuse(LAPYREI_CANNOT_OPEN, (uint64_t)errno);
     else if (!S_ISREG(is.st_mode)) *refusal = refuse(LAPYREI_CANNOT_OPEN, 0);
-    else if (flock(file, LOCK_EX | LOCK_NB)) *refusal = errno == EWOULDBLOCK ? refuse(LAPYREI_BUSY, 0) : refuse(LAPYREI_CANNOT_OPEN, (uint64_t)errno);
+    else if (!reads && flock(file, LOCK_EX | LOCK_NB)) *refusal = errno == EWOULDBLOCK ? refuse(LAPYREI_BUSY, 0) : refuse(LAPYREI_CANNOT_OPEN, (uint64_t)errno);
     /* Meanwhile the file may have been removed, or another put in its place. */
     else if (stat(path, &there) || there.st_ino != is.st_ino || there.st_dev != is.st_dev) *refusal = refuse(LAPYREI_BUSY, 0);
     if (*refusal && file >= 0) close(file);
@@ -394,15 +612,26 @@ static int begin(slot *it, uint64_t size, const lapyrei_shape *made) {
     if (!size) return refuse(LAPYREI_NOT_FORMATTED, 0);
     it->image = memory(it->pages * PAGE), it->present = memory(it->pages);
     if (!it->image || !it->present || !longer_log(it, 0)) return refuse(LAPYREI_NO_MEMORY, 0);
-    if (!sync_data(it->file)) return refuse(LAPYREI_DISK, 3);
+    if (it->reads && size < SHAPE) return refuse(LAPYREI_NOT_FORMATTED, 0);
+    if (it->reads && !read_all(it->file, it->top, SHAPE, 0)) return refuse(LAPYREI_DISK, 1);
+    if (!it->reads && !sync_data(it->file)) return refuse(LAPYREI_DISK, 3);
     asked a = {.made = made, .shape = &it->shape};
     int refusal = made ? make(it, make_format, &a, NULL) : 0;
     if (!refusal) refusal = make(it, make_look, &a, NULL);
     if (!refusal) it->frame_bytes = lapyrei_rt_frame_bytes(&it->shape);
+    if (!refusal && !it->reads && !read_all(it->file, it->top, SHAPE, 0)) refusal = refuse(LAPYREI_DISK, 1);
     return refusal;
 }
 
-static int start(const char *path, const lapyrei_shape *made, uint32_t keep, lapyrei *store) {
+/* How a store is opened: to write or only to read, with a newest part that stays, over what is there. */
+typedef struct {
+    int reads, replaces;
+    uint32_t keep;
+} way;
+
+static int start(const char *path, const lapyrei_shape *made, way how, lapyrei *store) {
+    static pthread_once_t once = PTHREAD_ONCE_INIT;
+    pthread_once(&once, at_forks);
     if (store) *store = 0;
     if (!path || !store || !*path || strnlen(path, LONGEST_PATH + 1) > LONGEST_PATH) return refuse(LAPYREI_BAD_CALL, 0);
     if (made && made->format > LAPYREI_YM24) return refuse(LAPYREI_BAD_CALL, 0);
@@ -413,10 +642,13 @@ static int start(const char *path, const lapyrei_shape *made, uint32_t keep, lap
     int refusal, is_new;
     struct stat is;
     it->image = it->present = it->log = NULL;
-    it->keep = keep;
-    it->file = take_file(path, !!made, &is_new, &refusal);
+    it->keep = how.keep, it->reads = how.reads;
+    memset(it->top, 0, SHAPE);
+    it->file = take_file(path, !!made, how.reads, &is_new, &refusal);
     if (it->file < 0) return leave(it, refusal);
-    if (made && !make_zeros(it->file, path, size)) refusal = refuse(LAPYREI_CANNOT_MAKE, (uint64_t)errno);
+    if (!(it->path = realpath(path, NULL))) refusal = errno == ENOMEM ? refuse(LAPYREI_NO_MEMORY, 0) : refuse(LAPYREI_CANNOT_OPEN, (uint64_t)errno);
+    if (!refusal && made && !how.replaces && (fstat(it->file, &is) || is.st_size)) refusal = refuse(LAPYREI_EXISTS, 0);
+    if (!refusal && made && !make_zeros(it->file, path, size)) refusal = refuse(LAPYREI_CANNOT_MAKE, (uint64_t)errno);
     if (!refusal && fstat(it->file, &is)) refusal = refuse(LAPYREI_CANNOT_OPEN, (uint64_t)errno);
     if (!refusal) refusal = begin(it, (uint64_t)is.st_size, made);
     if (refusal) {
@@ -436,12 +668,18 @@ uint32_t lapyrei_abi(void) { return LAPYREI_ABI; }
 uint64_t lapyrei_detail(void) { return last_detail; }
 
 int lapyrei_format(const char *path, const lapyrei_shape *shape, lapyrei *store) {
-    if (shape) return start(path, shape, 1, store);
+    if (shape) return start(path, shape, (way){.keep = 1}, store);
     if (store) *store = 0;
     return refuse(LAPYREI_BAD_CALL, 0);
 }
-int lapyrei_open(const char *path, lapyrei *store) { return start(path, NULL, 1, store); }
-int lapyrei_open_keeping(const char *path, uint32_t keep, lapyrei *store) { return start(path, NULL, keep, store); }
+int lapyrei_format_over(const char *path, const lapyrei_shape *shape, lapyrei *store) {
+    if (shape) return start(path, shape, (way){.keep = 1, .replaces = 1}, store);
+    if (store) *store = 0;
+    return refuse(LAPYREI_BAD_CALL, 0);
+}
+int lapyrei_open(const char *path, lapyrei *store) { return start(path, NULL, (way){.keep = 1}, store); }
+int lapyrei_open_keeping(const char *path, uint32_t keep, lapyrei *store) { return start(path, NULL, (way){.keep = keep}, store); }
+int lapyrei_open_read(const char *path, lapyrei *store) { return start(path, NULL, (way){.keep = 1, .reads = 1}, store); }
 
 int lapyrei_close(lapyrei store) {
     slot *it = held(store);
@@ -487,10 +725,50 @@ int lapyrei_held_from(lapyrei store, uint64_t from, uint64_t *number) KNOWN(numb
 int lapyrei_victim(lapyrei store, uint64_t *block) KNOWN(block, 0, got.victim)
 int lapyrei_room(lapyrei store, uint64_t *frames) KNOWN(frames, 0, got.room < got.group ? got.room : got.group)
 
+int lapyrei_newest(lapyrei store, uint64_t *number) {
+    if (!number) return refuse(LAPYREI_BAD_CALL, 0);
+    slot *it = held(store);
+    if (!it) return LAPYREI_BAD_HANDLE;
+    if (it->broken) return leave(it, refuse(LAPYREI_MUST_REOPEN, 0));
+    return leave(it, is_there(it) ? newest(it, number) : refuse(LAPYREI_MOVED, 0));
+}
+
+static uint64_t micros_now(void) {
+    struct timespec now;
+    clock_gettime(CLOCK_MONOTONIC, &now);
+    return (uint64_t)now.tv_sec * 1000000 + (uint64_t)now.tv_nsec / 1000;
+}
+
+/* An eighth of a frame's time, and 0.2 to 5 ms: between two looks the handle is free. */
+static uint64_t pause_of(const slot *it) {
+    uint64_t eighth = it->shape.rate_num ? 125000ull * it->shape.rate_den / it->shape.rate_num : 5000;
+    return eighth < 200 ? 200 : eighth > 5000 ? 5000 : eighth;
+}
+
+int lapyrei_wait(lapyrei store, uint64_t after, uint32_t milliseconds, uint64_t *number) {
+    if (!number) return refuse(LAPYREI_BAD_CALL, 0);
+    uint64_t end = micros_now() + milliseconds * 1000ull, found;
+    for (;;) {
+        slot *it = held(store);
+        if (!it) return LAPYREI_BAD_HANDLE;
+        int refusal = it->broken ? refuse(LAPYREI_MUST_REOPEN, 0) : is_there(it) ? newest(it, &found) : refuse(LAPYREI_MOVED, 0);
+        uint64_t pause = pause_of(it), now = micros_now();
+        leave(it, 0);
+        if (refusal) return refusal;
+        if (found != LAPYREI_NONE && (after == LAPYREI_NONE || found > after)) {
+            *number = found;
+            return 0;
+        }
+        if (milliseconds != UINT32_MAX && now >= end) return refuse(LAPYREI_TIMED_OUT, 0);
+        sleep_micros(milliseconds != UINT32_MAX && end - now < pause ? end - now : pause);
+    }
+}
+
 int lapyrei_append(lapyrei store, const lapyrei_head *heads, const void *frames, size_t count, size_t length, uint64_t *first) {
     if (!heads || !frames) return refuse(LAPYREI_BAD_CALL, 0);
     slot *it = held(store);
     if (!it) return LAPYREI_BAD_HANDLE;
+    if (it->reads) return leave(it, refuse(LAPYREI_READ_ONLY, 0));
     if (it->broken) return leave(it, refuse(LAPYREI_MUST_REOPEN, 0));
     if (!count || length != it->frame_bytes || count > SIZE_MAX / 2 / length) return leave(it, refuse(LAPYREI_WRONG_SIZE, 0));
     return leave(it, make(it, make_append, &(asked){.heads = heads, .bytes = frames, .count = count, .length = length}, first));
@@ -499,7 +777,10 @@ int lapyrei_append(lapyrei store, const lapyrei_head *heads, const void *frames,
 int lapyrei_read(lapyrei store, uint64_t number, lapyrei_head *head, void *frame, size_t length) {
     if (!frame) return refuse(LAPYREI_BAD_CALL, 0);
     lapyrei_head got;
-    int refusal = call(store, make_read, &(asked){.number = number, .out = frame, .length = length, .head = &got}, NULL);
+    slot *it = held(store);
+    if (!it) return LAPYREI_BAD_HANDLE;
+    asked a = {.number = number, .out = frame, .length = length, .head = &got};
+    int refusal = leave(it, it->reads ? read_whole(it, number, &got, frame, length) : make(it, make_read, &a, NULL));
     if (!refusal && head) *head = got;
     return refusal;
 }
@@ -507,7 +788,10 @@ int lapyrei_read(lapyrei store, uint64_t number, lapyrei_head *head, void *frame
 int lapyrei_read_head(lapyrei store, uint64_t number, lapyrei_head *head) {
     if (!head) return refuse(LAPYREI_BAD_CALL, 0);
     lapyrei_head got;
-    int refusal = call(store, make_read_head, &(asked){.number = number, .head = &got}, NULL);
+    slot *it = held(store);
+    if (!it) return LAPYREI_BAD_HANDLE;
+    asked a = {.number = number, .head = &got};
+    int refusal = leave(it, it->reads ? read_whole(it, number, &got, NULL, 0) : make(it, make_read_head, &a, NULL));
     if (!refusal) *head = got;
     return refusal;
 }
@@ -569,6 +853,12 @@ static const struct {
     {LAPYREI_BAD_CALL, "BadCall", "a null pointer, an unknown format or a bad path"},
     {LAPYREI_BAD_HANDLE, "BadHandle", "this handle isn't open"},
     {LAPYREI_TOO_MANY, "TooMany", "64 stores are open"},
+    {LAPYREI_EXISTS, "Exists", "a file is there, and wasn't to be replaced"},
+    {LAPYREI_MOVED, "Moved", "the file was removed or renamed since it was opened"},
+    {LAPYREI_GONE, "Gone", "the frame isn't held any more"},
+    {LAPYREI_READ_ONLY, "ReadOnly", "the store is open to read alone"},
+    {LAPYREI_UNSETTLED, "Unsettled", "the store changes faster than it can be read"},
+    {LAPYREI_TIMED_OUT, "TimedOut", "no frame came in that time"},
 };
 #define TOLD(FIELD, NONE)                                                       \
     {                                                                           \

@@ -69,8 +69,8 @@ _lapyrei_export() {
     local word=${COMP_WORDS[COMP_CWORD]}
     case $word in
         -*) mapfile -t COMPREPLY < <(compgen -W "--output --from --to --last --clip --events --rgb --luma --matrix --full-range \
-            --lossless --compress --force --quiet --help --version" -- "$word") ;;
-        *) mapfile -t COMPREPLY < <(compgen -W "h5 zarr tiff mkv mp4 png npy y4m csv" -- "$word"; compgen -f -- "$word") ;;
+            --lossless --compress --verify --force --quiet --help --version" -- "$word") ;;
+        *) mapfile -t COMPREPLY < <(compgen -W "h5 zarr zarr3 ome-zarr tiff ome-tiff mkv mp4 png npy y4m csv" -- "$word"; compgen -f -- "$word") ;;
     esac
 }
 

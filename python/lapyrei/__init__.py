@@ -41,12 +41,14 @@ from .errors import (
     ClipTableFull,
     Damaged,
     DiskFault,
+    Exists,
     ExportFault,
     Gone,
     InUse,
     LapyreiError,
     MissingPackage,
     MixedDepths,
+    Moved,
     MustReopen,
     NoLibrary,
     NoMemory,
@@ -69,7 +71,8 @@ if TYPE_CHECKING:
 
     from .exports import Options, export
     from .files import Path
-    from .store import Clip, Event, Frames, Part, Picture, Planes, Store
+    from .parts import Part, Picture, Planes
+    from .store import Clip, Event, Frames, Store
     from .writing import Writable, create
 
 __version__ = "0.1.0"
@@ -90,6 +93,7 @@ __all__ = [
     "Damaged",
     "DiskFault",
     "Event",
+    "Exists",
     "ExportFault",
     "Frames",
     "Gone",
@@ -97,6 +101,7 @@ __all__ = [
     "LapyreiError",
     "MissingPackage",
     "MixedDepths",
+    "Moved",
     "MustReopen",
     "NoLibrary",
     "NoMemory",
@@ -122,7 +127,8 @@ __all__ = [
     "export",
     "open",
 ]
-LATER = dict.fromkeys(("Clip", "Event", "Frames", "Part", "Picture", "Planes", "Store"), "store")
+LATER = dict.fromkeys(("Clip", "Event", "Frames", "Store"), "store")
+LATER.update(dict.fromkeys(("Part", "Picture", "Planes"), "parts"))
 LATER.update(Options="exports", export="exports", Writable="writing", create="writing")
 
 

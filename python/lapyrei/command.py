@@ -23,15 +23,18 @@ STORE is a store's file, or the folder of one camera's. STORE#EVENT is the event
 goes on, so frames that aren't locked may be gone before they are written. Then nothing is written.
 
 formats:
-  h5    HDF5, a chunk a frame                     (python3-h5py)
-  zarr  Zarr, a chunk a frame                     (python3-zarr)
-  tiff  a stack for ImageJ, BigTIFF beyond 4 GB   (python3-tifffile)
-  mkv   FFV1, without loss, at the frames' times  (ffmpeg)
-  mp4   H.264, for the eye, at the frames' times  (ffmpeg)
-  png   a folder of pictures                      (python3-png)
-  npy   a folder of arrays for numpy.load
-  y4m   YUV4MPEG2, as a save writes it: one text of all parts of an event
-  csv   numbers and times alone"""
+  h5        HDF5, a chunk a frame                     (python3-h5py)
+  zarr      Zarr, a chunk a frame                     (python3-zarr)
+  zarr3     the same of the third version of Zarr
+  ome-zarr  OME-Zarr, NGFF 0.4                        (python3-zarr)
+  tiff      a stack for ImageJ, BigTIFF beyond 4 GB   (python3-tifffile)
+  ome-tiff  OME-TIFF: times, channel and bits in XML  (python3-tifffile)
+  mkv       FFV1, without loss, at the frames' times  (ffmpeg)
+  mp4       H.264, for the eye, at the frames' times  (ffmpeg)
+  png       a folder of pictures                      (python3-png)
+  npy       a folder of arrays for numpy.load
+  y4m       YUV4MPEG2, as a save writes it: one text of all parts of an event
+  csv       numbers and times alone"""
 SIGNALS = (signal.SIGINT, signal.SIGTERM, signal.SIGHUP)
 
 
@@ -125,7 +128,12 @@ def parser() -> argparse.ArgumentParser:
     )
     it.add_argument("--full-range", action="store_true", help="for RGB: Y goes from 0 to 255")
     it.add_argument("--lossless", action="store_true", help="mp4 without loss; few players take it")
-    it.add_argument("--compress", action="store_true", help="h5 and zarr, compressed")
+    it.add_argument("--compress", action="store_true", help="h5, zarr and zarr3, compressed")
+    it.add_argument(
+        "--verify",
+        action="store_true",
+        help="reads it back, and compares pixels, times and tags, before it is named",
+    )
     it.add_argument("--force", action="store_true", help="replaces an export that is there")
     it.add_argument("-q", "--quiet", action="store_true", help="no progress bar")
     it.add_argument("--version", action="version", version=f"lapyrei-export {__version__}")
@@ -195,6 +203,7 @@ def work(words: Any, signals: Signals) -> None:
         lossless=words.lossless,
         compress=words.compress,
         force=words.force,
+        verify=words.verify,
     )
     bar = Bar(len(frames), store.geometry.size, sys.stderr.isatty() and not words.quiet)
 
@@ -206,7 +215,7 @@ def work(words: Any, signals: Signals) -> None:
         count = export(frames, words.format, out, options, done)
     finally:
         bar.clear()
-    print(f"exported {count} {out}")
+    print(f"exported {count} {out}" + ", and read back the same" * options.verify)
 
 
 def main(arguments: Sequence[str] | None = None) -> int:

@@ -15,8 +15,10 @@
                          what was to be locked or unlocked
           BadGeometry, BadKeep, CannotMake
                          a store that can't be made, or opened so
+            Exists       a file is there
           DiskFault, MustReopen
                          the disk failed: close it and open it again
+          Moved          the file was removed or renamed since it was opened
           BadHandle      it was closed, or is of the process that this one was forked from
           NoMemory, NumbersSpent, TooMany, BadCall
       Changed          the file was cut, replaced or formatted anew since it was opened: open it
@@ -209,6 +211,20 @@ class CannotMake(NotDone):
     """The file can't be made: `detail` is the errno, EEXIST where a file is there."""
 
     number, name, sentence = 103, "CannotMake", "the file can't be made"
+
+
+class Exists(CannotMake):
+    """A file is there, and stays as it is."""
+
+    number, name, sentence = 107, "Exists", "a file is there, and wasn't to be replaced"
+
+
+class Moved(NotDone):
+    """The file was removed or renamed since it was opened, or another is in its place: what would
+    be stored nobody would find."""
+
+    number, name = 108, "Moved"
+    sentence = "the file was removed or renamed since it was opened"
 
 
 class BadCall(NotDone, ValueError):

@@ -27,7 +27,7 @@ MOST_STORES = 256
 
 class StoreFile:
     """An open file of a store, from which frames are read. It stays open for all who use it.
-    `path` is its path, `identity` says which file that was."""
+    `path` is its path, `whole_path` that from the root on, `identity` says which file it was."""
 
     def __init__(self, path: str) -> None:
         try:
@@ -36,7 +36,8 @@ class StoreFile:
             raise CannotOpen("missing") from None
         except OSError as fault:
             raise CannotOpen(f"cannot open: {fault.strerror}") from None
-        self.path = path
+        # By its whole path another process finds it, whose working folder is another one.
+        self.path, self.whole_path = path, os.path.abspath(path)
         found = os.fstat(self.file)
         self.identity = (found.st_dev, found.st_ino)
         if not stat.S_ISREG(found.st_mode):

@@ -29,6 +29,8 @@ PIXELS = {None: "gray", (2, 2): "yuv420p", (2, 1): "yuv422p", (1, 1): "yuv444p"}
 # The depths that FFV1 has of grey and of colour; grey of others is kept in 16 bits, as it is.
 GREY_DEPTHS, COLOUR_DEPTHS = (8, 9, 10, 12, 16), (8, 9, 10, 12, 14, 16)
 LOSSLESS_DEPTHS = (8, 10)
+# A shorter side isn't cut into slices.
+LEAST_SIDE = 16
 EVEN = "pad=ceil(iw/2)*2:ceil(ih/2)*2"
 MILLISECOND = 1000
 # Each frame at its own time; an encoder would round it to the rate.
@@ -86,13 +88,22 @@ def code_of(divided: tuple[int, int] | None, bits: int) -> bytes:
     return plain if bits == 8 else deep + bytes([bits])
 
 
-def lossless_words(divided: tuple[int, int] | None, bits: int) -> tuple[list[str], int]:
-    """What ffmpeg is told for FFV1, and the bits as which samples are given to it."""
+def lossless_kind(divided: tuple[int, int] | None, bits: int) -> tuple[str, int]:
+    """What ffmpeg calls the samples of FFV1, and their bits there."""
     depths = GREY_DEPTHS if divided is None else COLOUR_DEPTHS
     given = bits if bits in depths else 16
-    name = PIXELS[divided] + ("" if given == 8 else f"{given}le")
-    words = [*TIMED, "-c:v", "ffv1", "-level", "3", "-g", "1", "-slicecrc", "1"]
-    return [*words, "-pix_fmt", name], given
+    return PIXELS[divided] + ("" if given == 8 else f"{given}le"), given
+
+
+def lossless_words(
+    divided: tuple[int, int] | None, bits: int, shape: tuple[int, int]
+) -> tuple[list[str], int]:
+    """What ffmpeg is told for FFV1, and the bits as which samples are given to it."""
+    name, given = lossless_kind(divided, bits)
+    # ffmpeg 5.1 has wrong pixels, without a word, where a slice has no pixel of a plane: version 1
+    # of FFV1 has one slice. Version 3 has checksums.
+    level = ["-level", "3", "-slicecrc", "1"] if min(shape) >= LEAST_SIDE else ["-level", "1"]
+    return [*TIMED, "-c:v", "ffv1", *level, "-g", "1", "-pix_fmt", name], given
 
 
 def playable_words(

@@ -23,7 +23,7 @@ from .errors import (
     Refused,
 )
 
-NAME, ABI = "liblapyrei.so.1", 1
+NAME, ABI = "liblapyrei.so.1", 2
 # What lapyrei.h calls LAPYREI_NONE, and how many clips there may be.
 NONE, CLIPS = 2**64 - 1, 64
 # The formats, by their numbers there.
@@ -69,6 +69,7 @@ Word, Words = ctypes.c_uint64, ctypes.POINTER(ctypes.c_uint64)
 # The arguments of each call that is made from here.
 CALLS: dict[str, list[Any]] = {
     "format": [ctypes.c_char_p, ctypes.POINTER(Shape), Words],
+    "format_over": [ctypes.c_char_p, ctypes.POINTER(Shape), Words],
     "open_keeping": [ctypes.c_char_p, ctypes.c_uint32, Words],
     "close": [Word],
     "room": [Word, Words],
@@ -84,11 +85,13 @@ CALLS: dict[str, list[Any]] = {
 
 
 def places() -> list[str]:
-    """Where the library may be: where LAPYREI_LIBRARY says; or in the `lib` in which this module
-    is, as the package has it, and then where the system looks."""
+    """Where the library may be: where LAPYREI_LIBRARY says; or in this module's folder, as a wheel
+    has it; in the `lib` in which this module is, as the package has it, and then where the system
+    looks."""
     if named := os.environ.get("LAPYREI_LIBRARY"):
         return [named]
-    beside = [it / NAME for it in Path(__file__).resolve().parents if it.name == "lib"]
+    here = Path(__file__).resolve()
+    beside = [here.with_name(NAME), *(it / NAME for it in here.parents if it.name == "lib")]
     return [*(str(it) for it in beside if it.exists()), NAME]
 
 
@@ -127,7 +130,7 @@ def refused(number: int, detail: int, path: str) -> Refused:
         why = kind.sentence
         if kind is errors.DiskFault:
             why = f"{why}: {DISK.get(detail, detail)}"
-        elif kind is errors.CannotMake:
+        elif issubclass(kind, errors.CannotMake) and detail:
             why = f"{why}: {os.strerror(detail)}"
         fault = kind(why or f"refusal {number}", detail)
     fault.path = path
@@ -237,8 +240,8 @@ def opened(path: str, keep: int) -> Handle:
     return Handle(path, found.value)
 
 
-def formatted(path: str, shape: Shape) -> Handle:
-    """Makes a store over what a file has, or a new one, and opens it."""
-    found = Word()
-    call(path, "format", encoded(path), ctypes.byref(shape), ctypes.byref(found))
+def formatted(path: str, shape: Shape, replaces: bool) -> Handle:
+    """Makes a store of a new file, or of one that is there and is replaced, and opens it."""
+    found, name = Word(), "format_over" if replaces else "format"
+    call(path, name, encoded(path), ctypes.byref(shape), ctypes.byref(found))
     return Handle(path, found.value)

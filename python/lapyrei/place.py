@@ -11,6 +11,8 @@ from collections.abc import Iterator
 from . import layout
 from .errors import ExportFault
 
+# One of these is in each folder that an export has made.
+MADE = ("frames.csv", "about.json", ".zgroup", "zarr.json")
 NO_LINKS = (errno.EPERM, errno.EOPNOTSUPP, errno.ENOSYS, errno.EMLINK, errno.EXDEV)
 
 
@@ -46,11 +48,38 @@ def place_for(out: str, force: bool = False) -> Iterator[str]:
         os.close(held)
 
 
+def check_room(out: str, size: int) -> None:
+    """ExportFault where the disk, or what a process may write into a file, has no room for so many
+    bytes: then nothing is begun."""
+    folder = os.path.dirname(os.path.abspath(out))
+    try:
+        found = os.statvfs(folder)
+    except OSError as fault:
+        raise ExportFault(f"cannot write {out}: {fault.strerror}") from None
+    free = found.f_bavail * found.f_frsize
+    if size > free:
+        raise ExportFault(
+            f"cannot write {out}: it needs {size / 1e6:.0f} MB, and the disk has {free / 1e6:.0f}"
+        )
+
+
+def forget_cached(path: str) -> None:
+    """Has the system forget what it keeps of a file, or of all in a folder, so that it is read from
+    the disk."""
+    names = [path]
+    if os.path.isdir(path):
+        names = [os.path.join(at, it) for at, _, found in os.walk(path) for it in found]
+    for name in names:
+        file = os.open(name, os.O_RDONLY | os.O_CLOEXEC)
+        try:
+            os.posix_fadvise(file, 0, 0, os.POSIX_FADV_DONTNEED)
+        finally:
+            os.close(file)
+
+
 def is_export(folder: str) -> bool:
     """Whether a folder is one that an export made, which may be replaced."""
-    return any(
-        os.path.exists(os.path.join(folder, it)) for it in ("frames.csv", "about.json", ".zgroup")
-    )
+    return any(os.path.exists(os.path.join(folder, it)) for it in MADE)
 
 
 def is_store(path: str) -> bool:

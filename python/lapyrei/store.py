@@ -2,169 +2,26 @@
 nothing. docs/python.md is for who uses it."""
 from __future__ import annotations
 
-import contextlib
-import datetime
+import copy
 import operator
 import os
 from collections.abc import Iterator, Sequence
 from fractions import Fraction
-from typing import Any, NamedTuple, Union, overload
+from typing import Any, overload
 
 import numpy as np
 from numpy.typing import NDArray
 
-from . import colour, events, layout, times
-from .errors import (
-    BadTime,
-    Changed,
-    Gone,
-    MixedDepths,
-    NoSuchEvent,
-    Refused,
-    UnknownDepth,
-    Unlike,
-)
-from .files import Known, Path, StoreFile, camera_of, files_of, read_steadily
+from . import colour, events, layout, moments, regions, times
+from .errors import Gone, MixedDepths, NoSuchEvent, Unlike
+from .files import Path, camera_of, files_of
+from .moments import Time
+from .parts import HEADS, Array, Form, Part, Picture, Planes, form_of, places_of
+from .regions import Region
 
-Array = NDArray[Any]
-Time = Union[int, np.integer, str, datetime.datetime, np.datetime64]
-
-# What a frame's head says: its number, the camera's own count, V4L2's flags, the time in
-# microseconds, and its bytes.
-HEADS = np.dtype(
-    [
-        ("number", "<u8"),
-        ("sequence", "<u4"),
-        ("flags", "<u4"),
-        ("time", "<u8"),
-        ("length", "<u4"),
-    ]
-)
 LARGEST = np.iinfo(np.int64).max
-
-
-class Planes(NamedTuple):
-    """A picture in colour, or many: luma and the two colour differences, each an array
-    (height, width), or (frames, height, width). Those of the colours are smaller by the format."""
-
-    y: Array
-    cb: Array
-    cr: Array
-
-
-Picture = Union[Array, Planes]
-
-
-class Form(NamedTuple):
-    """How a frame's samples lie: bits a sample, the type of a sample, and the shape of each plane
-    as (height, width)."""
-
-    bits: int
-    dtype: np.dtype[Any]
-    planes: tuple[tuple[int, int], ...]
-
-
-def form_of(geometry: layout.Geometry, bits: int) -> Form:
-    """How the samples of frames of so many bits lie. A deep sample (9 to 16 bits) has two bytes, so
-    its rows have half as many samples as the store's geometry has bytes."""
-    divided = layout.DIVIDED[geometry.format]
-    planes = [(geometry.height, geometry.width)]
-    if divided:
-        across, down = divided
-        planes += [(-(-geometry.height // down), -(-geometry.width // across))] * 2
-    if bits == 8:
-        return Form(8, np.dtype(np.uint8), tuple(planes))
-    if bits not in layout.DEEP:
-        raise UnknownDepth(
-            f"a frame says that its samples have {bits} bits, and none has such ones"
-        )
-    if any(width % 2 for _, width in planes):
-        raise UnknownDepth(
-            f"a frame says that its samples have {bits} bits, and its rows of "
-            f"{geometry.width} bytes hold no whole samples"
-        )
-    return Form(bits, np.dtype("<u2"), tuple((height, width // 2) for height, width in planes))
-
-
-class Part:
-    """A file of a store: its path, its geometry, the version of its layout, the number of the next
-    frame, and where each block lies. Most stores have one."""
-
-    def __init__(self, path: str) -> None:
-        self.path, self.known = path, Known()
-        with of_path(path):
-            self.file = StoreFile(path)
-            self.reading = read_steadily(self.file, self.known)
-        self.places = places_of(self.reading)
-
-    @property
-    def geometry(self) -> layout.Geometry:
-        """Width and height of the luma in bytes, format, rate, segments, slots and frame bytes."""
-        return self.reading.geometry
-
-    @property
-    def version(self) -> int:
-        """The version of its layout, 1 or 2."""
-        return self.reading.version
-
-    @property
-    def next(self) -> int:
-        """The number of the next frame."""
-        return self.reading.next
-
-    def heads(self) -> Array:
-        """The heads of its frames, by rising number."""
-        return np.array([tuple(frame) for frame in self.reading.frames], HEADS)
-
-    def read_again(self) -> layout.Store:
-        """The file as it is now; Changed where it isn't the same recording any more."""
-        try:
-            found = os.stat(self.path)
-        except OSError:
-            raise Changed(f"{self.path} isn't there any more") from None
-        if (found.st_dev, found.st_ino) != self.file.identity:
-            raise Changed(f"{self.path} is another file now: open it again")
-        with of_path(self.path):
-            new = read_steadily(self.file, self.known)
-        old = self.reading
-        if new.geometry != old.geometry or new.next < old.next or not goes_on(old, new):
-            raise Changed(f"{self.path} was formatted anew: open it again")
-        return new
-
-    def pixels(self, number: int, arrays: Sequence[Array]) -> None:
-        """Fills arrays with a frame's pixels, one after the other, from its first byte on. What is
-        left in them where it raises is anything."""
-        block = number // self.geometry.slots
-        place = self.places.get(block)
-        if place is None:
-            raise Gone(f"frame {number} isn't held any more", number, self.path)
-        flat = [array.reshape(-1).view(np.uint8) for array in arrays]
-        with of_path(self.path):
-            self.file.whole(self.geometry, place, number, lambda at: self.file.read_into(at, flat))
-
-
-def places_of(reading: layout.Store) -> dict[int, int]:
-    """The place of each block that has a frame."""
-    return {segment.block: segment.place for segment in reading.with_frames()}
-
-
-def goes_on(old: layout.Store, new: layout.Store) -> bool:
-    """Whether the blocks that two readings have in common begin with the same frame."""
-    slots = old.geometry.slots
-    first = {frame.number: frame for frame in old.frames if frame.number % slots == 0}
-    return all(first.get(frame.number, frame) == frame for frame in new.frames)
-
-
-@contextlib.contextmanager
-def of_path(path: str) -> Iterator[None]:
-    """Whatever is refused inside is told with the path. A file that is too short was cut."""
-    try:
-        yield
-    except (Refused, Gone) as fault:
-        fault.path = path
-        raise
-    except layout.Unsteady:
-        raise Changed(f"{path} was cut: open it again") from None
+# A block of frames has about so many bytes.
+BLOCK_BYTES = 1 << 26
 
 
 class Frames:
@@ -172,15 +29,27 @@ class Frames:
 
     `frames[n]` is the picture of the n-th of them, from 0 on, or from the end with n below 0. A
     slice, a list of places or a mask gives others, as with an array of numpy: `frames[::10]`,
-    `frames[frames.bits == 12]`. All vectors here have one entry for each frame.
+    `frames[frames.bits == 12]`. With two or three keys it is the pixels of a region, of which those
+    rows alone are read: `frames[:, 100:200, 50:90]`. All vectors here have one entry for each
+    frame.
 
     A picture is an array (height, width) of uint8, or of uint16 where samples have 9 to 16 bits,
     which are in the low bits; in colour it is three such, `Planes`. Each was read from the file
     straight into the array, and is yours to change. It is that frame, whole, or `Gone` is raised
-    where the ring has removed it meanwhile. Frames of a clip are never removed."""
+    where the ring has removed it meanwhile. Frames of a clip are never removed.
 
-    def __init__(self, parts: Sequence[Part], of: Array, heads: Array) -> None:
-        self._parts, self._of, self._heads = parts, of, heads
+    It may be pickled and copied: to a worker of `multiprocessing`, of torch's DataLoader or of
+    dask. There it opens the files anew, and raises Changed where they are others by then."""
+
+    def __init__(
+        self, parts: Sequence[Part], of: Array, heads: Array, lost: Array, depth: int = 8
+    ) -> None:
+        self._parts, self._of, self._heads, self._lost = parts, of, heads, lost
+        # The bits of those from which these were chosen.
+        self._bits_before = depth
+
+    def __copy__(self) -> Frames:
+        return copy.deepcopy(self)
 
     # ------------------------------------------------------------------------ what is known
 
@@ -221,6 +90,13 @@ class Frames:
         return self._heads["sequence"].copy()
 
     @property
+    def lost(self) -> NDArray[np.int64]:
+        """How many frames the camera's own count skips right before each frame: those that the
+        camera, or what read it, lost. 0 where the frame before it isn't held, or the count began
+        anew: then nothing says whether any was lost."""
+        return self._lost.copy()
+
+    @property
     def flags(self) -> NDArray[np.uint32]:
         """V4L2's flags. Bits 24 to 28 say the bits a sample, and bit 29 is set of late frames."""
         return self._heads["flags"].copy()
@@ -245,7 +121,11 @@ class Frames:
                 f"these frames have samples of {', '.join(map(str, depths))} bits: "
                 "choose those of one, as frames[frames.bits == 8]"
             )
-        return form_of(self._parts[0].geometry, int(depths[0]) if len(depths) else 8)
+        return form_of(self._parts[0].geometry, int(depths[0]) if len(depths) else self._bits_now())
+
+    def _bits_now(self) -> int:
+        """The bits of the newest frame; without one, of those from which these were chosen."""
+        return int(self.bits[-1]) if len(self._heads) else self._bits_before
 
     @property
     def dtype(self) -> np.dtype[Any]:
@@ -253,9 +133,14 @@ class Frames:
         return self.form.dtype
 
     @property
-    def shape(self) -> tuple[int, int]:
-        """(height, width) of a picture, in samples of luma."""
-        return self.form.planes[0]
+    def shape(self) -> tuple[int, int, int]:
+        """(frames, height, width), in samples of luma: the shape of `array()`."""
+        return len(self._heads), *self.form.planes[0]
+
+    @property
+    def ndim(self) -> int:
+        """3: frames, rows and columns."""
+        return 3
 
     @property
     def is_grey(self) -> bool:
@@ -272,7 +157,13 @@ class Frames:
     def __getitem__(self, key: slice | list[int] | NDArray[Any]) -> Frames:
         ...
 
+    @overload
+    def __getitem__(self, key: tuple[Any, ...]) -> Picture:
+        ...
+
     def __getitem__(self, key: Any) -> Any:
+        if isinstance(key, tuple):
+            return self._region(*regions.keys_of(key))
         try:
             place = operator.index(key)
         except TypeError:
@@ -290,11 +181,67 @@ class Frames:
                 raise TypeError(f"frames are chosen by places or a mask, not by {key.dtype}")
             if not key.size:
                 key = key.astype(np.int64)
-        return Frames(self._parts, self._of[key], self._heads[key])
+        chosen = self._of[key], self._heads[key], self._lost[key]
+        return Frames(self._parts, *chosen, self._bits_now())
+
+    def blocks(self, count: int | None = None) -> Iterator[Frames]:
+        """These frames in blocks, for one `array()` after the other: of `count` frames, or of as
+        many as have about 64 MB."""
+        if count is None:
+            count = max(1, BLOCK_BYTES // self._parts[0].geometry.size)
+        if operator.index(count) < 1:
+            raise ValueError(f"a block has one frame or more, not {count}")
+        # Places of a store are others once it is refreshed; those of frames stay.
+        whole = self.take(slice(None))
+        return (whole.take(slice(it, it + count)) for it in range(0, len(whole), count))
 
     def _pixels(self, place: int, arrays: Sequence[Array]) -> None:
-        part = self._parts[int(self._of[place])]
-        part.pixels(int(self._heads["number"][place]), arrays)
+        """Fills arrays with a frame's pixels, one after the other, from its first byte on."""
+        at, pieces = 0, []
+        for array in arrays:
+            pieces.append((at, array))
+            at += array.nbytes
+        self._pieces(place, pieces)
+
+    def _pieces(self, place: int, pieces: Sequence[tuple[int, Array]]) -> None:
+        part, head = self._parts[int(self._of[place])], self._heads[place]
+        part.pixels(int(head["number"]), pieces, head)
+
+    def _region(self, key: Any, rows: Any, columns: Any) -> Picture:
+        """The pixels of a region, of one frame or of several."""
+        divided = layout.DIVIDED[self._parts[0].geometry.format]
+        try:
+            place = operator.index(key)
+        except TypeError:
+            chosen = self.take(key)
+            form = chosen.form
+            found = regions.regions_of(rows, columns, form.planes, divided)
+            stacks = [np.empty((len(chosen), *it.shape()), form.dtype) for it in found]
+            for at in range(len(chosen)):
+                for stack, plane in zip(stacks, chosen._planes(at, form, found)):
+                    stack[at] = plane
+            return stacks[0] if len(stacks) == 1 else Planes(*stacks)
+        form = self._form_at(place)
+        found = regions.regions_of(rows, columns, form.planes, divided)
+        planes = self._planes(place, form, found)
+        return planes[0] if len(planes) == 1 else Planes(*planes)
+
+    def _planes(
+        self, place: int, form: Form, wanted: Sequence[Region], first: int = 0
+    ) -> list[Array]:
+        """Regions of a frame's planes, from a plane on. Their rows alone are read."""
+        starts = form.starts()
+        pieces, read = [], []
+        for index, region in enumerate(wanted, first):
+            width = form.planes[index][1]
+            start, end = (0, 0) if region.is_empty() else region.span()
+            read.append(np.empty((end - start, width), form.dtype))
+            pieces.append((starts[index] + start * width * form.dtype.itemsize, read[-1]))
+        self._pieces(place, [it for it in pieces if it[1].size])
+        return [
+            np.empty(region.shape(), form.dtype) if region.is_empty() else region.of(rows)
+            for region, rows in zip(wanted, read)
+        ]
 
     def _form_at(self, place: int) -> Form:
         if not -len(self) <= place < len(self):
@@ -354,52 +301,73 @@ class Frames:
             self._pixels(place, [stack[place] for stack in stacks])
         return stacks[0] if len(stacks) == 1 else Planes(*stacks)
 
+    def __array__(self, dtype: Any = None, copy: bool | None = None) -> Array:
+        whole = self.array()
+        if isinstance(whole, Planes):
+            raise TypeError("these frames have colour: take luma, rgb or array(), which has planes")
+        return whole if dtype is None else whole.astype(dtype)
+
+    def to_dask(
+        self,
+        colour: str | None = None,
+        *,
+        block: int | None = None,
+        matrix: str = "bt601",
+        full: bool = False,
+    ) -> Any:
+        """These frames as an array of dask, which reads as far as it is computed, `block` frames at
+        once: (frames, height, width). In colour it is `Planes` of three; with `colour` "luma", or
+        "rgb" (frames, height, width, 3), it is one. Needs python3-dask."""
+        from . import lazy
+
+        return lazy.dask_arrays(self, colour, block, matrix, full)
+
+    def to_xarray(
+        self,
+        colour: str | None = None,
+        *,
+        lazy: bool = False,
+        matrix: str = "bt601",
+        full: bool = False,
+    ) -> Any:
+        """These frames as a DataArray of xarray, whose `time` is the frames': of UTC, or in seconds
+        of another clock. `number`, `sequence`, `lost` and `time_us` stand beside it. In colour it
+        is a Dataset of luma, cb and cr; `colour` is as in `to_dask`. With `lazy` dask reads it.
+        Needs python3-xarray."""
+        from . import lazy as arrays
+
+        return arrays.xarray_of(self, colour, lazy, matrix, full)
+
     # ------------------------------------------------------------------------ by time
 
     def moment(self, time: Time) -> int:
         """A time in microseconds. An int is that already. A text is read as store_info reads it:
         seconds, ISO 8601 (of this machine's zone where it names none), or 18:30:05 of the newest
-        frame's day. A datetime without a zone is of this machine's; numpy's are UTC."""
-        if isinstance(time, str):
-            newest = int(self._heads["time"][-1]) if len(self) else None
-            try:
-                return times.moment_in(time, newest)
-            except (ValueError, Refused) as fault:
-                raise BadTime(f"{time!r} is no time: {fault}") from None
-        if isinstance(time, datetime.datetime):
-            return times.of_datetime(time)
-        if isinstance(time, np.datetime64):
-            return int(time.astype("datetime64[us]").astype(np.int64))
-        if isinstance(time, (bool, np.bool_)):
-            raise BadTime("a time isn't true or false")
-        try:
-            return operator.index(time)
-        except TypeError:
-            what = type(time).__name__
-            raise BadTime(
-                f"a time is microseconds (an int), a text or a datetime, not {what}"
-            ) from None
+        frame's day. A datetime without a zone is of this machine's; numpy's are UTC. BadTime where
+        it is none, as NaT is, or none that 64 bits hold."""
+        newest = int(self._heads["time"][-1]) if len(self._heads) else None
+        return moments.micros_of(time, newest)
 
     def between(self, first: Time, last: Time) -> Frames:
         """The frames from a time to another, both included."""
-        low, high, at = self.moment(first), self.moment(last), self.times
-        return self.take((at >= low) & (at <= high))
+        low, high, at = self.moment(first), self.moment(last), self._heads["time"]
+        if high < 0 or low > high:
+            return self.take(slice(0))
+        return self.take((at >= np.uint64(max(low, 0))) & (at <= np.uint64(high)))
 
-    def nearest(self, moments: Any) -> NDArray[np.int64]:
+    def nearest(self, given: Any) -> NDArray[np.int64]:
         """The place of the frame that is nearest to each of some times, in microseconds: an array
-        of the shape of `moments`. Of two that are as near it is the earlier one."""
+        of the shape of `given`. Of two that are as near it is the earlier one."""
         if not len(self):
             raise Gone("there are no frames")
-        wanted = np.asarray(moments)
-        if wanted.dtype.kind == "M":
-            wanted = wanted.astype("datetime64[us]").astype(np.int64)
-        if wanted.dtype.kind not in "iu":
-            raise BadTime(f"times are microseconds or datetime64, not {wanted.dtype}")
+        wanted = moments.vector_of(given)
         order = np.argsort(self.times, kind="stable")
         at = self.times[order]
         after = np.clip(np.searchsorted(at, wanted), 0, len(at) - 1)
         before = np.clip(after - 1, 0, None)
-        is_before = np.abs(wanted - at[before]) <= np.abs(at[after] - wanted)
+        # So no difference is beyond 64 bits.
+        inside = np.clip(wanted, at[0], at[-1])
+        is_before = inside - at[before] <= at[after] - inside
         found: NDArray[np.int64] = order[np.where(is_before, before, after)]
         return found
 
@@ -410,7 +378,7 @@ class Clip(Frames):
     first and last frame in microseconds."""
 
     def __init__(self, frames: Frames, span: events.Span) -> None:
-        super().__init__(frames._parts, frames._of, frames._heads)
+        super().__init__(frames._parts, frames._of, frames._heads, frames._lost)
         self.part, self.id, self.tag = span.part, span.id, span.tag
         self.first, self.last = span.first, span.last
         self.since, self.until = int(self.times[0]), int(self.times[-1])
@@ -423,7 +391,7 @@ class Event(Frames):
     files the file's place before it (`2.0`)."""
 
     def __init__(self, frames: Frames, clips: list[Clip]) -> None:
-        super().__init__(frames._parts, frames._of, frames._heads)
+        super().__init__(frames._parts, frames._of, frames._heads, frames._lost)
         self.clips, self.tag = clips, clips[0].tag
         self.number = self.tag if self.tag in events.NUMBERS else None
         self.since, self.until = int(self.times[0]), int(self.times[-1])
@@ -442,10 +410,18 @@ class Store(Frames):
 
     def __init__(self, where: Path | Sequence[Path]) -> None:
         self._where = where
-        super().__init__([Part(path) for path in files_of(where)], np.empty(0), np.empty(0, HEADS))
+        parts, none = [Part(path) for path in files_of(where)], np.empty(0, np.int64)
+        super().__init__(parts, none, np.empty(0, HEADS), none)
         for part in self._parts[1:]:
             check_alike(self._parts[0], part)
         self._merge()
+
+    def __getstate__(self) -> dict[str, Any]:
+        # Another process has another working folder.
+        where = self._where
+        if isinstance(where, (str, os.PathLike)):
+            return {**self.__dict__, "_where": os.path.abspath(where)}
+        return {**self.__dict__, "_where": [os.path.abspath(it) for it in where]}
 
     @property
     def parts(self) -> list[Part]:
@@ -485,6 +461,7 @@ class Store(Frames):
         keys = [np.maximum.accumulate(it["time"]) for it in heads]
         order = np.argsort(np.concatenate(keys), kind="stable")
         self._of, self._heads = of[order], np.concatenate(heads)[order]
+        self._lost = np.concatenate([lost_of(it) for it in heads])[order]
         self._clips: dict[tuple[int, int], tuple[Array, Clip, events.Span]] = {}
         for index, part in enumerate(self._parts):
             places = np.flatnonzero(self._of == index)
@@ -587,3 +564,13 @@ def check_alike(one: Part, other: Part) -> None:
     ]
     if texts[0] != texts[1]:
         raise Unlike(f"has frames of {texts[1]}, and {one.path} of {texts[0]}", other.path)
+
+
+def lost_of(heads: Array) -> NDArray[np.int64]:
+    """How many frames the camera's count skips right before each of a file's frames, by rising
+    number. The count is of 32 bits, and begins anew where the camera does."""
+    lost = np.zeros(len(heads), np.int64)
+    step = np.diff(heads["sequence"]).astype(np.int64)
+    goes_on = (np.diff(heads["number"]) == 1) & (step > 1) & (step < 1 << 31)
+    lost[1:] = np.where(goes_on, step - 1, 0)
+    return lost

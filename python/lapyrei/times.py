@@ -11,6 +11,8 @@ from .errors import Refused
 # From here on, January 1 2000, a timestamp is a time of the day in microseconds since 1970; one
 # before it is of another clock.
 DAYS_BEGIN = 946_684_800_000_000
+# The seconds of 2^64 microseconds: no time is longer.
+LONGEST = 2**64 // 1_000_000
 EPOCH = datetime.datetime(1970, 1, 1, tzinfo=datetime.timezone.utc)
 MICROSECOND = datetime.timedelta(microseconds=1)
 
@@ -49,9 +51,13 @@ def seconds(microseconds: int) -> str:
 def micros(word: str) -> int:
     """The microseconds of a number of seconds. ValueError where it is none."""
     try:
-        return int(decimal.Decimal(word) * 1_000_000)
-    except (decimal.InvalidOperation, OverflowError, ValueError):
-        raise ValueError(f"{word} is no number of seconds") from None
+        found = decimal.Decimal(word)
+        # Of 1e999999999 a whole number would fill the memory.
+        if abs(found) <= LONGEST:
+            return int(found * 1_000_000)
+    except (decimal.DecimalException, OverflowError, ValueError):
+        pass
+    raise ValueError(f"{word} is no number of seconds that a time may have")
 
 
 def of_datetime(moment: datetime.datetime) -> int:

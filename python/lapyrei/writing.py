@@ -22,9 +22,9 @@ from . import layout, library
 from .errors import (
     BadGeometry,
     BadTime,
-    CannotMake,
     CannotOpen,
     ClipEmpty,
+    Exists,
     Gone,
     InUse,
     NoSuchClip,
@@ -34,17 +34,9 @@ from .errors import (
     WrongSize,
 )
 from .files import Path, files_of
-from .store import (
-    Array,
-    Clip,
-    Form,
-    Frames,
-    Picture,
-    Planes,
-    Store,
-    Time,
-    form_of,
-)
+from .moments import Time, vector_of
+from .parts import Array, Form, Picture, Planes, form_of
+from .store import Clip, Frames, Store
 
 # Frames of a second: 25, 29.97, Fraction(30000, 1001), "30000:1001".
 Rate = Union[int, float, str, Fraction]
@@ -90,7 +82,7 @@ def create(
     a sample, 8, or 9 to 16. A file that is there is left alone, unless `overwrite` is true: then
     all that it held is lost. `version` 1 makes the old layout.
 
-    Raises BadGeometry, CannotMake (`detail` is the errno: EEXIST where a file is there), InUse,
+    Raises BadGeometry, Exists where a file is there, CannotMake (`detail` is the errno), InUse,
     CannotOpen, NoMemory, DiskFault, TooMany, NoLibrary."""
     name = os.fspath(path)
     made = shape_of(shape, fraction_of(rate), format, bits, version)
@@ -98,10 +90,10 @@ def create(
     library.library()
     is_new = False if overwrite else take(name)
     try:
-        handle = library.formatted(name, made)
+        handle = library.formatted(name, made, overwrite)
     except Refused as fault:
         # What another program has begun there meanwhile is its own.
-        if is_new and not isinstance(fault, InUse):
+        if is_new and not isinstance(fault, (InUse, Exists)):
             os.unlink(name)
         raise
     return opened(handle, bits)
@@ -113,7 +105,7 @@ def take(path: str) -> bool:
         os.close(os.open(path, os.O_WRONLY | os.O_CREAT | os.O_EXCL | os.O_CLOEXEC, 0o666))
     except FileExistsError:
         why = "a file is there; overwrite=True erases it"
-        raise CannotMake(why, errno.EEXIST, path) from None
+        raise Exists(why, errno.EEXIST, path) from None
     except OSError as fault:
         raise CannotOpen(library.why_not(fault.errno or 0), path) from None
     return True
@@ -345,9 +337,21 @@ class Writable(Store):
     @property
     def form(self) -> Form:
         """How the samples lie; of a store that has no frame yet, as it was made for."""
-        if not len(self._heads) and self._bits is not None:
-            return form_of(self.geometry, self._bits)
         return super().form
+
+    def _bits_now(self) -> int:
+        if not len(self._heads) and self._bits is not None:
+            return self._bits
+        return super()._bits_now()
+
+    def __reduce_ex__(self, protocol: Any) -> Any:
+        # It travels as its reader: writing stays here.
+        with self._alone():
+            self._see()
+            twin = Store.__new__(Store)
+            known = {name: self.__dict__[name] for name in READER}
+            twin.__dict__.update(known, _bits_before=self._bits_now())
+            return read_only, (twin,)
 
     # ------------------------------------------------------------------------ frames
 
@@ -377,8 +381,9 @@ class Writable(Store):
         refused, those before it stay, and `stored` of the exception has their numbers.
 
         Raises WrongSize, BadTime, UnknownDepth, AllLocked, DiskFault, MustReopen, NumbersSpent,
-        NoMemory, BadHandle; Gone where the other store has removed a frame; TypeError for another
-        type of samples, ValueError for one that needs more bits."""
+        NoMemory, BadHandle; Moved where the file was removed or renamed; Gone where the other store
+        has removed a frame; TypeError for another type of samples, ValueError for one that needs
+        more bits."""
         with self._writes():
             if isinstance(frames, Frames):
                 return self._copy(frames, times)
@@ -473,8 +478,8 @@ class Writable(Store):
     def _moments(self, given: Any) -> Array:
         """Times in microseconds."""
         if isinstance(given, np.ndarray) and given.dtype.kind == "M":
-            given = given.astype("datetime64[us]").astype(np.int64)
-        if isinstance(given, np.ndarray):
+            given = vector_of(given).tolist()
+        elif isinstance(given, np.ndarray):
             if given.dtype.kind not in "iuOU":
                 raise BadTime(f"times are microseconds or datetime64, not {given.dtype}")
             given = given.tolist()
@@ -609,6 +614,11 @@ def spread(given: Any, count: int, what: str) -> Array:
     return np.broadcast_to(found.astype("u4"), (count,))
 
 
+def read_only(store: Store) -> Store:
+    """The reader as which a store comes that was open to write elsewhere."""
+    return store
+
+
 def fresh(method: Callable[..., Any]) -> Callable[..., Any]:
     """A method that reads, after what was written here was seen, alone."""
 
@@ -621,10 +631,12 @@ def fresh(method: Callable[..., Any]) -> Callable[..., Any]:
     return call
 
 
+# What a reader has of its own (store.Store).
+READER = ("_where", "_parts", "_of", "_heads", "_lost", "_clips", "_events")
 READING = (
-    "__len__ __repr__ __getitem__ __iter__ heads numbers times when sequences flags bits late form "
-    "dtype shape take read luma rgb raw array moment between nearest parts runs clips events clip "
-    "event index"
+    "__len__ __repr__ __getitem__ __iter__ __array__ heads numbers times when sequences lost flags "
+    "bits late form dtype shape take blocks to_dask to_xarray read luma rgb raw array moment "
+    "between nearest parts runs clips events clip event index"
 )
 for _name in READING.split():
     _found = getattr(Writable, _name)

@@ -145,7 +145,7 @@ static void format(const char *words, uint32_t version) {
     while (made.format < 4 && strcmp(name, names[made.format])) made.format++;
     int was_open = store != 0;
     if (was_open) lapyrei_close(store);
-    int refusal = lapyrei_format(path, &made, &store);
+    int refusal = lapyrei_format_over(path, &made, &store);
     if (refusal) {
         refused(refusal);
         if (was_open) lapyrei_open_keeping(path, keep, &store);

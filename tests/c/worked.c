@@ -12,6 +12,7 @@
 #include <stdlib.h>
 #include <string.h>
 #include <sys/stat.h>
+#include <sys/syscall.h>
 #include <sys/wait.h>
 #include <unistd.h>
 
@@ -227,7 +228,7 @@ static void damage(void) {
     WANT(lapyrei_open(path, &it), LAPYREI_NOT_FORMATTED);
     WANT(truncate(path, 0), 0);
     WANT(lapyrei_open(path, &it), LAPYREI_NOT_FORMATTED);
-    WANT(lapyrei_format(path, &small, &it), 0);
+    WANT(lapyrei_format(path, &small, &it), 0); /* a file without a byte is none */
     WANT(lapyrei_close(it), 0);
     WANT(truncate(path, 3000), 0);
     WANT(lapyrei_open(path, &it), LAPYREI_DAMAGED);
@@ -235,13 +236,324 @@ static void damage(void) {
     lapyrei_shape old = small;
     old.version = 1;
     int did = 0;
-    WANT(lapyrei_format(path, &old, &it), 0);
+    WANT(lapyrei_format_over(path, &old, &it), 0);
     WANT(put(it, 0), 0);
     WANT(lapyrei_lock(it, 0, 0, 5, NULL), LAPYREI_OLD_LAYOUT);
     WANT(lapyrei_upgrade(it, &did), 0);
     WANT(did, 1);
     WANT(lapyrei_lock(it, 0, 0, 5, NULL), 0);
     WANT(lapyrei_close(it), 0);
+}
+
+/* What is there stays, unless it is to be replaced. */
+static void exists(void) {
+    lapyrei first, it;
+    char before[64] = "";
+    WANT(lapyrei_format(at("there.loop"), &small, &first), 0);
+    WANT(put(first, 5), 0);
+    WANT(lapyrei_format(path, &small, &it), LAPYREI_BUSY); /* it is open */
+    WANT(lapyrei_format_over(path, &small, &it), LAPYREI_BUSY);
+    WANT(lapyrei_close(first), 0);
+    WANT(lapyrei_format(path, &small, &it), LAPYREI_EXISTS);
+    WANT(it, 0);
+    WANT(lapyrei_open(path, &it), 0);
+    WANT(lapyrei_next(it, &n), 0);
+    WANT(n, 1);
+    WANT(lapyrei_close(it), 0);
+    FILE *file = fopen(at("notes.txt"), "w+");
+    fputs("mine", file), fclose(file);
+    WANT(lapyrei_format(path, &small, &it), LAPYREI_EXISTS);
+    file = fopen(path, "r");
+    WANT(fgets(before, sizeof before, file) && !strcmp(before, "mine"), 1);
+    fclose(file);
+    WANT(lapyrei_format_over(path, &small, &it), 0);
+    WANT(lapyrei_next(it, &n), 0);
+    WANT(n, 0);
+    WANT(lapyrei_close(it), 0);
+    WANT(lapyrei_format_over(at("new.loop"), &small, &it), 0);
+    WANT(lapyrei_close(it), 0);
+}
+
+static lapyrei made_at(const char *name) {
+    lapyrei it = 0;
+    WANT(lapyrei_format(at(name), &small, &it), 0);
+    WANT(put(it, 0), 0);
+    return it;
+}
+
+/* The sync of a call, in which a file may be removed: it takes the place of the system's. */
+static const char *goes_in_a_sync;
+int fdatasync(int file) {
+    const char *name = goes_in_a_sync;
+    goes_in_a_sync = NULL;
+    if (name) unlink(name);
+    return (int)syscall(SYS_fdatasync, file);
+}
+
+/* Nor is it told that a call was made in whose sync the file went. */
+static void moved_late(void) {
+    lapyrei it = made_at("late.loop");
+    goes_in_a_sync = path;
+    WANT(put(it, 1), LAPYREI_MOVED);
+    WANT(put(it, 2), LAPYREI_MUST_REOPEN);
+    WANT(lapyrei_newest(it, &n), LAPYREI_MUST_REOPEN);
+    WANT(lapyrei_close(it), 0);
+    it = made_at("late.loop");
+    goes_in_a_sync = path;
+    WANT(lapyrei_lock(it, 0, 0, 0, NULL), LAPYREI_MOVED);
+    WANT(lapyrei_close(it), 0);
+}
+
+/* A file that was removed or renamed has no call that writes: what it would store nobody would find. */
+static void moved(void) {
+    char other[700];
+    lapyrei it = made_at("moved.loop"), two;
+    snprintf(other, sizeof other, "%s/elsewhere.loop", folder);
+    WANT(rename(path, other), 0);
+    WANT(put(it, 1), LAPYREI_MOVED);
+    WANT(lapyrei_lock(it, 0, 0, 0, NULL), LAPYREI_MOVED);
+    WANT(lapyrei_unlock(it, 0), LAPYREI_MOVED);
+    WANT(lapyrei_upgrade(it, NULL), LAPYREI_MOVED);
+    WANT(lapyrei_read(it, 0, &got, out, 12), 0); /* what it has is there */
+    WANT(lapyrei_format(path, &small, &two), 0); /* another file in its place */
+    WANT(put(it, 1), LAPYREI_MOVED);
+    WANT(put(two, 1), 0);
+    WANT(lapyrei_close(two), 0);
+    WANT(rename(other, path), 0); /* it is back, and nothing was changed meanwhile */
+    WANT(lapyrei_next(it, &n), 0);
+    WANT(n, 1);
+    WANT(put(it, 1), 0);
+    WANT(unlink(path), 0);
+    WANT(put(it, 2), LAPYREI_MOVED);
+    WANT(lapyrei_close(it), 0);
+    it = made_at("linked.loop"); /* another name is none that its users know */
+    WANT(link(path, other), 0);
+    WANT(unlink(path), 0);
+    WANT(put(it, 1), LAPYREI_MOVED);
+    WANT(lapyrei_close(it), 0);
+    WANT(unlink(other), 0);
+    /* By a link to it, and by a path from the working folder, which is another one by then. */
+    it = made_at("true.loop");
+    WANT(lapyrei_close(it), 0);
+    snprintf(other, sizeof other, "%s/way.loop", folder);
+    WANT(symlink(path, other), 0);
+    WANT(lapyrei_open(other, &it), 0);
+    WANT(unlink(other), 0);
+    WANT(put(it, 1), 0);
+    WANT(lapyrei_close(it), 0);
+    char *here = getcwd(NULL, 0);
+    WANT(chdir(folder), 0);
+    WANT(lapyrei_open("true.loop", &it), 0);
+    WANT(chdir("/"), 0);
+    WANT(put(it, 2), 0);
+    WANT(lapyrei_close(it), 0);
+    WANT(chdir(here), 0);
+    free(here);
+}
+
+/* A store that is read beside the one that is open to write. */
+static void read_beside(void) {
+    lapyrei it = made_at("beside.loop"), reader;
+    lapyrei_shape seen;
+    size_t size = 0;
+    WANT(lapyrei_open_read(path, &reader), 0);
+    WANT(lapyrei_shape_of(reader, &seen, &size), 0);
+    WANT(size == 12 && seen.slots == 2 && seen.version == 2, 1);
+    WANT(lapyrei_newest(reader, &n), 0);
+    WANT(n, 0);
+    memset(out, 99, sizeof out);
+    WANT(lapyrei_read(reader, 0, &got, out, 12), 0);
+    WANT(got.number == 0 && got.flags == 0x2000 && out[0] == 0 && out[11] == 11 && out[12] == 99, 1);
+    WANT(lapyrei_read(reader, 0, NULL, out, 11), LAPYREI_WRONG_SIZE);
+    WANT(lapyrei_read(reader, 1, &got, out, 12), LAPYREI_NOT_HELD); /* not yet */
+    WANT(lapyrei_read(reader, LAPYREI_NONE, &got, out, 12), LAPYREI_NOT_HELD);
+    for (int k = 1; k < 9; k++) WANT(put(it, k), 0);
+    WANT(lapyrei_newest(reader, &n), 0);
+    WANT(n, 8);
+    WANT(lapyrei_newest(it, &n), 0); /* also on a handle that writes */
+    WANT(n, 8);
+    WANT(lapyrei_read_head(reader, 8, &got), 0);
+    WANT(got.number == 8 && got.timestamp == 320000 && got.sequence == 8, 1);
+    WANT(lapyrei_read(reader, 0, &got, out, 12), LAPYREI_GONE); /* no more */
+    WANT(lapyrei_read_head(reader, 3, &got), LAPYREI_GONE);
+    WANT(lapyrei_lock(it, 6, 8, 5, NULL), 0);
+    WANT(lapyrei_clips(reader, runs, 64, &count), 0);
+    WANT(count == 1 && runs[0].from == 6 && runs[0].to == 8 && runs[0].tag == 5, 1);
+    WANT(lapyrei_frames_of(reader, 200000, UINT64_MAX, runs, 64, &count), 0);
+    WANT(count == 1 && runs[0].from == 5 && runs[0].to == 8, 1);
+    WANT(lapyrei_next(reader, &n), 0);
+    WANT(n, 9);
+    WANT(lapyrei_held_from(reader, 0, &n), 0);
+    WANT(n, 4);
+    WANT(put(reader, 1), LAPYREI_READ_ONLY);
+    WANT(lapyrei_lock(reader, 6, 8, 5, NULL), LAPYREI_READ_ONLY);
+    WANT(lapyrei_unlock(reader, 0), LAPYREI_READ_ONLY);
+    WANT(lapyrei_upgrade(reader, NULL), LAPYREI_READ_ONLY);
+    WANT(lapyrei_wait(reader, 7, 0, &n), 0); /* 8 is there */
+    WANT(n, 8);
+    WANT(lapyrei_wait(reader, LAPYREI_NONE, 0, &n), 0);
+    WANT(n, 8);
+    WANT(lapyrei_wait(reader, 8, 0, &n), LAPYREI_TIMED_OUT);
+    WANT(lapyrei_wait(reader, 8, 30, &n), LAPYREI_TIMED_OUT);
+    WANT(lapyrei_newest(reader, NULL), LAPYREI_BAD_CALL);
+    WANT(lapyrei_wait(reader, 8, 30, NULL), LAPYREI_BAD_CALL);
+    WANT(lapyrei_wait(0, 8, 30, &n), LAPYREI_BAD_HANDLE);
+    WANT(unlink(path), 0);
+    WANT(put(it, 9), LAPYREI_MOVED);
+    WANT(lapyrei_close(it), 0);
+    WANT(lapyrei_newest(reader, &n), LAPYREI_MOVED);
+    WANT(lapyrei_wait(reader, 8, UINT32_MAX, &n), LAPYREI_MOVED);
+    WANT(lapyrei_read(reader, 8, &got, out, 12), 0);
+    WANT(lapyrei_close(reader), 0);
+    WANT(lapyrei_open_read(path, &reader), LAPYREI_CANNOT_OPEN);
+    WANT(lapyrei_open_read("/dev/null", &reader), LAPYREI_CANNOT_OPEN);
+    WANT(lapyrei_open_read(NULL, &reader), LAPYREI_BAD_CALL);
+}
+
+/* An empty store, one that is damaged, and one that is made anew while it is read. */
+static void read_others(void) {
+    lapyrei it, reader;
+    WANT(lapyrei_format(at("bare.loop"), &small, &it), 0);
+    WANT(lapyrei_open_read(path, &reader), 0);
+    WANT(lapyrei_newest(reader, &n), 0);
+    WANT(n == LAPYREI_NONE, 1);
+    WANT(lapyrei_wait(reader, LAPYREI_NONE, 0, &n), LAPYREI_TIMED_OUT);
+    WANT(put(it, 0), 0);
+    WANT(lapyrei_close(it), 0);
+    lapyrei_shape wide = small;
+    wide.slots = 3, wide.segments = 2;
+    WANT(lapyrei_format_over(path, &wide, &it), 0);
+    WANT(lapyrei_newest(reader, &n), LAPYREI_DISK); /* it has another length */
+    WANT(lapyrei_read(reader, 0, &got, out, 12), LAPYREI_DISK);
+    WANT(lapyrei_close(reader), 0);
+    WANT(lapyrei_close(it), 0);
+    lapyrei_shape turned = small;
+    turned.width = 2, turned.height = 4;
+    WANT(lapyrei_format_over(path, &small, &it), 0);
+    WANT(lapyrei_close(it), 0);
+    WANT(lapyrei_open_read(path, &reader), 0);
+    WANT(lapyrei_format_over(path, &turned, &it), 0);
+    WANT(put(it, 0), 0);
+    WANT(lapyrei_newest(reader, &n), LAPYREI_MUST_REOPEN);
+    WANT(lapyrei_read(reader, 0, &got, out, 12), LAPYREI_MUST_REOPEN);
+    WANT(lapyrei_clips(reader, runs, 64, &count), LAPYREI_MUST_REOPEN);
+    WANT(lapyrei_close(reader), 0);
+    WANT(lapyrei_close(it), 0);
+    FILE *file = fopen(path, "r+b");
+    fseek(file, 8, SEEK_SET), fputc(9, file), fclose(file);
+    WANT(lapyrei_open_read(path, &reader), LAPYREI_DAMAGED);
+    WANT(lapyrei_detail(), 2);
+    WANT(truncate(path, 0), 0);
+    WANT(lapyrei_open_read(path, &reader), LAPYREI_NOT_FORMATTED);
+}
+
+/* A read of a frame, in which the recorder goes on: it takes the place of the system's. */
+static lapyrei goes_on_in_a_read;
+ssize_t pread(int file, void *to, size_t bytes, off_t place) {
+    lapyrei writer = goes_on_in_a_read;
+    if (writer && bytes == 12) {
+        goes_on_in_a_read = 0;
+        for (int k = 20; k < 27; k++) WANT(put(writer, k), 0);
+    }
+    return syscall(SYS_pread64, file, to, bytes, place);
+}
+
+/* Another frame comes in its place while it is read: it is gone, and never the other one. */
+static void read_over(void) {
+    lapyrei it = made_at("over.loop"), reader;
+    for (int k = 1; k < 6; k++) WANT(put(it, k), 0);
+    WANT(lapyrei_open_read(path, &reader), 0);
+    WANT(lapyrei_read(reader, 4, &got, out, 12), 0);
+    WANT(out[0], 4);
+    goes_on_in_a_read = it;
+    WANT(lapyrei_read(reader, 4, &got, out, 12), LAPYREI_GONE);
+    WANT(lapyrei_newest(reader, &n), 0);
+    WANT(n, 12);
+    WANT(lapyrei_close(reader), 0);
+    WANT(lapyrei_close(it), 0);
+}
+
+/* Frames of one byte each, and a reader that never sees another. */
+enum { PLAIN = 64 * 48 };
+static struct {
+    lapyrei it;
+    atomic_int is_over, torn, whole, gone;
+} film;
+
+static void *films(void *of) {
+    (void)of;
+    static unsigned char bytes[PLAIN];
+    lapyrei_head mine = {0};
+    for (unsigned k = 0; !atomic_load(&film.is_over); k++) {
+        memset(bytes, (int)(k % 251), PLAIN);
+        mine.timestamp = k;
+        WANT(lapyrei_append(film.it, &mine, bytes, 1, PLAIN, NULL), 0);
+    }
+    return NULL;
+}
+
+static void *follows(void *of) {
+    lapyrei reader;
+    unsigned char bytes[PLAIN];
+    uint64_t newest = LAPYREI_NONE, total;
+    lapyrei_run some[8];
+    size_t many;
+    WANT(lapyrei_open_read(of, &reader), 0);
+    for (int k = 0; k < 300; k++) {
+        WANT(lapyrei_wait(reader, newest, 60000, &newest), 0);
+        uint64_t wanted = k % 2 || newest < 3 ? newest : newest - 3; /* as far back as may be there */
+        int refusal = lapyrei_read(reader, wanted, NULL, bytes, PLAIN);
+        WANT(!refusal || refusal == LAPYREI_GONE, 1);
+        atomic_fetch_add(refusal ? &film.gone : &film.whole, 1);
+        for (int i = 0; !refusal && i < PLAIN; i++)
+            if (bytes[i] != wanted % 251) { atomic_fetch_add(&film.torn, 1); break; }
+        if (k % 20 == 0) {
+            refusal = lapyrei_held(reader, &total);
+            WANT(refusal == LAPYREI_UNSETTLED || (!refusal && total > 0 && total <= 4), 1);
+            refusal = lapyrei_frames_of(reader, 0, UINT64_MAX, some, 8, &many);
+            WANT(refusal == LAPYREI_UNSETTLED || (!refusal && many >= 1), 1);
+        }
+    }
+    WANT(lapyrei_close(reader), 0);
+    return NULL;
+}
+
+static void whole_beside(void) {
+    lapyrei_shape plain = {64, 48, LAPYREI_GREY, 1000, 1, 2, 2, 0};
+    pthread_t writer, readers[3];
+    char own[600];
+    WANT(lapyrei_format(at("film.loop"), &plain, &film.it), 0);
+    strcpy(own, path);
+    pthread_create(&writer, NULL, films, NULL);
+    for (int i = 0; i < 3; i++) pthread_create(&readers[i], NULL, follows, own);
+    for (int i = 0; i < 3; i++) pthread_join(readers[i], NULL);
+    atomic_store(&film.is_over, 1);
+    pthread_join(writer, NULL);
+    WANT(lapyrei_close(film.it), 0);
+    WANT(film.torn, 0);
+    WANT(film.whole > 100, 1);
+}
+
+/* A child that lives holds no lock: neither of a store that was closed, nor of one that its parent has open. */
+static void forked(void) {
+    lapyrei it = made_at("forked.loop");
+    int ends[2];
+    char word;
+    WANT(pipe(ends), 0);
+    pid_t child = fork();
+    if (!child) {
+        close(ends[1]);
+        _exit(read(ends[0], &word, 1) != 0);
+    }
+    close(ends[0]);
+    WANT(lapyrei_close(it), 0);
+    WANT(lapyrei_open(path, &it), 0);
+    WANT(put(it, 1), 0);
+    WANT(lapyrei_close(it), 0);
+    close(ends[1]);
+    int status = 1;
+    waitpid(child, &status, 0);
+    WANT(status, 0);
 }
 
 static void *store_25(void *of) {
@@ -369,6 +681,14 @@ int main(int argc, char **argv) {
     handles(it, argc == 2);
     paths();
     damage();
+    exists();
+    moved();
+    moved_late();
+    read_beside();
+    read_others();
+    read_over();
+    whole_beside();
+    if (argc == 2) forked();
     threads();
     cut_beside();
     many();

@@ -9,9 +9,9 @@ KIND = Kind(
     "calls the C library by each of its calls, kills it, fails its disk, and looks at the file",
     [
         Wrong(
-            "the library with one wrong thing, 18 times",
+            "the library with one wrong thing, 23 times",
             words=["--wrong"],
-            says="18 of 18 wrong libraries are found",
+            says="23 of 23 wrong libraries are found",
             status=0,
         )
     ],

@@ -24,6 +24,7 @@ ELSEWHERE = (
     (r"^napari", "needs a screen and napari", None),
     (r"^rt ", "needs the kit", None),
     (r"^tools/check", "takes minutes, and the programs", None),
+    (r"^python3 -m venv|^mine/bin/pip", "needs the wheel that tools/package makes", None),
     (r"^tools/demo", "runs until Ctrl-C, and needs the page's packages", None),
     (r"^\.ci/run", "is the gate", None),
 )

@@ -38,6 +38,54 @@ KIND = Kind(
             says="test_no_frame_is_torn|overwritten",
         ),
         Wrong(
+            "a reader that travels by its path alone",
+            given={
+                "LAPYREI_PYTHON": changed_module(
+                    "parts.py", "if (found.st_dev, found.st_ino) != identity:", "if False:"
+                )
+            },
+            words=["-k", "another_file"],
+            says="test_another_file",
+        ),
+        Wrong(
+            "a module for which a frame is known by its number alone",
+            given={
+                "LAPYREI_PYTHON": changed_module(
+                    "parts.py", "if head is not None and found[0] != head:", "if False:"
+                )
+            },
+            words=["-k", "formatted_anew_gives"],
+            says="test_a_file_that_was_formatted_anew",
+        ),
+        Wrong(
+            "a module for which NaT is a time",
+            given={
+                "LAPYREI_PYTHON": changed_module(
+                    "moments.py", "if np.isnat(given).any():", "if False:"
+                )
+            },
+            words=["-k", "is_no_time"],
+            says="test_what_is_no_time",
+        ),
+        Wrong(
+            "an export that believes what it wrote",
+            given={
+                "LAPYREI_PYTHON": changed_module(
+                    "verify.py", "digest(picture[name]) != wanted", "False"
+                )
+            },
+            words=["-k", "byte_that_is_another"],
+            says="test_a_byte_that_is_another",
+        ),
+        Wrong(
+            "films of small sides that are cut into slices",
+            given={
+                "LAPYREI_PYTHON": changed_module("films.py", "LEAST_SIDE = 16", "LEAST_SIDE = 1")
+            },
+            words=["-k", "sides_of_one"],
+            says="test_ffv1_of_sides",
+        ),
+        Wrong(
             "a module that takes a short read for a whole one",
             given={
                 "LAPYREI_PYTHON": changed_module(

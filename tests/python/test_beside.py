@@ -77,6 +77,11 @@ def test_a_reader_that_looks_no_second_time_has_torn_frames_there(tmp_path, monk
         return read(geometry.slot_at(place, number % geometry.slots) + layout.HEAD)
 
     monkeypatch.setattr(StoreFile, "whole", careless)
+    # Nor at the head that it reads with the pixels.
+    real = lapyrei.Part.pixels
+    monkeypatch.setattr(
+        lapyrei.Part, "pixels", lambda self, number, pieces, _=None: real(self, number, pieces)
+    )
     path = tmp_path / "a.loop"
     with writing(path, (640, 480), 3, 1):
         read_beside(path, lambda _, torn: torn)

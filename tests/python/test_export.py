@@ -538,10 +538,10 @@ def test_a_frame_that_goes_meanwhile_ends_the_export(tmp_path, kind, monkeypatch
         return
     real = lapyrei.Part.pixels
 
-    def pixels(self, number, arrays):
+    def pixels(self, number, *words):
         if number == 4:
             raise lapyrei.Gone("frame 4 isn't held any more", 4, self.path)
-        real(self, number, arrays)
+        real(self, number, *words)
 
     monkeypatch.setattr(lapyrei.Part, "pixels", pixels)
     with pytest.raises(lapyrei.Gone, match="frame 4"):

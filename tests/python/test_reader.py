@@ -134,7 +134,8 @@ def test_a_store_in_a_folder_that_may_not_be_written_is_read(tmp_path):
 
 def test_a_store_says_what_it_is(tmp_path):
     store = lapyrei.open(put(tmp_path / "left.loop", ring(20, b"YM12")))
-    assert (store.shape, store.dtype, store.format, store.rate) == ((6, 8), np.uint8, "YM12", 25)
+    assert (store.shape, store.dtype, store.format) == ((11, 6, 8), np.uint8, "YM12")
+    assert (store.rate, store.ndim) == (25, 3)
     assert (store.camera, store.is_grey, len(store)) == ("left", False, 11)
     assert store.runs == [[(9, 19)]] and store.parts[0].next == 20
     assert store.times.tolist() == [DAY + n * 40000 for n in range(9, 20)]
@@ -238,7 +239,8 @@ def test_deep_frames_are_uint16_of_half_the_bytes_of_a_row(tmp_path, form, bits)
         it.store()
     image = with_flags(it.image, it.geometry, 0x2000 | bits << 24)
     store = lapyrei.open(put(tmp_path / "a.loop", image))
-    assert set(store.bits.tolist()) == {bits} and store.dtype == np.uint16 and store.shape == (4, 4)
+    assert set(store.bits.tolist()) == {bits} and store.dtype == np.uint16
+    assert store.shape == (5, 4, 4)
     picture = store[1]
     luma = picture if form == b"GREY" else picture.y
     first = layout.read(image).frames[int(store.numbers[1])]

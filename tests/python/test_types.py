@@ -17,7 +17,6 @@ def mypy(tmp_path_factory):
     words = [
         "mypy",
         "--strict",
-        "--ignore-missing-imports",
         "--python-version",
         "3.11",
         "--cache-dir",

@@ -87,7 +87,7 @@ def image_of(store):
 @pytest.mark.parametrize("shape", [(6, 8), (5, 3), (1, 1)])
 def test_what_is_written_is_listed_and_exported_to_the_same_bytes(tmp_path, loop_cli, form, shape):
     with small(tmp_path, form=form, shape=shape) as store:
-        assert store.format == form and store.shape == shape and len(store) == 0
+        assert store.format == form and store.shape == (0, *shape) and len(store) == 0
         first = pictures(store, 7)
         assert store.append(first, times_of(7)).tolist() == list(range(7))
         one = store[3]
@@ -138,7 +138,7 @@ def test_times_numbers_counts_bits_and_marks_are_read_back(tmp_path):
 @pytest.mark.parametrize("form", ["GREY", "YM12", "YM24"])
 def test_deep_samples_are_stored_in_the_low_bits(tmp_path, form, bits):
     with small(tmp_path, form=form, bits=bits) as store:
-        assert store.dtype == np.uint16 and store.shape == SHAPE and store.geometry.width == 16
+        assert store.dtype == np.uint16 and store.shape[1:] == SHAPE and store.geometry.width == 16
         whole = pictures(store, 3, bits=bits)
         store.append(whole, times_of(3))
         first = whole[0] if form == "GREY" else [it[0] for it in whole]
@@ -479,9 +479,9 @@ def test_a_bad_geometry_is_refused_and_makes_no_file(tmp_path, more, says):
 def test_a_file_that_is_there_is_erased_only_where_that_is_said(tmp_path):
     filled(tmp_path, 5).close()
     before = Path(path_in(tmp_path)).read_bytes()
-    with pytest.raises(lapyrei.CannotMake, match="overwrite=True erases it") as refused:
+    with pytest.raises(lapyrei.Exists, match="overwrite=True erases it") as refused:
         small(tmp_path)
-    assert refused.value.detail == errno.EEXIST and refused.value.number == 103
+    assert refused.value.detail == errno.EEXIST and refused.value.number == 107
     assert Path(path_in(tmp_path)).read_bytes() == before
     with small(tmp_path, overwrite=True, slots=2) as store:
         assert len(store) == 0 and store.geometry.slots == 2
@@ -1045,6 +1045,7 @@ def test_each_refusal_of_the_header_has_a_class_of_its_name_and_words():
                for line in body.splitlines() if "=" in line]
     # What reads by the library alone isn't asked from here.
     others = {0: "Ok", 4: "NotFormatted", 5: "Damaged", 13: "NotHeld", 101: "CannotOpen"}
+    others |= {109: "Gone", 110: "ReadOnly", 111: "Unsettled", 112: "TimedOut"}
     assert set(numbers) - set(others) == set(lapyrei.library.CLASSES)
     for number, kind in lapyrei.library.CLASSES.items():
         assert made.lapyrei_name(number).decode() == kind.name
@@ -1075,7 +1076,7 @@ for call in (lambda: lapyrei.open(sys.argv[1], "r+"),
 
 
 def test_a_library_of_another_version_is_refused(tmp_path):
-    (tmp_path / "other.c").write_text("unsigned lapyrei_abi(void) { return 2; }\n")
+    (tmp_path / "other.c").write_text("unsigned lapyrei_abi(void) { return 1; }\n")
     words = ["cc", "-shared", "-o", tmp_path / "other.so", tmp_path / "other.c"]
     subprocess.run(words, check=True)
     code = """
@@ -1086,7 +1087,7 @@ except lapyrei.NoLibrary as missing:
 """
     env = dict(os.environ, LAPYREI_LIBRARY=path_in(tmp_path, "other.so"))
     done = child(code, path_in(tmp_path), env=env)
-    assert "other.so is of another version (2)" in done.stdout, done
+    assert "other.so is of another version (1)" in done.stdout, done
 
 
 def test_the_library_is_found_beside_an_installed_module(tmp_path, monkeypatch):
@@ -1122,3 +1123,47 @@ except lapyrei.NoMemory as refused:
 def test_the_limits_of_a_process_are_those_that_it_had():
     """Nothing here has changed them for the tests that follow."""
     assert resource.getrlimit(resource.RLIMIT_FSIZE)[0] == resource.RLIM_INFINITY
+
+
+# ------------------------------------------------------------------------------- a file that goes
+
+
+@pytest.mark.parametrize("how", ["removed", "renamed", "replaced"])
+def test_a_store_whose_file_went_is_told_so(tmp_path, how):
+    """What would be stored nobody would find."""
+    path = tmp_path / "a.loop"
+    with lapyrei.create(path, SHAPE, 25, segments=3, slots=4) as store:
+        store.append(np.zeros(SHAPE, np.uint8), 1)
+        if how == "removed":
+            path.unlink()
+        else:
+            path.rename(tmp_path / "b.loop")
+        if how == "replaced":
+            lapyrei.create(path, SHAPE, 25, segments=3, slots=4).close()
+        for call in (
+            lambda: store.append(np.zeros(SHAPE, np.uint8), 2),
+            lambda: store.lock(0, 0),
+            store.upgrade,
+        ):
+            with pytest.raises(lapyrei.Moved, match="a.loop: refused 108 Moved: .* removed") as it:
+                call()
+            assert it.value.number == 108
+
+
+def test_a_file_that_comes_before_it_is_made_is_not_erased(tmp_path, monkeypatch):
+    """Another program has made a store there between this one's look and its call."""
+    from lapyrei import writing
+
+    path, real = tmp_path / "a.loop", writing.take
+
+    def take(name):
+        made = real(name)
+        lapyrei.library.formatted(name, SHAPED, True).close()
+        return made
+
+    SHAPED = writing.shape_of(SHAPE, writing.fraction_of(25), "GREY", 8, 2)
+    SHAPED.segments, SHAPED.slots = 2, 3
+    monkeypatch.setattr(writing, "take", take)
+    with pytest.raises(lapyrei.Exists):
+        lapyrei.create(path, SHAPE, 25, segments=4, slots=4)
+    assert lapyrei.open(path).geometry.segments == 2

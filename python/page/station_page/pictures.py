@@ -9,8 +9,8 @@ import layout
 import numpy
 from lapyrei.colour import rgb_of
 from lapyrei.errors import Gone, UnknownDepth
-from lapyrei.store import Form
-from lapyrei.store import form_of as form_of_depth
+from lapyrei.parts import Form
+from lapyrei.parts import form_of as form_of_depth
 from PIL import Image
 
 JPEG_QUALITY = 82
