@@ -126,6 +126,8 @@ def several(variant, films):
     words = ["/bin/python3", "-B", __file__, "films", variant]
     run = subprocess.Popen(words, env=environment, stdin=subprocess.PIPE)
     run.communicate(json.dumps(films).encode(), timeout=4 * PATIENCE)
+    if run.returncode:
+        print(f"{variant}: films ended with {run.returncode}", flush=True)
 
 
 def films_inside(variant):
@@ -141,9 +143,11 @@ def films_inside(variant):
         Path("left.camera").write_text(file)
         # The witness asks for these at each frame.
         os.environ.update(WITNESS=str(place / "witness"), WITNESS_RAW=str(place / "raw"))
-        with open("said", "w") as sys.stderr:
-            status = program.main(["left.camera", "--to", "text", "--frames", "3"], "")
-        sys.stderr = shown
+        try:
+            with open("said", "w") as sys.stderr:
+                status = program.main(["left.camera", "--to", "text", "--frames", "3"], "")
+        finally:
+            sys.stderr = shown
         Path("status").write_text(str(status))
 
 

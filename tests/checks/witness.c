@@ -21,6 +21,11 @@ static struct { int file; off_t offset; unsigned char *at; } maps[BUFFERS * PART
 static int mapped;
 static off_t offsets[BUFFERS][PARTS];
 
+static void end(int status, const char *why) {
+    fprintf(stderr, "witness: %s\n", why);
+    _exit(status);
+}
+
 static unsigned crc_of(const unsigned char *at, size_t count) {
     static unsigned table[256];
     if (!table[1])
@@ -37,13 +42,14 @@ static unsigned crc_of(const unsigned char *at, size_t count) {
 static void note(const char *text) {
     const char *path = getenv("WITNESS");
     int file = path ? open(path, O_WRONLY | O_CREAT | O_APPEND, 0644) : -1;
-    if (file >= 0 && write(file, text, strlen(text)) < 0) _exit(99);
+    if (file >= 0 && write(file, text, strlen(text)) < 0) end(99, "a note can't be written");
     if (file >= 0) close(file);
 }
 
 static void *map_by(void *at, size_t length, int rights, int flags, int file, off_t offset) {
     void *got = (void *)syscall(SYS_mmap, at, length, rights, flags, file, offset);
-    if (got != MAP_FAILED && file >= 0 && flags & MAP_SHARED && mapped < BUFFERS * PARTS) {
+    if (got != MAP_FAILED && file >= 0 && flags & MAP_SHARED) {
+        if (mapped == BUFFERS * PARTS) end(96, "more memory is mapped than it has room for");
         maps[mapped].file = file, maps[mapped].offset = offset, maps[mapped++].at = got;
     }
     return got;
@@ -55,6 +61,16 @@ void *mmap(void *at, size_t length, int rights, int flags, int file, off_t offse
 
 void *mmap64(void *at, size_t length, int rights, int flags, int file, off_t offset) {
     return map_by(at, length, rights, flags, file, offset);
+}
+
+/* Memory that is given back makes room: a program may open one camera after the other. */
+int munmap(void *at, size_t length) {
+    for (int n = mapped; n-- > 0;)
+        if (maps[n].at == at) {
+            memmove(&maps[n], &maps[n + 1], (--mapped - n) * sizeof maps[0]);
+            break;
+        }
+    return (int)syscall(SYS_munmap, at, length);
 }
 
 /* The memory of a part of a buffer: the newest that was mapped from its offset. */
@@ -69,7 +85,7 @@ static void keep(unsigned number, int part, const unsigned char *at, size_t coun
     if (!getenv("WITNESS_RAW")) return;
     snprintf(path, sizeof path, "%s.%u.%d", getenv("WITNESS_RAW"), number, part);
     int file = open(path, O_WRONLY | O_CREAT | O_TRUNC, 0644);
-    if (file < 0 || write(file, at, count) != (ssize_t)count) _exit(98);
+    if (file < 0 || write(file, at, count) != (ssize_t)count) end(98, "a frame can't be written");
     close(file);
 }
 
@@ -86,7 +102,7 @@ static void taken(int file, struct v4l2_buffer *it) {
         unsigned char *memory = memory_of(file, it->index, part);
         unsigned start = many ? it->m.planes[part].data_offset : 0;
         unsigned used = (many ? it->m.planes[part].bytesused : it->bytesused) - start;
-        if (!memory) _exit(97);
+        if (!memory) end(97, "a frame came in memory that it hasn't seen mapped");
         at += snprintf(line + at, sizeof line - at, " %u:%u", used, crc_of(memory + start, used));
         keep(it->sequence, part, memory + start, used);
     }
