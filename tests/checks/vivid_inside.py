@@ -49,15 +49,22 @@ class Film:
                 stderr=said,
             )
 
+    def counted(self):
+        """How many frames it has given."""
+        path = self.place / "log"
+        return path.read_bytes().count(b"\n") if path.exists() else 0
+
     def count(self, least):
         """Waits for so many frames."""
 
         def enough():
-            path = self.place / "log"
-            count = path.read_bytes().count(b"\n") if path.exists() else 0
-            return count >= least or self.run.poll() is not None
+            return self.counted() >= least or self.run.poll() is not None
 
         until(f"{self.place}: {least} frames", enough)
+
+    def more(self, count):
+        """Waits for so many frames from now on."""
+        self.count(self.counted() + count)
 
     def says(self, words):
         """Waits until it has said something."""
@@ -164,7 +171,8 @@ def numbers(variant, _):
         knobs.press("inject_v4l2_buf_flag_error")
         time.sleep(0.4)
     knobs.set(percentage_of_dropped_buffers=30)
-    it.count(40)
+    # By now the film may be anywhere: what is said takes frames too.
+    it.more(30)
     knobs.set(percentage_of_dropped_buffers=0)
     it.count(130)
     it.stop()
