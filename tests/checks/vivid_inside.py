@@ -14,6 +14,8 @@ from pathlib import Path
 
 WORK, OUT = Path("/work"), Path("/out")
 PATIENCE = 120
+# What the kernel calls the first camera, whichever path it has.
+FIRST = "vivid-000-vid-cap"
 BY_ID = Path("/dev/v4l/by-id/usb-vivid")
 DRIVER = Path("/sys/bus/platform/drivers/vivid")
 
@@ -95,6 +97,11 @@ class Knobs:
         """Sets some."""
         words = [(name, str(value)) for name, value in values.items()]
         self.controls.settle(self.handle.raw, words, print)
+
+    def get(self, name):
+        """What one is now."""
+        known = {it.name: it for it in self.controls.items(self.handle.raw)}
+        return self.controls.read(self.handle.raw, known[name])
 
     def press(self, name):
         """Presses a button."""
@@ -198,23 +205,34 @@ def slow(variant, _):
     pipe.unlink()
 
 
+def first():
+    """The first camera's path below /dev now, found as udev does: by what it is. All three are one
+    device to the driver, and come and go together."""
+    for path in Path("/sys/class/video4linux").glob("video*"):
+        if (path / "name").read_text().strip() == FIRST and Path("/dev", path.name).exists():
+            return path.name
+    return None
+
+
 def unplugged(variant, _):
     """The device is unplugged while somebody has it open, so it comes back as another one."""
     BY_ID.parent.mkdir(parents=True, exist_ok=True)
     BY_ID.unlink(missing_ok=True)
-    BY_ID.symlink_to("/dev/video0")
-    it = Film(variant, "unplugged", "DEVICE=/dev/video0\n" + GREY)
+    BY_ID.symlink_to(f"/dev/{first()}")
+    it = Film(variant, "unplugged", "DEVICE=/dev/video0\nCONTROL_brightness=90\n" + GREY)
     it.count(20)
     held = os.open("/dev/video0", os.O_RDWR)
-    before = {path.name for path in Path("/dev").glob("video*")}
     (DRIVER / "unbind").write_text("vivid.0")
+    BY_ID.unlink()
     it.says("it has gone")
     (DRIVER / "bind").write_text("vivid.0")
-    new = until("it is there again", lambda: {p.name for p in Path("/dev").glob("video*")} - before)
-    (it.place / "became").write_text(" ".join(new or ()))
-    BY_ID.unlink()
-    BY_ID.symlink_to(f"/dev/{sorted(new or ['none'])[0]}")
-    it.count(45) if variant == "true" else time.sleep(4)
+    new = until("it is there again", first) or ""
+    (it.place / "became").write_text(new)
+    BY_ID.symlink_to(f"/dev/{new}")
+    it.more(25) if variant == "true" else time.sleep(4)
+    knobs = Knobs(f"/dev/{new}")
+    (it.place / "brightness").write_text(str(knobs.get("brightness")))
+    knobs.handle.close()
     it.stop()
     os.close(held)
     # As it was, for the next one.
