@@ -46,12 +46,12 @@ def test_the_true_form_passes(tmp_path):
 
 
 @pytest.mark.parametrize(
-    "name", [it for it, (*_, step) in CHECK.WRONG.items() if step not in IN_THE_GUEST]
+    "name", [name for name, it in CHECK.WRONG.items() if it[3] not in IN_THE_GUEST]
 )
 def test_a_wrong_form_is_found(tmp_path, name):
-    step = CHECK.WRONG[name][3]
+    *_, step, says = CHECK.WRONG[name]
     left = filmed(tmp_path, CHECK.WRONG[name])
-    with pytest.raises(CHECK.Found):
+    with pytest.raises(CHECK.Found, match=says):
         CHECK.JUDGES[step](left, {"video0": WORDS})
 
 
