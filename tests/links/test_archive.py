@@ -460,6 +460,10 @@ def test_a_place_without_a_checksum_of_each_file_is_read_back(monkeypatch, tmp_p
 
 # -------------------------------------------------------------------------------- a page that lies
 
+# Two frames of 3x2, grey.
+FRONT = b"YUV4MPEG2 W3 H2 F25:1 Ip A0:0 Cmono\n"
+FILM = FRONT + b"FRAME\n123456" + b"FRAME\nabcdef"
+
 
 @pytest.fixture
 def lying(make_neighbour, begin, tmp_path):
@@ -471,7 +475,7 @@ def lying(make_neighbour, begin, tmp_path):
         page.answers |= {
             "/api/status": neighbour.STATE, "/api/clips": {"clips": [own]},
             "/api/events": {"events": []},
-            "/api/clips/left/0.y4m": (b"frames", 200, "video/x-yuv4mpeg2"),
+            "/api/clips/left/0.y4m": (FILM, 200, "video/x-yuv4mpeg2"),
             "/api/clips/left/0.csv": (b"number,time\n0,1\n1,2\n", 200, "text/csv"),
         } | answers
         folder = tmp_path / "spooler"
@@ -507,7 +511,7 @@ def test_a_page_that_lies_is_told_and_nothing_is_written(lying, tmp_path, clip, 
     # Once it says what can be used, all goes on.
     page.answers["/api/clips"] = {"clips": [neighbour.CLIP | {"first": 0, "last": 1}]}
     archive.has(1)
-    assert [it.read_bytes() for it in (tmp_path / "disk").glob("*/*.y4m")] == [b"frames"]
+    assert [it.read_bytes() for it in (tmp_path / "disk").glob("*/*.y4m")] == [FILM]
 
 
 def test_a_page_whose_answer_is_deep_or_has_no_end_is_told(lying):
@@ -544,14 +548,14 @@ def test_nothing_is_released_that_its_place_has_not(held_until_released, kind):
     archive.run.end(signal.SIGTERM)
     folders = [{it.suffix for it in folder.iterdir()} for folder in disk.glob("left_*")]
     assert folders == [{".y4m", ".csv", ".json"}] * 2 and "lost left" in archive.run.printed()
-    assert [it.read_bytes() for it in disk.glob("*-2/*.y4m")] == [b"frames"]
+    assert [it.read_bytes() for it in disk.glob("*-2/*.y4m")] == [FILM]
 
 
 def test_a_clip_is_archived_to_a_place_of_another_name_before_its_release(held_until_released):
     page, archive, disk = held_until_released
     archive.start(release="archived", archive=str(disk.parent / "other"))
     until(lambda: released_by(page), "release")
-    assert [it.read_bytes() for it in disk.parent.glob("other/*/*.y4m")] == [b"frames"]
+    assert [it.read_bytes() for it in disk.parent.glob("other/*/*.y4m")] == [FILM]
     told_of(archive, "released left 0 0..1")
     assert len(released_by(page)) == 1
 
@@ -567,6 +571,32 @@ def test_frames_that_are_none_of_the_clip_are_not_archived(lying, tmp_path):
         assert not list((tmp_path / "disk").glob("*/*"))
     page.answers["/api/clips/left/0.csv"] = b"n\n0,1\n1,2\n" + b"x" * 10_000, 200, "text/csv"
     until(lambda: "of 600 at most" in archive.camera()["fault"], "fault")
+
+
+@pytest.mark.parametrize(
+    "film",
+    [b"", b"frames", FRONT, FILM[:-1], FILM + b"x", FILM + b"FRAME\n123456", FILM[:-12],
+     FILM.replace(b"FRAME\na", b"FRAMEX\n", 1), FILM.replace(b"W3", b"W4"), b"x" + FILM],
+    ids=range(10),
+)
+def test_a_film_that_lacks_frames_is_not_archived(lying, tmp_path, film):
+    _, archive = lying(**{"/api/clips/left/0.y4m": (film, 200, "video/x-yuv4mpeg2")})
+    until(lambda: "hasn't the clip's frames" in archive.camera()["fault"], "fault")
+    assert not list((tmp_path / "disk").glob("*/*"))
+
+
+@pytest.mark.parametrize(
+    "colour, size",
+    [("mono", 15), ("420jpeg", 27), ("422", 33), ("444", 45), ("mono12", 30), ("420p10", 54),
+     ("422p16", 66), ("444p9", 90)],
+)
+def test_a_films_frames_have_the_size_of_its_header(tmp_path, colour, size):
+    path, front = tmp_path / "a.y4m", f"YUV4MPEG2 W5 H3 F25:1 Ip A0:0 C{colour}\n".encode()
+    path.write_bytes(front + (b"FRAME\n" + bytes(size)) * 3)
+    assert program.has_frames(path, 3)
+    assert not program.has_frames(path, 2) and not program.has_frames(path, 4)
+    path.write_bytes(front + (b"FRAME\n" + bytes(size + 1)) * 3)
+    assert not program.has_frames(path, 3)
 
 
 # ------------------------------------------------------------------------------- threads that end

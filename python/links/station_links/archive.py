@@ -53,6 +53,12 @@ KINDS = ("y4m", "csv", "json")
 # The checksums by which a place is asked, the best one first, by rclone's names and Python's.
 HASHES = ("sha256", "sha1", "md5")
 READ_BACK = "sha256, read back"
+# A film's header, and what stands before each of its frames; how colours are divided.
+HEADER_BYTES, FRAME_LINE = 4096, b"FRAME\n"
+HEADER = re.compile(
+    rb"YUV4MPEG2(?: [!-~]+)* W[1-9][0-9]{0,5}(?: [!-~]+)* H[1-9][0-9]{0,5}(?: [!-~]+)*\n"
+)
+DIVIDED = (("420", 2, 2), ("422", 2, 1), ("444", 1, 1), ("mono", 1, 1))
 # A line of the table of times is shorter.
 LINE_BYTES = 200
 # The bytes of the state, and of what rclone lists of a clip's folder.
@@ -693,6 +699,9 @@ class Camera:
         if not has_numbers(folder / f"{name}.csv", clip.first, clip.last):
             # It was released meanwhile, and another one has its id.
             raise Fault("the page gives other frames by now")
+        if not has_frames(folder / f"{name}.y4m", clip.last - clip.first + 1):
+            # A release would rest on it.
+            raise Fault("the page gives a film that hasn't the clip's frames, each whole")
         sent = Sent(folder, name, count, digest.hexdigest())
         self.write_words(clip, sent)
         return sent
@@ -773,6 +782,32 @@ class Camera:
         self.state.change(entry, replace(entry, is_released=True, asked=asked))
         tell(f"released {clip.words()}: {entry.name} is in the archive by {asked}")
         self.all.look()
+
+
+def has_frames(path: Path, count: int) -> bool:
+    """Whether a text of YUV4MPEG2 has so many frames, each whole and of one size, and no more."""
+    with open(path, "rb") as file:
+        front = file.readline(HEADER_BYTES)
+        rest = path.stat().st_size - len(front)
+        frame, odd = divmod(rest, count)
+        if not HEADER.fullmatch(front) or odd or frame <= len(FRAME_LINE):
+            return False
+        for number in range(count):
+            file.seek(len(front) + number * frame)
+            if file.read(len(FRAME_LINE)) != FRAME_LINE:
+                return False
+    return frame - len(FRAME_LINE) == size_in(front)
+
+
+def size_in(front: bytes) -> int:
+    """The bytes of a frame, by the header of its text."""
+    words = {word[:1]: word[1:] for word in front.decode("ascii", "replace").split()[1:]}
+    wide, high, colour = int(words["W"]), int(words["H"]), words.get("C", "420jpeg")
+    across, down = next((it for name, *it in DIVIDED if colour.startswith(name)), (1, 1))
+    planes = 0 if colour.startswith("mono") else 2
+    part = -(-wide // across) * -(-high // down)
+    is_deep = re.search(r"(?:p|mono)(9|1[0-6])$", colour)
+    return (wide * high + planes * part) * (2 if is_deep else 1)
 
 
 def has_numbers(path: Path, first: int, last: int) -> bool:
