@@ -282,10 +282,9 @@ static lapyrei made_at(const char *name) {
 }
 
 /* The sync of a call, in which a file may be removed: it takes the place of the system's. */
-static const char *goes_in_a_sync;
+static const char *_Atomic goes_in_a_sync;
 int fdatasync(int file) {
-    const char *name = goes_in_a_sync;
-    goes_in_a_sync = NULL;
+    const char *name = atomic_exchange(&goes_in_a_sync, NULL);
     if (name) unlink(name);
     return (int)syscall(SYS_fdatasync, file);
 }
