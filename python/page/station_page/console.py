@@ -39,6 +39,8 @@ class Console:
         self.progress: collections.OrderedDict[str, Progress] = collections.OrderedDict()
         self.told: tuple[int, list] = (-1, [])
         self.clips: tuple[list[dict], int] = ([], 0)
+        # The events of this station, and as JSON.
+        self.listed: list[dict] = []
         self.found = b"[]"
 
     def add_to(self, app: web.Application) -> None:
@@ -65,9 +67,8 @@ class Console:
         if self.told[0] != laboratory.version:
             clips = laboratory.held.clips(), laboratory.heard.version
             if clips != self.clips:
-                self.clips = clips
-                found = events_of(clips[0], laboratory.heard)
-                self.found = json.dumps(found, separators=(",", ":")).encode()
+                self.clips, self.listed = clips, events_of(clips[0], laboratory.heard)
+                self.found = json.dumps(self.listed, separators=(",", ":")).encode()
             events = self.found
             more = json.dumps(self.more(), separators=(",", ":")).encode()
             found = [

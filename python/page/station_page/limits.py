@@ -145,6 +145,10 @@ STEPS = 50
 # By how many microseconds its clock may be off, and by how many answers that is reckoned.
 CLOCK_MICROS = 20_000
 CLOCK_SAMPLES = 8
+# How often what all stations say is made one at most.
+MERGE_SECONDS = 0.2
+# How many of the nearest events of other stations are looked at for one that is of the same span.
+NEAR_TRIES = 64
 # The bytes of the archive's file; for how long it may be as it is, and how long a clip may wait: one
 # that can't be archived, and any.
 ARCHIVE_BYTES = 4 * 1024 * 1024
