@@ -16,7 +16,7 @@ from lapyrei.answers import ALERT_NUMBERS_END as ALERTS
 from lapyrei.answers import MARK
 
 from . import limits, words
-from .asked import number_in
+from .asked import CAUSES, number_in
 from .bundle import PARTS, Progress, entry, parts_in, stamp
 from .console import EVENTS, VIEW
 from .films import Gathered
@@ -413,38 +413,43 @@ class Stations:
 
     async def keep(self, request: web.Request) -> web.Response:
         """Keeps one span: of one camera at its station, or of all at all of them."""
+        came = time.time_ns() // 1000
         if is_of_this(request):
             return await self.page.keep(request)
-        camera, seconds, span, note = await self.page.asked_keep(request)
-        if camera is not None and self.other_of(camera) is None:
+        wish = await self.page.asked_keep(request)
+        if wish.camera is not None and self.other_of(wish.camera) is None:
             return await self.page.keep(request)
         cameras = state_of(self.laboratory.shown.standing(), self.others)["cameras"]
-        if camera is not None:
-            cameras = [it for it in cameras if it["name"] == camera]
-        span = span_of(seconds, span, cameras)
-        order = f"from {words.iso(span[0])} to {words.iso(span[1])} of {camera or 'all stations'}"
-        told = await self.page.change(
-            request, "keep", order, self.keep_of(camera, span, note)
-        )
+        if wish.camera is not None:
+            cameras = [it for it in cameras if it["name"] == wish.camera]
+        why = self.page.cause_of(request, wish, came)
+        span = span_of(wish, why["at_us"], cameras)
+        whom = wish.camera or "all stations"
+        order = f"from {words.iso(span[0])} to {words.iso(span[1])} of {whom}"
+        work = self.keep_of(wish.camera, span, wish.note, why)
+        told = await self.page.change(request, "keep", order, work)
         answers = [it.answer for it in told]
         is_kept = any(it["kept"] for it in answers)
         return web.json_response(
             {"kept": is_kept, "answers": answers}, status=200 if is_kept else 409
         )
 
-    async def keep_of(self, camera: str | None, span: tuple[int, int], note: str) -> list[Told]:
+    async def keep_of(
+        self, camera: str | None, span: tuple[int, int], note: str, why: dict
+    ) -> list[Told]:
         """Gives the order to all stations at once, and answers what each said. One that was silent
-        before holds up no answer."""
-        found = self.other_of(camera)
+        before holds up no answer. `why` is the cause, which each station is told."""
+        found, body = self.other_of(camera), asked_of(span, note, why)
         if found:
-            works = [asyncio.create_task(self.keep_there(found[0], span, note, found[1]))]
+            body = body | {"camera": found[1]}
+            works = [asyncio.create_task(self.keep_there(found[0], body))]
             names: list[Other | None] = [found[0]]
         else:
             # A page may have no station of its own.
             names = [*([None] if self.laboratory.cameras else []), *self.others]
             works = [
                 asyncio.create_task(
-                    self.keep_there(it, span, note) if it else self.keep_here(span, note)
+                    self.keep_there(it, body) if it else self.keep_here(span, note, why)
                 )
                 for it in names
             ]
@@ -469,21 +474,19 @@ class Stations:
         await asyncio.to_thread(self.presses.add, sorted(numbers))
         return [Told(it) for it in answers]
 
-    async def keep_here(self, span: tuple[int, int], note: str) -> list[dict]:
+    async def keep_here(self, span: tuple[int, int], note: str, why: dict) -> list[dict]:
         """Keeps at this page's own station."""
         try:
             kept = await self.laboratory.keeping.keep(None, None, span, note)
         except (Unfit, NoStation) as fault:
             return [refused(None, str(fault))]
+        numbers = {it.event for it in kept if it.is_kept and it.event is not None}
+        await asyncio.to_thread(self.laboratory.causes.add, numbers, why)
         return [it.as_object() for it in kept]
 
-    async def keep_there(
-        self, other: Other, span: tuple[int, int], note: str, camera: str | None = None
-    ) -> list[dict]:
+    async def keep_there(self, other: Other, body: dict) -> list[dict]:
         """Keeps at another station."""
-        body = {"from": span[0], "to": span[1], "note": note}
         try:
-            body |= {"camera": camera} if camera else {}
             _, told = await other.ask("/api/keep", body, shape=answers.KEPT)
             return answers_of(other, told)
         except Unfit as fault:
@@ -654,6 +657,13 @@ class Stations:
             if f"{clip['camera']}.{clip['id']}.{clip['first']}" in keys
         ]
         return min(known, default=time.time_ns() // 1000)
+
+
+def asked_of(span: tuple[int, int], note: str, why: dict) -> dict:
+    """What another station is asked to keep, and why. A program's order is one of this page
+    there, as it is here."""
+    body = {"from": span[0], "to": span[1], "note": note, "at": why["at_us"], "by": why["who"]}
+    return body | ({"cause": why["kind"]} if why["kind"] in CAUSES else {})
 
 
 async def pieces_of(found, other: Other) -> AsyncIterator[bytes]:

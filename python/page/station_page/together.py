@@ -4,7 +4,6 @@ import collections
 import json
 import logging
 import threading
-import time
 from bisect import bisect_left
 from typing import NamedTuple
 
@@ -12,6 +11,7 @@ from lapyrei.answers import ALERT_NUMBERS_END as ALERTS
 from lapyrei.answers import MARK
 
 from . import limits
+from .asked import Wish
 from .events import NEAR_END, NEAR_START
 from .others import Other
 from .whole import clear, write_whole
@@ -316,19 +316,22 @@ def one_of(events: list[dict]) -> dict:
         "until_us": max(ends) if ends else None,
         "lacks": [lack for it in events for lack in it["lacks"]],
         "clips": [clip for it in events for clip in it["clips"]],
+        "cause": next((it["cause"] for it in events if it.get("cause")), None),
+        "lost": sum(it.get("lost", 0) for it in events),
     }
 
 
 # ------------------------------------------------------------------------------------------- keeps
 
 
-def span_of(seconds: int | None, span: tuple[int, int] | None, cameras: list[dict]) -> tuple:
-    """The span that all stations keep: their clocks say the same times. With seconds it ends now,
-    or after the seconds that a camera's configuration adds, the most of all."""
-    if span is not None or seconds is None:
-        return span or (0, 0)
-    now, after = time.time_ns() // 1000, max((it.get("after") or 0 for it in cameras), default=0)
-    return now - seconds * 1_000_000, now + after * 1_000_000
+def span_of(wish: Wish, moment: int, cameras: list[dict]) -> tuple[int, int]:
+    """The span that all stations keep: their clocks say the same times. With seconds it ends at the
+    moment of the press, or after the seconds that a camera's configuration adds, the most of
+    all."""
+    if wish.span is not None or wish.seconds is None:
+        return wish.span or (0, 0)
+    after = max((it.get("after") or 0 for it in cameras), default=0)
+    return max(0, moment - wish.seconds * 1_000_000), moment + after * 1_000_000
 
 
 def answers_of(other: Other, told: dict) -> list[dict]:
