@@ -67,6 +67,9 @@ class Settings:
     # The file in which loop_archive says how it stands.
     archive: str | None = None
     stations: list[OtherStation] = field(default_factory=list)
+    # The station's file, and the folder of its paths.
+    config: str | None = None
+    folder: str = "."
 
     def is_loopback(self) -> bool:
         """Whether this machine alone can reach the page."""
@@ -333,4 +336,6 @@ def read_settings(given: argparse.Namespace) -> Settings:
         own.get("webhook"),
         archive and os.path.join(folder, archive),
         stations_of(own.get("station", []), given.settings or ""),
+        config=given.config,
+        folder=folder,
     )
