@@ -13,6 +13,7 @@ from urllib.parse import urlsplit
 
 NAME = re.compile(r"[A-Za-z0-9_-]{1,32}")
 WORDS = {"listen", "token", "on_alert", "webhook", "notes", "folder", "archive", "station"}
+WORDS |= {"users", "mail", "mqtt", "remind"}
 TOKEN_LEAST = 16
 MOST_STATIONS = 16
 # The random bytes of a token that the page makes.
@@ -70,6 +71,8 @@ class Settings:
     # The station's file, and the folder of its paths.
     config: str | None = None
     folder: str = "."
+    # The file of users, each with rights of their own.
+    users: str | None = None
 
     def is_loopback(self) -> bool:
         """Whether this machine alone can reach the page."""
@@ -238,6 +241,17 @@ def parser() -> argparse.ArgumentParser:
         "others may neither read nor write it",
     )
     words.add_argument(
+        "--users",
+        metavar="FILE",
+        help="a file of users, each with rights and the hash of a token of their own",
+    )
+    words.add_argument(
+        "--add-user",
+        nargs=3,
+        metavar=("FILE", "NAME", "RIGHTS"),
+        help="add a user to such a file, with rights of see,keep,release; print the token, and end",
+    )
+    words.add_argument(
         "--settings",
         metavar="FILE",
         help="more words: listen, token, on_alert, webhook, notes, folder, archive, station (TOML)",
@@ -293,8 +307,9 @@ def options_of(words: list[str]) -> argparse.Namespace:
     options = parser()
     given = options.parse_args(words)
     is_page = given.config is not None or given.settings is not None
-    if is_page == (given.make_token is not None):
-        options.error("name the station's configuration file, or --make-token FILE alone")
+    others = (given.make_token is not None) + (given.add_user is not None)
+    if is_page + others != 1:
+        options.error("name the station's configuration file, or --make-token or --add-user alone")
     return given
 
 
@@ -309,12 +324,13 @@ def read_settings(given: argparse.Namespace) -> Settings:
         )
     named = {
         word: getattr(given, word) or text_at(own, word, given.settings or "")
-        for word in ("listen", "token", "folder", "notes")
+        for word in ("listen", "token", "users", "folder", "notes")
     }
     folder = str(Path(named["folder"] or ".").absolute())
     host, port = address_of(named["listen"] or "127.0.0.1:8080")
     token = token_in(named["token"]) if named["token"] else None
-    if token is None and not is_loopback(host):
+    users = named["users"] and os.path.join(folder, named["users"])
+    if token is None and users is None and not is_loopback(host):
         raise BadSettings(
             f"listen: {host} can be reached from elsewhere, so the page wants a token: --token FILE"
         )
@@ -338,4 +354,5 @@ def read_settings(given: argparse.Namespace) -> Settings:
         stations_of(own.get("station", []), given.settings or ""),
         config=given.config,
         folder=folder,
+        users=users,
     )
