@@ -397,7 +397,12 @@ STATE = table(
     {"station": is_level, "news": each(NEWS, ALERTS), "now": SECONDS},
 )
 ROOM = {word: COUNT for word in ("room_blocks", "slots", "segments", "clips_left")}
-MORE = table({"cameras": named(table({}, {"advice": TEXT, "source": TEXT} | ROOM), CAMERA)})
+DISK = table(
+    {word: COUNT for word in ("free_bytes", "total_bytes", "write_bytes_a_second")},
+    {"oldest_seconds": maybe(SECONDS), "hours_left": maybe(SECONDS)},
+)
+MORE_WORDS = {"advice": TEXT, "source": TEXT, "disk": maybe(DISK)} | ROOM
+MORE = table({"cameras": named(table({}, MORE_WORDS), CAMERA)})
 PUSHED: dict[str, Shape] = {"state": STATE, "more": MORE, "events": EVENTS}
 
 # What stands before each message of the answer that doesn't end.

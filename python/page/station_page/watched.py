@@ -6,6 +6,7 @@ from dataclasses import dataclass, field
 import layout
 
 from . import limits
+from .disks import room_at
 from .reader import Reading, Source
 from .rings import Ring, Sources, Stores
 from .settings import Camera
@@ -32,6 +33,8 @@ class Watched:
     # Whether one of its several stores couldn't be used when it was looked at last.
     is_spoilt: bool = False
     status: Status | None = None
+    # The bytes that are free on its disk, and all of them.
+    room: tuple[int, int] | None = None
     # Why the station has no store of it, in the station's word; and how much of a store is made, in
     # percent.
     absent: str = ""
@@ -103,6 +106,7 @@ class Watched:
             self.has_moved = self.has_moved or not self.is_first
             self.newest, self.changed = newest, begun
         self.is_first, self.looked = False, begun
+        self.room = room_at(self.camera.store)
         reading.pieces()
         self.reading, self.source, self.why = reading, source, ""
 
