@@ -195,7 +195,8 @@ def test_a_mail_that_cannot_be_sent_is_written_down():
         task.cancel()
 
     asyncio.run(asyncio.wait_for(look(), 120))
-    assert "mail failed" in journal.entries[0].text and "left: no frames." in journal.entries[0].text
+    said = journal.entries[0].text
+    assert "mail failed" in said and "left: no frames." in said
 
 
 def test_a_warning_is_published_with_what_became_of_it(monkeypatch):

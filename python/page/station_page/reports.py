@@ -1,5 +1,5 @@
-"""Warnings told by mail and by MQTT: that one began, that nobody has taken notice of it yet, and that
-somebody has."""
+"""Warnings told by mail and by MQTT: that one began, that nobody has taken notice of it yet, and
+that somebody has."""
 import asyncio
 import email.message
 import email.utils
