@@ -43,7 +43,7 @@ fed-more got calls given_up came x more fed is = record {
 }
 
 -- calls that submit nothing
-fed-beside : (got : List Picture) (calls : List (ℕ × DeskCall)) (given_up : ℕ) (came : List Came)
+pub fed-beside : (got : List Picture) (calls : List (ℕ × DeskCall)) (given_up : ℕ) (came : List Came)
     (more : List (ℕ × DeskCall)) → IsFed got calls given_up came → filter is_placed_submit more ≡ []
     → IsFed got (calls ++ more) given_up came
 fed-beside got calls given_up came more fed none = record {
@@ -56,12 +56,12 @@ fed-beside got calls given_up came more fed none = record {
 -- ---- parts
 
 -- a part more, with each of its calls
-all-more : {X : Type 0} (f : ℕ × Part → List X) (parts : List (ℕ × Part)) (part : ℕ × Part)
+pub all-more : {X : Type 0} (f : ℕ × Part → List X) (parts : List (ℕ × Part)) (part : ℕ × Part)
     → flat_map f (parts ++ part ∷ []) ≡ flat_map f parts ++ f part
 all-more f parts part = flat_map-append f parts (part ∷ []) ∙ ap (λ l. flat_map f parts ++ l) (append-nil (f part))
 
 -- a call that submits nothing
-placed-none : (place : ℕ) (calls : List DeskCall) → filter is_submit calls ≡ []
+pub placed-none : (place : ℕ) (calls : List DeskCall) → filter is_submit calls ≡ []
     → filter is_placed_submit (map (λ call. (place, call)) calls) ≡ []
 placed-none place [] none = refl
 placed-none place (call ∷ calls) none = go (is_submit call) none (placed-none place calls)
@@ -73,7 +73,7 @@ placed-none place (call ∷ calls) none = go (is_submit call) none (placed-none 
     go true e more = absurd (cc)
     go false e more = more e
 
-by-more : {D : Type 0} (medium : D → Medium) (old mid new : SeenDesk D) (parts : List Part) (part : Part)
+pub by-more : {D : Type 0} (medium : D → Medium) (old mid new : SeenDesk D) (parts : List Part) (part : Part)
     → GoesBy medium old parts mid → DeskGoes medium mid new (calls_of part)
     → GoesBy medium old (parts ++ part ∷ []) new
 by-more medium old mid new [] part went goes =
@@ -82,7 +82,7 @@ by-more medium old mid new (first ∷ parts) part went goes =
     (went.0, went.1, by-more medium went.0 mid new parts part went.2 goes)
 
 -- one desk, a part more
-served-more : {D : Type 0} (medium : D → Medium) (old mid new : SeenDesk D) (parts : List Part) (part : Part)
+pub served-more : {D : Type 0} (medium : D → Medium) (old mid new : SeenDesk D) (parts : List Part) (part : Part)
     → Served medium old mid parts → DeskGoes medium mid new (calls_of part) → Served medium old new (parts ++ part ∷ [])
 served-more medium old mid new parts part served goes = record {
   goes = subst (λ l. DeskGoes medium old new l)
@@ -92,13 +92,13 @@ served-more medium old mid new parts part served goes = record {
 }
 
 -- the parts of a place, and one more
-parts-here : (place : ℕ) (parts : List (ℕ × Part)) (part : Part)
+pub parts-here : (place : ℕ) (parts : List (ℕ × Part)) (part : Part)
     → parts_at place (parts ++ (place, part) ∷ []) ≡ parts_at place parts ++ part ∷ []
 parts-here place parts part =
     all-more (part_for place) parts (place, part)
     ∙ ap (λ b. parts_at place parts ++ cond b (part ∷ []) []) (eq-eqb place place refl)
 
-parts-elsewhere : (place other : ℕ) (parts : List (ℕ × Part)) (part : Part) → (other == place) ≡ false
+pub parts-elsewhere : (place other : ℕ) (parts : List (ℕ × Part)) (part : Part) → (other == place) ≡ false
     → parts_at place (parts ++ (other, part) ∷ []) ≡ parts_at place parts
 parts-elsewhere place other parts part apart =
     all-more (part_for place) parts (other, part)
@@ -370,7 +370,7 @@ module _ {D A : Type 0} (medium : D → Medium) (asks : DeskCall → Type 0) (gi
       -- the call that the active desk answered last
       pub last : (old new : SeenDesk D) (call : DeskCall) → slice_get desks active ≡ Some old
           → DeskGoes medium old new (call ∷ [])
-          → IsLast medium (record { began = began; from = before; desks = slice_set desks active new; active = active }) call
+          → IsLast medium began (slice_set desks active new) active call
       last old new call at goes =
           let was = some-there began active (subst (λ n. active < n) keeps.all keeps.inside) in record {
             began = was.0;
