@@ -18,7 +18,7 @@ counted f [] = 0
 counted f (x ∷ xs) = one_if (f x) + counted f xs
 
 -- what there is passes
-abbrev passes : {X : Type 0} → (X → Bool) → Option X → Bool
+abbrev pub passes : {X : Type 0} → (X → Bool) → Option X → Bool
 passes f None = false
 passes f (Some x) = f x
 
@@ -53,7 +53,7 @@ module _ {X : Type 0} where
       let rest = set-gets f zs j i x y at s in
       grind (arith, common_steps)
 
-  update-gets : (f : X → Bool) (g : X → X) (xs : List X) (j i : ℕ) → ((x : X) → f (g x) ≡ f x)
+  pub update-gets : (f : X → Bool) (g : X → X) (xs : List X) (j i : ℕ) → ((x : X) → f (g x) ≡ f x)
       → passes f (slice_get (update g j xs) i) ≡ passes f (slice_get xs i)
   update-gets f g xs j i k = at (slice_get xs j) refl where
     at : (o : Option X) → slice_get xs j ≡ o → passes f (slice_get (update g j xs) i) ≡ passes f (slice_get xs i)

@@ -1,5 +1,5 @@
 -- Which clips are released, by what happens to saves one after the other.
-use Rattle.std.specs.Prelude.{ℕ, ◌+◌, ◌&&◌, ◌||◌, Bool, true, false, List, [], ◌∷◌, Option, Some, None, replicate, slice_get}
+use Rattle.std.specs.Prelude.{◌≡◌, ◌⊎◌, ℕ, ◌+◌, ◌&&◌, ◌||◌, Bool, true, false, List, [], ◌∷◌, Option, Some, None, replicate, slice_get}
 use Rattle.loop_station_core.specs.Saving.{Places, asked, cancelled, earns, finished, has_key, has_such, held_at, is_of_clip, stopped, turn_of_clip, with_wish}
 use Rattle.loop_station_core.specs.declared.save_end.SaveEnd.{SaveEnd}
 use Rattle.loop_station_core.specs.declared.saves.Save.{Save}
@@ -105,3 +105,12 @@ saves_ended_in f p (s ∷ ss) = saves_ended_by f p s + saves_ended_in f (saves_a
 -- no save, and so many places
 abbrev pub no_saves : ℕ → Places
 no_saves places = record { running = replicate places None; waiting = []; stopped = false }
+
+-- No place is free.
+abbrev pub NoneIsFree : Places → Type 0
+NoneIsFree p = (place : ℕ) → slice_get p.running place ≡ Some None → ⊥
+
+-- No save waits while a place is free, unless the program ends. So it is after each list of what happens to saves.
+abbrev pub SavesWaitForPlaces : Type 0
+SavesWaitForPlaces = (places : ℕ) (steps : List SaveStep) → let p = saves_after_all (no_saves places) steps in
+    (p.stopped ≡ true) ⊎ ((p.waiting ≡ []) ⊎ NoneIsFree p)

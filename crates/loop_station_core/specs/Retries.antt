@@ -22,3 +22,10 @@ taken p rs = elim (position p rs) [
 abbrev pub RetriesAreDue : Type 0
 RetriesAreDue = (retries : List Retry) (now i : ℕ) (r : Retry) → (taken (retry_is_due now) retries).1 ≡ Some i
     → slice_get retries i ≡ Some r → r.at ≤ now
+
+-- A cancel takes out a save of the clip that it means, and none else; and where it takes out none, no save of that clip
+-- is to be tried again.
+abbrev pub CancelsMeanTheirClip : Type 0
+CancelsMeanTheirClip = (retries : List Retry) (camera id i : ℕ) (r : Retry) → slice_get retries i ≡ Some r
+    → ((taken (reads_clip camera id) retries).1 ≡ Some i → (r.key.camera ≡ camera) × (r.key.id ≡ id))
+    × ((taken (reads_clip camera id) retries).1 ≡ None → r.key.camera ≡ camera → r.key.id ≡ id → ⊥)

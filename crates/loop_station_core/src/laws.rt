@@ -1,9 +1,21 @@
 //! What holds over any list of events. Each function does nothing: its contract is the law.
 
 ghost use Rattle.loop_station_core.specs.Laws.{DisksAreToldOnce, FilmingsGoOn, FoundGapsAreSo, FramesAddUp, GapsAddUp, GapsAreLookedFor, KeepsAreRight, LinesAreSo, LockedLinesAlternate, LostAreToldOnce, MovedStoresAreLeft, OrdersAreAnsweredOnce, OrdersAreHandedOut, OrdersSpareReadClips, ReleasesAreEarned, ReleasesAreFree, SavedClipsAreReleased, SavedTextsAreThere, SavesWaitOnce, SilentSourcesWait, StopsAreForGood, WithdrawnSavesLeaveNothing};
-ghost use Rattle.loop_station_core.specs.Marks.{MarksAreRead};
-ghost use Rattle.loop_station_core.specs.Retries.{RetriesAreDue};
+ghost use Rattle.loop_station_core.specs.Cameras.{FilmsWhileFramesWait};
+ghost use Rattle.loop_station_core.specs.Gaps.{CoveredPartsAreWithin};
+ghost use Rattle.loop_station_core.specs.Growth.{ClipsOfOpenEventsWait, EventsEndOnceDone, KeepsAreAnswered, WholeEventsAreWhole};
+ghost use Rattle.loop_station_core.specs.Keeps.{KeepsCoverBothEnds, KeepsCoverTheirSeconds, KeepsEnd, KeepsHaveAll, KeepsTakeTheCamerasSeconds, TagsAreTheUsers};
+ghost use Rattle.loop_station_core.specs.Marks.{LateFramesAreMarked, MarksAreRead};
+ghost use Rattle.loop_station_core.specs.Stores.{MovedStoresAreElsewhere, StoresWithFramesGoOn};
+ghost use Rattle.loop_station_core.specs.Releases.{SavesWaitForPlaces};
+ghost use Rattle.loop_station_core.specs.Retries.{CancelsMeanTheirClip, RetriesAreDue};
 ghost use Rattle.loop_station_core.specs.Timing.{FrameTimesRise, GapsAreToldApart};
+ghost use Rattle.loop_station_core.specs.Sets.{ClipsHaveTheirOwnIds, IdsAreThoseOfTheFile, LateFilesAreRead, StoresHoldWhatCame};
+ghost use Rattle.loop_station_core.specs.Still.{StandstillsAreTold};
+ghost use Rattle.loop_station_core.specs.Spools.{DroppedLinesAreTold, UnreadLinesAreKept};
+ghost use Rattle.loop_station_core.specs.Clips.{KeepsHaveRoom};
+ghost use Rattle.loop_station_core.specs.Orders.{IdleCamerasAreDone};
+ghost use Rattle.loop_station_core.specs.Saving.{ClipsAreSavedOnce};
 
 /// Each frame that came is stored, lost, at the desk, or on its way to it.
 pub fn frames_add_up()
@@ -138,4 +150,141 @@ pub fn silent_sources_wait()
 /// An order is answered once: when the last of the cameras that it means answers.
 pub fn orders_are_answered_once()
     ensures { OrdersAreAnsweredOnce }
+{}
+
+/// A keep whose end has passed is done at the first look at which each frame that had come by then is at the desk or lost.
+pub fn keeps_end()
+    ensures { KeepsEnd }
+{}
+
+/// A keep isn't done before each frame that had come by its end is at the desk or lost, unless each block is locked, or
+/// no frame has made progress for a minute.
+pub fn keeps_have_all()
+    ensures { KeepsHaveAll }
+{}
+
+/// A camera is filmed as long as nothing breaks and the program goes on, or frames that came wait for the device.
+pub fn films_while_frames_wait()
+    ensures { FilmsWhileFramesWait }
+{}
+
+/// A store that has a frame isn't made anew.
+pub fn stores_with_frames_go_on()
+    ensures { StoresWithFramesGoOn }
+{}
+
+/// A part is released as covered only where each of its frames is in the longer clip.
+pub fn covered_parts_are_within()
+    ensures { CoveredPartsAreWithin }
+{}
+
+/// An event is told as whole only where nothing of it was refused, and all of its time is held.
+pub fn whole_events_are_whole()
+    ensures { WholeEventsAreWhole }
+{}
+
+/// No save waits while a place is free, unless the program ends.
+pub fn saves_wait_for_places()
+    ensures { SavesWaitForPlaces }
+{}
+
+/// `keep CAMERA N +M` asks for exactly the times from N seconds before its line was read to M seconds after.
+pub fn keeps_cover_their_seconds()
+    ensures { KeepsCoverTheirSeconds }
+{}
+
+/// What a keep doesn't say is as its camera has it.
+pub fn keeps_take_the_cameras_seconds()
+    ensures { KeepsTakeTheCamerasSeconds }
+{}
+
+/// `keep CAMERA from T to T` asks for exactly the times from the one to the other, both included.
+pub fn keeps_cover_both_ends()
+    ensures { KeepsCoverBothEnds }
+{}
+
+/// A clip's tag is its line's, or else its camera's, or else its event's number.
+pub fn tags_are_the_users()
+    ensures { TagsAreTheUsers }
+{}
+
+/// No two clips of a camera have one id.
+pub fn clips_have_their_own_ids()
+    ensures { ClipsHaveTheirOwnIds }
+{}
+
+/// The clips of a first store have the ids of their file.
+pub fn ids_are_those_of_the_file()
+    ensures { IdsAreThoseOfTheFile }
+{}
+
+/// A store is moved away exactly where its path doesn't name its file.
+pub fn moved_stores_are_elsewhere()
+    ensures { MovedStoresAreElsewhere }
+{}
+
+/// At a start a clip is saved by itself exactly where it is of no event that goes on.
+pub fn clips_of_open_events_wait()
+    ensures { ClipsOfOpenEventsWait }
+{}
+
+/// A keep is told to go on, to be held already, or to have found nothing, each exactly where it is so.
+pub fn keeps_are_answered()
+    ensures { KeepsAreAnswered }
+{}
+
+/// An event is over exactly once its keep is done and covers no other clip. It is left to the next start exactly where
+/// the program ends before.
+pub fn events_end_once_done()
+    ensures { EventsEndOnceDone }
+{}
+
+/// A frame is marked as late exactly where it came while the program stood still, or just after.
+pub fn late_frames_are_marked()
+    ensures { LateFramesAreMarked }
+{}
+
+/// A standstill is told exactly where it was longer than a second, and for as long as it was.
+pub fn standstills_are_told()
+    ensures { StandstillsAreTold }
+{}
+
+/// A line is dropped only without room, or before it is said how many were.
+pub fn dropped_lines_are_told()
+    ensures { DroppedLinesAreTold }
+{}
+
+/// While nobody reads, the last 64 KiB of lines are kept.
+pub fn unread_lines_are_kept()
+    ensures { UnreadLinesAreKept }
+{}
+
+/// As many keeps of a length as are told to fit into a store do, wherever in a block each begins.
+pub fn keeps_have_room()
+    ensures { KeepsHaveRoom }
+{}
+
+/// A store holds no more frames than came and than have room, and all of them while they fit into all segments but one.
+pub fn stores_hold_what_came()
+    ensures { StoresHoldWhatCame }
+{}
+
+/// A file is looked into exactly where it may have frames as new as the newest that is known.
+pub fn late_files_are_read()
+    ensures { LateFilesAreRead }
+{}
+
+/// A camera has nothing to do exactly once each order that it took in was handed out, and none is being done.
+pub fn idle_cameras_are_done()
+    ensures { IdleCamerasAreDone }
+{}
+
+/// A cancel takes a save of the clip that it means out of those to be tried again, and none else.
+pub fn cancels_mean_their_clip()
+    ensures { CancelsMeanTheirClip }
+{}
+
+/// A clip is saved by itself a second time only once the first such save has ended, or was cancelled.
+pub fn clips_are_saved_once()
+    ensures { ClipsAreSavedOnce }
 {}
