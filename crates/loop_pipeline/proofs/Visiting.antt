@@ -144,10 +144,10 @@ refused-still gives_up count parts more why = record {
   refused = subst (MayGiveUp gives_up)
       (sym (ap (flat_map calls_of) (flat_map-append (part_for why.place) parts more)
       ∙ flat_map-append calls_of (parts_at why.place parts) (parts_at why.place more))) (
-    why.refused.0,
-    why.refused.1,
-    Contains-append_left (calls_at why.place parts) (calls_at why.place more) (flushed (Err why.refused.0)) why.refused.2,
-  );
+        why.refused.0,
+        why.refused.1,
+        Contains-append_left (calls_at why.place parts) (calls_at why.place more) (flushed (Err why.refused.0)) why.refused.2,
+      );
 }
 
 module _ {D A : Type 0} (medium : D → Medium) (asks : DeskCall → Type 0) (gives_up : StoreFault → Type 0) where

@@ -185,7 +185,8 @@ impl<D: Disk + Drop, K: Visits, A: Allocator + Copy> Desks<D, K, A> {
     /// takes one frame more than those that wait, and its store has room for that block, unless frames are brought
     /// `anyway`.
     pub fn has_room(&self, anyway: bool) -> bool
-        ensures frame { result ≡ true → 2 ≤ length self.now.desks → IsSoAt self.now.lent.active self.now.desks HasRoom }
+        ensures frame { result ≡ true → 2 ≤ length self.now.desks
+            → IsSoAt self.now.lent.active self.now.desks HasRoom }
         ensures block { result ≡ true → anyway ≡ false → 2 ≤ length self.now.desks
             → IsSoAt self.now.lent.active self.now.desks (MayBegin D.medium) }
     {
@@ -331,7 +332,8 @@ impl<D: Disk + Drop, K: Visits, A: Allocator + Copy> Desks<D, K, A> {
     /// What the desk at a place holds, as `Desk::outline`.
     pub fn outline(&self, alloc: A, place: usize) -> Result<Outline<A>, StoreFault>
         requires { place < length self.now.desks }
-        ensures outline { IfOk result (λ outline. IsSoAt place self.now.desks (λ desk. TellsOutline D.medium desk outline)) }
+        ensures outline { IfOk result
+            (λ outline. IsSoAt place self.now.desks (λ desk. TellsOutline D.medium desk outline)) }
         ensures refused { IfErr result (λ fault. IsSoAt place self.now.desks (λ desk. OutlineRefuses desk fault)) }
     {
         self.seats[place].desk().outline(alloc)
@@ -398,7 +400,8 @@ impl<D: Disk + Drop, K: Visits, A: Allocator + Copy> Desks<D, K, A> {
         requires plain { K.NOTED ≡ false }
         requires may { MayKeep K.asks }
         ensures goes { GoesAt place self.old.desks self.new.desks (λ d e. KeepsTime D.medium times tag d e result) }
-        ensures whole { result.fault ≡ None → IsSoAt place self.old.desks (λ desk. HaveTime times desk result.clips.items) }
+        ensures whole { result.fault ≡ None
+            → IsSoAt place self.old.desks (λ desk. HaveTime times desk result.clips.items) }
         ensures lent { self.new.lent ≡ self.old.lent }
     {
         self.seats[place].keep_time(alloc, times, tag)

@@ -9,6 +9,7 @@ ghost use Rattle.rtrb.specs.Ring.{IsPair, sent};
 ghost use Rattle.loop_pipeline.specs.Fronts.{HandIsSpent, IsRegular, Leaves, LeavesCarried, StaysOpen, made_of, StandsPort};
 
 use crate::bell::Bell;
+use crate::guided::visit;
 use crate::start_barrier::StartBarrier;
 use crate::{
     Back, Begun, Brought, Camera, CameraEnd, Door, Front, FrontParts, Guide, Seat, TakeOutcome,
@@ -291,7 +292,7 @@ fn serve<R: Wait + Clock, D: Disk + Drop, G: Guide>(
     let anyway = turn_for(rt, guide, back);
     let some = bring_all(rt, link, guide, back, anyway);
     if G::VISITED {
-        back.visit(rt, alloc, guide);
+        visit(rt, alloc, guide, back);
     }
     give_memory(rt, link, back);
     some

@@ -36,13 +36,16 @@ impl<D: Disk + Drop, G: Guide, A: Allocator + Copy> Back<D, G, A> {
     }
 }
 
-impl<D: Disk + Drop, G: Guide> Back<D, G> {
-    /// Lends the desks to a visit.
-    pub fn visit<R: Wait + Clock>(&mut self, rt: &R, alloc: Global, guide: &G)
-        ensures { self.new ≡ record self.old { desks = self.new.desks } }
-    {
-        self.desks.lend();
-        guide.visit(rt, alloc, &mut self.desks);
-        self.desks.visited();
-    }
+/// Lends a back's desks to a visit of its guide.
+pub(crate) fn visit<R: Wait + Clock, D: Disk + Drop, G: Guide>(
+    rt: &R,
+    alloc: Global,
+    guide: &G,
+    back: &mut Back<D, G>,
+)
+    ensures { back.new ≡ record back.old { desks = back.new.desks } }
+{
+    back.desks.lend();
+    guide.visit(rt, alloc, &mut back.desks);
+    back.desks.visited();
 }

@@ -8,8 +8,7 @@ use loop_capture::Device;
 use loop_desk::Desk;
 use loop_file::FileDisk;
 use loop_pipeline::{
-    Camera, CameraEnd, Door, GuidedCamera, Unfilmed, film_desks, heap_start, new_queue,
-    start_queue,
+    Camera, CameraEnd, Door, GuidedCamera, Unfilmed, film_desks, heap_start, new_queue, start_queue,
 };
 use loop_plane::HeapPlane;
 use loop_station_camera::CameraState;

@@ -3,7 +3,7 @@ use Rattle.loop_pipeline.specs.Desks.{Lent}
 use Rattle.loop_pipeline.proofs.BackRuns.{flushed-on, last, refused-flush}
 use Rattle.loop_pipeline.proofs.DeskPlaces.{changed, flush-answered, unchanged-inside}
 use Rattle.loop_pipeline.proofs.Visiting.{kept-as, last-as}
-use Rattle.loop_pipeline.proofs.guided.Back.flush_for.Goals as goal
+use Rattle.loop_pipeline.proofs.back.Back.flush_for.Goals as goal
 
 pub invariant_of-self : goal.invariant_of-self
 invariant_of-self g c = rw (c.in-None.ensures.unasked refl) c.self.invariant
