@@ -5,13 +5,14 @@ use Rattle.loop_station_core.specs.Cameras.{films}
 use Rattle.loop_station_core.specs.Gaps.{lies_within}
 use Rattle.loop_station_core.specs.Growth.{how_event_ends}
 use Rattle.loop_station_core.specs.Stores.{goes_on}
-use Rattle.loop_station_core.specs.Keeps.{acts, end_seen, is_clear, is_done, is_over, looked, needed, part_is_due, part_locked, progress_seen, step_keep, steps_taken}
+use Rattle.loop_station_core.specs.Keeps.{acts, end_seen, is_clear, is_done, is_over, looked, needed, part_is_due, part_locked, progress_seen, step_keep, steps_taken, KeepsLockEachBlock, has_newest}
 use Rattle.loop_station_core.specs.declared.camera.Camera.{Camera}
 use Rattle.loop_station_core.specs.declared.growth.EventEnd.TheVariants.{Whole as WholeEvent}
 use Rattle.loop_station_core.specs.declared.keep.Keep.{Keep}
 use Rattle.loop_station_core.specs.declared.keep.Look.{Look}
 use Rattle.loop_station_core.specs.declared.keep.KeepTurn.TheVariants.{Wait, Whole}
 use Rattle.loop_station_core.specs.declared.runs.ClipSpan.{ClipSpan}
+use Rattle.std.proofs.lemmas.Bool.{ne_eqb}
 
 both : (a b : Bool) → a ≡ true → b ≡ true → a && b ≡ true
 both true true d e = refl
@@ -80,3 +81,47 @@ pub whole-events : (refused held : Bool) → how_event_ends refused held ≡ Who
 whole-events true held e = absurd (cc)
 whole-events false true e = (refl, refl)
 whole-events false false e = absurd (cc)
+
+-- one that is due locks a part
+acts-now : (k : Keep) (l : Look) → part_is_due k l ≡ true → (acts k l).1 ≢ Wait
+acts-now k l h e = at (is_done k l) refl
+  where
+    at : (b : Bool) → is_done k l ≡ b → ⊥
+    at true d = grind (arith, common_steps)
+    at false d = grind (arith, common_steps)
+
+ended-same : (k : Keep) (t c : ℕ) → ((end_seen k t c).part ≡ k.part) × ((end_seen k t c).block ≡ k.block)
+    × ((end_seen k t c).come ≡ k.come)
+ended-same k t c = elim (nat_le k.until t && not (is_some k.all)) as (λ b. let r : Keep = if b then record k { all = Some (max c k.come) } else k in
+    (r.part ≡ k.part) × (r.block ≡ k.block) × (r.come ≡ k.come))
+    [ true ↦ (refl, refl, refl) | false ↦ (refl, refl, refl) ]
+
+moved-part : (k : Keep) (steps now : ℕ) → ((progress_seen k steps now).part ≡ k.part) × ((progress_seen k steps now).block ≡ k.block)
+moved-part k steps now = elim (steps == k.steps) as (λ b. let r : Keep = if b then k else record k { steps = steps; moved = now } in
+    (r.part ≡ k.part) × (r.block ≡ k.block))
+    [ true ↦ (refl, refl) | false ↦ (refl, refl) ]
+
+looked-part : (k : Keep) (l : Look) → ((looked k l).part ≡ k.part) × ((looked k l).block ≡ k.block) × ((looked k l).come ≡ k.come)
+looked-part k l =
+    let m = progress_seen k (steps_taken l.tally) l.time in
+    let a = ended-same m l.time l.come in let b = moved-part k (steps_taken l.tally) l.time in
+    let c = moved-same k (steps_taken l.tally) l.time in
+    (a.0 ∙ b.0, a.1 ∙ b.1, a.2 ∙ c.2)
+
+is-due : (k : Keep) (l : Look) → k.come ≤ l.tally.brought → (k.part ≡ None) ⊎ (k.block ≢ l.block) → part_is_due k l ≡ true
+is-due k l here (inl none) =
+    both (is_clear k.come k l) (not (has_newest k l)) (or-true (nat_le k.come l.tally.brought) _ (le-true k.come l.tally.brought here))
+    (grind (arith, common_steps))
+is-due k l here (inr other) =
+    let differs : (k.block == l.block) ≡ false = ne_eqb k.block l.block other in
+    both (is_clear k.come k l) (not (has_newest k l)) (or-true (nat_le k.come l.tally.brought) _ (le-true k.come l.tally.brought here))
+    (grind (arith, common_steps))
+
+pub keeps-lock : KeepsLockEachBlock
+keeps-lock k l here either =
+    let same = looked-part k l in
+    acts-now (looked k l) l (is-due (looked k l) l (subst (λ n. n ≤ l.tally.brought) (sym same.2) here) (at either))
+  where
+    at : (k.part ≡ None) ⊎ (k.block ≢ l.block) → ((looked k l).part ≡ None) ⊎ ((looked k l).block ≢ l.block)
+    at (inl none) = inl ((looked-part k l).0 ∙ none)
+    at (inr other) = inr (λ e. other (sym (looked-part k l).1 ∙ e))

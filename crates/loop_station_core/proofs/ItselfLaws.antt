@@ -7,7 +7,7 @@ use Rattle.loop_station_core.specs.declared.saves.Save.{Save}
 use Rattle.loop_station_core.specs.declared.saves.SaveKey.{SaveKey}
 
 module _ {X : Type 0} (p : X → Bool) where
-  found : (xs : List X) (i : ℕ) (x : X) → slice_get xs i ≡ Some x → p x ≡ true → nat_lt (position_or_len p xs) (length xs) ≡ true
+  pub found : (xs : List X) (i : ℕ) (x : X) → slice_get xs i ≡ Some x → p x ≡ true → nat_lt (position_or_len p xs) (length xs) ≡ true
   found [] i x e h = grind (arith, common_steps)
   found (y ∷ ys) zero x e h = grind (arith, common_steps)
   found (y ∷ ys) (suc i) x e h = let rest = found ys i x e h in grind (arith, common_steps)

@@ -34,3 +34,12 @@ lies_within old new = nat_le new.from old.from && nat_le old.to new.to
 abbrev pub CoveredPartsAreWithin : Type 0
 CoveredPartsAreWithin = (old new : ClipSpan) (n : ℕ) → lies_within old new ≡ true → old.from ≤ n → n ≤ old.to
     → (new.from ≤ n) × (n ≤ new.to)
+
+-- how long runs are together
+abbrev pub micros_held : List Run → ℕ
+micros_held runs = sum_by (λ r. r.last - r.first) runs
+
+-- Where each gap counts, what is held of a time and what is missing are all of it.
+abbrev pub TimesAddUp : Type 0
+TimesAddUp = (since until : ℕ) (runs : List Run) → AreWithin since runs until
+    → micros_missing (gaps 0 since runs until) + micros_held runs ≡ until - since

@@ -148,3 +148,8 @@ KeepsCoverBothEnds = (since until read before after t : ℕ)
 abbrev pub TagsAreTheUsers : Type 0
 TagsAreTheUsers = (tag own event : ℕ)
     → (tag_of (Some tag) own event ≡ tag) × (own ≢ 0 → tag_of None own event ≡ own) × (tag_of None 0 event ≡ event)
+
+-- A keep waits only for frames that had come before its line, or for a block after the one that it has locked.
+abbrev pub KeepsLockEachBlock : Type 0
+KeepsLockEachBlock = (k : Keep) (l : Look) → k.come ≤ l.tally.brought → (k.part ≡ None) ⊎ (k.block ≢ l.block)
+    → (step_keep k l).1 ≢ Wait

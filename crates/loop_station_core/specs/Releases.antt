@@ -114,3 +114,17 @@ NoneIsFree p = (place : ℕ) → slice_get p.running place ≡ Some None → ⊥
 abbrev pub SavesWaitForPlaces : Type 0
 SavesWaitForPlaces = (places : ℕ) (steps : List SaveStep) → let p = saves_after_all (no_saves places) steps in
     (p.stopped ≡ true) ⊎ ((p.waiting ≡ []) ⊎ NoneIsFree p)
+
+-- how many elements of a list pass
+abbrev pub counted : {X : Type 0} → (X → Bool) → List X → ℕ
+counted f [] = 0
+counted f (x ∷ xs) = one_if (f x) + counted f xs
+
+-- how many saves that run or wait have a key that passes
+abbrev pub readers : (SaveKey → Bool) → Places → ℕ
+readers f p = counted (has_such (has_key f)) p.running + counted (has_key f) p.waiting
+
+-- Each save that was taken in runs, waits or has ended, whichever of them are looked at.
+abbrev pub SavesAddUp : Type 0
+SavesAddUp = (places : ℕ) (f : SaveKey → Bool) (steps : List SaveStep) → let p = no_saves places in
+    saves_taken_in f p steps ≡ saves_ended_in f p steps + readers f (saves_after_all p steps)

@@ -225,3 +225,8 @@ ClipsAreSavedOnce = (p : Places) (key : SaveKey)
     × (((place : ℕ) (s : Save) → slice_get p.running place ≡ Some (Some s) → IsByItself key s → ⊥)
     → ((turn : ℕ) (s : Save) → slice_get p.waiting turn ≡ Some s → IsByItself key s → ⊥)
     → has_automatic p key ≡ false)
+
+-- What saves are known by leaves nothing of them out.
+abbrev pub PlacesTellAll : Type 0
+PlacesTellAll = (s t : Saves) → places_of s ≡ places_of t
+    → (s.running.items ≡ t.running.items) × (s.waiting.items ≡ t.waiting.items) × (s.stopped ≡ t.stopped)

@@ -1,21 +1,24 @@
 //! What holds over any list of events. Each function does nothing: its contract is the law.
 
-ghost use Rattle.loop_station_core.specs.Laws.{DisksAreToldOnce, FilmingsGoOn, FoundGapsAreSo, FramesAddUp, GapsAddUp, GapsAreLookedFor, KeepsAreRight, LinesAreSo, LockedLinesAlternate, LostAreToldOnce, MovedStoresAreLeft, OrdersAreAnsweredOnce, OrdersAreHandedOut, OrdersSpareReadClips, ReleasesAreEarned, ReleasesAreFree, SavedClipsAreReleased, SavedTextsAreThere, SavesWaitOnce, SilentSourcesWait, StopsAreForGood, WithdrawnSavesLeaveNothing};
-ghost use Rattle.loop_station_core.specs.Cameras.{FilmsWhileFramesWait};
-ghost use Rattle.loop_station_core.specs.Gaps.{CoveredPartsAreWithin};
+ghost use Rattle.loop_station_core.specs.Laws.{DisksAreToldOnce, FilmingsGoOn, FoundGapsAreSo, FramesAddUp, GapsAddUp, GapsAreLookedFor, KeepsAreRight, LinesAreSo, LockedLinesAlternate, LockedLinesTellAll, LostAreToldOnce, MovedStoresAreLeft, OrdersAreAnsweredOnce, OrdersAreHandedOut, OrdersReleaseUnreadClips, OrdersSpareReadClips, ReleasesAreEarned, ReleasesAreFree, SavedClipsAreReleased, SavedTextsAreThere, SavesWaitOnce, SilentSourcesWait, StopsAreForGood, WithdrawnSavesLeaveNothing};
+ghost use Rattle.loop_station_core.specs.Cameras.{CamerasEndWithTheProgram, EndedFilmingsGoOn, FilmsWhileFramesWait, LockedFilmingsWait, OffersAreAnswered, SilenceIsSeen};
+ghost use Rattle.loop_station_core.specs.Gaps.{CoveredPartsAreWithin, TimesAddUp};
 ghost use Rattle.loop_station_core.specs.Growth.{ClipsOfOpenEventsWait, EventsEndOnceDone, KeepsAreAnswered, WholeEventsAreWhole};
-ghost use Rattle.loop_station_core.specs.Keeps.{KeepsCoverBothEnds, KeepsCoverTheirSeconds, KeepsEnd, KeepsHaveAll, KeepsTakeTheCamerasSeconds, TagsAreTheUsers};
+ghost use Rattle.loop_station_core.specs.Keeps.{KeepsCoverBothEnds, KeepsCoverTheirSeconds, KeepsEnd, KeepsHaveAll, KeepsLockEachBlock, KeepsTakeTheCamerasSeconds, TagsAreTheUsers};
 ghost use Rattle.loop_station_core.specs.Marks.{LateFramesAreMarked, MarksAreRead};
 ghost use Rattle.loop_station_core.specs.Stores.{MovedStoresAreElsewhere, StoresWithFramesGoOn};
-ghost use Rattle.loop_station_core.specs.Releases.{SavesWaitForPlaces};
-ghost use Rattle.loop_station_core.specs.Retries.{CancelsMeanTheirClip, RetriesAreDue};
-ghost use Rattle.loop_station_core.specs.Timing.{FrameTimesRise, GapsAreToldApart};
+ghost use Rattle.loop_station_core.specs.Releases.{SavesAddUp, SavesWaitForPlaces};
+ghost use Rattle.loop_station_core.specs.Retries.{CancelsMeanTheirClip, DueRetriesAreTaken, RetriesAreDue};
+ghost use Rattle.loop_station_core.specs.Timing.{FrameTimesRise, GapsAreToldApart, LongGapsAreTold, TimesAreTheSources};
 ghost use Rattle.loop_station_core.specs.Sets.{ClipsHaveTheirOwnIds, IdsAreThoseOfTheFile, LateFilesAreRead, StoresHoldWhatCame};
 ghost use Rattle.loop_station_core.specs.Still.{StandstillsAreTold};
 ghost use Rattle.loop_station_core.specs.Spools.{DroppedLinesAreTold, UnreadLinesAreKept};
 ghost use Rattle.loop_station_core.specs.Clips.{KeepsHaveRoom};
 ghost use Rattle.loop_station_core.specs.Orders.{IdleCamerasAreDone};
-ghost use Rattle.loop_station_core.specs.Saving.{ClipsAreSavedOnce};
+ghost use Rattle.loop_station_core.specs.Saving.{ClipsAreSavedOnce, PlacesTellAll};
+ghost use Rattle.loop_station_core.specs.Frames.{LostFramesWereGivenUp, TalliesAddUp};
+ghost use Rattle.loop_station_core.specs.SaveEnds.{EndsAreTold, RetriesAreTold};
+ghost use Rattle.loop_station_core.specs.Telling.{FirstLooksTellAll, LinesTellAll};
 
 /// Each frame that came is stored, lost, at the desk, or on its way to it.
 pub fn frames_add_up()
@@ -287,4 +290,105 @@ pub fn cancels_mean_their_clip()
 /// A clip is saved by itself a second time only once the first such save has ended, or was cancelled.
 pub fn clips_are_saved_once()
     ensures { ClipsAreSavedOnce }
+{}
+
+/// A camera ends once the program does, whatever happened before, and never while it goes on.
+pub fn cameras_end_with_the_program()
+    ensures { CamerasEndWithTheProgram }
+{}
+
+/// While the program goes on, a filming that ends is followed by one: in a store made anew where its own was moved
+/// away.
+pub fn ended_filmings_go_on()
+    ensures { EndedFilmingsGoOn }
+{}
+
+/// Where each block is locked a flush is tried again, exactly as long as the filming and the program go on.
+pub fn locked_filmings_wait()
+    ensures { LockedFilmingsWait }
+{}
+
+/// Frames that the store can have are taken; others are refused, and told as such once.
+pub fn offers_are_answered()
+    ensures { OffersAreAnswered }
+{}
+
+/// A source is seen as silent exactly from two seconds and three of its frames on, and no longer once a byte comes.
+pub fn silence_is_seen()
+    ensures { SilenceIsSeen }
+{}
+
+/// The frames that a tally counts are all that came, wherever they are.
+pub fn tallies_add_up()
+    ensures { TalliesAddUp }
+{}
+
+/// No frame is lost but one that is given up; what is stored, lost or brought stays so.
+pub fn lost_frames_were_given_up()
+    ensures { LostFramesWereGivenUp }
+{}
+
+/// A keep waits only for frames that had come before its line, or for a block after the one that it has locked.
+pub fn keeps_lock_each_block()
+    ensures { KeepsLockEachBlock }
+{}
+
+/// Where each gap counts, what is held of a time and what is missing are all of it.
+pub fn times_add_up()
+    ensures { TimesAddUp }
+{}
+
+/// Once the time of a save that failed has come, it is tried again, or another one is, and each no more than once.
+pub fn due_retries_are_taken()
+    ensures { DueRetriesAreTaken }
+{}
+
+/// The end of a save is told as what it is, or it is tried again a minute later.
+pub fn ends_are_told()
+    ensures { EndsAreTold }
+{}
+
+/// A save that is tried again is told as such.
+pub fn retries_are_told()
+    ensures { RetriesAreTold }
+{}
+
+/// What saves are known by leaves nothing of them out.
+pub fn places_tell_all()
+    ensures { PlacesTellAll }
+{}
+
+/// Each save that was taken in runs, waits or has ended.
+pub fn saves_add_up()
+    ensures { SavesAddUp }
+{}
+
+/// An order releases the clip that it means, once each save that was taken in and reads it has ended.
+pub fn orders_release_unread_clips()
+    ensures { OrdersReleaseUnreadClips }
+{}
+
+/// A frame has the time that its source says, or else that at which it came, wherever this is later than the last one.
+pub fn times_are_the_sources()
+    ensures { TimesAreTheSources }
+{}
+
+/// A gap is told only where it is long; and a long one is told, unless one was within a second.
+pub fn long_gaps_are_told()
+    ensures { LongGapsAreTold }
+{}
+
+/// Whoever reads the lines about a camera knows whether its store is there, and how far its disk is behind.
+pub fn lines_tell_all()
+    ensures { LinesTellAll }
+{}
+
+/// At the first look all that is so is told, but for what may still come.
+pub fn first_looks_tell_all()
+    ensures { FirstLooksTellAll }
+{}
+
+/// Whoever reads the lines about locked blocks knows whether each was locked at the last look.
+pub fn locked_lines_tell_all()
+    ensures { LockedLinesTellAll }
 {}
