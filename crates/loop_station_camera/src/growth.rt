@@ -5,7 +5,7 @@ ghost use Rattle.std.specs.Prelude.{◌≡◌};
 use crate::growing::Growing;
 use crate::keeping::{part_of, store_and_keep_more, turn_of};
 use crate::reading::{runs_of, times_of};
-use crate::releasing::unlock;
+use crate::releasing::unlock_same;
 use crate::replies::{tell_clips, tell_shortfall};
 use crate::state::CameraState;
 use loop_disk::Disk;
@@ -155,9 +155,9 @@ fn release_covered<R: Wait, D: Disk + Drop>(
     ensures { back.new ≡ record back.old { desks = back.new.desks } }
 {
     let mut growing = growing;
-    if let Some(id) = growing.next_covered() {
+    if let Some(clip) = growing.next_covered() {
         // Where that is refused, it stays locked.
-        let _stays = unlock(rt, state, back, id);
+        let _stays = unlock_same(rt, state, back, &clip);
     }
     state.desk.put_growing(rt, growing);
 }
