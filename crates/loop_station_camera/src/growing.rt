@@ -223,6 +223,8 @@ struct Inner {
     growing: HeapCircularBuffer<Growing>,
     // Clips that are saved and are to be released, which had to wait.
     saved: Vec<SaveKey>,
+    // The events that were open when the program ended last go on, where there were some.
+    has_gone_on: bool,
 }
 
 /// What the thread of a camera's desk goes on with from one visit to the next.
@@ -239,6 +241,7 @@ impl Ongoing {
                 waiting: None,
                 growing: HeapCircularBuffer::with_capacity(alloc, MOST_OPEN)?,
                 saved: Vec::new(alloc),
+                has_gone_on: false,
             }),
         })
     }
@@ -319,13 +322,14 @@ impl Ongoing {
         take_first(&mut self.inner.lock(rt).saved)
     }
 
-    /// Whether the event of a number goes on.
-    pub fn has_event<R: Wait>(&self, rt: &R, event: u64) -> bool {
-        self.inner
-            .lock(rt)
-            .growing
-            .iter()
-            .any(|growing| growing.keep.event == event)
+    /// Whether the events that were open when the program ended last go on.
+    pub fn has_gone_on<R: Wait>(&self, rt: &R) -> bool {
+        self.inner.lock(rt).has_gone_on
+    }
+
+    /// The same; from now on it is so.
+    pub fn go_on<R: Wait>(&self, rt: &R) -> bool {
+        std::mem::replace(&mut self.inner.lock(rt).has_gone_on, true)
     }
 
     /// Takes the clips of the store at a place, which was opened, into the events that they belong to.

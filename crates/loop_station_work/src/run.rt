@@ -2,7 +2,7 @@
 
 use crate::events::LastReported;
 use crate::filming::run_camera;
-use crate::notes::run_notes;
+use crate::notes::{end_notes, start_notes};
 use crate::opening::has_stores;
 use crate::orders::{Station, status, take_orders};
 use crate::printer::{run_printer, stop_saves};
@@ -12,7 +12,7 @@ use loop_script::MAX_LINE;
 use loop_station_camera::{CameraState, Common, MOST_SAVES, Saves, begin, run_saves};
 use loop_station_core::Numbers;
 use loop_station_outside::{PathKind, Places, Timeline};
-use loop_station_shared::{LineForm, Message, Note, Outlet, Posts, Tap, run_outlet, run_tap};
+use loop_station_shared::{LineForm, Message, Outlet, Posts, Tap, run_outlet, run_tap};
 use loop_station_words::{AnswersForm, CameraConfig, Config, Lines, NoRing, Source, asked_set};
 use std::alloc::{AllocError, AllocGlobal, Global};
 use std::io::{BufReader, Read, Write};
@@ -410,8 +410,9 @@ fn run_in<
     let Ok(printer) = scope.spawn(move || run_printer(rt, station)) else {
         return false;
     };
-    let notes = scope.spawn(move || run_notes(rt, station));
-    let all = notes.is_ok() && start_cameras(rt, scope, station, &mut handles, watched);
+    let mut notes = Vec::new(station.alloc);
+    let all = start_notes(rt, scope, station, &mut notes)
+        && start_cameras(rt, scope, station, &mut handles, watched);
     if !all || serve(rt, station, reader) {
         finish_orders(rt, station);
         stop_saves(rt, station);
@@ -422,10 +423,7 @@ fn run_in<
     for handle in handles {
         handle.join(rt);
     }
-    station.posts.notes.put(rt, Note::End);
-    if let Ok(notes) = notes {
-        notes.join(rt);
-    }
+    end_notes(rt, station, notes);
     station.posts.printer.put(rt, Message::End);
     printer.join(rt);
     all
