@@ -127,6 +127,10 @@ fn write_text<R: AllocGlobal + Places>(rt: &R, path: &str, events: &[OpenEvent])
             return false;
         }
     }
+    if let Ok(left) = format!(in rt.alloc(); "{path}.part") {
+        // What a stop has left; mostly there is none.
+        let _none = rt.remove(left.as_str());
+    }
     let Ok(mut file) = rt.open_text(path, true) else {
         return false;
     };

@@ -238,7 +238,9 @@ fn add_store(alloc: Global, paths: &mut Vec<String>, store: &str) -> Result<(), 
     let made = format!(in alloc; "{store}.new")?;
     add_path(alloc, paths, made.as_str())?;
     let events = format!(in alloc; "{store}.events")?;
-    add_path(alloc, paths, events.as_str())
+    add_path(alloc, paths, events.as_str())?;
+    let unfinished = format!(in alloc; "{store}.events.part")?;
+    add_path(alloc, paths, unfinished.as_str())
 }
 
 // Refuses `answers` that lead to what the station reads or records into.
