@@ -15,7 +15,7 @@ mod places;
 
 pub use absent::Absent;
 pub use clock::Timeline;
-pub use input::{Input, find_header};
+pub use input::{Input, Joined, find_header, has_frame_line};
 pub use not_saved::NotSaved;
 pub use part::PartFile;
 pub use path_kind::PathKind;

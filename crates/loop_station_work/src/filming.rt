@@ -131,7 +131,7 @@ fn film_into<R: AllocGlobal + Places + Threads + Wait + Clock + Sync, W: Write +
         Ok(member) => member,
         Err(why) => return why,
     };
-    let events = read_events(rt, rt.alloc(), state.config.store.as_str());
+    let events = open_events(rt, state);
     tell_clips(
         rt,
         state,
@@ -169,23 +169,40 @@ fn take_store<R: Wait>(rt: &R, state: &CameraState, store: &mut Store<FileDisk>)
     }
 }
 
-// Goes on with the events that were open when the program ended last.
+// The events that go on: at first those that were open when the program ended last.
+fn open_events<R: AllocGlobal + Places + Wait>(rt: &R, state: &CameraState) -> Vec<OpenEvent> {
+    let known = if state.has_gone_on(rt) {
+        state.open_events(rt, rt.alloc())
+    } else {
+        None
+    };
+    match known {
+        Some(events) => events,
+        None => read_events(rt, rt.alloc(), state.config.store.as_str()),
+    }
+}
+
+// Goes on once with the events that were open when the program ended last.
 fn go_on_with<R: AllocGlobal + Wait + Clock>(rt: &R, state: &CameraState, events: &[OpenEvent]) {
+    if state.go_on(rt) {
+        return;
+    }
     let alloc = rt.alloc();
+    let mut lines = state.lines(alloc);
     for event in events {
-        if state.has_event(rt, event.event) {
-            continue;
-        }
-        let mut lines = state.lines(alloc);
         // Where memory for the line is refused, it isn't printed.
         let _ = lines.event_begun(event.event, event.since, event.until);
-        state.tell(rt, lines, None);
         let now = state.timeline.now(rt);
         let come = state.feed.come(rt, now.min(event.until));
         let keep = Keep::new(*event, now, come, &state.tally(rt));
         let clips = state.clips_tagged(rt, alloc, 0, event.event);
         // Its clips are among those that `tell_clips` leaves out, so the next start saves them where too many go on.
-        let _goes_on = state.begin_growing(rt, alloc, keep, clips);
+        if !state.put_event(rt, alloc, keep, clips) {
+            let _ = state.tell_too_many(event.event, &mut lines);
+        }
+    }
+    if !events.is_empty() {
+        state.tell(rt, lines, None);
     }
 }
 
