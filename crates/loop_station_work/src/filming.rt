@@ -1,5 +1,5 @@
-//! A camera's thread: it films the camera into its stores, again and again. `opening` has how they are opened and made, and
-//! `stores` what they are.
+//! A camera's thread: it films the camera into its stores, again and again. `opening` has how they are opened and made,
+//! and `stores` what they are.
 
 use crate::notes::read_events;
 use crate::opening::{OpenStore, Opened, Unopened, member_of, open_first, open_others};
