@@ -1,17 +1,11 @@
 -- When a keep is done, and what else is decided for good.
-use Rattle.std.proofs.Common.{◌≡◌, ◌≢◌, ℕ, ◌==◌, ◌≤◌, ◌⊎◌, ◌||◌, ◌&&◌, Bool, true, false, not, Option, Some, None, arith, refl, sym, ap, subst, inl, inr, is_some, unwrap_or, max, nat_le, nat_lt, if◌then◌else◌, ◌∙◌}
+use Rattle.std.proofs.Common.{◌≡◌, ◌≢◌, ℕ, ◌==◌, ◌≤◌, ◌⊎◌, ◌||◌, ◌&&◌, Bool, true, false, not, Option, Some, None, arith, refl, sym, ap, subst, inl, inr, is_some, unwrap_or, max, nat_le, if◌then◌else◌, ◌∙◌}
 use Rattle.std.proofs.lemmas.Grind.{common_steps}
-use Rattle.loop_station_core.specs.Cameras.{films}
-use Rattle.loop_station_core.specs.Gaps.{lies_within}
-use Rattle.loop_station_core.specs.Growth.{how_event_ends}
-use Rattle.loop_station_core.specs.Stores.{goes_on}
+use Rattle.loop_station_core.specs.Gaps.{CoveredPartsAreWithin, lies_within}
 use Rattle.loop_station_core.specs.Keeps.{acts, end_seen, is_clear, is_done, is_over, looked, needed, part_is_due, part_locked, progress_seen, step_keep, steps_taken, KeepsLockEachBlock, has_newest}
-use Rattle.loop_station_core.specs.declared.camera.Camera.{Camera}
-use Rattle.loop_station_core.specs.declared.growth.EventEnd.TheVariants.{Whole as WholeEvent}
 use Rattle.loop_station_core.specs.declared.keep.Keep.{Keep}
 use Rattle.loop_station_core.specs.declared.keep.Look.{Look}
 use Rattle.loop_station_core.specs.declared.keep.KeepTurn.TheVariants.{Wait, Whole}
-use Rattle.loop_station_core.specs.declared.runs.ClipSpan.{ClipSpan}
 use Rattle.std.proofs.lemmas.Bool.{ne_eqb}
 
 both : (a b : Bool) → a ≡ true → b ≡ true → a && b ≡ true
@@ -66,21 +60,15 @@ pub keeps-end : (k : Keep) (l : Look) → k.until ≤ l.time → unwrap_or k.all
     → (step_keep k l).1 ≡ Whole
 keeps-end k l over enough = acts-whole (looked k l) l (done-with (looked k l) l _ (looked-all k l over) enough)
 
-pub films-on : (c : Camera) (come taken : ℕ) → c.over ≡ false → (c.stopping ≡ false) ⊎ (come ≢ taken) → films c come taken ≡ true
-films-on c come taken goes (inl on) = ap (λ b. not b && (not c.stopping || not (come == taken))) goes ∙ ap (λ b. not b || not (come == taken)) on
-films-on c come taken goes (inr apart) = ap (λ b. not b && (not c.stopping || not (come == taken))) goes ∙ grind (arith, common_steps)
+pub within : CoveredPartsAreWithin
+within old new some = ((λ is n from to. inside is n from to), λ each. covered (each old.from (grind (arith, common_steps)) some) (each old.to some (grind (arith, common_steps))))
+  where
+    inside : lies_within old new ≡ true → (n : ℕ) → old.from ≤ n → n ≤ old.to → (new.from ≤ n) × (n ≤ new.to)
+    inside is n from to =
+        let ends : (new.from ≤ old.from) × (old.to ≤ new.to) = grind (arith, common_steps) in (omega arith, omega arith)
 
-pub frames-go-on : (frames : ℕ) (alike : Bool) → 1 ≤ frames → goes_on frames alike ≡ true
-frames-go-on frames alike some = or-true (nat_lt 0 frames) alike (grind (arith, common_steps))
-
-pub within : (old new : ClipSpan) (n : ℕ) → lies_within old new ≡ true → old.from ≤ n → n ≤ old.to → (new.from ≤ n) × (n ≤ new.to)
-within old new n is from to =
-    let ends : (new.from ≤ old.from) × (old.to ≤ new.to) = grind (arith, common_steps) in (omega arith, omega arith)
-
-pub whole-events : (refused held : Bool) → how_event_ends refused held ≡ WholeEvent → (refused ≡ false) × (held ≡ true)
-whole-events true held e = absurd (cc)
-whole-events false true e = (refl, refl)
-whole-events false false e = absurd (cc)
+    covered : (new.from ≤ old.from) × (old.from ≤ new.to) → (new.from ≤ old.to) × (old.to ≤ new.to) → lies_within old new ≡ true
+    covered a b = both (nat_le new.from old.from) (nat_le old.to new.to) (le-true new.from old.from a.0) (le-true old.to new.to b.1)
 
 -- one that is due locks a part
 acts-now : (k : Keep) (l : Look) → part_is_due k l ≡ true → (acts k l).1 ≢ Wait

@@ -1,5 +1,5 @@
 -- A camera's life: its filming and its source.
-use Rattle.std.specs.Prelude.{◌≡◌, ◌≢◌, ◌⊎◌, ℕ, ◌+◌, ◌-◌, ◌*◌, ◌^◌, ◌==◌, ◌&&◌, ◌||◌, Bool, true, false, not, List, [], ◌∷◌, Some, None, max, min, nat_le, if◌then◌else◌, ◌<◌, ◌≤◌}
+use Rattle.std.specs.Prelude.{◌≡◌, ◌≢◌, ◌⊎◌, ℕ, ◌+◌, ◌-◌, ◌*◌, ◌^◌, ◌==◌, ◌&&◌, ◌||◌, Bool, true, false, List, [], ◌∷◌, Some, None, max, min, nat_le, if◌then◌else◌, ◌<◌, ◌≤◌}
 use Rattle.loop_station_core.specs.declared.changes.SourceSeen.{SourceSeen}
 use Rattle.loop_station_core.specs.declared.changes.SourceSeen.TheVariants.{Missing, Silent, Other, Unusable, On}
 use Rattle.loop_station_core.specs.declared.camera.Camera.{Camera}
@@ -78,19 +78,10 @@ step_camera c (Source e) = step_source c e
 abbrev pub source_seen : Camera → SourceSeen
 source_seen c = if c.silent then Silent else c.source
 
--- its filming goes on: nothing is broken, and the program doesn't end, or frames that came wait for the device
-abbrev pub films : Camera → ℕ → ℕ → Bool
-films c come taken = not c.over && (not c.stopping || not (come == taken))
-
 -- a camera after all that happened
 abbrev pub lived : Camera → List Event → Camera
 lived c [] = c
 lived c (e ∷ es) = lived (step_camera c e).0 es
-
--- A camera is filmed as long as nothing is broken, and the program doesn't end or frames that came wait for the device.
-abbrev pub FilmsWhileFramesWait : Type 0
-FilmsWhileFramesWait = (c : Camera) (come taken : ℕ) → c.over ≡ false → (c.stopping ≡ false) ⊎ (come ≢ taken)
-    → films c come taken ≡ true
 
 -- the program ends
 abbrev pub stops_in : List Event → Bool

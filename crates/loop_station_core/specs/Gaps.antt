@@ -30,10 +30,11 @@ AreWithin since (r ∷ rs) until = (since ≤ r.first) × (r.first ≤ r.last) �
 abbrev pub lies_within : ClipSpan → ClipSpan → Bool
 lies_within old new = nat_le new.from old.from && nat_le old.to new.to
 
--- What is released as a part that a longer clip covers has no number that this one hasn't.
+-- A part is released as covered by a longer clip exactly where each of its numbers is one of that clip's.
 abbrev pub CoveredPartsAreWithin : Type 0
-CoveredPartsAreWithin = (old new : ClipSpan) (n : ℕ) → lies_within old new ≡ true → old.from ≤ n → n ≤ old.to
-    → (new.from ≤ n) × (n ≤ new.to)
+CoveredPartsAreWithin = (old new : ClipSpan) → old.from ≤ old.to
+    → (lies_within old new ≡ true → (n : ℕ) → old.from ≤ n → n ≤ old.to → (new.from ≤ n) × (n ≤ new.to))
+    × (((n : ℕ) → old.from ≤ n → n ≤ old.to → (new.from ≤ n) × (n ≤ new.to)) → lies_within old new ≡ true)
 
 -- how long runs are together
 abbrev pub micros_held : List Run → ℕ

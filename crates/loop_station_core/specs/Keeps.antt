@@ -70,11 +70,6 @@ abbrev pub asked_time : KeepPeriod → ℕ → ℕ → ℕ → ℕ × ℕ
 asked_time (Around seconds more) read before after = bounds read (unwrap_or seconds before) (unwrap_or more after)
 asked_time (Between since until) read before after = (since, until)
 
--- the tag that its line says, or else its camera's own, or where that is 0 the event's number
-abbrev pub tag_of : Option ℕ → ℕ → ℕ → ℕ
-tag_of (Some tag) own event = tag
-tag_of None own event = if own == 0 then event else own
-
 -- this holds of each of some looks, of the keep after it and of what it does then
 abbrev pub EachTurn : (Look → Keep → KeepTurn → Type 0) → Keep → List Look → Type 0
 EachTurn P k [] = Unit {0}
@@ -141,13 +136,6 @@ abbrev pub KeepsCoverBothEnds : Type 0
 KeepsCoverBothEnds = (since until read before after t : ℕ)
     → let asked = asked_time (Between since until) read before after in
     (IsAsked asked t → (since ≤ t) × (t ≤ until)) × (since ≤ t → t ≤ until → IsAsked asked t)
-
--- Whom a clip's tag is from: a tag that a line says is that of its clips, at each camera. Without one, clips have their
--- camera's own, whatever the event is, if it has one. Else those of two events have two tags, and each the number of
--- its event.
-abbrev pub TagsAreTheUsers : Type 0
-TagsAreTheUsers = (tag own event : ℕ)
-    → (tag_of (Some tag) own event ≡ tag) × (own ≢ 0 → tag_of None own event ≡ own) × (tag_of None 0 event ≡ event)
 
 -- A keep waits only for frames that had come before its line, or for a block after the one that it has locked.
 abbrev pub KeepsLockEachBlock : Type 0

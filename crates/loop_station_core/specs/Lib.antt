@@ -14,9 +14,7 @@ pub mod SaveEnds
 pub mod Saving
 pub mod Search
 pub mod Sets
-pub mod Spools
 pub mod Still
-pub mod Stores
 pub mod Telling
 pub mod Texts
 pub mod Timing

@@ -71,11 +71,6 @@ step_timing t a =
     let time = later t.last (said_or_now a) in
     stamped_with t a time (gap_of t time a.period)
 
--- what is known after frames that have come
-abbrev pub timed_by : Timing → List Arrival → Timing
-timed_by t [] = t
-timed_by t (a ∷ more) = timed_by (step_timing t a).0 more
-
 -- each frame's time is later than that of the frame before, as long as there are later ones
 abbrev pub EachLater : Timing → List Arrival → Type 0
 EachLater t [] = Unit {0}

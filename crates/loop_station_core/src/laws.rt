@@ -1,18 +1,16 @@
 //! What holds over any list of events. Each function does nothing: its contract is the law.
 
 ghost use Rattle.loop_station_core.specs.Laws.{DisksAreToldOnce, FilmingsGoOn, FoundGapsAreSo, FramesAddUp, GapsAddUp, GapsAreLookedFor, KeepsAreRight, LinesAreSo, LockedLinesAlternate, LockedLinesTellAll, LostAreToldOnce, MovedStoresAreLeft, OrdersAreAnsweredOnce, OrdersAreHandedOut, OrdersReleaseUnreadClips, OrdersSpareReadClips, ReleasesAreEarned, ReleasesAreFree, SavedClipsAreReleased, SavedTextsAreThere, SavesWaitOnce, SilentSourcesWait, StopsAreForGood, WithdrawnSavesLeaveNothing};
-ghost use Rattle.loop_station_core.specs.Cameras.{CamerasEndWithTheProgram, EndedFilmingsGoOn, FilmsWhileFramesWait, LockedFilmingsWait, OffersAreAnswered, SilenceIsSeen};
+ghost use Rattle.loop_station_core.specs.Cameras.{CamerasEndWithTheProgram, EndedFilmingsGoOn, LockedFilmingsWait, OffersAreAnswered, SilenceIsSeen};
 ghost use Rattle.loop_station_core.specs.Gaps.{CoveredPartsAreWithin, TimesAddUp};
-ghost use Rattle.loop_station_core.specs.Growth.{ClipsOfOpenEventsWait, EventsEndOnceDone, KeepsAreAnswered, WholeEventsAreWhole};
-ghost use Rattle.loop_station_core.specs.Keeps.{KeepsCoverBothEnds, KeepsCoverTheirSeconds, KeepsEnd, KeepsHaveAll, KeepsLockEachBlock, KeepsTakeTheCamerasSeconds, TagsAreTheUsers};
+ghost use Rattle.loop_station_core.specs.Growth.{ClipsOfOpenEventsWait};
+ghost use Rattle.loop_station_core.specs.Keeps.{KeepsCoverBothEnds, KeepsCoverTheirSeconds, KeepsEnd, KeepsHaveAll, KeepsLockEachBlock, KeepsTakeTheCamerasSeconds};
 ghost use Rattle.loop_station_core.specs.Marks.{LateFramesAreMarked, MarksAreRead};
-ghost use Rattle.loop_station_core.specs.Stores.{MovedStoresAreElsewhere, StoresWithFramesGoOn};
 ghost use Rattle.loop_station_core.specs.Releases.{SavesAddUp, SavesWaitForPlaces};
 ghost use Rattle.loop_station_core.specs.Retries.{CancelsMeanTheirClip, DueRetriesAreTaken, RetriesAreDue};
 ghost use Rattle.loop_station_core.specs.Timing.{FrameTimesRise, GapsAreToldApart, LongGapsAreTold, TimesAreTheSources};
-ghost use Rattle.loop_station_core.specs.Sets.{ClipsHaveTheirOwnIds, IdsAreThoseOfTheFile, LateFilesAreRead, StoresHoldWhatCame};
+ghost use Rattle.loop_station_core.specs.Sets.{ClipsHaveTheirOwnIds, IdsAreThoseOfTheFile, StoresHoldWhatCame};
 ghost use Rattle.loop_station_core.specs.Still.{StandstillsAreTold};
-ghost use Rattle.loop_station_core.specs.Spools.{DroppedLinesAreTold, UnreadLinesAreKept};
 ghost use Rattle.loop_station_core.specs.Clips.{KeepsHaveRoom};
 ghost use Rattle.loop_station_core.specs.Orders.{IdleCamerasAreDone};
 ghost use Rattle.loop_station_core.specs.Saving.{ClipsAreSavedOnce, PlacesTellAll};
@@ -166,24 +164,9 @@ pub fn keeps_have_all()
     ensures { KeepsHaveAll }
 {}
 
-/// A camera is filmed as long as nothing breaks and the program goes on, or frames that came wait for the device.
-pub fn films_while_frames_wait()
-    ensures { FilmsWhileFramesWait }
-{}
-
-/// A store that has a frame isn't made anew.
-pub fn stores_with_frames_go_on()
-    ensures { StoresWithFramesGoOn }
-{}
-
 /// A part is released as covered only where each of its frames is in the longer clip.
 pub fn covered_parts_are_within()
     ensures { CoveredPartsAreWithin }
-{}
-
-/// An event is told as whole only where nothing of it was refused, and all of its time is held.
-pub fn whole_events_are_whole()
-    ensures { WholeEventsAreWhole }
 {}
 
 /// No save waits while a place is free, unless the program ends.
@@ -206,11 +189,6 @@ pub fn keeps_cover_both_ends()
     ensures { KeepsCoverBothEnds }
 {}
 
-/// A clip's tag is its line's, or else its camera's, or else its event's number.
-pub fn tags_are_the_users()
-    ensures { TagsAreTheUsers }
-{}
-
 /// No two clips of a camera have one id.
 pub fn clips_have_their_own_ids()
     ensures { ClipsHaveTheirOwnIds }
@@ -221,25 +199,9 @@ pub fn ids_are_those_of_the_file()
     ensures { IdsAreThoseOfTheFile }
 {}
 
-/// A store is moved away exactly where its path doesn't name its file.
-pub fn moved_stores_are_elsewhere()
-    ensures { MovedStoresAreElsewhere }
-{}
-
 /// At a start a clip is saved by itself exactly where it is of no event that goes on.
 pub fn clips_of_open_events_wait()
     ensures { ClipsOfOpenEventsWait }
-{}
-
-/// A keep is told to go on, to be held already, or to have found nothing, each exactly where it is so.
-pub fn keeps_are_answered()
-    ensures { KeepsAreAnswered }
-{}
-
-/// An event is over exactly once its keep is done and covers no other clip. It is left to the next start exactly where
-/// the program ends before.
-pub fn events_end_once_done()
-    ensures { EventsEndOnceDone }
 {}
 
 /// A frame is marked as late exactly where it came while the program stood still, or just after.
@@ -252,16 +214,6 @@ pub fn standstills_are_told()
     ensures { StandstillsAreTold }
 {}
 
-/// A line is dropped only without room, or before it is said how many were.
-pub fn dropped_lines_are_told()
-    ensures { DroppedLinesAreTold }
-{}
-
-/// While nobody reads, the last 64 KiB of lines are kept.
-pub fn unread_lines_are_kept()
-    ensures { UnreadLinesAreKept }
-{}
-
 /// As many keeps of a length as are told to fit into a store do, wherever in a block each begins.
 pub fn keeps_have_room()
     ensures { KeepsHaveRoom }
@@ -270,11 +222,6 @@ pub fn keeps_have_room()
 /// A store holds no more frames than came and than have room, and all of them while they fit into all segments but one.
 pub fn stores_hold_what_came()
     ensures { StoresHoldWhatCame }
-{}
-
-/// A file is looked into exactly where it may have frames as new as the newest that is known.
-pub fn late_files_are_read()
-    ensures { LateFilesAreRead }
 {}
 
 /// A camera has nothing to do exactly once each order that it took in was handed out, and none is being done.
