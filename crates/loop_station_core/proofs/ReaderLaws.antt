@@ -18,7 +18,7 @@ passes f None = false
 passes f (Some x) = f x
 
 module _ {X : Type 0} where
-  set-counts : (f : X → Bool) (xs : List X) (i : ℕ) (x y : X) → slice_get xs i ≡ Some x
+  pub set-counts : (f : X → Bool) (xs : List X) (i : ℕ) (x y : X) → slice_get xs i ≡ Some x
       → counted f (slice_set xs i y) + one_if (f x) ≡ counted f xs + one_if (f y)
   set-counts f [] i x y e = grind (arith, common_steps)
   set-counts f (z ∷ zs) zero x y e = grind (arith, common_steps)
@@ -27,7 +27,7 @@ module _ {X : Type 0} where
       let rest = set-counts f zs i x y at in
       grind (arith, common_steps)
 
-  update-counts : (f : X → Bool) (g : X → X) (xs : List X) (i : ℕ) → ((x : X) → f (g x) ≡ f x)
+  pub update-counts : (f : X → Bool) (g : X → X) (xs : List X) (i : ℕ) → ((x : X) → f (g x) ≡ f x)
       → counted f (update g i xs) ≡ counted f xs
   update-counts f g xs i k = at (slice_get xs i) refl where
     at : (o : Option X) → slice_get xs i ≡ o → counted f (update g i xs) ≡ counted f xs
@@ -58,7 +58,7 @@ module _ {X : Type 0} where
         grind (arith, common_steps)
 
   -- what was put in a place is there
-  set-there : (xs : List X) (i : ℕ) (x y : X) → slice_get xs i ≡ Some x → slice_get (slice_set xs i y) i ≡ Some y
+  pub set-there : (xs : List X) (i : ℕ) (x y : X) → slice_get xs i ≡ Some x → slice_get (slice_set xs i y) i ≡ Some y
   set-there [] i x y e = grind (arith, common_steps)
   set-there (z ∷ zs) zero x y e = grind (arith, common_steps)
   set-there (z ∷ zs) (suc i) x y e =
@@ -66,11 +66,11 @@ module _ {X : Type 0} where
       let rest = set-there zs i x y at in
       grind (arith, common_steps)
 
-  append-counts : (f : X → Bool) (xs : List X) (y : X) → counted f (xs ++ y ∷ []) ≡ counted f xs + one_if (f y)
+  pub append-counts : (f : X → Bool) (xs : List X) (y : X) → counted f (xs ++ y ∷ []) ≡ counted f xs + one_if (f y)
   append-counts f [] y = grind (arith, common_steps)
   append-counts f (x ∷ xs) y = let rest = append-counts f xs y in grind (arith, common_steps)
 
-  remove-counts : (f : X → Bool) (xs : List X) (i : ℕ) (x : X) → slice_get xs i ≡ Some x
+  pub remove-counts : (f : X → Bool) (xs : List X) (i : ℕ) (x : X) → slice_get xs i ≡ Some x
       → counted f (remove xs i) + one_if (f x) ≡ counted f xs
   remove-counts f [] i x e = grind (arith, common_steps)
   remove-counts f (z ∷ zs) zero x e = grind (arith, common_steps)
@@ -110,7 +110,7 @@ module _ {X : Type 0} where
         let there = rest more in
         grind (arith, common_steps)
 
-  found-there : (f : X → Bool) (xs : List X) (i : ℕ) → position f xs ≡ Some i → is_some (slice_get xs i) ≡ true
+  pub found-there : (f : X → Bool) (xs : List X) (i : ℕ) → position f xs ≡ Some i → is_some (slice_get xs i) ≡ true
   found-there f xs i e =
       let within : nat_lt (position_or_len f xs) (length xs) ≡ true = grind (arith, common_steps) in
       let same : position_or_len f xs ≡ i = grind (arith, common_steps) in
@@ -166,7 +166,7 @@ release-stays : (o : Option Save) → is_some (update_held with_release o) ≡ i
 release-stays None = refl
 release-stays (Some s) = refl
 
-abbrev holds_one : Places → ℕ → Bool
+abbrev pub holds_one : Places → ℕ → Bool
 holds_one p place = passes (λ (o : Option Save). not (is_some o)) (slice_get p.running place)
 
 wanted-free : (p : Places) (k : SaveKey) (place : ℕ) → holds_one (wanted p k).0 place ≡ holds_one p place
@@ -189,7 +189,7 @@ left-counts f p s = at s.release refl where
   at true e = let w = wanted-counts f p s.key in grind (arith, common_steps)
   at false e = grind (arith, common_steps)
 
-left-free : (p : Places) (s : Save) (place : ℕ) → holds_one (left_to_others p s).0 place ≡ holds_one p place
+pub left-free : (p : Places) (s : Save) (place : ℕ) → holds_one (left_to_others p s).0 place ≡ holds_one p place
 left-free p s place = at s.release refl where
   at : (b : Bool) → s.release ≡ b → holds_one (left_to_others p s).0 place ≡ holds_one p place
   at true e = let w = wanted-free p s.key place in grind (arith, common_steps)

@@ -1,6 +1,6 @@
 -- Which clips are released, by what happens to saves one after the other.
 use Rattle.std.specs.Prelude.{◌≡◌, ◌⊎◌, ℕ, ◌+◌, ◌&&◌, ◌||◌, Bool, true, false, List, [], ◌∷◌, Option, Some, None, replicate, slice_get}
-use Rattle.loop_station_core.specs.Saving.{Places, asked, cancelled, earns, finished, has_key, has_such, held_at, is_of_clip, stopped, turn_of_clip, with_wish}
+use Rattle.loop_station_core.specs.Saving.{Places, asked, cancelled, earns, finished, has_key, has_such, held_at, is_of_clip, is_saving, stopped, turn_of_clip, with_wish}
 use Rattle.loop_station_core.specs.declared.save_end.SaveEnd.{SaveEnd}
 use Rattle.loop_station_core.specs.declared.saves.Save.{Save}
 use Rattle.loop_station_core.specs.declared.saves.SaveKey.{SaveKey}
@@ -128,3 +128,16 @@ readers f p = counted (has_such (has_key f)) p.running + counted (has_key f) p.w
 abbrev pub SavesAddUp : Type 0
 SavesAddUp = (places : ℕ) (f : SaveKey → Bool) (steps : List SaveStep) → let p = no_saves places in
     saves_taken_in f p steps ≡ saves_ended_in f p steps + readers f (saves_after_all p steps)
+
+-- the program doesn't end
+abbrev pub NeverStops : List SaveStep → Type 0
+NeverStops [] = Unit {0}
+NeverStops (stops ∷ ss) = ⊥
+NeverStops (s ∷ ss) = NeverStops ss
+
+-- As long as the program goes on, saves do release a clip once the text of one that began by itself is there, and clips
+-- of its camera are released then: as soon as no save of it runs or waits any more.
+abbrev pub EarnedClipsAreReleased : Type 0
+EarnedClipsAreReleased = (places : ℕ) (key : SaveKey) (steps : List SaveStep) → let p = no_saves places in
+    NeverStops steps → lets_in key p steps ≡ true → is_saving (saves_after_all p steps) key ≡ false
+    → clip_released_in key p steps ≡ true

@@ -6,7 +6,7 @@ ghost use Rattle.loop_station_core.specs.Gaps.{CoveredPartsAreWithin, TimesAddUp
 ghost use Rattle.loop_station_core.specs.Growth.{ClipsOfOpenEventsWait};
 ghost use Rattle.loop_station_core.specs.Keeps.{KeepsCoverBothEnds, KeepsCoverTheirSeconds, KeepsEnd, KeepsHaveAll, KeepsLockEachBlock, KeepsTakeTheCamerasSeconds};
 ghost use Rattle.loop_station_core.specs.Marks.{LateFramesAreMarked, MarksAreRead};
-ghost use Rattle.loop_station_core.specs.Releases.{SavesAddUp, SavesWaitForPlaces};
+ghost use Rattle.loop_station_core.specs.Releases.{EarnedClipsAreReleased, SavesAddUp, SavesWaitForPlaces};
 ghost use Rattle.loop_station_core.specs.Retries.{CancelsMeanTheirClip, DueRetriesAreTaken, RetriesAreDue};
 ghost use Rattle.loop_station_core.specs.Timing.{FrameTimesRise, GapsAreToldApart, LongGapsAreTold, TimesAreTheSources};
 ghost use Rattle.loop_station_core.specs.Sets.{ClipsHaveTheirOwnIds, IdsAreThoseOfTheFile, StoresHoldWhatCame};
@@ -338,4 +338,10 @@ pub fn first_looks_tell_all()
 /// Whoever reads the lines about locked blocks knows whether each was locked at the last look.
 pub fn locked_lines_tell_all()
     ensures { LockedLinesTellAll }
+{}
+
+/// A clip is released once the text of a save that began by itself is there, where clips of its camera are released then:
+/// as soon as no other save of it runs or waits, unless the program ends.
+pub fn earned_clips_are_released()
+    ensures { EarnedClipsAreReleased }
 {}
