@@ -4,7 +4,7 @@ use Rattle.std.specs.List.{list_any, position, position_or_len}
 use Rattle.std.proofs.lemmas.Grind.{common_steps}
 use Rattle.loop_station_core.proofs.ReleaseLaws.{first-at}
 use Rattle.loop_station_core.specs.Clips.{may_release, may_release_saved}
-use Rattle.loop_station_core.specs.Laws.{OrdersSpareReadClips, SavedClipsAreReleased, clip_key, OrdersReleaseUnreadClips}
+use Rattle.loop_station_core.specs.Laws.{OrdersSpareReadClips, SavedClipsAreReleased, clip_key, OrdersReleaseUnreadClips, UnreadSavedClipsAreReleased}
 use Rattle.loop_station_core.specs.Releases.{SaveStep, asks, cancels, ends, no_saves, one_if, saves_after, saves_after_all, saves_ended_by, saves_ended_in, saves_taken_by, saves_taken_in, stops, SavesAddUp, counted, readers}
 use Rattle.loop_station_core.specs.Saving.{Places, after_end_of, begun, covers, earns, ended_at, freed, has_key, has_such, held_at, is_read, is_same, left_to_others, new_save, place_of, place_with, turn_of_clip, turn_with, update, update_held, wanted, with_cancel, with_release, with_wish}
 use Rattle.loop_station_core.specs.declared.clips.MayRelease.TheVariants.{Now}
@@ -436,3 +436,29 @@ saved-released places saved steps there h =
     let both = spares-saved (is_read (saves_after_all (no_saves places) steps) saved.camera saved.id tag) saved there h in
     let rest = orders-spare places saved.camera saved.id tag steps None None (rw both.0 refl) in
     (both.1, rest.0)
+
+-- what is the same clip is released, where none reads it
+frees-saved : (read : Bool) (saved there : SaveKey) → read ≡ false → is_same saved there ≡ true
+    → may_release_saved read saved (Some there) ≡ Now
+frees-saved true saved there h e = grind (arith, common_steps)
+frees-saved false saved there h e = grind (arith, common_steps)
+
+alike : (saved there : SaveKey) → clip_key there ≡ clip_key saved → is_same saved there ≡ true
+alike saved there e =
+    let camera : there.camera ≡ saved.camera = ap (λ k. k.camera) e in
+    let id : there.id ≡ saved.id = ap (λ k. k.id) e in
+    let first : there.first ≡ saved.first = ap (λ k. k.first) e in
+    let last : there.last ≡ saved.last = ap (λ k. k.last) e in
+    let tag : there.tag ≡ saved.tag = ap (λ k. k.tag) e in
+    let time : there.time ≡ saved.time = ap (λ k. k.time) e in
+    grind (arith, common_steps)
+
+pub saved-free : UnreadSavedClipsAreReleased
+saved-free places saved there steps e same =
+    let f : SaveKey → Bool = covers saved.camera saved.id (Some saved.tag) in
+    let all : saves_taken_in f (no_saves places) steps
+    ≡ saves_ended_in f (no_saves places) steps + readers f (saves_after_all (no_saves places) steps) =
+    saves-add-up places f steps in
+    let none : readers f (saves_after_all (no_saves places) steps) ≡ 0 = omega (arith, all, e) in
+    frees-saved (is_read (saves_after_all (no_saves places) steps) saved.camera saved.id (Some saved.tag)) saved there
+    (read-none saved.camera saved.id (Some saved.tag) (saves_after_all (no_saves places) steps) none) (alike saved there same)

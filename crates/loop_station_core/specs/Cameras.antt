@@ -90,10 +90,11 @@ stops_in (Filming Stop ∷ events) = true
 stops_in (e ∷ events) = stops_in events
 
 -- A camera ends at the end of its filming, or where its store isn't there, once the program ends, whatever happened
--- before; and it never ends while the program goes on.
+-- before, unless the store must be opened again; and it never ends while the program goes on.
 abbrev pub CamerasEndWithTheProgram : Type 0
 CamerasEndWithTheProgram = (c : Camera) (events : List Event) → c.stopping ≡ false → let d = lived c events in
-    (stops_in events ≡ true → ((step_camera d (Filming (End false))).1 ≡ Finish) × ((step_camera d (Filming Leave)).1 ≡ Finish))
+    (stops_in events ≡ true → ((step_camera d (Filming (End false))).1 ≡ Finish)
+    × ((step_camera d (Filming (End true))).1 ≡ OpenAgain) × ((step_camera d (Filming Leave)).1 ≡ Finish))
     × (stops_in events ≡ false → (e : Event) → (step_camera d e).1 ≢ Finish)
 
 -- While the program goes on, a filming whose store was moved away is followed by a store that is made anew. Where it
@@ -123,3 +124,25 @@ SilenceIsSeen = (c : Camera) (since now frame : ℕ) → c.waits ≡ Some since 
     (since + 2000000 ≤ now → since + frame * 3 ≤ now → source_seen d ≡ Silent)
     × ((now < since + 2000000) ⊎ (now < since + frame * 3) → source_seen d ≡ c.source)
     × (source_seen (step_camera d (Source its.Read)).0 ≡ c.source)
+
+-- While the program goes on, a store that isn't there is opened again, and that is counted; one that was moved away is
+-- made anew, once.
+abbrev pub StoresAreOpenedAgain : Type 0
+StoresAreOpenedAgain = (c : Camera) → c.stopping ≡ false → c.faults + 1 < 2 ^ 64
+    → let left = step_camera c (Filming Leave) in
+    (c.moved ≡ false → (left.1 ≡ OpenAgain) × (left.0.faults ≡ c.faults + 1))
+    × (c.moved ≡ true → (left.1 ≡ MakeAnew) × (left.0.moved ≡ false) × (left.0.faults ≡ c.faults))
+
+-- Each block is known to be locked from a refused flush on until a flush stores a frame, or another filming begins.
+abbrev pub LockedBlocksAreKnown : Type 0
+LockedBlocksAreKnown = (c : Camera) (frames : ℕ) → ((step_camera c (Filming AllLocked)).0.locked ≡ true)
+    × ((step_camera c (Filming Begin)).0.locked ≡ false) × ((step_camera c (Filming (Store 0))).0.locked ≡ c.locked)
+    × (1 ≤ frames → (step_camera c (Filming (Store frames))).0.locked ≡ false)
+
+-- A source is seen as what it was found to be; one that gave frames is missing once it is closed, and others stay what
+-- they are.
+abbrev pub SourcesAreSeen : Type 0
+SourcesAreSeen = (c : Camera) → let closed = step_camera c (Source its.Close) in
+    (c.source ≡ On → closed.0.source ≡ Missing) × (c.source ≢ On → closed.0.source ≡ c.source)
+    × ((step_camera c (Source (its.Offer true))).0.source ≡ On) × ((step_camera c (Source its.Missing)).0.source ≡ Missing)
+    × ((step_camera c (Source its.Unusable)).0.source ≡ Unusable)

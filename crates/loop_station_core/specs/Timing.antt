@@ -99,3 +99,13 @@ LongGapsAreTold = (t : Timing) (a : Arrival) (last : ℕ) → t.last ≡ Some la
     (is_some now.1.gap ≡ true → (now.1.gap ≡ Some gap) × (a.period + a.period / 2 < gap))
     × (t.streams ≡ true → 1 ≤ a.period → a.period + a.period / 2 < gap
     → (t.gaps + 1 < 2 ^ 64 → now.0.gaps ≡ t.gaps + 1) × (t.told ≡ None → now.1.gap ≡ Some gap))
+
+-- That a source's time isn't later than the last one, or that it says none, is told the first time that it is so, and
+-- not again.
+abbrev pub OddTimesAreToldOnce : Type 0
+OddTimesAreToldOnce = (t : Timing) (a : Arrival) (last said : ℕ) → let now = step_timing t a in
+    (t.back ≡ true → (now.1.back ≡ false) × (now.0.back ≡ true))
+    × (t.untimed ≡ true → (now.1.untimed ≡ false) × (now.0.untimed ≡ true))
+    × (t.back ≡ false → t.last ≡ Some last → a.said ≡ Some said → said ≤ last
+    → (now.1.back ≡ true) × (now.0.back ≡ true))
+    × (t.untimed ≡ false → a.said ≡ None → (now.1.untimed ≡ true) × (now.0.untimed ≡ true))

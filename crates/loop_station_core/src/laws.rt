@@ -1,22 +1,22 @@
 //! What holds over any list of events. Each function does nothing: its contract is the law.
 
-ghost use Rattle.loop_station_core.specs.Laws.{DisksAreToldOnce, FilmingsGoOn, FoundGapsAreSo, FramesAddUp, GapsAddUp, GapsAreLookedFor, KeepsAreRight, LinesAreSo, LockedLinesAlternate, LockedLinesTellAll, LostAreToldOnce, MovedStoresAreLeft, OrdersAreAnsweredOnce, OrdersAreHandedOut, OrdersReleaseUnreadClips, OrdersSpareReadClips, ReleasesAreEarned, ReleasesAreFree, SavedClipsAreReleased, SavedTextsAreThere, SavesWaitOnce, SilentSourcesWait, StopsAreForGood, WithdrawnSavesLeaveNothing};
-ghost use Rattle.loop_station_core.specs.Cameras.{CamerasEndWithTheProgram, EndedFilmingsGoOn, LockedFilmingsWait, OffersAreAnswered, SilenceIsSeen};
+ghost use Rattle.loop_station_core.specs.Laws.{BrokenFilmingsEnd, DisksAreToldOnce, FilmingsGoOn, FoundGapsAreSo, FramesAddUp, GapsAddUp, GapsAreLookedFor, KeepsAreRight, LinesAreSo, LockedLinesAlternate, LockedLinesTellAll, LostAreToldOnce, MovedStoresAreLeft, NothingIsToldTwice, OrdersAreAnsweredOnce, OrdersAreHandedOut, OrdersReleaseUnreadClips, OrdersSpareReadClips, ReleasesAreEarned, ReleasesAreFree, SavedClipsAreReleased, SavedTextsAreThere, SavesWaitOnce, SearchesLookAtAll, SilentSourcesWait, StopsAreForGood, TextsAreSaved, UnreadSavedClipsAreReleased, WithdrawnSavesLeaveNothing};
+ghost use Rattle.loop_station_core.specs.Cameras.{CamerasEndWithTheProgram, EndedFilmingsGoOn, LockedBlocksAreKnown, LockedFilmingsWait, OffersAreAnswered, SilenceIsSeen, SourcesAreSeen, StoresAreOpenedAgain};
 ghost use Rattle.loop_station_core.specs.Gaps.{CoveredPartsAreWithin, TimesAddUp};
 ghost use Rattle.loop_station_core.specs.Growth.{ClipsOfOpenEventsWait};
 ghost use Rattle.loop_station_core.specs.Keeps.{KeepsCoverBothEnds, KeepsCoverTheirSeconds, KeepsEnd, KeepsHaveAll, KeepsLockEachBlock, KeepsTakeTheCamerasSeconds};
 ghost use Rattle.loop_station_core.specs.Marks.{LateFramesAreMarked, MarksAreRead};
-ghost use Rattle.loop_station_core.specs.Releases.{EarnedClipsAreReleased, SavesAddUp, SavesWaitForPlaces};
+ghost use Rattle.loop_station_core.specs.Releases.{CancelsFindTheirSave, EarnedClipsAreReleased, SavesAddUp, SavesAreTakenIn, SavesWaitForPlaces};
 ghost use Rattle.loop_station_core.specs.Retries.{CancelsMeanTheirClip, DueRetriesAreTaken, RetriesAreDue};
-ghost use Rattle.loop_station_core.specs.Timing.{FrameTimesRise, GapsAreToldApart, LongGapsAreTold, TimesAreTheSources};
+ghost use Rattle.loop_station_core.specs.Timing.{FrameTimesRise, GapsAreToldApart, LongGapsAreTold, OddTimesAreToldOnce, TimesAreTheSources};
 ghost use Rattle.loop_station_core.specs.Sets.{ClipsHaveTheirOwnIds, IdsAreThoseOfTheFile, StoresHoldWhatCame};
 ghost use Rattle.loop_station_core.specs.Still.{StandstillsAreTold};
 ghost use Rattle.loop_station_core.specs.Clips.{KeepsHaveRoom};
-ghost use Rattle.loop_station_core.specs.Orders.{IdleCamerasAreDone};
+ghost use Rattle.loop_station_core.specs.Orders.{IdleCamerasAreDone, OrdersAreTakenIn};
 ghost use Rattle.loop_station_core.specs.Saving.{ClipsAreSavedOnce, PlacesTellAll};
 ghost use Rattle.loop_station_core.specs.Frames.{LostFramesWereGivenUp, TalliesAddUp};
 ghost use Rattle.loop_station_core.specs.SaveEnds.{EndsAreTold, RetriesAreTold};
-ghost use Rattle.loop_station_core.specs.Telling.{FirstLooksTellAll, LinesTellAll};
+ghost use Rattle.loop_station_core.specs.Telling.{FirstLooksTellAll, LinesTellAll, LongWaitsAreTold, SlowDisksAreTold};
 
 /// Each frame that came is stored, lost, at the desk, or on its way to it.
 pub fn frames_add_up()
@@ -344,4 +344,74 @@ pub fn locked_lines_tell_all()
 /// as soon as no other save of it runs or waits, unless the program ends.
 pub fn earned_clips_are_released()
     ensures { EarnedClipsAreReleased }
+{}
+
+/// While the program goes on, a store that isn't there is opened again, or made anew once where it was moved away.
+pub fn stores_are_opened_again()
+    ensures { StoresAreOpenedAgain }
+{}
+
+/// Each block is known to be locked from a refused flush on until a frame is stored, or another filming begins.
+pub fn locked_blocks_are_known()
+    ensures { LockedBlocksAreKnown }
+{}
+
+/// A source is seen as what it was found to be, and as missing once it has ended.
+pub fn sources_are_seen()
+    ensures { SourcesAreSeen }
+{}
+
+/// Once something breaks, or its store is moved away, a filming is over, whatever happens, until another one begins.
+pub fn broken_filmings_end()
+    ensures { BrokenFilmingsEnd }
+{}
+
+/// The very clip that was saved is released where each save that reads it has ended.
+pub fn unread_saved_clips_are_released()
+    ensures { UnreadSavedClipsAreReleased }
+{}
+
+/// Where a camera is looked at again, and nothing has changed, nothing is told.
+pub fn nothing_is_told_twice()
+    ensures { NothingIsToldTwice }
+{}
+
+/// A search passes no stretch in which it sees a gap, and is over only at its end.
+pub fn searches_look_at_all()
+    ensures { SearchesLookAtAll }
+{}
+
+/// A text whose bytes, name and folder came to the disk is told to be saved; a new name that fails is taken away.
+pub fn texts_are_saved()
+    ensures { TextsAreSaved }
+{}
+
+/// A disk that takes fewer frames than come is told as too slow, and no other one.
+pub fn slow_disks_are_told()
+    ensures { SlowDisksAreTold }
+{}
+
+/// A wait for memory is told once it has lasted for a second, or is over after a tenth of one.
+pub fn long_waits_are_told()
+    ensures { LongWaitsAreTold }
+{}
+
+/// An order is taken in exactly where somebody does orders, or is still to come, and fewer than 256 wait.
+pub fn orders_are_taken_in()
+    ensures { OrdersAreTakenIn }
+{}
+
+/// A save that begins by itself is taken in, and each one where a place is free, as long as the program goes on.
+pub fn saves_are_taken_in()
+    ensures { SavesAreTakenIn }
+{}
+
+/// A cancel takes a save of the clip of its id, if one runs or waits.
+pub fn cancels_find_their_save()
+    ensures { CancelsFindTheirSave }
+{}
+
+/// That a time goes back, or is missing, is told the first time, and not again.
+pub fn odd_times_are_told_once()
+    ensures { OddTimesAreToldOnce }
 {}
