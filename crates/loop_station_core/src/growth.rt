@@ -1,8 +1,7 @@
 //! What is answered to a keep, and what is done of an event whose end lies ahead.
 
-ghost use Rattle.std.specs.Prelude.{◌≡◌, ◌≤◌, ◌<◌, ◌↔◌, IsTrue, true, false};
+ghost use Rattle.std.specs.Prelude.{◌≡◌, ◌==◌, not, ◌≤◌, ◌<◌, ◌↔◌, IsTrue, true, false};
 ghost use Rattle.std.specs.List.{list_any};
-ghost use Rattle.loop_station_core.specs.Growth.{has_event_number, is_saved_at_start};
 ghost use Rattle.loop_station_core.specs.declared.growth.GrowthTurn.TheVariants.{End, Leave, Release};
 ghost use Rattle.loop_station_core.specs.declared.growth.EventEnd.TheVariants.{Refused, Whole};
 
@@ -78,7 +77,7 @@ pub struct OpenEvent {
 
 // Whether one of some events has a number.
 fn has_event(events: &[OpenEvent], number: u64) -> bool
-    ensures { result ≡ list_any (has_event_number number) events.now }
+    ensures { result ≡ list_any (λ e. e.event == number) events.now }
 {
     events.iter().any(|event| event.event == number)
 }
@@ -87,7 +86,7 @@ fn has_event(events: &[OpenEvent], number: u64) -> bool
 /// it is tagged with the number of an event that goes on, whose clips are saved once it is over. Where an event has a
 /// tag of the user's, what it had locked before the program ended stays a clip of its own, and is saved.
 pub fn is_saved_at_start(tag: u64, events: &[OpenEvent]) -> bool
-    ensures { result ≡ is_saved_at_start tag events.now }
+    ensures { result ≡ not (list_any (λ e. e.event == tag) events.now) }
 {
     !has_event(events, tag)
 }

@@ -3,14 +3,12 @@
 ghost use Rattle.loop_station_core.specs.Laws.{BrokenFilmingsEnd, DisksAreToldOnce, FilmingsGoOn, FoundGapsAreSo, FramesAddUp, GapsAddUp, GapsAreLookedFor, KeepsAreRight, LinesAreSo, LockedLinesAlternate, LockedLinesTellAll, LostAreToldOnce, MovedStoresAreLeft, NothingIsToldTwice, OrdersAreAnsweredOnce, OrdersAreHandedOut, OrdersReleaseUnreadClips, OrdersSpareReadClips, ReleasesAreEarned, ReleasesAreFree, SavedClipsAreReleased, SavedTextsAreThere, SavesWaitOnce, SearchesLookAtAll, SilentSourcesWait, StopsAreForGood, TextsAreSaved, UnreadSavedClipsAreReleased, WithdrawnSavesLeaveNothing};
 ghost use Rattle.loop_station_core.specs.Cameras.{CamerasEndWithTheProgram, EndedFilmingsGoOn, LockedBlocksAreKnown, LockedFilmingsWait, OffersAreAnswered, SilenceIsSeen, SourcesAreSeen, StoresAreOpenedAgain};
 ghost use Rattle.loop_station_core.specs.Gaps.{CoveredPartsAreWithin, TimesAddUp};
-ghost use Rattle.loop_station_core.specs.Growth.{ClipsOfOpenEventsWait};
 ghost use Rattle.loop_station_core.specs.Keeps.{KeepsCoverBothEnds, KeepsCoverTheirSeconds, KeepsEnd, KeepsHaveAll, KeepsLockEachBlock, KeepsTakeTheCamerasSeconds};
-ghost use Rattle.loop_station_core.specs.Marks.{LateFramesAreMarked, MarksAreRead};
+ghost use Rattle.loop_station_core.specs.Marks.{MarksAreRead};
 ghost use Rattle.loop_station_core.specs.Releases.{CancelsFindTheirSave, EarnedClipsAreReleased, SavesAddUp, SavesAreTakenIn, SavesWaitForPlaces};
 ghost use Rattle.loop_station_core.specs.Retries.{CancelsMeanTheirClip, DueRetriesAreTaken, RetriesAreDue};
 ghost use Rattle.loop_station_core.specs.Timing.{FrameTimesRise, GapsAreToldApart, LongGapsAreTold, OddTimesAreToldOnce, TimesAreTheSources};
 ghost use Rattle.loop_station_core.specs.Sets.{ClipsHaveTheirOwnIds, IdsAreThoseOfTheFile, StoresHoldWhatCame};
-ghost use Rattle.loop_station_core.specs.Still.{StandstillsAreTold};
 ghost use Rattle.loop_station_core.specs.Clips.{KeepsHaveRoom};
 ghost use Rattle.loop_station_core.specs.Orders.{IdleCamerasAreDone, OrdersAreTakenIn};
 ghost use Rattle.loop_station_core.specs.Saving.{ClipsAreSavedOnce, PlacesTellAll};
@@ -197,21 +195,6 @@ pub fn clips_have_their_own_ids()
 /// The clips of a first store have the ids of their file.
 pub fn ids_are_those_of_the_file()
     ensures { IdsAreThoseOfTheFile }
-{}
-
-/// At a start a clip is saved by itself exactly where it is of no event that goes on.
-pub fn clips_of_open_events_wait()
-    ensures { ClipsOfOpenEventsWait }
-{}
-
-/// A frame is marked as late exactly where it came while the program stood still, or just after.
-pub fn late_frames_are_marked()
-    ensures { LateFramesAreMarked }
-{}
-
-/// A standstill is told exactly where it was longer than a second, and for as long as it was.
-pub fn standstills_are_told()
-    ensures { StandstillsAreTold }
 {}
 
 /// As many keeps of a length as are told to fit into a store do, wherever in a block each begins.
