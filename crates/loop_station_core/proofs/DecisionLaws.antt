@@ -1,10 +1,7 @@
 -- What is decided for what a user asks for.
-use Rattle.std.proofs.Common.{◌≡◌, ◌≢◌, ℕ, ◌+◌, ◌-◌, ◌*◌, ◌^◌, ◌==◌, ◌≤◌, ◌<◌, ◌&&◌, Bool, true, false, not, List, [], ◌∷◌, Option, Some, None, zero, suc, slice_get, arith, refl, ap, max, nat_le, nat_lt, if◌then◌else◌, ◌∙◌}
-use Rattle.std.proofs.lemmas.Bool.{ne_eqb}
-use Rattle.std.proofs.lemmas.Grind.{common_steps}
+use Rattle.std.proofs.Common.{◌≡◌, ℕ, ◌+◌, ◌-◌, ◌*◌, ◌^◌, ◌≤◌, ◌<◌, ◌&&◌, Bool, true, false, not, Option, Some, None, arith, refl}
 use Rattle.loop_station_core.specs.Keeps.{IsAsked, asked_time}
 use Rattle.loop_station_core.specs.Sets.{clip_id}
-use Rattle.loop_station_core.specs.declared.growth.OpenEvent.{OpenEvent}
 use Rattle.loop_station_core.specs.declared.keep.KeepPeriod.TheVariants.{Around, Between}
 
 and-both : (a b : Bool) → a && b ≡ true → (a ≡ true) × (b ≡ true)

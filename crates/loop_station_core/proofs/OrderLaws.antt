@@ -1,7 +1,7 @@
 -- Orders that are taken in are handed out, or wait.
 use Rattle.std.proofs.Common.{◌≡◌, ◌≤◌, ◌+◌, List, [], ◌∷◌, arith, ◌≢◌, ◌<◌, refl, true}
 use Rattle.std.proofs.lemmas.Grind.{common_steps}
-use Rattle.loop_station_core.specs.Orders.{OrderStep, adds, ends, hands, leaves, no_orders, opens, orders_after, orders_after_all, orders_handed_by, orders_handed_in, orders_taken_by, orders_taken_in, OrdersAreTakenIn, order_added, order_handed}
+use Rattle.loop_station_core.specs.Orders.{OrderStep, adds, ends, hands, leaves, no_orders, opens, orders_after, orders_after_all, orders_handed_by, orders_handed_in, orders_taken_by, orders_taken_in, OrdersAreTakenIn, order_added, order_handed, after_one}
 use Rattle.loop_station_core.specs.declared.orders.Orders.{Orders}
 use Rattle.loop_station_core.specs.declared.orders.Attended.{Attended}
 use Rattle.loop_station_core.specs.declared.orders.Attended.TheVariants.{NotYet, Now, Gone}
@@ -35,21 +35,28 @@ orders-taken o = at o.attended refl
     at : (x : Attended) → o.attended ≡ x → let added = order_added o in
         (added.1 ≡ Waits → (o.attended ≢ Gone) × (o.waiting < 256)) × (added.1 ≡ TooMany → 256 ≤ o.waiting)
         × (added.1 ≡ Absent → o.attended ≡ Gone) × (1 ≤ o.waiting → (order_handed o).1 ≡ true)
+        × (1 ≤ o.waiting → (after_one o).1 ≡ true) × ((after_one o).1 ≡ true → 1 ≤ o.waiting)
     at NotYet e = (
       (λ t. ((λ g. grind (arith, common_steps)), grind (arith, common_steps))),
       (λ t. grind (arith, common_steps)),
       (λ t. grind (arith, common_steps)),
       (λ some. grind (arith, common_steps)),
+      (λ some. grind (arith, common_steps)),
+      (λ more. grind (arith, common_steps)),
     )
     at Now e = (
       (λ t. ((λ g. grind (arith, common_steps)), grind (arith, common_steps))),
       (λ t. grind (arith, common_steps)),
       (λ t. grind (arith, common_steps)),
       (λ some. grind (arith, common_steps)),
+      (λ some. grind (arith, common_steps)),
+      (λ more. grind (arith, common_steps)),
     )
     at Gone e = (
       (λ t. grind (arith, common_steps)),
       (λ t. grind (arith, common_steps)),
       (λ t. e),
       (λ some. grind (arith, common_steps)),
+      (λ some. grind (arith, common_steps)),
+      (λ more. grind (arith, common_steps)),
     )

@@ -36,7 +36,12 @@ pub apart : (t : Timing) (a : Arrival) (told : ℕ) → t.told ≡ Some told →
 apart t a told is some = apart_by t.told _ told a.now is some
 
 pub times-sources : TimesAreTheSources
-times-sources t a last = (λ e. grind (arith, common_steps), λ e less. grind (arith, common_steps))
+times-sources t a last said = (
+  (λ e. grind (arith, common_steps)),
+  (λ e. grind (arith, common_steps)),
+  (λ e. grind (arith, common_steps)),
+  (λ e less. grind (arith, common_steps)),
+)
 
 pub gaps-told : LongGapsAreTold
 gaps-told t a last is fits = (

@@ -1,5 +1,5 @@
 -- What of a time is held, and where one clip lies within others.
-use Rattle.std.specs.Prelude.{◌≡◌, true, ℕ, ◌+◌, ◌-◌, ◌/◌, ◌≤◌, ◌&&◌, Bool, List, [], ◌∷◌, filter, sum_by, nat_lt, nat_le}
+use Rattle.std.specs.Prelude.{◌≡◌, true, ℕ, ◌+◌, ◌-◌, ◌/◌, ◌≤◌, ◌&&◌, Bool, List, [], ◌∷◌, filter, sum_by, nat_lt, nat_le, ◌<◌, ◌*◌}
 use Rattle.loop_station_core.specs.declared.runs.Run.{Run}
 use Rattle.loop_station_core.specs.declared.runs.Gap.{Gap}
 use Rattle.loop_station_core.specs.declared.runs.ClipSpan.{ClipSpan}
@@ -44,3 +44,8 @@ micros_held runs = sum_by (λ r. r.last - r.first) runs
 abbrev pub TimesAddUp : Type 0
 TimesAddUp = (since until : ℕ) (runs : List Run) → AreWithin since runs until
     → micros_missing (gaps 0 since runs until) + micros_held runs ≡ until - since
+
+-- A gap is long exactly where it is longer than one and a half of a frame's time.
+abbrev pub LongGapsAreLong : Type 0
+LongGapsAreLong = (period : ℕ) (g : Gap) → (is_long_gap period g ≡ true → period * 3 < g.micros * 2)
+    × (period * 3 < g.micros * 2 → is_long_gap period g ≡ true)

@@ -1,5 +1,5 @@
 -- When a keep of a camera locks, and what.
-use Rattle.std.specs.Prelude.{ℕ, ◌+◌, ◌-◌, ◌*◌, ◌%◌, ◌^◌, ◌≡◌, ◌≢◌, ◌≤◌, ◌<◌, ◌⊎◌, ◌==◌, ◌&&◌, ◌||◌, Bool, true, not, List, [], ◌∷◌, Option, Some, None, is_some, unwrap_or, min, max, nat_lt, nat_le, if◌then◌else◌}
+use Rattle.std.specs.Prelude.{ℕ, ◌+◌, ◌-◌, ◌*◌, ◌%◌, ◌^◌, ◌≡◌, ◌≢◌, ◌≤◌, ◌<◌, ◌⊎◌, ◌==◌, ◌&&◌, ◌||◌, Bool, true, not, List, [], ◌∷◌, Option, Some, None, is_some, unwrap_or, min, max, nat_lt, nat_le, if◌then◌else◌, false}
 use Rattle.loop_station_core.specs.declared.tally.Tally.{Tally}
 use Rattle.loop_station_core.specs.declared.keep.Keep.{Keep}
 use Rattle.loop_station_core.specs.declared.keep.Look.{Look}
@@ -141,3 +141,20 @@ KeepsCoverBothEnds = (since until read before after t : ℕ)
 abbrev pub KeepsLockEachBlock : Type 0
 KeepsLockEachBlock = (k : Keep) (l : Look) → k.come ≤ l.tally.brought → (k.part ≡ None) ⊎ (k.block ≢ l.block)
     → (step_keep k l).1 ≢ Wait
+
+-- A keep is done once its end has passed, or the program ends, and nothing helps: each block is locked, or no frame has
+-- made progress for a minute. At a stop it is done at once where the frames that came are at the desk or lost.
+abbrev pub StuckKeepsEnd : Type 0
+StuckKeepsEnd = (k : Keep) (l : Look) → (k.until ≤ l.time) ⊎ (l.stopping ≡ true)
+    → (l.locked ≡ true) ⊎ ((60000000 < l.time - (looked k l).moved) ⊎ (needed (looked k l) l ≤ l.tally.brought))
+    → (step_keep k l).1 ≡ Whole
+
+-- A frame's progress is seen when the count of steps is another one.
+abbrev pub ProgressIsSeen : Type 0
+ProgressIsSeen = (k : Keep) (l : Look) → (steps_taken l.tally ≡ k.steps → (looked k l).moved ≡ k.moved)
+    × (steps_taken l.tally ≢ k.steps → (looked k l).moved ≡ l.time)
+
+-- A keep locks a part only once for each block.
+abbrev pub KeepsLockOnce : Type 0
+KeepsLockOnce = (k : Keep) (l : Look) (until : ℕ) → (step_keep k l).1 ≡ Part until
+    → (has_newest k l ≡ false) × (has_newest (step_keep k l).0 l ≡ true)

@@ -1,5 +1,5 @@
 -- The mark of a frame: bits 24 to 29 of its flags.
-use Rattle.std.specs.Prelude.{◌≡◌, ◌<◌, ◌≤◌, ℕ, ◌+◌, ◌-◌, ◌*◌, ◌/◌, ◌%◌, ◌==◌, ◌||◌, Bool, true, false, Option, Some, None, nat_le, nat_lt, if◌then◌else◌}
+use Rattle.std.specs.Prelude.{◌≡◌, ◌<◌, ◌≤◌, ℕ, ◌+◌, ◌*◌, ◌/◌, ◌%◌, ◌==◌, Bool, Option, Some, None, if◌then◌else◌}
 
 -- bits 24 to 28 are the bits of a sample, 0 for 8, and bit 29 is set where the frame came late
 abbrev pub mark : ℕ → Bool → ℕ

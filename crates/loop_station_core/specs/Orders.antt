@@ -93,3 +93,4 @@ abbrev pub OrdersAreTakenIn : Type 0
 OrdersAreTakenIn = (o : Orders) → let added = order_added o in
     (added.1 ≡ Waits → (o.attended ≢ Gone) × (o.waiting < 256)) × (added.1 ≡ TooMany → 256 ≤ o.waiting)
     × (added.1 ≡ Absent → o.attended ≡ Gone) × (1 ≤ o.waiting → (order_handed o).1 ≡ true)
+    × (1 ≤ o.waiting → (after_one o).1 ≡ true) × ((after_one o).1 ≡ true → 1 ≤ o.waiting)

@@ -79,8 +79,9 @@ GapsAreToldApart = (t : Timing) (a : Arrival) (told : ℕ) → t.told ≡ Some t
 
 -- A frame has the time that its source says, or else that at which it came, wherever this is later than the last one.
 abbrev pub TimesAreTheSources : Type 0
-TimesAreTheSources = (t : Timing) (a : Arrival) (last : ℕ) → let time = (step_timing t a).1.time in
-    (t.last ≡ None → time ≡ said_or_now a) × (t.last ≡ Some last → last < said_or_now a → time ≡ said_or_now a)
+TimesAreTheSources = (t : Timing) (a : Arrival) (last said : ℕ) → let time = (step_timing t a).1.time in
+    (a.said ≡ Some said → said_or_now a ≡ said) × (a.said ≡ None → said_or_now a ≡ a.now)
+    × (t.last ≡ None → time ≡ said_or_now a) × (t.last ≡ Some last → last < said_or_now a → time ≡ said_or_now a)
 
 -- A gap is told only where more than one and a half of a frame's time passed since the last one; and where so much did
 -- in a stream, one is told unless that was so within a second. Each counts, told or not.

@@ -2,8 +2,8 @@
 
 ghost use Rattle.loop_station_core.specs.Laws.{BrokenFilmingsEnd, DisksAreToldOnce, FilmingsGoOn, FoundGapsAreSo, FramesAddUp, GapsAddUp, GapsAreLookedFor, KeepsAreRight, LinesAreSo, LockedLinesAlternate, LockedLinesTellAll, LostAreToldOnce, MovedStoresAreLeft, NothingIsToldTwice, OrdersAreAnsweredOnce, OrdersAreHandedOut, OrdersReleaseUnreadClips, OrdersSpareReadClips, ReleasesAreEarned, ReleasesAreFree, SavedClipsAreReleased, SavedTextsAreThere, SavesWaitOnce, SearchesLookAtAll, SilentSourcesWait, StopsAreForGood, TextsAreSaved, UnreadSavedClipsAreReleased, WithdrawnSavesLeaveNothing};
 ghost use Rattle.loop_station_core.specs.Cameras.{CamerasEndWithTheProgram, EndedFilmingsGoOn, LockedBlocksAreKnown, LockedFilmingsWait, OffersAreAnswered, SilenceIsSeen, SourcesAreSeen, StoresAreOpenedAgain};
-ghost use Rattle.loop_station_core.specs.Gaps.{CoveredPartsAreWithin, TimesAddUp};
-ghost use Rattle.loop_station_core.specs.Keeps.{KeepsCoverBothEnds, KeepsCoverTheirSeconds, KeepsEnd, KeepsHaveAll, KeepsLockEachBlock, KeepsTakeTheCamerasSeconds};
+ghost use Rattle.loop_station_core.specs.Gaps.{CoveredPartsAreWithin, LongGapsAreLong, TimesAddUp};
+ghost use Rattle.loop_station_core.specs.Keeps.{KeepsCoverBothEnds, KeepsCoverTheirSeconds, KeepsEnd, KeepsHaveAll, KeepsLockEachBlock, KeepsLockOnce, KeepsTakeTheCamerasSeconds, ProgressIsSeen, StuckKeepsEnd};
 ghost use Rattle.loop_station_core.specs.Marks.{MarksAreRead};
 ghost use Rattle.loop_station_core.specs.Releases.{CancelsFindTheirSave, EarnedClipsAreReleased, SavesAddUp, SavesAreTakenIn, SavesWaitForPlaces};
 ghost use Rattle.loop_station_core.specs.Retries.{CancelsMeanTheirClip, DueRetriesAreTaken, RetriesAreDue};
@@ -11,7 +11,7 @@ ghost use Rattle.loop_station_core.specs.Timing.{FrameTimesRise, GapsAreToldApar
 ghost use Rattle.loop_station_core.specs.Sets.{ClipsHaveTheirOwnIds, IdsAreThoseOfTheFile, StoresHoldWhatCame};
 ghost use Rattle.loop_station_core.specs.Clips.{KeepsHaveRoom};
 ghost use Rattle.loop_station_core.specs.Orders.{IdleCamerasAreDone, OrdersAreTakenIn};
-ghost use Rattle.loop_station_core.specs.Saving.{ClipsAreSavedOnce, PlacesTellAll};
+ghost use Rattle.loop_station_core.specs.Saving.{CancelledSavesAreTheirs, ClipsAreSavedOnce, PlacesTellAll, ReadersAreSo, SavesEarnTheirClip, StopsEndSaves};
 ghost use Rattle.loop_station_core.specs.Frames.{LostFramesWereGivenUp, TalliesAddUp};
 ghost use Rattle.loop_station_core.specs.SaveEnds.{EndsAreTold, RetriesAreTold};
 ghost use Rattle.loop_station_core.specs.Telling.{FirstLooksTellAll, LinesTellAll, LongWaitsAreTold, SlowDisksAreTold};
@@ -397,4 +397,45 @@ pub fn cancels_find_their_save()
 /// That a time goes back, or is missing, is told the first time, and not again.
 pub fn odd_times_are_told_once()
     ensures { OddTimesAreToldOnce }
+{}
+
+/// A keep whose end has passed, or at a stop, is done once its frames are there, each block is locked, or nothing
+/// moves.
+pub fn stuck_keeps_end()
+    ensures { StuckKeepsEnd }
+{}
+
+/// A keep sees when a frame makes progress, and takes nothing else for that.
+pub fn progress_is_seen()
+    ensures { ProgressIsSeen }
+{}
+
+/// A keep locks a part only once for each block.
+pub fn keeps_lock_once()
+    ensures { KeepsLockOnce }
+{}
+
+/// A gap is long exactly where it is longer than one and a half of a frame's time.
+pub fn long_gaps_are_long()
+    ensures { LongGapsAreLong }
+{}
+
+/// A clip is read exactly by the saves of its camera that are of its id, or that read each clip with its tag.
+pub fn readers_are_so()
+    ensures { ReadersAreSo }
+{}
+
+/// A save releases its clip exactly where it began by itself, its text is there, and its camera releases clips then.
+pub fn saves_earn_their_clip()
+    ensures { SavesEarnTheirClip }
+{}
+
+/// A cancel is of the clip of its camera and id, and finds each save once.
+pub fn cancelled_saves_are_theirs()
+    ensures { CancelledSavesAreTheirs }
+{}
+
+/// Once the program ends each save ends, one after the other, and none is left when none is told.
+pub fn stops_end_saves()
+    ensures { StopsEndSaves }
 {}
