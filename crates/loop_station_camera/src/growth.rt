@@ -209,6 +209,7 @@ fn lengthen<R: Wait + Clock, D: Disk + Drop>(
         until: part.until,
     };
     let (kept, refused) = store_and_keep_more(rt, alloc, state, desks, times, &mut growing);
+    let refused = refused.or(state.locked_fault(rt));
     growing.lengthen(alloc, kept, refused, part.is_whole);
     state.desk.put_growing(rt, growing);
 }

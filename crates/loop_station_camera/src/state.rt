@@ -340,6 +340,15 @@ impl CameraState {
         self.life.camera(rt).locked
     }
 
+    /// Why frames that came before a keep aren't stored, where the camera has several stores: none of them takes one.
+    pub(crate) fn locked_fault<R: Wait>(&self, rt: &R) -> Option<StoreFault> {
+        if self.has_several(rt) && self.is_locked(rt) {
+            Some(StoreFault::AllLocked)
+        } else {
+            None
+        }
+    }
+
     /// How many frames have come from its source.
     pub(crate) fn come<R: Wait>(&self, rt: &R) -> u64 {
         let (come, _) = self.feed.counts(rt);
