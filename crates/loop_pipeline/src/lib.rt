@@ -49,7 +49,9 @@ pub use camera::Camera;
 pub use door::Door;
 pub use ending::{CameraEnd, end};
 pub use entry::{Entry, FrameInfo, Noted, Pass, Receipt};
-pub use film::{Link, Unfilmed, film_back, film_camera, film_desks, film_front};
+pub use film::{
+    GuidedCamera, Inlet, Link, Unfilmed, film_back, film_camera, film_desks, film_front,
+};
 pub use front::{Begun, Front, FrontParts, TakeOutcome};
 pub use guide::Guide;
 pub use seat::{Notes, Noting, Seat, Taken};

@@ -8,7 +8,7 @@ use loop_capture::Device;
 use loop_desk::Desk;
 use loop_file::FileDisk;
 use loop_pipeline::{
-    Camera, CameraEnd, Door, Unfilmed, film_desks, heap_start, new_queue, start_queue,
+    Camera, CameraEnd, Door, GuidedCamera, Unfilmed, film_desks, heap_start, new_queue, start_queue,
 };
 use loop_plane::HeapPlane;
 use loop_station_camera::CameraState;
@@ -257,7 +257,12 @@ fn film<R: AllocGlobal + Places + Threads + Wait + Clock + Sync, W: Write + Drop
             // Where a thread is refused, the camera is filmed into the one store that is open.
             let _alone = scope.spawn(move || open_others(rt, state, outlet, door, rest));
         }
-        let filmed = film_desks(rt, rt.alloc(), scope, &state.threads, state, door, camera);
+        let guided = GuidedCamera {
+            link: &state.threads,
+            guide: state,
+            camera,
+        };
+        let filmed = film_desks(rt, rt.alloc(), scope, guided, door);
         state.stored.close(rt);
         filmed
     })

@@ -5,10 +5,11 @@ use crate::common::*;
 use loop_capture::{Device, Pattern, Tick};
 use loop_desk::{Desk, Flushed, Hand, LaneFault};
 use loop_disk::{Disk, FuseDisk, MemDisk};
-use loop_lane::{LostFrames, film_and_export};
+use loop_lane::{LostFrames, Numbers, film_and_export};
 use loop_pipeline::{
-    Back, Begun, Brought, Camera, CameraEnd, Front, Guide, Link, LostFrame, Noting, Outcome, Seat,
-    Shot, TakeOutcome, Visits, end, film_all, film_camera, heap_start, new_queue, start_queue,
+    Back, Begun, Brought, Camera, CameraEnd, Front, Guide, GuidedCamera, Link, LostFrame, Noting,
+    Outcome, Seat, Shot, TakeOutcome, Visits, end, film_all, film_camera, heap_start, new_queue,
+    start_queue,
 };
 use loop_plane::{FdTable, HeapPlane, PlaneMemory};
 use loop_record::{Frame, Times};
@@ -330,7 +331,13 @@ fn film_text<R: Threads + Wait + Clock + Abort + Sync>(
         rt,
         move |scope| -> (Option<LostFrames>, Vec<u8>) {
             let mut out = Vec::new(alloc);
-            let lost = film_and_export(rt, alloc, scope, link, guide, camera, 18, 19, &mut out);
+            let guided = GuidedCamera {
+                link,
+                guide,
+                camera,
+            };
+            let numbers = Numbers { from: 18, to: 19 };
+            let lost = film_and_export(rt, alloc, scope, guided, numbers, &mut out);
             (lost.ok(), out)
         },
     )
