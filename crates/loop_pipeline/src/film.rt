@@ -9,6 +9,7 @@ ghost use Rattle.rtrb.specs.Ring.{IsPair, sent};
 ghost use Rattle.loop_pipeline.specs.Fronts.{HandIsSpent, IsRegular, Leaves, LeavesCarried, StaysOpen, made_of, StandsPort};
 
 use crate::bell::Bell;
+use crate::guided::visit;
 use crate::start_barrier::StartBarrier;
 use crate::{
     Back, Begun, Brought, Camera, CameraEnd, Door, Front, FrontParts, Guide, Seat, TakeOutcome,
@@ -217,7 +218,7 @@ fn bring_all<R: Wait, D: Disk + Drop, G: Guide>(
     ensures { back.new ≡ record back.old { desks = back.new.desks } }
 {
     let mut some = false;
-    let most = back.group();
+    let most = back.desks().group();
     'frames: for _ in 0..most {
         match back.bring(anyway) {
             Brought::Submitted(number) => guide.brought(rt, back, number),
@@ -242,7 +243,7 @@ fn bring_all<R: Wait, D: Disk + Drop, G: Guide>(
 fn give_memory<R: Wait, D: Disk + Drop, K: Visits>(rt: &R, link: &Link, back: &mut Back<D, K>)
     ensures { back.new ≡ back.old }
 {
-    let most = back.group();
+    let most = back.desks().group();
     'rows: for _ in 0..most {
         let Some(bytes) = back.spare_memory() else {
             break;
@@ -291,7 +292,7 @@ fn serve<R: Wait + Clock, D: Disk + Drop, G: Guide>(
     let anyway = turn_for(rt, guide, back);
     let some = bring_all(rt, link, guide, back, anyway);
     if G::VISITED {
-        guide.visit(rt, alloc, back);
+        visit(rt, alloc, guide, back);
     }
     give_memory(rt, link, back);
     some
@@ -306,7 +307,7 @@ fn flush_some<R: Wait, D: Disk + Drop, G: Guide>(
 ) -> Option<u64>
     ensures { back.new ≡ record back.old { desks = back.new.desks } }
 {
-    if back.is_refused() || back.status(back.active()).pending == 0 {
+    if back.is_refused() || back.desks().status(back.desks().active()).pending == 0 {
         return None;
     }
     guide.flushing(rt);

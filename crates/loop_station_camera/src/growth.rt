@@ -9,7 +9,7 @@ use crate::releasing::unlock;
 use crate::replies::{tell_clips, tell_shortfall};
 use crate::state::CameraState;
 use loop_disk::Disk;
-use loop_pipeline::Back;
+use loop_pipeline::Desks;
 use loop_record::Times;
 use loop_station_core::{EventEnd, GrowthTurn, Keep, OpenEvent, Run, event_end, next_growth};
 use loop_station_shared::{FoundClip, Note};
@@ -119,10 +119,10 @@ pub(crate) fn grow<R: Wait + Clock, D: Disk + Drop>(
     rt: &R,
     alloc: Global,
     state: &CameraState,
-    back: &mut Back<D, CameraState>,
+    desks: &mut Desks<D, CameraState>,
     growing: Growing,
 )
-    ensures { back.new ≡ record back.old { desks = back.new.desks } }
+    ensures { desks.new.lent ≡ desks.old.lent }
 {
     let (now, stopping) = (state.timeline.now(rt), state.is_stopped(rt));
     match next_growth(
@@ -132,16 +132,16 @@ pub(crate) fn grow<R: Wait + Clock, D: Disk + Drop>(
         now,
         growing.keep.until,
     ) {
-        GrowthTurn::Release => release_covered(rt, state, back, growing),
+        GrowthTurn::Release => release_covered(rt, state, desks, growing),
         GrowthTurn::End => {
-            let found = times_of(rt, alloc, state, back, growing.clips());
-            let runs = runs_of(rt, alloc, state, back, &found);
+            let found = times_of(rt, alloc, state, desks, growing.clips());
+            let runs = runs_of(rt, alloc, state, desks, &found);
             state.end_growing(rt, alloc, growing, &found, &runs);
         }
         GrowthTurn::Leave => {
             state.desk.put_growing(rt, growing);
         }
-        GrowthTurn::Keep => lengthen(rt, alloc, state, back, growing),
+        GrowthTurn::Keep => lengthen(rt, alloc, state, desks, growing),
     }
 }
 
@@ -149,15 +149,15 @@ pub(crate) fn grow<R: Wait + Clock, D: Disk + Drop>(
 fn release_covered<R: Wait, D: Disk + Drop>(
     rt: &R,
     state: &CameraState,
-    back: &mut Back<D, CameraState>,
+    desks: &mut Desks<D, CameraState>,
     growing: Growing,
 )
-    ensures { back.new ≡ record back.old { desks = back.new.desks } }
+    ensures { desks.new.lent ≡ desks.old.lent }
 {
     let mut growing = growing;
     if let Some(id) = growing.next_covered() {
         // Where that is refused, it stays locked.
-        let _stays = unlock(rt, state, back, id);
+        let _stays = unlock(rt, state, desks, id);
     }
     state.desk.put_growing(rt, growing);
 }
@@ -167,10 +167,10 @@ fn lengthen<R: Wait + Clock, D: Disk + Drop>(
     rt: &R,
     alloc: Global,
     state: &CameraState,
-    back: &mut Back<D, CameraState>,
+    desks: &mut Desks<D, CameraState>,
     growing: Growing,
 )
-    ensures { back.new ≡ record back.old { desks = back.new.desks } }
+    ensures { desks.new.lent ≡ desks.old.lent }
 {
     let mut growing = growing;
     let (keep, turn) = turn_of(rt, state, growing.keep);
@@ -183,7 +183,7 @@ fn lengthen<R: Wait + Clock, D: Disk + Drop>(
         since: keep.since,
         until: part.until,
     };
-    let (kept, refused) = store_and_keep_more(rt, alloc, state, back, times, &mut growing);
+    let (kept, refused) = store_and_keep_more(rt, alloc, state, desks, times, &mut growing);
     growing.lengthen(alloc, kept, refused, part.is_whole);
     state.desk.put_growing(rt, growing);
 }
