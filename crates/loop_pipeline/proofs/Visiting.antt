@@ -1,8 +1,8 @@
 -- What visits do to the desks that are lent to them, and what a back keeps after a visit.
-use Rattle.std.proofs.Common.{◌≡◌, ◌==◌, ◌++◌, ◌<◌, ℕ, Bool, true, false, List, [], ◌∷◌, All, length, map, slice_get, slice_index_or, slice_set, IfSome, None, Option, Some, Err, refl, sym, ap, ◌∙◌, subst, arith}
+use Rattle.std.proofs.Common.{◌≡◌, ◌==◌, ◌++◌, ◌<◌, ℕ, Bool, true, false, List, [], ◌∷◌, All, length, map, slice_get, slice_index_or, slice_set, IfSome, None, Option, Some, Err, refl, sym, ap, ◌∙◌, subst}
 use Rattle.std.proofs.lemmas.Bool.{eqb-true, eqb-false}
 use Rattle.std.proofs.lemmas.Grind.{flat_map-append}
-use Rattle.std.proofs.lemmas.List.{append-nil, append_assoc, length-append, length-set}
+use Rattle.std.proofs.lemmas.List.{append-nil, append_assoc, length-set}
 use Rattle.std.proofs.lemmas.List.Elements.{All-append, All-cons, All-nil, Contains-append_left, filter-append}
 use Rattle.std.proofs.lemmas.Option.{slice_get_within}
 use Rattle.std.specs.List.{filter, flat_map}
@@ -16,7 +16,7 @@ use Rattle.loop_store.specs.declared.fault.StoreFault.{StoreFault}
 use Rattle.loop_desk.specs.Desk.{DeskCall, flushed}
 use Rattle.loop_desk.specs.Seen.{DeskGoes, SeenDesk}
 use Rattle.loop_pipeline.specs.Backs.{BackKeeps, GoesBy, IsFed, IsLast, IsRightful, MayGiveUp, MayGiveUpAt, Part, SeenBack, Served, calls_at, calls_of, is_placed_submit, is_submit, part_for, parts_at, placed_calls, visited}
-use Rattle.loop_pipeline.specs.Desks.{AreVisited, EachWent, SeenDesks, turned}
+use Rattle.loop_pipeline.specs.Desks.{AreVisited, EachWent, Lent, SeenDesks, turned}
 use Rattle.loop_pipeline.specs.Turns.{MayTurn}
 use Rattle.loop_pipeline.proofs.BackRuns.{all-more, by-more, fed-beside, parts-elsewhere, parts-here, placed-none, served-more}
 use Rattle.loop_pipeline.proofs.Places.{get-set-other, get-set-same, set-same, some-same, some-there}
@@ -179,6 +179,19 @@ module _ {D A : Type 0} (medium : D → Medium) (asks : DeskCall → Type 0) (gi
     tried = λ e. refused-still gives_up (length began) keeps.parts so.parts (keeps.tried e);
     excused = keeps.excused;
   }
+
+  -- so it is of the desks that were lent
+  pub kept-lent : (began desks : List (SeenDesk D)) (active : ℕ) (before from : Consumer (Frame A) A AnyItems) (given_up : ℕ)
+      (refused : Bool) (seen : SeenDesks D) → seen.lent ≡ record { began = desks; active = active }
+      → AreVisited medium asks seen
+      → BackKeeps medium asks gives_up (record { began = began; from = before; desks = desks; active = active }) from
+      given_up refused
+      → BackKeeps medium asks gives_up
+      (record { began = began; from = before; desks = seen.desks; active = seen.lent.active }) from given_up refused
+  kept-lent began desks active before from given_up refused seen lent so keeps =
+      kept-since began before from given_up refused seen so
+      (subst (λ (l : Lent D). BackKeeps medium asks gives_up
+      (record { began = began; from = before; desks = l.began; active = l.active }) from given_up refused) (sym lent) keeps)
 
   -- what it keeps of desks and of the active one's place it keeps of those that are seen
   pub kept-as : (began desks : List (SeenDesk D)) (active : ℕ) (before from : Consumer (Frame A) A AnyItems) (given_up : ℕ)

@@ -1,6 +1,6 @@
 //! A camera's desks, and the end of the ring from which their frames come: owned by one thread.
 
-ghost use Rattle.std.specs.Prelude.{◌≡◌, ◌∷◌, ◌<◌, ◌≤◌, ℕ, List, IfErr, IfOk, IfSome, [], length, false, true};
+ghost use Rattle.std.specs.Prelude.{◌≡◌, ◌∷◌, ◌<◌, ◌≤◌, ℕ, IfErr, IfOk, IfSome, [], length, false, true};
 ghost use Rattle.rtrb.specs.Ring.{received};
 ghost use Rattle.loop_pipeline.specs.declared.back.Brought.TheVariants.{Submitted};
 ghost use Rattle.loop_pipeline.specs.Backs.{BackKeeps, FitsBlock, IsBrought, IsChangedAt, IsSoAt, WasRefused, with_joined};

@@ -85,7 +85,9 @@ impl<D: Disk + Drop, K: Visits, A: Allocator + Copy> Desks<D, K, A> {
     // What visits did since then.
     pub(crate) fn visited(&self)
         ensures { AreVisited D.medium K.asks self.now }
-    {}
+    {
+        let _active = self.active;
+    }
 
     // Takes the next frame of a ring to the active desk, as `Seat::submit_from`. No visit is on.
     pub(crate) fn submit_from(&mut self, from: &mut Consumer<Frame<A>, A>) -> Taken

@@ -1,6 +1,5 @@
-use Rattle.std.proofs.Common.{◌≡◌, ◌≤◌, Err, Some, ap, length, slice_get, subst, sym, ◌∙◌}
+use Rattle.std.proofs.Common.{◌≤◌, Err, ap, length, slice_get, subst, sym, ◌∙◌}
 use Rattle.loop_record.specs.Recording.{picture}
-use Rattle.loop_desk.specs.Seen.{SeenDesk}
 use Rattle.loop_pipeline.specs.declared.entry.FrameInfo.{FrameInfo}
 use Rattle.loop_pipeline.specs.Backs.{FitsBlock, HasRoom, IsSoAt, SeenBack}
 use Rattle.loop_pipeline.specs.Turns.{MayBegin}

@@ -1,6 +1,5 @@
-use Rattle.std.proofs.Common.{◌≡◌, ◌∷◌, [], ap, length, ◌∙◌, subst}
+use Rattle.std.proofs.Common.{◌∷◌, [], ap, subst}
 use Rattle.std.proofs.lemmas.List.{map-append}
-use Rattle.loop_pipeline.specs.Backs.{SeenBack, with_joined}
 use Rattle.loop_store.specs.Reopen.{TellsOne}
 use Rattle.loop_pipeline.proofs.BackRuns.{one-more}
 use Rattle.loop_pipeline.proofs.Visiting.{kept-as}
@@ -13,6 +12,3 @@ invariant_of-self g c =
     (kept-as g.D.Disk.medium g.K.Visits.asks g.K.Visits.gives_up _ _ _ _ _ _ _ c.join.new.self done.1 done.2
     (one-more g.D.Disk.medium g.K.Visits.asks g.K.Visits.gives_up _ _ _ _ _ _ _ c.args.desk (subst TellsOne (ap (λ d. d.store) c.desk.ensures) c.opens.ensures.tells)
     (λ now. g.met.D.Disk.sound c.args.desk.store.disk now) c.self.invariant))
-
-pub invariant_of-self-in-Err : goal.invariant_of-self-in-Err
-invariant_of-self-in-Err g c = rw c.in-Err.ensures.refused.1 c.self.invariant

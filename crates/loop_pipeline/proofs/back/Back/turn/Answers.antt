@@ -1,4 +1,4 @@
-use Rattle.std.proofs.Common.{◌≡◌, ◌<◌, ap, length, refl, subst}
+use Rattle.std.proofs.Common.{◌<◌, ap, length, refl, subst}
 use Rattle.loop_pipeline.specs.Backs.{SeenBack}
 use Rattle.loop_pipeline.specs.Desks.{SeenDesks}
 use Rattle.loop_pipeline.specs.Turns.{MayTurn, TurnsTo}

@@ -1,6 +1,6 @@
-use Rattle.std.proofs.Common.{◌≡◌, [], ◌∷◌, refl, subst}
+use Rattle.std.proofs.Common.{refl}
 use Rattle.loop_desk.specs.Desk.{flushed}
-use Rattle.loop_pipeline.specs.Backs.{IsLast, own}
+use Rattle.loop_pipeline.specs.Backs.{own}
 use Rattle.loop_pipeline.proofs.DeskPlaces.{goes-active, some-then}
 use Rattle.loop_pipeline.proofs.Places.{read-at, set-same}
 use Rattle.loop_pipeline.proofs.Visiting.{last-visited, visited-maybe}

@@ -3,7 +3,7 @@ use Rattle.loop_pipeline.proofs.Turning.{search-begins, search-ends}
 use Rattle.loop_pipeline.proofs.desks.Desks.next_desk.Goals as goal
 
 pub desks-init : goal.desks-init
-desks-init g c = search-begins g.D.Disk.medium _ _ (c.new-search.ensures _)
+desks-init g c = search-begins g.D.Disk.medium c.args.self.now _ (c.new-search.ensures _)
 
 pub returns : goal.returns
 returns g c =

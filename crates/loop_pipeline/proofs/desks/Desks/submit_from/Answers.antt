@@ -1,6 +1,5 @@
-use Rattle.std.proofs.Common.{◌<◌, length, refl, subst, sym}
+use Rattle.std.proofs.Common.{◌<◌, refl, subst, sym}
 use Rattle.std.proofs.lemmas.List.{length-set}
-use Rattle.loop_pipeline.specs.Desks.{SeenDesks, SubmitsAt}
 use Rattle.loop_pipeline.proofs.Places.{read-at}
 use Rattle.loop_pipeline.proofs.Visiting.{none-visited}
 use Rattle.loop_pipeline.proofs.desks.Desks.submit_from.Goals as goal
