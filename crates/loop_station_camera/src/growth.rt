@@ -44,13 +44,7 @@ impl CameraState {
     }
 
     /// The same of an event that was open when the program ended last. It isn't told.
-    pub fn put_event<R: Wait>(
-        &self,
-        rt: &R,
-        alloc: Global,
-        keep: Keep,
-        clips: Vec<Clip>,
-    ) -> bool {
+    pub fn put_event<R: Wait>(&self, rt: &R, alloc: Global, keep: Keep, clips: Vec<Clip>) -> bool {
         self.desk
             .put_growing(rt, Growing::new(alloc, keep, clips))
             .is_none()

@@ -283,7 +283,11 @@ fn leave_alone<R: AllocGlobal + Wait + Clock, W: Write + Drop>(
     let mut lines = state.lines(rt.alloc());
     let why = Absent::Store(StoreFault::MustReopen);
     // Where memory for the line is refused, it isn't printed.
-    if is_new && lines.one_absent(state.config.name.as_str(), path.as_str(), &why).is_ok() {
+    if is_new
+        && lines
+            .one_absent(state.config.name.as_str(), path.as_str(), &why)
+            .is_ok()
+    {
         outlet.put(rt, &lines);
     }
 }

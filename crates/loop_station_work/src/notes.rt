@@ -65,7 +65,9 @@ fn run_notes<R: AllocGlobal + Places + Wait + Clock>(rt: &R, state: &CameraState
         let note = if unwritten.is_none() {
             state.notes.take(rt)
         } else {
-            state.notes.take_within(rt, Duration::from_millis(TRY_AGAIN))
+            state
+                .notes
+                .take_within(rt, Duration::from_millis(TRY_AGAIN))
         };
         match note {
             Some(Note::Open(events, told)) => {

@@ -356,7 +356,11 @@ fn goes_on<R: AllocGlobal + Wait + Clock, I: Read + Drop>(
     begin_read(rt, state);
     let found = input.seek_header();
     state.life.on_source(rt, SourceEvent::Read);
-    if found.is_ok() { Next::Stream } else { Next::End }
+    if found.is_ok() {
+        Next::Stream
+    } else {
+        Next::End
+    }
 }
 
 // A writer goes on that gave its header before the program began: its frames are as the store has them, from the next
