@@ -1,8 +1,8 @@
 -- Lines say what is so, once.
-use Rattle.std.proofs.Common.{◌≡◌, ℕ, ◌+◌, ◌/◌, ◌≤◌, ◌==◌, ◌||◌, ◌&&◌, Bool, true, false, List, [], ◌∷◌, Option, Some, None, IfSome, arith, refl, nat_lt, if◌then◌else◌, subst, sym, suc, zero, ◌∙◌, is_some}
+use Rattle.std.proofs.Common.{◌≡◌, ℕ, ◌+◌, ◌/◌, ◌≤◌, ◌==◌, ◌||◌, ◌&&◌, Bool, true, false, List, [], ◌∷◌, Option, Some, None, IfSome, arith, refl, nat_lt, if◌then◌else◌, subst, sym, suc, zero, ◌∙◌, is_some, ◌⊎◌, inl, inr, ◌^◌, ◌<◌}
 use Rattle.std.proofs.lemmas.Grind.{common_steps}
 use Rattle.loop_station_core.specs.Laws.{Alternate, IsSo, StaysLost, is_measured, locked_lines, lost_in_line, lost_told_in, syncs_in, LinesAreSo, LockedLinesTellAll, NothingIsToldTwice}
-use Rattle.loop_station_core.specs.Telling.{is_missing, known_after, lines_of, same_source, source_line, told_behind, told_locked, told_lost, told_making, told_nearly, told_slow, told_source, told_store, told_syncs, told_unusable, told_waited, FirstLooksTellAll, LinesTellAll, heard_behind, heard_store, LongWaitsAreTold, SlowDisksAreTold}
+use Rattle.loop_station_core.specs.Telling.{is_missing, known_after, lines_of, same_source, source_line, told_behind, told_locked, told_lost, told_making, told_nearly, told_slow, told_source, told_store, told_syncs, told_unusable, told_waited, FirstLooksTellAll, LinesTellAll, heard_behind, heard_store, LongWaitsAreTold, SlowDisksAreTold, LostFramesAreToldSoon}
 use Rattle.loop_station_core.specs.declared.changes.SourceSeen.{SourceSeen}
 use Rattle.loop_station_core.specs.declared.changes.SourceSeen.TheVariants.{Missing, Silent, Other, Unusable, On}
 use Rattle.loop_station_core.specs.declared.changes.StoreSeen.{StoreSeen}
@@ -343,3 +343,15 @@ told-twice r s (suc (suc (suc (suc (suc (suc (suc (suc zero)))))))) line h is = 
 told-twice r s (suc (suc (suc (suc (suc (suc (suc (suc (suc zero))))))))) line h is = is.9 refl ∙ syncs-once r.disk s.disk
 told-twice r s (suc (suc (suc (suc (suc (suc (suc (suc (suc (suc zero)))))))))) line h is = is.10 refl ∙ slow-once r.disk s.disk
 told-twice r s (suc (suc (suc (suc (suc (suc (suc (suc (suc (suc (suc kind))))))))))) line h is = absurd (omega (arith, h))
+
+pub lost-soon : LostFramesAreToldSoon
+lost-soon r s = ((λ more due. grind (arith, common_steps)), told)
+  where
+    told : is_some (lines_of r s).given_up ≡ true → ((r.lost.again ≤ s.now) ⊎ (s.stopping ≡ true))
+        × (s.now + 1000000 < 2 ^ 64 → (known_after r s).lost.again ≡ s.now + 1000000)
+    told some = (at s.stopping (nat_lt s.now r.lost.again) refl refl, (λ fits. grind (arith, common_steps)))
+      where
+        at : (b c : Bool) → s.stopping ≡ b → nat_lt s.now r.lost.again ≡ c → (r.lost.again ≤ s.now) ⊎ (s.stopping ≡ true)
+        at true c e l = inr e
+        at false false e l = inl (grind (arith, common_steps))
+        at false true e l = absurd (grind (arith, common_steps))

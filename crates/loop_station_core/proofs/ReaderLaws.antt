@@ -1,13 +1,13 @@
 -- A clip is read by as many saves as were taken in and haven't ended.
-use Rattle.std.proofs.Common.{◌≡◌, ◌⊎◌, inl, inr, ℕ, ◌+◌, ◌++◌, ◌==◌, Bool, true, false, not, List, [], ◌∷◌, Option, Some, None, is_some, option_map, zero, suc, length, nat_lt, slice_get, slice_set, remove, replicate, ap, arith, refl}
+use Rattle.std.proofs.Common.{◌≡◌, ◌⊎◌, inl, inr, ℕ, ◌+◌, ◌++◌, ◌==◌, Bool, true, false, not, List, [], ◌∷◌, Option, Some, None, is_some, option_map, zero, suc, length, nat_lt, slice_get, slice_set, remove, replicate, ap, arith, refl, ◌≢◌}
 use Rattle.std.specs.List.{list_any, position, position_or_len}
 use Rattle.std.proofs.lemmas.Grind.{common_steps}
 use Rattle.loop_station_core.proofs.ReleaseLaws.{first-at}
-use Rattle.loop_station_core.specs.Clips.{may_release, may_release_saved}
+use Rattle.loop_station_core.specs.Clips.{may_release, may_release_saved, RefusedReleasesAreSo}
 use Rattle.loop_station_core.specs.Laws.{OrdersSpareReadClips, SavedClipsAreReleased, clip_key, OrdersReleaseUnreadClips, UnreadSavedClipsAreReleased}
 use Rattle.loop_station_core.specs.Releases.{SaveStep, asks, cancels, ends, no_saves, one_if, saves_after, saves_after_all, saves_ended_by, saves_ended_in, saves_taken_by, saves_taken_in, stops, SavesAddUp, counted, readers}
 use Rattle.loop_station_core.specs.Saving.{Places, after_end_of, begun, covers, earns, ended_at, freed, has_key, has_such, held_at, is_read, is_same, left_to_others, new_save, place_of, place_with, turn_of_clip, turn_with, update, update_held, wanted, with_cancel, with_release, with_wish}
-use Rattle.loop_station_core.specs.declared.clips.MayRelease.TheVariants.{Now}
+use Rattle.loop_station_core.specs.declared.clips.MayRelease.TheVariants.{Now, Saving, Other}
 use Rattle.loop_station_core.specs.declared.save_end.SaveEnd.{SaveEnd}
 use Rattle.loop_station_core.specs.declared.saves.SaveKey.{SaveKey}
 use Rattle.loop_station_core.specs.declared.saves.Save.{Save}
@@ -462,3 +462,17 @@ saved-free places saved there steps e same =
     let none : readers f (saves_after_all (no_saves places) steps) ≡ 0 = omega (arith, all, e) in
     frees-saved (is_read (saves_after_all (no_saves places) steps) saved.camera saved.id (Some saved.tag)) saved there
     (read-none saved.camera saved.id (Some saved.tag) (saves_after_all (no_saves places) steps) none) (alike saved there same)
+
+pub refused-so : RefusedReleasesAreSo
+refused-so true asked first number = ((λ e. refl), (λ e. refl), (λ e. absurd (cc)))
+refused-so false None first number = ((λ e. absurd (cc)), (λ e. absurd (cc)), (λ e. absurd (cc)))
+refused-so false (Some n) None number =
+    ((λ e. absurd (cc)), (λ e. absurd (cc)), (λ e. (grind (arith, common_steps), (λ same. absurd (cc)))))
+refused-so false (Some n) (Some f) number = at (n == f) refl
+  where
+    at : (b : Bool) → (n == f) ≡ b → let is = may_release false (Some n) (Some f) in
+        (is ≡ Saving → false ≡ true) × (false ≡ true → is ≡ Saving)
+        × (is ≡ Other number → (Some n ≡ Some number) × (Some f ≢ Some n))
+    at true e = ((λ h. grind (arith, common_steps)), (λ h. absurd (cc)), (λ h. absurd (grind (arith, common_steps))))
+    at false e =
+        ((λ h. grind (arith, common_steps)), (λ h. absurd (cc)), (λ h. (grind (arith, common_steps), (λ same. grind (arith, common_steps)))))

@@ -1,8 +1,8 @@
 -- Clips of which there is a save aren't released by the end of another one, and a save that is withdrawn leaves nothing.
-use Rattle.std.proofs.Common.{◌≡◌, ◌++◌, ◌-◌, ℕ, Bool, true, false, not, List, [], ◌∷◌, Option, Some, None, is_some, length, take, refl, ap, length-append, arith, ◌≢◌, slice_get, ◌⊎◌, inl, inr, ◌==◌}
+use Rattle.std.proofs.Common.{◌≡◌, ◌++◌, ◌-◌, ℕ, Bool, true, false, not, List, [], ◌∷◌, Option, Some, None, is_some, length, take, refl, ap, length-append, arith, ◌≢◌, slice_get, ◌⊎◌, inl, inr, ◌==◌, option_map, ◌+◌}
 use Rattle.std.specs.List.{position}
 use Rattle.std.proofs.lemmas.Grind.{common_steps}
-use Rattle.loop_station_core.specs.Saving.{Places, asked, is_saving, left_to_others, new_save, wanted, withdrawn, PlacesTellAll, cancelled, cancelled_at, has_such, picks, place_of, reads, turn_of_clip, CancelledSavesAreTheirs, ReadersAreSo, SavesEarnTheirClip, StopsEndSaves, covers, held_at, stopped, with_cancel}
+use Rattle.loop_station_core.specs.Saving.{Places, asked, is_saving, left_to_others, new_save, wanted, withdrawn, PlacesTellAll, cancelled, cancelled_at, has_such, picks, place_of, reads, turn_of_clip, CancelledSavesAreTheirs, ReadersAreSo, SavesEarnTheirClip, StopsEndSaves, covers, held_at, stopped, with_cancel, BegunSavesAreTold, begun}
 use Rattle.loop_station_core.specs.declared.saves.Asked.TheVariants.{Waits}
 use Rattle.loop_station_core.specs.declared.saves.Save.{Save}
 use Rattle.loop_station_core.specs.declared.saves.SaveKey.{SaveKey}
@@ -147,3 +147,16 @@ stops-end p = (stops-now (position is_some p.running) p.waiting refl refl, ended
     ended None (s ∷ ss) e n h = absurd (grind (arith, common_steps))
     ended (Some place) ws e n h =
         let some = held place (slice_get p.running place) e refl in absurd (grind (arith, common_steps))
+
+pub begun-told : BegunSavesAreTold
+begun-told p place key free = at p.stopped p.waiting refl refl
+  where
+    at : (b : Bool) (ws : List Save) → p.stopped ≡ b → p.waiting ≡ ws → let after = begun p place in
+        (after.1 ≡ None → after.0 ≡ p)
+        × (after.1 ≡ Some key → (option_map (λ s. s.key) (held_at after.0 place) ≡ Some key)
+        × (length after.0.waiting + 1 ≡ length p.waiting))
+    at true ws e n = ((λ h. grind (arith, common_steps)), (λ h. absurd (grind (arith, common_steps))))
+    at false [] e n = ((λ h. grind (arith, common_steps)), (λ h. absurd (grind (arith, common_steps))))
+    at false (s ∷ ss) e n =
+        let put = set-there p.running place None (Some s) free in
+        ((λ h. absurd (grind (arith, common_steps))), (λ h. (grind (arith, common_steps), grind (arith, common_steps))))

@@ -1,5 +1,5 @@
 -- Which saves run, which wait, and what follows from what happens to them.
-use Rattle.std.specs.Prelude.{ℕ, ◌-◌, ◌==◌, ◌&&◌, ◌||◌, ◌++◌, Bool, true, false, not, List, [], ◌∷◌, Option, Some, None, is_some, length, remove, slice_get, slice_set, take, if◌then◌else◌, ◌≡◌, ◌⊎◌}
+use Rattle.std.specs.Prelude.{ℕ, ◌-◌, ◌==◌, ◌&&◌, ◌||◌, ◌++◌, Bool, true, false, not, List, [], ◌∷◌, Option, Some, None, is_some, length, remove, slice_get, slice_set, take, if◌then◌else◌, ◌≡◌, ◌⊎◌, ◌+◌, option_map}
 use Rattle.std.specs.List.{list_any, position}
 use Rattle.loop_station_core.specs.SaveEnds.{is_saved}
 use Rattle.loop_station_core.specs.declared.save_end.SaveEnd.{SaveEnd}
@@ -256,3 +256,11 @@ CancelledSavesAreTheirs = (p : Places) (camera id place : ℕ) (s : Save) → (c
 abbrev pub StopsEndSaves : Type 0
 StopsEndSaves = (p : Places) → ((stopped p).0.stopped ≡ true) × ((stopped p).1 ≡ None
     → (position is_some p.running ≡ None) × (p.waiting ≡ []))
+
+-- What begins in a free place is told, and runs there; where nothing is told, nothing begins.
+abbrev pub BegunSavesAreTold : Type 0
+BegunSavesAreTold = (p : Places) (place : ℕ) (key : SaveKey) → slice_get p.running place ≡ Some None
+    → let after = begun p place in
+    (after.1 ≡ None → after.0 ≡ p)
+    × (after.1 ≡ Some key → (option_map (λ s. s.key) (held_at after.0 place) ≡ Some key)
+    × (length after.0.waiting + 1 ≡ length p.waiting))

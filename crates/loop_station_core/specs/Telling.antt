@@ -1,5 +1,5 @@
 -- Which lines about a camera follow from what is seen of it.
-use Rattle.std.specs.Prelude.{◌≡◌, ℕ, ◌+◌, ◌-◌, ◌*◌, ◌/◌, ◌^◌, ◌==◌, ◌&&◌, ◌||◌, Bool, true, false, not, Option, Some, None, is_some, unwrap_or, max, min, nat_lt, nat_le, if◌then◌else◌, ◌≤◌, ◌<◌}
+use Rattle.std.specs.Prelude.{◌≡◌, ℕ, ◌+◌, ◌-◌, ◌*◌, ◌/◌, ◌^◌, ◌==◌, ◌&&◌, ◌||◌, Bool, true, false, not, Option, Some, None, is_some, unwrap_or, max, min, nat_lt, nat_le, if◌then◌else◌, ◌≤◌, ◌<◌, ◌⊎◌}
 use Rattle.loop_station_core.specs.declared.changes.SourceSeen.{SourceSeen}
 use Rattle.loop_station_core.specs.declared.changes.SourceSeen.TheVariants.{Missing, Silent, Other, Unusable, On}
 use Rattle.loop_station_core.specs.declared.changes.StoreSeen.{StoreSeen}
@@ -243,3 +243,12 @@ LongWaitsAreTold = (r : Reported) (s : Seen) (since : ℕ) → r.waited.told ≡
     → lines.waited ≡ Some (Waited (s.now - since) since))
     × (r.waited.since ≡ Some since → s.waited ≡ None → r.waited.last + 1000000 ≤ s.now
     → since + 100000 ≤ r.waited.last → lines.waited ≡ Some (Waited (r.waited.last - since) since))
+
+-- Lost frames are told as soon as they are seen, with how many and since when, but no more than once a second, unless
+-- the program ends.
+abbrev pub LostFramesAreToldSoon : Type 0
+LostFramesAreToldSoon = (r : Reported) (s : Seen) → let line = (lines_of r s).given_up in
+    (r.lost.frames < s.lost → r.lost.again ≤ s.now
+    → line ≡ Some (GivenUp (s.lost - r.lost.frames) r.lost.since))
+    × (is_some line ≡ true → ((r.lost.again ≤ s.now) ⊎ (s.stopping ≡ true))
+    × (s.now + 1000000 < 2 ^ 64 → (known_after r s).lost.again ≡ s.now + 1000000))

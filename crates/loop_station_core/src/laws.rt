@@ -9,12 +9,12 @@ ghost use Rattle.loop_station_core.specs.Releases.{CancelsFindTheirSave, EarnedC
 ghost use Rattle.loop_station_core.specs.Retries.{CancelsMeanTheirClip, DueRetriesAreTaken, RetriesAreDue};
 ghost use Rattle.loop_station_core.specs.Timing.{FrameTimesRise, GapsAreToldApart, LongGapsAreTold, OddTimesAreToldOnce, TimesAreTheSources};
 ghost use Rattle.loop_station_core.specs.Sets.{ClipsHaveTheirOwnIds, IdsAreThoseOfTheFile, StoresHoldWhatCame};
-ghost use Rattle.loop_station_core.specs.Clips.{KeepsHaveRoom};
+ghost use Rattle.loop_station_core.specs.Clips.{KeepsHaveRoom, RefusedReleasesAreSo};
 ghost use Rattle.loop_station_core.specs.Orders.{IdleCamerasAreDone, OrdersAreTakenIn};
-ghost use Rattle.loop_station_core.specs.Saving.{CancelledSavesAreTheirs, ClipsAreSavedOnce, PlacesTellAll, ReadersAreSo, SavesEarnTheirClip, StopsEndSaves};
+ghost use Rattle.loop_station_core.specs.Saving.{BegunSavesAreTold, CancelledSavesAreTheirs, ClipsAreSavedOnce, PlacesTellAll, ReadersAreSo, SavesEarnTheirClip, StopsEndSaves};
 ghost use Rattle.loop_station_core.specs.Frames.{LostFramesWereGivenUp, TalliesAddUp};
 ghost use Rattle.loop_station_core.specs.SaveEnds.{EndsAreTold, RetriesAreTold};
-ghost use Rattle.loop_station_core.specs.Telling.{FirstLooksTellAll, LinesTellAll, LongWaitsAreTold, SlowDisksAreTold};
+ghost use Rattle.loop_station_core.specs.Telling.{FirstLooksTellAll, LinesTellAll, LongWaitsAreTold, LostFramesAreToldSoon, SlowDisksAreTold};
 
 /// Each frame that came is stored, lost, at the desk, or on its way to it.
 pub fn frames_add_up()
@@ -439,4 +439,19 @@ pub fn cancelled_saves_are_theirs()
 /// Once the program ends each save ends, one after the other, and none is left when none is told.
 pub fn stops_end_saves()
     ensures { StopsEndSaves }
+{}
+
+/// The save that begins in a free place is told, and runs there.
+pub fn begun_saves_are_told()
+    ensures { BegunSavesAreTold }
+{}
+
+/// An order that may not release a clip is told why: a save reads it, or another one has its id.
+pub fn refused_releases_are_so()
+    ensures { RefusedReleasesAreSo }
+{}
+
+/// Lost frames are told as soon as they are seen, but no more than once a second, unless the program ends.
+pub fn lost_frames_are_told_soon()
+    ensures { LostFramesAreToldSoon }
 {}
