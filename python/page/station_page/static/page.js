@@ -2,6 +2,7 @@
 import { Events, camerasOf, rowOf } from "/static/events.js";
 import { Large } from "/static/large.js";
 import { Link, ask } from "/static/link.js";
+import { speak } from "/static/spoken.js";
 import { Stage } from "/static/stage.js";
 import { Timeline, rangeWords } from "/static/timeline.js";
 import { View } from "/static/view.js";
@@ -21,7 +22,7 @@ let more = {};
 let cameraNames = [];
 let heard = performance.now();
 let isLost = false;
-let answeredAt = 0;
+let answeredAt = -Infinity;
 
 const large = new Large();
 const stage = new Stage((name) => view.open(name));
@@ -173,6 +174,7 @@ function banner() {
     byId("banner-text").replaceChildren(...(camera ? [make("b", {}, camera), ": "] : []), words, rest);
   }
   byId("what").hidden = !list.some((it) => it.advice);
+  speak(standing, isLost);
 }
 
 /** What is said where nothing is wrong. */
@@ -292,6 +294,7 @@ function answered(text, level) {
   answeredAt = performance.now();
   const element = byId("answer");
   element.className = `answer ${level}`;
+  mark(element, "aria-live", "assertive");
   element.replaceChildren(make("span", {}, text));
 }
 
@@ -317,6 +320,7 @@ function name() {
   if (performance.now() - answeredAt > ANSWER_STAYS && standing) {
     const element = byId("answer"), idle = range ? `K keeps the range of ${camera || "all cameras"}. Esc lets it go.` : roomWords(left(seconds || 60), seconds || 60);
     element.className = "answer idle";
+    mark(element, "aria-live", "off");
     if (element.textContent !== idle) element.replaceChildren(make("span", {}, idle ? idle[0].toUpperCase() + idle.slice(1) + (idle.endsWith(".") ? "" : ".") : ""));
   }
 }
@@ -471,6 +475,8 @@ function pressed(event) {
     else escape();
     return;
   }
+  // Somebody whose words are typed as letters by a machine may switch these keys off.
+  if (!byId("letters").checked && key.length === 1 && key !== " ") return;
   // In a field letters are text; on a button the space bar presses it.
   if (isField || (key === " " && target.matches("button, summary, a"))) return;
   if (key === "arrowleft" || key === "arrowright") step((key === "arrowleft" ? -1 : 1), event.shiftKey);
@@ -503,6 +509,8 @@ byId("all-seen").onclick = () => sawAll(standing.alerts.map((alert) => alert.id)
 byId("ask").onclick = () => byId("help").showModal();
 byId("what").onclick = advise;
 byId("all").onclick = () => view.open(null);
+byId("letters").checked = localStorage.getItem("letters") !== "off";
+byId("letters").onchange = () => localStorage.setItem("letters", byId("letters").checked ? "on" : "off");
 byId("less").onclick = () => stepSeconds(-1);
 byId("more").onclick = () => stepSeconds(1);
 byId("seconds").oninput = () => { name(); if (standing) room(); };

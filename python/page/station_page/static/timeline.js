@@ -6,6 +6,9 @@ const DRAG = 5;
 const LEAST = 10 * SECOND;
 const STEPS = [1, 2, 5, 10, 15, 30, 60, 120, 300, 600, 900, 1800, 3600, 7200, 10800, 21600, 43200, 86400];
 const ZOOM = 1.4;
+// The part of a lane that its name may take beside its track; a longer one stands above it.
+const NAME_PART = 1 / 3;
+const NAME_GAP = 8;
 
 export class Timeline {
   /** `told` has what the page does: scrub(time or null), pin(time), choose(range), step(by), live(). */
@@ -30,7 +33,9 @@ export class Timeline {
     canvas.onpointerleave = () => this.leave();
     canvas.addEventListener("wheel", (event) => this.wheel(event), { passive: false });
     for (const button of document.querySelectorAll(".zooms button")) button.onclick = () => this.zoomTo(button.dataset.span);
+    this.above = 0;
     new ResizeObserver(() => this.draw()).observe(canvas);
+    new ResizeObserver(() => this.fitNames()).observe(byId("line"));
     setInterval(() => this.draw(), 250);
     this.telling();
   }
@@ -47,11 +52,25 @@ export class Timeline {
     if (!this.names) this.isAll = Math.min(...cameras.filter((camera) => camera.oldest).map((camera) => camera.oldest[1])) > now * SECOND - this.span;
     if (names !== this.names) {
       this.names = names;
-      byId("names").replaceChildren(...cameras.map((camera) => make("li", { title: camera.name }, camera.name)));
+      byId("names").replaceChildren(...cameras.map((camera) => make("li", {}, make("span", {}, camera.name))));
       this.canvas.style.height = `calc(${cameras.length} * var(--lane))`;
+      this.fitNames();
       this.telling();
     }
     this.cameras = cameras;
+    this.draw();
+  }
+
+  /** Gives the names the room that the longest one needs: beside the tracks, or above each where that would leave them too little. */
+  fitNames() {
+    const line = byId("line"), lanes = byId("lanes"), names = [...byId("names").querySelectorAll("span")], wide = lanes.clientWidth;
+    if (!names.length || !wide) return;
+    lanes.classList.remove("above");
+    const longest = Math.ceil(Math.max(...names.map((name) => name.getBoundingClientRect().width))) + NAME_GAP, isAbove = longest > wide * NAME_PART;
+    lanes.classList.toggle("above", isAbove);
+    line.style.setProperty("--names", `${isAbove ? 0 : longest}px`);
+    this.above = isAbove ? Math.ceil(Math.max(...names.map((name) => name.getBoundingClientRect().height))) : 0;
+    line.style.setProperty("--above", `${this.above}px`);
     this.draw();
   }
 
@@ -286,7 +305,7 @@ export class Timeline {
 
   /** A camera's lane: what is held, and above it its clips and what goes next. Where nothing is held, upright stripes. */
   drawLane(pen, camera, y, high, width) {
-    const top = y + high * 0.2, tall = high * 0.6;
+    const room = high - this.above, top = y + this.above + room * 0.2, tall = room * 0.6;
     pen.fillStyle = striped(pen, colour("edge"), 0);
     pen.fillRect(0, top, Math.min(width, this.x(this.now())), tall);
     if (!camera.pieces) return;
@@ -301,7 +320,7 @@ export class Timeline {
       fill(since, until + period, colour("panel"));
       fill(since, until + period, colour("held"));
     }
-    for (const [, , , since, until] of camera.clips || []) fill(since, until + period, colour("clip"), high * 0.1);
+    for (const [, , , since, until] of camera.clips || []) fill(since, until + period, colour("clip"), room * 0.1);
     const next = nextOf(camera);
     if (next) {
       fill(...next, colour("panel"));
