@@ -302,6 +302,8 @@ CLIPS_SAID = table({"clips": each(CLIP, CLIPS)})
 CLIP_OF_EVENT = both(
     table({**CLIP_WORDS, "camera": CAMERA, "frames": COUNT}, {"last": COUNT}), in_order
 )
+# Why an event was kept: what gave the order, who, and when.
+CAUSE = table({"kind": text(r"[a-z]{1,20}", "a kind of cause"), "who": TEXT, "at_us": MOMENT})
 LACK = table(
     {"camera": CAMERA}, {"held_us": maybe(COUNT), "asked_us": maybe(COUNT), "why": maybe(TEXT)}
 )
@@ -322,7 +324,7 @@ EVENT = both(
             "lacks": each(LACK, CAMERAS),
             "clips": each(CLIP_OF_EVENT, CLIPS, 1),
         },
-        {"archived": flag},
+        {"archived": flag, "cause": maybe(CAUSE), "lost": COUNT},
     ),
     in_order,
 )

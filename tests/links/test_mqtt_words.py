@@ -17,6 +17,12 @@ from station_links import asked, bridge, settings, standing, triggers
         ('{"from": 1, "to": 2}', "BadId"),
         ('{"id": "a b", "from": 1, "to": 2}', "BadId"),
         ('{"id": "a", "seconds": 60}', "UnknownWord"),
+        ('{"id": "a", "seconds": 60, "at": "noon"}', "BadTime"),
+        ('{"id": "a", "seconds": 0, "at": 5000000}', "BadTime"),
+        ('{"id": "a", "seconds": true, "at": 5000000}', "BadTime"),
+        ('{"id": "a", "seconds": 86401, "at": 5000000}', "BadTime"),
+        ('{"id": "a", "seconds": 1, "at": 5000000, "to": 6}', "BadTime"),
+        ('{"id": "a", "from": 1, "to": 2, "at": null}', "BadTime"),
         ('{"id": "a"}', "BadTime"),
         ('{"id": "a", "from": "2026-11-22 15:38", "to": 5}', "BadTime"),
         ('{"id": "a", "from": 2, "to": 1}', "BadSpan"),
@@ -31,6 +37,17 @@ def test_a_bad_order_is_refused_by_name(text, name):
     with pytest.raises(asked.Refused) as fault:
         asked.keep_in(text.encode())
     assert fault.value.name == name
+
+
+def test_an_order_carries_its_moment():
+    found = asked.keep_in(b'{"id": "a", "seconds": 3, "at": "1970-01-01T00:00:10Z"}')
+    assert (found.since, found.until, found.moment) == (7_000_000, 10_000_000, 10_000_000)
+    assert asked.keep_of("a", found.words()) == found
+    # The seconds reach back before 1970 from no moment.
+    assert asked.keep_in(b'{"id": "a", "seconds": 3, "at": 1}').since == 0
+    plain = asked.keep_in(b'{"id": "a", "from": 1, "to": 2}')
+    # As earlier programs wrote it down.
+    assert plain.words() == '[1, 2, "", null]' and asked.keep_of("a", plain.words()) == plain
 
 
 @pytest.mark.parametrize(

@@ -8,7 +8,7 @@ import time
 
 import pytest
 from conftest import SEVERAL, free_port, until
-from station_links import asked, bridge, doing, told, triggers
+from station_links import asked, bridge, doing, levels, told, triggers
 from station_links.pages import PageFault
 from test_answers import EVENTS, KEPT, STATUS, Broker, Said, bridge_of
 
@@ -56,6 +56,29 @@ def doer_of(page):
     found = doing.Doer(page, threading.Event(), lambda keep, why: waits.append((keep.id, why)),
                        lambda keep, it: done.update({keep.id: it}))
     return found, waits, done
+
+
+def test_the_page_is_told_what_gave_an_order_and_when_it_happened(clock):
+    page = Said({"/api/status": STATUS, "/api/events": EVENTS, "/api/keep": KEPT})
+    doer, _, done = doer_of(page)
+    doer.cause = "trigger"
+    keep = asked.Keep("door-1", 1, 9_000_000, "door: opened", None, 5_000_000)
+    for one, came in ((keep, None), (keep_of("late"), 10**9 + clock.now - 60)):
+        doer.add(doing.waiting_of(one, came))
+    doer.round()
+    assert len(done) == 2
+    wanted = [("trigger", "door-1", 5_000_000)]
+    # Where nobody says when it happened, it is when the order came, also of an earlier run.
+    wanted.append(("trigger", "order-late", int((10**9 + clock.now - 60) * 1e6)))
+    assert [(it["cause"], it["by"], it["at"]) for it in page.kept] == wanted
+
+
+def test_a_trigger_says_the_moment_of_its_first_cause():
+    gathered = levels.Gathered("door", 1_000_000, 2_000_000, 5_000_000)
+    for moment in (7_000_000, 8_000_000):
+        gathered.add(levels.Cause(moment, "opened"))
+    keep = gathered.due(9_000_000, 1)
+    assert (keep.since, keep.until, keep.moment) == (6_000_000, 10_000_000, 7_000_000)
 
 
 def test_each_order_waits_an_hour_by_its_own_clock(clock):

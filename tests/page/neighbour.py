@@ -191,6 +191,8 @@ class Neighbour:
             message("hello", b"", id="x"),
             *(message(kind, told) for kind, told in SAID.items()),
         ]
+        # What its stream says each second beside the state: functions that give messages.
+        self.again = []
         self.asked, self.over = [], threading.Event()
         this = self
 
@@ -221,7 +223,7 @@ class Neighbour:
                     self.wfile.write(one)
                 while not this.over.wait(1):
                     state = [it for it in this.stream if b'"state"' in it[:40]]
-                    self.wfile.write(b"".join(state))
+                    self.wfile.write(b"".join([*state, *(it() for it in this.again)]))
 
             do_GET = do_POST = answer
 

@@ -14,9 +14,9 @@ from neighbour import CAMERA, CLIP, EVENT, SAID, STATE, Neighbour, answer_of, me
 from station_page import limits
 from station_page.others import Other
 from station_page.settings import OtherStation
-from station_page.together import Presses, event_of, joined, more_of, state_of
+from station_page.together import Presses, event_of, more_of, state_of
 from station_page.words import Unfit
-from test_stations import LEFT, events_of, names_of, settings_of, station_of
+from test_stations import LEFT, events_of, joined, names_of, settings_of, station_of
 
 # So many wrong answers are tried, within a minute.
 TRIES = 10_000

@@ -11,7 +11,7 @@ import pytest
 from conftest import LIMIT, TOKEN, Laboratory, token_in
 from station_page.others import Clock, Other
 from station_page.settings import BadSettings, OtherStation, stations_of
-from station_page.together import Presses, are_near, event_of, joined, more_of, state_of
+from station_page.together import Joined, Presses, are_near, event_of, known, more_of, state_of
 from station_page.words import Unfit
 from test_push import Open
 
@@ -523,6 +523,14 @@ def event(camera, since, until, number=None, tag=0):
     }
 
 
+def joined(events, presses):
+    """The events of stations, each given with its station's name, as one list."""
+    said = {}
+    for station, one in events:
+        said.setdefault(station, (None, []))[1].append(one)
+    return Joined(presses).join(said)[0]
+
+
 def cameras_of(events, presses=None):
     """The cameras of each joined event."""
     return sorted(sorted(it["cameras"]) for it in joined(events, presses or Presses(9)))
@@ -532,7 +540,7 @@ def test_events_of_one_span_are_one_and_others_are_not():
     second = 1_000_000
     near = [("", event("a", 0, 10 * second)), ("n", event("n:a", 50_000, 10 * second + 200_000))]
     assert cameras_of(near) == [["a", "n:a"]]
-    assert are_near(near[0][1], near[1][1])
+    assert are_near(*(known(None, it) for _, it in near))
     for other in (
         event("n:a", 2 * second, 10 * second),
         event("n:a", 0, 12 * second),

@@ -13,7 +13,7 @@ NOTE_BYTES = 400
 # A page keeps no longer time.
 SPAN = 86_400_000_000
 ID = re.compile(r"[A-Za-z0-9_.:-]{1,64}")
-WORDS = {"id", "from", "to", "note", "camera"}
+WORDS = {"id", "from", "to", "seconds", "at", "note", "camera"}
 
 
 class Refused(Exception):
@@ -26,17 +26,20 @@ class Refused(Exception):
 
 @dataclass(frozen=True)
 class Keep:
-    """A time of day to keep, in microseconds since 1970, of one camera or of all."""
+    """A time of day to keep, in microseconds since 1970, of one camera or of all; and the moment of
+    what made somebody ask, where that is said."""
 
     id: str
     since: int
     until: int
     note: str
     camera: str | None
+    moment: int | None = None
 
     def words(self) -> str:
-        """What it asks for, as one text."""
-        return json.dumps([self.since, self.until, self.note, self.camera])
+        """What it asks for, as one text. Without a moment it is as earlier programs wrote it."""
+        more = [] if self.moment is None else [self.moment]
+        return json.dumps([self.since, self.until, self.note, self.camera, *more])
 
     def mark(self) -> str:
         """How a note says whose keep it is."""
@@ -64,18 +67,22 @@ def keep_in(raw: bytes) -> Keep:
             "BadId", "an order has an id of its own: 1 to 64 letters, digits, - _ . or :"
         )
     if unknown := sorted(set(found) - WORDS):
-        more = " Say from and to, so that all stations keep the same time." * ("seconds" in unknown)
-        raise Refused("UnknownWord", f"unknown: {', '.join(unknown)[:100]}.{more}", id_)
+        raise Refused("UnknownWord", f"unknown: {', '.join(unknown)[:100]}.", id_)
+    if "seconds" in found and "at" not in found:
+        more = "Say from and to, or at beside them, so that all stations keep the same time."
+        raise Refused("UnknownWord", f"unknown: seconds alone. {more}", id_)
     return within(found, id_)
 
 
 def within(found: dict, id_: str) -> Keep:
     """A keep whose words are within their bounds."""
-    span = moment_in(found.get("from")), moment_in(found.get("to"))
-    if None in span:
+    moment = moment_in(found.get("at"))
+    span = span_in(found, moment)
+    if None in span or ("at" in found and moment is None):
         raise Refused(
             "BadTime",
-            "from and to are times: such as 2026-11-22T15:38:00.250Z, or microseconds since 1970",
+            "from and to, or at, are times: such as 2026-11-22T15:38:00.250Z, or microseconds since "
+            "1970",
             id_,
         )
     if not 0 <= span[1] - span[0] <= SPAN:
@@ -85,7 +92,19 @@ def within(found: dict, id_: str) -> Keep:
         raise Refused("BadNote", f"note is a text of at most {NOTE_BYTES} bytes", id_)
     if camera is not None and (not isinstance(camera, str) or not NAME.fullmatch(camera)):
         raise Refused("BadCamera", "camera is a camera's name", id_)
-    return Keep(id_, *span, note, camera)
+    return Keep(id_, *span, note, camera, moment)
+
+
+def span_in(found: dict, moment: int | None) -> tuple[int | None, int | None]:
+    """From when to when an order means: so many seconds before its moment, or what it says."""
+    if "seconds" not in found:
+        return moment_in(found.get("from")), moment_in(found.get("to"))
+    seconds = found["seconds"]
+    if moment is None or type(seconds) is not int or not 1 <= seconds * 1_000_000 <= SPAN:
+        return None, None
+    if "from" in found or "to" in found:
+        return None, None
+    return max(0, moment - seconds * 1_000_000), moment
 
 
 def is_note(note: object) -> bool:

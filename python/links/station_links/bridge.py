@@ -65,7 +65,7 @@ class Bridge:
         self.broker = Broker(words.broker, f"lapyrei-{words.station}", topics, self.take, tell)
         self.states, self.lock = States(self.broker), threading.Lock()
         self.over, self.page_fault = threading.Event(), ""
-        self.doer = Doer(self.page, self.over, self.waits, self.done)
+        self.doer = Doer(self.page, self.over, self.waits, self.done, "mqtt")
         # What an earlier run has left to do.
         for id_, order in self.memory.open_orders():
             self.give(asked.keep_of(id_, order.words), order.came)

@@ -32,12 +32,18 @@ class NotNow(Exception):
 @dataclass
 class Waiting:
     """A keep that is to be given: whether it may have been done before, when its hour is over by a
-    clock that is never set back, and whether somebody was told that it waits."""
+    clock that is never set back, when it came by the time of day, in microseconds since 1970, and
+    whether somebody was told that it waits."""
 
     keep: Keep
     is_again: bool
     end: float
+    came: int
     is_told: bool = False
+
+    def moment(self) -> int:
+        """The moment of what made somebody ask; where nobody says it, when the keep came."""
+        return self.came if self.keep.moment is None else self.keep.moment
 
     def is_late(self) -> bool:
         """Whether it has waited an hour."""
@@ -47,17 +53,22 @@ class Waiting:
 def waiting_of(keep: Keep, came: float | None = None) -> Waiting:
     """A keep with an hour of its own: a new one, or one that came at a time of day, of which an
     earlier run may have done it."""
-    age = 0.0 if came is None else min(max(0.0, time.time() - came), PATIENCE_SECONDS)
-    return Waiting(keep, came is not None, time.monotonic() + PATIENCE_SECONDS - age)
+    now = time.time()
+    age = 0.0 if came is None else min(max(0.0, now - came), PATIENCE_SECONDS)
+    end = time.monotonic() + PATIENCE_SECONDS - age
+    return Waiting(keep, came is not None, end, int((now if came is None else came) * 1e6))
 
 
 class Doer:
     """Gives keeps to a page, one after the other, until `over` is set. A page that isn't there is
     waited for, and each keep waits an hour at most, by its own clock. `on_wait(keep, why)` is told
-    once that a keep waits, and `on_done(keep, found)` what became of it, as an object."""
+    once that a keep waits, and `on_done(keep, found)` what became of it, as an object. `cause` says
+    to the page what gives the orders."""
 
-    def __init__(self, page: Page, over: threading.Event, on_wait, on_done) -> None:
-        self.page, self.over = page, over
+    def __init__(
+        self, page: Page, over: threading.Event, on_wait, on_done, cause: str = "mqtt"
+    ) -> None:
+        self.page, self.over, self.cause = page, over, cause
         self.on_wait, self.on_done = on_wait, on_done
         self.line: list[Waiting] = []
         self.lock, self.new = threading.Lock(), threading.Event()
@@ -124,7 +135,8 @@ class Doer:
         self.must_run()
         keep = it.keep
         note = f"{keep.note} {keep.mark()}".strip()
-        status, found = self.page.keep(keep.since, keep.until, note, keep.camera)
+        why = {"cause": self.cause, "by": keep.id, "at": it.moment()}
+        status, found = self.page.keep(keep.since, keep.until, note, keep.camera, why)
         if "answers" in found:
             return kept_of(found)
         why = str(found.get("error", f"status {status}"))

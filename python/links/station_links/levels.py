@@ -74,6 +74,7 @@ class Gathered:
             until,
             self.note(),
             self.camera,
+            min(first, last),
         )
         self.causes, self.count, self.free = [], 0, tick + self.rest
         return keep

@@ -165,9 +165,11 @@ class Page:
         """All events, the newest first."""
         return self.look("/api/events" + OWN, answers.EVENTS_SAID)["events"]
 
-    def keep(self, since: int, until: int, note: str, camera: str | None = None) \
-            -> tuple[int, dict]:
-        """Keeps a time, in microseconds since 1970, of one camera or of all."""
-        body = {"from": since, "to": until, "note": note}
+    def keep(
+        self, since: int, until: int, note: str, camera: str | None = None, why: dict | None = None
+    ) -> tuple[int, dict]:
+        """Keeps a time, in microseconds since 1970, of one camera or of all. `why` has the cause:
+        its kind, by whom, and the moment."""
+        body = {"from": since, "to": until, "note": note} | (why or {})
         more = {"camera": camera} if camera else {}
         return self.ask("/api/keep" + OWN, body | more, KEEP_SECONDS, answers.KEPT)

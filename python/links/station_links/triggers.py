@@ -99,7 +99,7 @@ class Triggers:
         self.over, self.lock, self.wake = threading.Event(), threading.Lock(), threading.Event()
         self.journal = Journal(self.tell)
         self.memory, self.ended = Memory(words.state, self.tell), threading.Event()
-        self.doer = Doer(words.page, self.ended, self.waits, self.done)
+        self.doer = Doer(words.page, self.ended, self.waits, self.done, "trigger")
         # Keeps for stations by MQTT, and those that are on their way, by the numbers of messages.
         self.line: list[Waiting] = []
         self.sent: dict[int, str] = {}
@@ -250,6 +250,7 @@ class Triggers:
         elif not is_sent and self.broker.is_up:
             found = {"id": keep.id, "from": keep.since, "to": keep.until, "note": keep.note}
             found |= {"camera": keep.camera} if keep.camera else {}
+            found |= {"at": it.moment()}
             with self.lock:
                 mid = self.broker.publish(f"{self.words.prefix}/{self.words.stations}/keep", found)
                 if mid is not None:

@@ -3,11 +3,12 @@ where one isn't."""
 import contextlib
 import datetime
 import re
+from dataclasses import dataclass
 
 from aiohttp import web
 from lapyrei.files import MOST_STORES
 
-from . import limits
+from . import limits, words
 from .reader import Frame, store_in
 from .words import Unfit
 
@@ -15,6 +16,58 @@ from .words import Unfit
 FRAME = r"(?:\d{1,3}\.)?\d{1,19}"
 RANGE = re.compile(r"bytes=(\d{0,19})-(\d{0,19})")
 ISO_TIME = re.compile(r"\d{4}-\d\d-\d\dT\d\d:\d\d:\d\d(\.\d{1,6})?(Z|[+-]\d\d:\d\d)")
+
+
+# The words of a keep. What gives orders for others says what made it do so.
+KEEP = {"camera", "seconds", "from", "to", "note", "at", "cause", "by"}
+CAUSES = ("mqtt", "trigger", "press")
+
+
+@dataclass(frozen=True)
+class Wish:
+    """What a keep asks for: a camera or all; the seconds before a moment, or before now where there
+    is none, or a span of time; a note; and what made somebody ask, where that is said."""
+
+    camera: str | None
+    seconds: int | None
+    span: tuple[int, int] | None
+    note: str
+    moment: int | None
+    cause: str | None
+    by: str
+
+    def sentence(self) -> str:
+        """What is asked for, in words."""
+        span, what = self.span, f"{self.seconds} s"
+        if span:
+            what = f"from {words.iso(span[0])} to {words.iso(span[1])}"
+        elif self.moment is not None:
+            what += f" before {words.iso(self.moment)}"
+        whom = self.camera if isinstance(self.camera, str) else "all cameras"
+        note = f", note {self.note[:limits.NOTE_BYTES]!r}" if self.note else ""
+        return f"{what} of {whom}{note}"
+
+
+def wish_in(body: dict) -> Wish:
+    """What a request asks to be kept; Unfit where that can't be."""
+    note, seconds, span = body.get("note", ""), body.get("seconds"), None
+    if not isinstance(note, str):
+        raise Unfit(400, "note isn't a text.")
+    if "from" in body or "to" in body:
+        span = moment_in(body.get("from"), "from"), moment_in(body.get("to"), "to")
+        if seconds is not None or span[0] > span[1]:
+            raise Unfit(400, "Give seconds, or from and to, where from isn't after to.")
+    elif (
+        not isinstance(seconds, int)
+        or isinstance(seconds, bool)
+        or not 1 <= seconds <= limits.KEEP_SECONDS
+    ):
+        raise Unfit(400, f"seconds is a whole number from 1 to {limits.KEEP_SECONDS}.")
+    moment = moment_in(body["at"], "at") if "at" in body else None
+    cause, by = body.get("cause"), body.get("by", "")
+    if cause not in (None, *CAUSES) or not isinstance(by, str):
+        raise Unfit(400, f"cause is one of {', '.join(CAUSES)}, and by a text.")
+    return Wish(body.get("camera"), seconds, span, note, moment, cause, by)
 
 
 def number_in(text: str | None, end: int, what: str) -> int | None:

@@ -38,7 +38,9 @@ class Console:
         self.push = Push(self.laboratory, self.state, page.gate.is_known)
         self.progress: collections.OrderedDict[str, Progress] = collections.OrderedDict()
         self.told: tuple[int, list] = (-1, [])
-        self.clips: tuple[list[dict], int] = ([], 0)
+        self.clips: tuple[list[dict], int, int] = ([], 0, 0)
+        # The events of this station, and as JSON.
+        self.listed: list[dict] = []
         self.found = b"[]"
 
     def add_to(self, app: web.Application) -> None:
@@ -63,11 +65,10 @@ class Console:
         for all pages, where something has been seen anew."""
         laboratory = self.laboratory
         if self.told[0] != laboratory.version:
-            clips = laboratory.held.clips(), laboratory.heard.version
+            clips = laboratory.held.clips(), laboratory.heard.version, laboratory.causes.version
             if clips != self.clips:
-                self.clips = clips
-                found = events_of(clips[0], laboratory.heard)
-                self.found = json.dumps(found, separators=(",", ":")).encode()
+                self.clips, self.listed = clips, self.events_of(clips[0])
+                self.found = json.dumps(self.listed, separators=(",", ":")).encode()
             events = self.found
             more = json.dumps(self.more(), separators=(",", ":")).encode()
             found = [
@@ -81,6 +82,10 @@ class Console:
         told = {name: it.as_object() for name, it in self.progress.items()}
         body = json.dumps(told, separators=(",", ":")).encode()
         return [*self.told[1], (body, "progress", body)]
+
+    def events_of(self, clips: list[dict]) -> list[dict]:
+        """The events of some clips."""
+        return events_of(clips, self.laboratory.heard, self.laboratory.causes.of)
 
     def more(self) -> dict:
         """What the console shows of each camera beside its state."""
@@ -190,8 +195,7 @@ class Console:
     async def events(self, request: web.Request) -> web.Response:
         """All events."""
         await self.laboratory.fresh()
-        found = events_of(self.laboratory.held.clips(), self.laboratory.heard)
-        return web.json_response({"events": found})
+        return web.json_response({"events": self.events_of(self.laboratory.held.clips())})
 
     def clips_in(self, found: object) -> list[tuple[str, int, int]]:
         """The clips that a request names, each by camera, id and first number."""

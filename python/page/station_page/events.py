@@ -2,6 +2,7 @@
 event have the station's number of it. Of clips with a tag of yours it isn't on the disk: where the
 page didn't hear it, it goes by their times."""
 import collections
+from collections.abc import Callable
 
 from .heard import Heard, Told
 from .reader import store_of
@@ -86,11 +87,19 @@ def by_times(clips: list[dict]) -> list[Group]:
     return groups
 
 
-def events_of(clips: list[dict], heard: Heard | None = None) -> list[dict]:
+def events_of(
+    clips: list[dict],
+    heard: Heard | None = None,
+    cause_of: Callable[[int | None], dict | None] = lambda number: None,
+) -> list[dict]:
     """The events of all clips, the newest first, as objects for JSON: `key` names an event as long
     as its clips stay, and `number` is the station's, where it is known; times are in microseconds
-    since 1970."""
-    found = [event_of(group, heard or Heard()) for group in groups_of(clips)]
+    since 1970. `cause_of` says of a number why it was kept."""
+    heard = heard or Heard()
+    found = []
+    for group in groups_of(clips):
+        event = event_of(group, heard)
+        found.append(event | {"cause": cause_of(event["number"])})
     return sorted(found, key=lambda it: (it["to_us"], it["from_us"], it["key"]), reverse=True)
 
 
@@ -113,6 +122,9 @@ def event_of(group: Group, heard: Heard) -> dict:
         "archived": all(it.get("archived", False) for it in ordered),
         "until_us": told.until if told.goes_on() else None,
         "lacks": lacks_of(told),
+        "lost": sum(
+            heard.lost(name, group.since, group.until) for name in {it["camera"] for it in ordered}
+        ),
         "clips": [
             {
                 key: it[key]

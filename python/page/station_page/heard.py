@@ -54,11 +54,15 @@ class Heard:
     def __init__(self) -> None:
         self.events: collections.OrderedDict[int, Told] = collections.OrderedDict()
         self.clips: collections.OrderedDict[tuple[str, int, int], int] = collections.OrderedDict()
+        # Of each camera, when frames were lost and how many: from when to when, by the line's time.
+        self.losses: dict[str, collections.deque[tuple[int, int, int]]] = {}
         # It grows with each line, so that what is made of it is made anew.
         self.version = 0
 
     def take(self, line: Line) -> None:
         """A line of the station: of an event, or none."""
+        if line.kind == "given_up":
+            self.lose(line)
         number = line.members.get("event")
         if number is None:
             return
@@ -80,6 +84,19 @@ class Heard:
         for kept in (self.events, self.clips):
             while len(kept) > limits.EVENTS_HEARD:
                 kept.popitem(last=False)
+
+    def lose(self, line: Line) -> None:
+        """Frames of a camera were lost."""
+        since = line["since"]
+        until = max(since, line.time or since)
+        losses = self.losses.setdefault(line["camera"], collections.deque(maxlen=limits.LOSSES))
+        losses.append((since, until, line["frames"]))
+        self.version += 1
+
+    def lost(self, camera: str, since: int, until: int) -> int:
+        """How many frames of a camera were lost in a time, as far as the station has said it."""
+        losses = self.losses.get(camera, ())
+        return sum(count for first, last, count in losses if first <= until and last >= since)
 
     def station_ended(self) -> None:
         """No event goes on without a station. The next one says which do."""

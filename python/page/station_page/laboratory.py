@@ -8,6 +8,7 @@ import time
 from . import limits, words
 from .alerts import Alerts
 from .archived import Archive
+from .causes import Causes
 from .films import Films
 from .heard import Heard
 from .held import Held
@@ -62,6 +63,8 @@ class Laboratory:
         self.noting, self.warned, self.shown = Noting(self), Warned(self), Standing(self)
         self.keeping, self.held = Keeping(self), Held(self)
         self.archive = Archive(settings.archive)
+        # Beside the notes.
+        self.causes = Causes(f"{settings.notes}.causes" if settings.notes else None)
         # Held from a look at a clip until its release is given, so that no other order of this page
         # comes between.
         self.ordering = asyncio.Lock()

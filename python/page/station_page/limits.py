@@ -23,6 +23,10 @@ LINE_BYTES = 32 * 1024
 UNREAD_LINES = 3
 # The events, and the clips of them, of which is remembered what the station said.
 EVENTS_HEARD = 4096
+# The letters of who gave an order.
+WHO_LETTERS = 100
+# The times at which frames were lost that are remembered of each camera.
+LOSSES = 1000
 # How often cameras are looked at while a page is open, and while none is, and how long a request
 # waits for a look; how often the station is asked how it stands.
 LOOK_SECONDS = 0.5
@@ -145,6 +149,12 @@ STEPS = 50
 # By how many microseconds its clock may be off, and by how many answers that is reckoned.
 CLOCK_MICROS = 20_000
 CLOCK_SAMPLES = 8
+# By how many microseconds two answers of one clock may contradict each other: clocks drift.
+CLOCK_SLACK = 5_000
+# How often what all stations say is made one at most.
+MERGE_SECONDS = 0.2
+# How many of the nearest events of other stations are looked at for one that is of the same span.
+NEAR_TRIES = 64
 # The bytes of the archive's file; for how long it may be as it is, and how long a clip may wait: one
 # that can't be archived, and any.
 ARCHIVE_BYTES = 4 * 1024 * 1024

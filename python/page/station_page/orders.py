@@ -11,6 +11,7 @@ import time
 from collections.abc import Callable
 
 from . import limits
+from .clock import Clock
 from .words import Line, read_line
 
 
@@ -144,7 +145,7 @@ class Waiting:
     events that come beside it."""
 
     def __init__(self, label: str, each: Callable[[Line], None] | None = None) -> None:
-        self.label, self.each = label, each
+        self.label, self.each, self.asked = label, each, time.time_ns() // 1000
         self.lines: list[Line] = []
         self.done: asyncio.Future[None] = asyncio.get_running_loop().create_future()
 
@@ -174,6 +175,8 @@ class Orders:
         self.prefix, self.counts = f"page-{secrets.token_hex(4)}", {True: 0, False: 0}
         self.has_answers = answers is not None
         self.wake = asyncio.Event()
+        # The station's clock: it goes on where the system's is set.
+        self.clock = Clock()
         self.reader.open(at_end=True)
 
     def begin(self, order: str, each: Callable[[Line], None] | None = None) -> Waiting:
@@ -252,6 +255,8 @@ class Orders:
             return
         waiting = self.waiting.get(line.label)
         if waiting and line.kind == "done" and not waiting.done.done():
+            if line.time is not None:
+                self.clock.add(waiting.asked, line.time, time.time_ns() // 1000)
             waiting.done.set_result(None)
         elif waiting:
             waiting.take(line)

@@ -2,7 +2,6 @@
 its answers. None of them is believed before the parser (lapyrei.answers) has found it whole: a page
 that says something else is `unusable`, with the reason, until it says what can be used."""
 import asyncio
-import collections
 import contextlib
 import time
 from collections.abc import AsyncIterator
@@ -12,6 +11,7 @@ from lapyrei import answers
 from lapyrei.answers import MARK, Unusable
 
 from . import limits, words
+from .clock import Clock
 from .push import LENGTHS
 from .settings import OtherStation
 from .words import Unfit
@@ -21,33 +21,6 @@ OTHER_TOKEN = "it wants another token: name the file of its token in `token`"
 # The status of an answer that can't be given since another station's can't be used.
 UNUSABLE = 502
 VERSIONS = "Is its loop_page of this version?"
-
-
-class Clock:
-    """How far a clock is off, by the quickest of the last answers: what an answer took bounds the
-    error."""
-
-    def __init__(self) -> None:
-        self.samples: collections.deque[tuple[int, int]] = collections.deque(
-            maxlen=limits.CLOCK_SAMPLES
-        )
-
-    def add(self, asked: int, told: int, heard: int) -> None:
-        """An answer: when it was asked for and heard by this clock, and what the other one said, in
-        microseconds."""
-        self.samples.append((max(0, heard - asked), told - (asked + heard) // 2))
-
-    def offset(self) -> tuple[int, int] | None:
-        """By how much it is ahead, and the error of that, in microseconds."""
-        if not self.samples:
-            return None
-        took, offset = min(self.samples)
-        return offset, took // 2
-
-    def is_off(self) -> bool:
-        """Whether it is certainly off by more than is borne."""
-        found = self.offset()
-        return found is not None and abs(found[0]) - found[1] > limits.CLOCK_MICROS
 
 
 class Other:

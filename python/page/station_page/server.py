@@ -8,6 +8,7 @@ import logging
 import re
 import signal
 import sys
+import time
 from collections.abc import AsyncIterator, Awaitable
 from pathlib import Path
 
@@ -15,7 +16,18 @@ import layout
 from aiohttp import HttpVersion11, http_exceptions, web, web_urldispatcher
 
 from . import limits, metrics, pictures, words
-from .asked import FRAME, frame_in, headers_of, moment_in, number_in, problem, range_of
+from .asked import (
+    FRAME,
+    KEEP,
+    Wish,
+    frame_in,
+    headers_of,
+    number_in,
+    problem,
+    range_of,
+    wish_in,
+)
+from .causes import cause
 from .console import Console
 from .films import FilmFault, Text, csv_of, zip_stream
 from .guard import COOKIE, HEADERS, OPEN, Connection, Gate, bearer_of, session_word
@@ -445,41 +457,32 @@ class Page:
             raise Unfit(400, f"The body is an object with these words: {', '.join(sorted(words))}.")
         return found
 
-    async def asked_keep(
-        self, request: web.Request
-    ) -> tuple[str | None, int | None, tuple[int, int] | None, str]:
-        """What a keep asks for: a camera or all, seconds or a span, and a note."""
-        body = await self.body(request, {"camera", "seconds", "from", "to", "note"})
-        note, camera, seconds, span = (
-            body.get("note", ""),
-            body.get("camera"),
-            body.get("seconds"),
-            None,
-        )
-        if not isinstance(note, str):
-            raise Unfit(400, "note isn't a text.")
-        if "from" in body or "to" in body:
-            span = moment_in(body.get("from"), "from"), moment_in(body.get("to"), "to")
-            if seconds is not None or span[0] > span[1]:
-                raise Unfit(400, "Give seconds, or from and to, where from isn't after to.")
-        elif (
-            not isinstance(seconds, int)
-            or isinstance(seconds, bool)
-            or not 1 <= seconds <= limits.KEEP_SECONDS
-        ):
-            raise Unfit(400, f"seconds is a whole number from 1 to {limits.KEEP_SECONDS}.")
-        return camera, seconds, span, note
+    async def asked_keep(self, request: web.Request) -> Wish:
+        """What a keep asks for."""
+        return wish_in(await self.body(request, KEEP))
+
+    def cause_of(self, request: web.Request, wish: Wish, came: int) -> dict:
+        """Why something is kept: who asked for it, and when that was pressed, or happened. `came`
+        is when the request did."""
+        is_browser = "Sec-Fetch-Site" in request.headers or "Origin" in request.headers
+        kind = wish.cause or ("press" if is_browser else "http")
+        who = wish.by or ", ".join(self.gate.who(request))
+        return cause(kind, who, came if wish.moment is None else min(wish.moment, came))
 
     async def keep(self, request: web.Request) -> web.Response:
         """Locks the last seconds, or a span of time."""
-        camera, seconds, span, note = await self.asked_keep(request)
+        came, wish = time.time_ns() // 1000, await self.asked_keep(request)
+        keeping = self.laboratory.keeping
         kept = await self.change(
             request,
             "keep",
-            keep_words(camera, seconds, span, note),
-            self.laboratory.keeping.keep(camera, seconds, span, note),
+            wish.sentence(),
+            keeping.keep(wish.camera, wish.seconds, wish.span, wish.note, wish.moment),
         )
         is_kept = any(one.is_kept for one in kept)
+        numbers = {one.event for one in kept if one.is_kept and one.event is not None}
+        why = self.cause_of(request, wish, came)
+        await asyncio.to_thread(self.laboratory.causes.add, numbers, why)
         return web.json_response(
             {"kept": is_kept, "answers": [one.as_object() for one in kept]},
             status=200 if is_kept else 409,
@@ -685,14 +688,6 @@ async def expect(request: web.Request) -> None:
         text = json.dumps({"error": "Of Expect the page knows 100-continue alone."})
         raise web.HTTPExpectationFailed(text=text, content_type="application/json", headers=HEADERS)
     await request.writer.write(b"HTTP/1.1 100 Continue\r\n\r\n")
-
-
-def keep_words(camera: object, seconds: int | None, span: tuple[int, int] | None, note: str) -> str:
-    """A keep that was asked for, in words."""
-    what = f"from {words.iso(span[0])} to {words.iso(span[1])}" if span else f"{seconds} s"
-    return f"{what} of {camera if isinstance(camera, str) else 'all cameras'}" + (
-        f", note {note[:limits.NOTE_BYTES]!r}" if note else ""
-    )
 
 
 async def end_all(tasks: list[asyncio.Task]) -> None:

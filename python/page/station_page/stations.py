@@ -16,10 +16,9 @@ from lapyrei.answers import ALERT_NUMBERS_END as ALERTS
 from lapyrei.answers import MARK
 
 from . import limits, words
-from .asked import number_in
+from .asked import CAUSES, number_in
 from .bundle import PARTS, Progress, entry, parts_in, stamp
 from .console import EVENTS, VIEW
-from .events import events_of
 from .films import Gathered
 from .orders import NoStation
 from .others import UNUSABLE, Other, parsed, within
@@ -27,10 +26,9 @@ from .push import Stream, message, view_of, whole
 from .settings import OtherStation
 from .standing import for_programs
 from .together import (
+    Joined,
     Presses,
     answers_of,
-    event_of,
-    joined,
     more_of,
     named,
     refused,
@@ -141,7 +139,12 @@ class Stations:
         path = f"{page.gate.settings.notes}.presses" if self.others else None
         self.presses = Presses(limits.EVENTS_HEARD, path)
         self.beside: dict[str, list[Beside]] = {}
-        self.told: tuple[object, list] = (None, [])
+        self.told: tuple[object, list, float] = (None, [], 0.0)
+        # The events of all, as they were joined last and as JSON, and of what; one join at a time,
+        # in a thread, so that it holds up nobody.
+        self.join, self.joins = Joined(self.presses), asyncio.Lock()
+        self.last: tuple[list, list[dict], bytes | None] = ([], [], None)
+        self.joining: asyncio.Task | None = None
         # This page itself, which is asked as the others are.
         self.this: Other | None = None
         if self.others:
@@ -211,13 +214,17 @@ class Stations:
     # ---------------------------------------------------------------------------- what is one state
 
     def state(self) -> list[tuple[object, str, bytes]]:
-        """What all pages are sent, as `Console.state` has it of this station."""
-        local = self.console.state()
+        """What all pages are sent, as `Console.state` has it of this station. Where much is said, it
+        is made anew so often at most."""
+        now, local = time.monotonic(), self.console.state()
         mark = ([it[0] for it in local], [it.version for it in self.others],
                 [it.standing() for it in self.others])
-        if mark != self.told[0]:
-            self.told = mark, [self.merged(it, mark) for it in local]
-        return self.told[1]
+        if mark != self.told[0] and now - self.told[2] >= limits.MERGE_SECONDS:
+            parts = [self.merged(it, mark) for it in local if it[1] != "events"]
+            self.told = mark, parts, now
+        self.begin_to_join()
+        body = self.last[2]
+        return self.told[1] + [(body, "events", body)] * (body is not None and bool(local))
 
     def merged(self, part: tuple[object, str, bytes], mark: object) -> tuple[object, str, bytes]:
         """A part of the state with that of the others."""
@@ -226,18 +233,37 @@ class Stations:
             found = state_of(json.loads(body), self.others)
         elif kind == "more":
             found = more_of(json.loads(body), self.others)
-        elif kind == "events":
-            found = self.joined(json.loads(body))
         else:
             return part
         told = json.dumps(found, separators=(",", ":")).encode()
         return (mark if kind == "state" else told), kind, told
 
-    def joined(self, own: list[dict]) -> list[dict]:
-        """The events of all stations."""
-        found = [("", it) for it in own]
-        found += [(it.name, event_of(it, event)) for it in self.others for event in it.events]
-        return joined(found, self.presses)
+    def said(self) -> dict[str, tuple[Other | None, list[dict]]]:
+        """The events that each station says, this one first."""
+        own = {"": (None, self.console.listed)}
+        return own | {it.name: (it, it.events) for it in self.others}
+
+    def is_joined(self) -> bool:
+        """Whether nothing new was said since the events were joined."""
+        now = [*(events for _, events in self.said().values()), self.presses.version]
+        return len(now) == len(self.last[0]) and all(
+            one is other for one, other in zip(now, self.last[0])
+        )
+
+    def begin_to_join(self) -> None:
+        """Has the events joined, where something new was said; what was joined before stays until
+        that is done."""
+        if not self.is_joined() and (self.joining is None or self.joining.done()):
+            self.joining = asyncio.create_task(self.joined())
+
+    async def joined(self) -> list[dict]:
+        """The events of all stations as they are now."""
+        async with self.joins:
+            if not self.is_joined():
+                said = self.said()
+                mark = [*(events for _, events in said.values()), self.presses.version]
+                self.last = mark, *await asyncio.to_thread(self.join.join, said)
+        return self.last[1]
 
     async def clock(self, request: web.Request) -> web.Response:
         """This machine's clock, in microseconds since 1970."""
@@ -283,8 +309,8 @@ class Stations:
         if is_of_this(request):
             return await self.console.events(request)
         await self.laboratory.fresh()
-        own = events_of(self.laboratory.held.clips(), self.laboratory.heard)
-        return web.json_response({"events": self.joined(own)})
+        self.console.state()
+        return web.json_response({"events": await self.joined()})
 
     # -------------------------------------------------------------------------------- open pages
 
@@ -387,38 +413,43 @@ class Stations:
 
     async def keep(self, request: web.Request) -> web.Response:
         """Keeps one span: of one camera at its station, or of all at all of them."""
+        came = time.time_ns() // 1000
         if is_of_this(request):
             return await self.page.keep(request)
-        camera, seconds, span, note = await self.page.asked_keep(request)
-        if camera is not None and self.other_of(camera) is None:
+        wish = await self.page.asked_keep(request)
+        if wish.camera is not None and self.other_of(wish.camera) is None:
             return await self.page.keep(request)
         cameras = state_of(self.laboratory.shown.standing(), self.others)["cameras"]
-        if camera is not None:
-            cameras = [it for it in cameras if it["name"] == camera]
-        span = span_of(seconds, span, cameras)
-        order = f"from {words.iso(span[0])} to {words.iso(span[1])} of {camera or 'all stations'}"
-        told = await self.page.change(
-            request, "keep", order, self.keep_of(camera, span, note)
-        )
+        if wish.camera is not None:
+            cameras = [it for it in cameras if it["name"] == wish.camera]
+        why = self.page.cause_of(request, wish, came)
+        span = span_of(wish, why["at_us"], cameras)
+        whom = wish.camera or "all stations"
+        order = f"from {words.iso(span[0])} to {words.iso(span[1])} of {whom}"
+        work = self.keep_of(wish.camera, span, wish.note, why)
+        told = await self.page.change(request, "keep", order, work)
         answers = [it.answer for it in told]
         is_kept = any(it["kept"] for it in answers)
         return web.json_response(
             {"kept": is_kept, "answers": answers}, status=200 if is_kept else 409
         )
 
-    async def keep_of(self, camera: str | None, span: tuple[int, int], note: str) -> list[Told]:
+    async def keep_of(
+        self, camera: str | None, span: tuple[int, int], note: str, why: dict
+    ) -> list[Told]:
         """Gives the order to all stations at once, and answers what each said. One that was silent
-        before holds up no answer."""
-        found = self.other_of(camera)
+        before holds up no answer. `why` is the cause, which each station is told."""
+        found, body = self.other_of(camera), asked_of(span, note, why)
         if found:
-            works = [asyncio.create_task(self.keep_there(found[0], span, note, found[1]))]
+            body = body | {"camera": found[1]}
+            works = [asyncio.create_task(self.keep_there(found[0], body))]
             names: list[Other | None] = [found[0]]
         else:
             # A page may have no station of its own.
             names = [*([None] if self.laboratory.cameras else []), *self.others]
             works = [
                 asyncio.create_task(
-                    self.keep_there(it, span, note) if it else self.keep_here(span, note)
+                    self.keep_there(it, body) if it else self.keep_here(span, note, why)
                 )
                 for it in names
             ]
@@ -443,21 +474,19 @@ class Stations:
         await asyncio.to_thread(self.presses.add, sorted(numbers))
         return [Told(it) for it in answers]
 
-    async def keep_here(self, span: tuple[int, int], note: str) -> list[dict]:
+    async def keep_here(self, span: tuple[int, int], note: str, why: dict) -> list[dict]:
         """Keeps at this page's own station."""
         try:
             kept = await self.laboratory.keeping.keep(None, None, span, note)
         except (Unfit, NoStation) as fault:
             return [refused(None, str(fault))]
+        numbers = {it.event for it in kept if it.is_kept and it.event is not None}
+        await asyncio.to_thread(self.laboratory.causes.add, numbers, why)
         return [it.as_object() for it in kept]
 
-    async def keep_there(
-        self, other: Other, span: tuple[int, int], note: str, camera: str | None = None
-    ) -> list[dict]:
+    async def keep_there(self, other: Other, body: dict) -> list[dict]:
         """Keeps at another station."""
-        body = {"from": span[0], "to": span[1], "note": note}
         try:
-            body |= {"camera": camera} if camera else {}
             _, told = await other.ask("/api/keep", body, shape=answers.KEPT)
             return answers_of(other, told)
         except Unfit as fault:
@@ -584,6 +613,7 @@ class Stations:
         files = self.files_of(keys, request.query.get("what", "mp4,csv"))
         if self.page.fetches[EVENTS] >= limits.EVENT_FETCHES:
             raise Unfit(503, "Too many events are being fetched. Try again in a minute.")
+        await self.joined()
         since = self.since_of(set(keys))
         name, progress = f"event_{stamp(since)}", Progress(len(files))
         response = web.StreamResponse(headers={"Content-Type": "application/zip"})
@@ -622,11 +652,18 @@ class Stations:
         """When the event of some clips begins, as far as the other stations have said."""
         known = [
             clip["from_us"]
-            for event in self.joined([])
+            for event in self.last[1]
             for clip in event["clips"]
             if f"{clip['camera']}.{clip['id']}.{clip['first']}" in keys
         ]
         return min(known, default=time.time_ns() // 1000)
+
+
+def asked_of(span: tuple[int, int], note: str, why: dict) -> dict:
+    """What another station is asked to keep, and why. A program's order is one of this page
+    there, as it is here."""
+    body = {"from": span[0], "to": span[1], "note": note, "at": why["at_us"], "by": why["who"]}
+    return body | ({"cause": why["kind"]} if why["kind"] in CAUSES else {})
 
 
 async def pieces_of(found, other: Other) -> AsyncIterator[bytes]:

@@ -1,13 +1,17 @@
 """Several stations as one: their cameras have the name of their station before their own, and what
 was kept of one span on several is one event."""
+import collections
 import json
 import logging
 import threading
-import time
+from bisect import bisect_left
+from typing import NamedTuple
 
 from lapyrei.answers import ALERT_NUMBERS_END as ALERTS
 from lapyrei.answers import MARK
 
+from . import limits
+from .asked import Wish
 from .events import NEAR_END, NEAR_START
 from .others import Other
 from .whole import clear, write_whole
@@ -88,6 +92,8 @@ class Presses:
 
     def __init__(self, most: int, path: str | None = None) -> None:
         self.most, self.path, self.lock = most, path, threading.Lock()
+        # It grows with each press, so that what is made of it is made anew.
+        self.version = 0
         self.presses: dict[tuple[str, int], tuple[str, int]] = {}
         if path:
             clear(path)
@@ -107,6 +113,7 @@ class Presses:
 
     def note(self, numbers: list[tuple[str, int]]) -> None:
         """Knows a press."""
+        self.version += 1
         for it in numbers:
             self.presses[it] = numbers[0]
         while len(self.presses) > self.most:
@@ -134,47 +141,158 @@ class Presses:
 
 def period(event: dict) -> float:
     """The microseconds from a frame to the next, of its slowest camera."""
-    return max((it["to_us"] - it["from_us"]) / max(1, it["frames"] - 1) for it in event["clips"])
+    return max([(it["to_us"] - it["from_us"]) / max(1, it["frames"] - 1) for it in event["clips"]])
 
 
-def are_near(one: dict, other: dict) -> bool:
+class Known(NamedTuple):
+    """An event of a station, with its cameras' names here, and what it is joined by: when it begins
+    and ends, and two periods of its slowest camera, all in microseconds; its tag; and its number.
+    `said` is the event as its station said it."""
+
+    since: int
+    until: int
+    slack: float
+    tag: int
+    number: int | None
+    event: dict
+    said: dict
+
+
+def known(other: Other | None, event: dict) -> Known:
+    """An event of another station, or of this one."""
+    shown = event_of(other, event) if other else event
+    since, until, slack = event["from_us"], event["to_us"], 2 * period(event)
+    return Known(since, until, slack, event["tag"], event["number"], shown, event)
+
+
+def are_near(one: Known, other: Known) -> bool:
     """Whether two events are of one span."""
-    slack = 2 * max(period(one), period(other))
+    slack = one.slack if one.slack > other.slack else other.slack
     return (
-        abs(one["from_us"] - other["from_us"]) <= NEAR_START + slack
-        and abs(one["to_us"] - other["to_us"]) <= NEAR_END + slack
-        and one["tag"] == other["tag"]
+        -NEAR_START - slack <= one.since - other.since <= NEAR_START + slack
+        and -NEAR_END - slack <= one.until - other.until <= NEAR_END + slack
+        and one.tag == other.tag
     )
 
 
-def joined(events: list[tuple[str, dict]], presses: Presses) -> list[dict]:
-    """The events of all stations, each with its station: those of one press as one; and, where this
-    page doesn't know the press, those of one span."""
-    groups: list[dict[str, dict]] = []
-    by_press: dict[tuple, dict[str, dict]] = {}
-    for station, event in events:
-        press = presses.of(station, event["number"])
-        group = by_press.get(press) if press else None
-        if press is None:
-            near = [
-                it
-                for it in groups
-                if station not in it
-                and any(are_near(event, one) for one in it.values())
-                and not any(presses.of(name, one["number"]) for name, one in it.items())
-            ]
-            group = min(
-                near,
-                key=lambda it: min(abs(one["from_us"] - event["from_us"]) for one in it.values()),
-                default=None,
-            )
-        if group is None or station in group:
-            groups.append(group := {})
-            if press:
-                by_press[press] = group
-        group[station] = event
-    found = [one_of(list(group.values())) for group in groups]
-    return sorted(found, key=lambda it: (it["to_us"], it["from_us"], it["key"]), reverse=True)
+Group = dict[str, Known]
+
+
+class Beginnings:
+    """The events of a tag that have no press, by when they begin, each with its group: so the
+    nearest one is found without a look at all of them. Those of a station are looked for from the
+    next station on, since two of one station are never one."""
+
+    def __init__(self) -> None:
+        self.times: list[int] = []
+        self.found: list[tuple[int, int, Known, Group]] = []
+        self.new: list[tuple[int, int, Known, Group]] = []
+        # The longest slack: it bounds how far apart two beginnings may be.
+        self.slack = 0.0
+
+    def add(self, event: Known, group: Group) -> None:
+        """An event and its group."""
+        self.new.append((event.since, len(self.found) + len(self.new), event, group))
+        if event.slack > self.slack:
+            self.slack = event.slack
+
+    def settle(self) -> None:
+        """A station is over: its events are looked for from now on."""
+        self.found += self.new
+        self.found.sort()
+        self.times, self.new = [it[0] for it in self.found], []
+
+    def group(self, station: str, event: Known) -> Group | None:
+        """The group of the nearest event that is of one span with this one, and has none of its
+        station. So many are looked at, whatever stations say."""
+        times, since = self.times, event.since
+        most, slack = len(times), max(event.slack, self.slack)
+        least, far = since - NEAR_START - slack, since + NEAR_START + slack
+        after = bisect_left(times, since)
+        before = after - 1
+        for _ in range(limits.NEAR_TRIES):
+            is_before = before >= 0 and times[before] >= least
+            is_after = after < most and times[after] <= far
+            if is_before and not (is_after and times[after] - since < since - times[before]):
+                one, group = self.found[before][2:]
+                before -= 1
+            elif is_after:
+                one, group = self.found[after][2:]
+                after += 1
+            else:
+                return None
+            if station not in group and are_near(event, one):
+                return group
+        return None
+
+
+def grouped(events: dict[str, list[Known]], presses: Presses) -> list[Group]:
+    """The events of each station in groups: those of one press, and, where this page doesn't know
+    the press, those of one span."""
+    groups: list[Group] = []
+    by_press: dict[tuple, Group] = {}
+    by_tag: collections.defaultdict[int, Beginnings] = collections.defaultdict(Beginnings)
+    for station, own in events.items():
+        for event in own:
+            press = presses.of(station, event.number)
+            beginnings = by_tag[event.tag]
+            group = by_press.get(press) if press else beginnings.group(station, event)
+            if group is None or station in group:
+                groups.append(group := {})
+                if press:
+                    by_press[press] = group
+            group[station] = event
+            if not press:
+                beginnings.add(event, group)
+        for beginnings in by_tag.values():
+            beginnings.settle()
+    return groups
+
+
+class Joined:
+    """The events of all stations as one list. What was made of an event, or of some that are one,
+    is kept until a station says something else of it, so that a new event costs little."""
+
+    def __init__(self, presses: Presses) -> None:
+        self.presses = presses
+        self.stations: dict[str, dict[str, Known]] = {}
+        self.made: dict[tuple[int, ...], tuple[Group, dict, bytes]] = {}
+
+    def join(self, said: dict[str, tuple[Other | None, list[dict]]]) -> tuple[list[dict], bytes]:
+        """The events of all stations, the newest first, and the same as JSON. `said` has of each
+        station itself, or nothing where it is this one, and its events."""
+        stations = {
+            name: self.known_of(name, other, events) for name, (other, events) in said.items()
+        }
+        self.stations = {
+            name: {it.said["key"]: it for it in events} for name, events in stations.items()
+        }
+        made = {}
+        for group in grouped(stations, self.presses):
+            mark = tuple(id(it) for it in group.values())
+            made[mark] = self.made.get(mark) or one_made(group)
+        self.made = made
+        ordered = sorted(
+            made.values(),
+            key=lambda it: (it[1]["to_us"], it[1]["from_us"], it[1]["key"]),
+            reverse=True,
+        )
+        return [it[1] for it in ordered], b"[" + b",".join(it[2] for it in ordered) + b"]"
+
+    def known_of(self, name: str, other: Other | None, events: list[dict]) -> list[Known]:
+        """The events of a station: those that it has said before are what they were."""
+        before, found = self.stations.get(name, {}), []
+        for event in events:
+            old = before.get(event["key"])
+            is_same = old is not None and (old.said is event or old.said == event)
+            found.append(old if is_same else known(other, event))
+        return found
+
+
+def one_made(group: Group) -> tuple[Group, dict, bytes]:
+    """A group, what it is as one event, and that as JSON."""
+    found = one_of([it.event for it in group.values()])
+    return group, found, json.dumps(found, separators=(",", ":")).encode()
 
 
 def one_of(events: list[dict]) -> dict:
@@ -198,19 +316,22 @@ def one_of(events: list[dict]) -> dict:
         "until_us": max(ends) if ends else None,
         "lacks": [lack for it in events for lack in it["lacks"]],
         "clips": [clip for it in events for clip in it["clips"]],
+        "cause": next((it["cause"] for it in events if it.get("cause")), None),
+        "lost": sum(it.get("lost", 0) for it in events),
     }
 
 
 # ------------------------------------------------------------------------------------------- keeps
 
 
-def span_of(seconds: int | None, span: tuple[int, int] | None, cameras: list[dict]) -> tuple:
-    """The span that all stations keep: their clocks say the same times. With seconds it ends now,
-    or after the seconds that a camera's configuration adds, the most of all."""
-    if span is not None or seconds is None:
-        return span or (0, 0)
-    now, after = time.time_ns() // 1000, max((it.get("after") or 0 for it in cameras), default=0)
-    return now - seconds * 1_000_000, now + after * 1_000_000
+def span_of(wish: Wish, moment: int, cameras: list[dict]) -> tuple[int, int]:
+    """The span that all stations keep: their clocks say the same times. With seconds it ends at the
+    moment of the press, or after the seconds that a camera's configuration adds, the most of
+    all."""
+    if wish.span is not None or wish.seconds is None:
+        return wish.span or (0, 0)
+    after = max((it.get("after") or 0 for it in cameras), default=0)
+    return max(0, moment - wish.seconds * 1_000_000), moment + after * 1_000_000
 
 
 def answers_of(other: Other, told: dict) -> list[dict]:

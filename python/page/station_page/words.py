@@ -169,6 +169,8 @@ class Line:
     label: str | None
     kind: str
     members: dict = field(default_factory=dict)
+    # When it was printed, in microseconds since 1970, where it says that.
+    time: int | None = None
 
     def __getitem__(self, key: str):
         """A member; None where it may be missing, and is."""
@@ -217,8 +219,17 @@ def read_line(raw: str) -> Line | None:
         if label is not None and not isinstance(label, str):
             return None
         kind = plain(found["kind"])
-        return Line(label, kind, dict(member_of(found, name) for name in MEMBERS.get(kind, [])))
+        members = dict(member_of(found, name) for name in MEMBERS.get(kind, []))
+        return Line(label, kind, members, printed(found.get("time")))
     except (ValueError, RecursionError):
+        return None
+
+
+def printed(text: object) -> int | None:
+    """When a line was printed; none where it doesn't say a time."""
+    try:
+        return moment_of(text) if isinstance(text, str) else None
+    except (ValueError, OverflowError):
         return None
 
 

@@ -18,6 +18,43 @@ export async function ask(path, body) {
 
 const AGAIN = 1000;
 const LENGTHS = 8;
+const SAMPLES = 8;
+const SOON = 500;
+const LATER = 10000;
+// By how many microseconds two answers of one clock may contradict each other.
+const SLACK = 5000;
+
+/** The server's clock, measured by its answers: the quickest of the last ones counts, and what it took bounds the error. */
+export class Clock {
+  constructor() {
+    this.samples = [];
+  }
+
+  /** An answer: when it was asked for and heard, in milliseconds of this page, and what it said in microseconds. */
+  add(asked, told, heard) {
+    const took = (heard - asked) * 1000, offset = told - (asked + heard) * 500;
+    // Earlier ones that can't be so beside it are of a clock that was set since.
+    const fit = this.samples.filter((it) => Math.abs(it.offset - offset) <= (it.took + took) / 2 + SLACK);
+    this.samples = [...fit, { took, offset }].slice(-SAMPLES);
+  }
+
+  /** The server's time in microseconds, now or at a moment of this page (as events have it); null while nothing is known of it. */
+  at(moment = performance.now()) {
+    if (!this.samples.length) return null;
+    const { offset } = this.samples.reduce((one, other) => (other.took < one.took ? other : one));
+    return Math.round(moment * 1000 + offset);
+  }
+
+  /** Asks what the time is, without end: soon at first. */
+  async measure() {
+    for (;;) {
+      const asked = performance.now();
+      const found = await fetch("/api/clock").then((answer) => answer.json()).catch(() => null);
+      if (Number.isFinite(found?.now_us)) this.add(asked, found.now_us, performance.now());
+      await new Promise((done) => setTimeout(done, this.samples.length < SAMPLES / 2 ? SOON : LATER));
+    }
+  }
+}
 
 /** Bytes that have come, until messages of them are whole. */
 class Gathered {
@@ -56,6 +93,7 @@ export class Link {
   /** `heard` is called with each message: its head, and the bytes of its body. */
   constructor(heard) {
     this.heard = heard;
+    this.clock = new Clock();
     this.view = {};
     this.turn = 0;
     this.id = null;

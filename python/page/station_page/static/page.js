@@ -90,7 +90,6 @@ function show(state) {
   const names = state.cameras.map((camera) => camera.name);
   if (names.join() !== cameraNames.join()) begin(state.cameras, names);
   stage.show(state.cameras);
-  timeline.skew = state.now * 1e6 - Date.now() * 1000;
   lanes();
   const shown = state.cameras.find((camera) => camera.name === view.camera);
   if (shown) large.show(shown, more[shown.name]);
@@ -105,8 +104,11 @@ function show(state) {
 function lanes() {
   if (!standing) return;
   const names = view.cameras();
-  timeline.show(standing.cameras.filter((camera) => !names || names.includes(camera.name)), standing.now);
+  timeline.show(standing.cameras.filter((camera) => !names || names.includes(camera.name)), serverNow() / 1e6);
 }
+
+/** The server's time in microseconds: as it was measured, or until then as it said it last. */
+const serverNow = () => link.clock.at() ?? standing.now * 1e6;
 
 /** The cameras' names in both lists. */
 function begin(cameras, names) {
@@ -330,8 +332,8 @@ function afterOf(name) {
   return Math.max(0, ...(standing?.cameras || []).filter((camera) => !name || camera.name === name).map((camera) => camera.after || 0));
 }
 
-/** Keeps the last seconds, or the range, of all cameras or of one. */
-async function keep() {
+/** Keeps the last seconds before the press, or the range, of all cameras or of one. `moment` is when that was, as events have it. */
+async function keep(moment) {
   const range = timeline.range, seconds = wishedSeconds(), camera = byId("camera").value;
   if (!range && !seconds) {
     answered(`Seconds are a whole number from 1 to ${MOST_SECONDS}.`, "bad");
@@ -339,6 +341,8 @@ async function keep() {
     return;
   }
   const wish = range ? { from: Math.round(range.from), to: Math.round(range.to) } : { seconds };
+  const at = range ? null : link.clock.at(moment);
+  if (at !== null) wish.at = at;
   if (camera) wish.camera = camera;
   const note = byId("note").value;
   byId("press").classList.add("asked");
@@ -480,9 +484,9 @@ function pressed(event) {
   // In a field letters are text; on a button the space bar presses it.
   if (isField || (key === " " && target.matches("button, summary, a"))) return;
   if (key === "arrowleft" || key === "arrowright") step((key === "arrowleft" ? -1 : 1), event.shiftKey);
-  else if (key === "enter" && target === timeline.canvas && timeline.range) keep();
+  else if (key === "enter" && target === timeline.canvas && timeline.range) keep(event.timeStamp);
   else if (/^\d$/.test(key)) digit(key);
-  else if (WORK[key] && !(event.repeat && key === "k")) WORK[key]();
+  else if (WORK[key] && !(event.repeat && key === "k")) WORK[key](event.timeStamp);
   else return;
   event.preventDefault();
 }
@@ -517,9 +521,10 @@ byId("seconds").oninput = () => { name(); if (standing) room(); };
 byId("camera").onchange = name;
 byId("keep").onsubmit = (event) => {
   event.preventDefault();
-  keep();
+  keep(event.timeStamp);
 };
 document.addEventListener("keydown", pressed);
 link.listen();
+link.clock.measure();
 setInterval(watch, 250);
 setInterval(tick, 100);
