@@ -393,7 +393,12 @@ STATE = table(
         "cameras": each(both(CAMERA_STANDING, has_what_it_shows), CAMERAS),
         "alerts": each(ALERT, ALERTS),
     },
-    {"station": is_level, "news": each(NEWS, ALERTS), "now": SECONDS},
+    {
+        "station": is_level,
+        "news": each(NEWS, ALERTS),
+        "now": SECONDS,
+        "seen": each(whole(0, ALERT_NUMBERS_END), ALERTS),
+    },
 )
 ROOM = {word: COUNT for word in ("room_blocks", "slots", "segments", "clips_left")}
 MORE = table({"cameras": named(table({}, {"advice": TEXT, "source": TEXT} | ROOM), CAMERA)})

@@ -10,6 +10,8 @@ from browser import Browser
 from conftest import Laboratory
 from page_access import STEPS as ACCESS
 from page_strangers import Wrong
+from page_work import NAME
+from page_work import STEPS as WORK
 from selenium.common.exceptions import WebDriverException
 
 LONG = "a-camera-whose-name-has-32-signs"
@@ -19,7 +21,7 @@ CAMERAS = [
     {"name": "pump", "pattern": "96x128 GREY 10:1", "scene": "beam"},
 ]
 ROOM = {"keep": 3, "slots": 50, "segments": 24}
-STEPS = ACCESS
+STEPS = (*ACCESS, *WORK)
 
 
 @contextlib.contextmanager
@@ -28,7 +30,7 @@ def laboratory():
     folder = tempfile.mkdtemp(prefix="page_check", dir="/var/tmp")
     lab = Laboratory(folder, [ROOM | camera for camera in CAMERAS], as_it_is=True)
     try:
-        lab.start_station().start_page()
+        lab.start_station().start_page("--name", NAME)
         yield lab
     finally:
         lab.close()

@@ -12,7 +12,10 @@ from pathlib import Path
 from urllib.parse import urlsplit
 
 NAME = re.compile(r"[A-Za-z0-9_-]{1,32}")
-WORDS = {"listen", "token", "on_alert", "webhook", "notes", "folder", "archive", "station"}
+WORDS = {"listen", "token", "on_alert", "webhook", "notes", "folder", "archive", "station", "name"}
+# What the console is called where nobody gives it a name, and the letters of one.
+NAMELESS = "Laboratory"
+NAME_LETTERS = 64
 TOKEN_LEAST = 16
 MOST_STATIONS = 16
 # The random bytes of a token that the page makes.
@@ -67,6 +70,8 @@ class Settings:
     # The file in which loop_archive says how it stands.
     archive: str | None = None
     stations: list[OtherStation] = field(default_factory=list)
+    # What stands in the title and above the page.
+    name: str = NAMELESS
 
     def is_loopback(self) -> bool:
         """Whether this machine alone can reach the page."""
@@ -173,6 +178,14 @@ def token_in(path: str) -> str:
     return token
 
 
+def name_in(text: str | None) -> str:
+    """The name of the console; BadSettings where it can't be one."""
+    name = (text or NAMELESS).strip()
+    if not name or len(name) > NAME_LETTERS or not name.isprintable():
+        raise BadSettings(f"name: a name has 1 to {NAME_LETTERS} letters, in one line")
+    return name
+
+
 def make_token(path: str) -> None:
     """Makes a file with a new token, which its owner alone may read. One that is there stays as it
     is."""
@@ -237,12 +250,18 @@ def parser() -> argparse.ArgumentParser:
     words.add_argument(
         "--settings",
         metavar="FILE",
-        help="more words: listen, token, on_alert, webhook, notes, folder, archive, station (TOML)",
+        help="more words: listen, token, name, on_alert, webhook, notes, folder, archive, station "
+        "(TOML)",
     )
     words.add_argument(
         "--folder",
         metavar="FOLDER",
         help="the folder in which the station runs, for paths that are relative (this one)",
+    )
+    words.add_argument(
+        "--name",
+        metavar="TEXT",
+        help="what the station is called in the page's title and head (Laboratory)",
     )
     words.add_argument(
         "--notes", metavar="FILE", help="where notes are kept (loop_page.notes in that folder)"
@@ -306,7 +325,7 @@ def read_settings(given: argparse.Namespace) -> Settings:
         )
     named = {
         word: getattr(given, word) or text_at(own, word, given.settings or "")
-        for word in ("listen", "token", "folder", "notes")
+        for word in ("listen", "token", "folder", "notes", "name")
     }
     folder = str(Path(named["folder"] or ".").absolute())
     host, port = address_of(named["listen"] or "127.0.0.1:8080")
@@ -333,4 +352,5 @@ def read_settings(given: argparse.Namespace) -> Settings:
         own.get("webhook"),
         archive and os.path.join(folder, archive),
         stations_of(own.get("station", []), given.settings or ""),
+        name_in(named["name"]),
     )

@@ -111,6 +111,7 @@ export class Large {
       byId("large-stretch").hidden = !head.stretch;
       say(byId("large-stretch"), stretchWords(head.stretch));
       this.points(head.stretch);
+      this.placed?.();
       this.value();
       this.askLight();
     });
@@ -181,6 +182,7 @@ export class Large {
 
   /** Puts the mark on its pixel, and the value beside it. */
   place() {
+    this.placed?.();
     if (!this.point || !this.camera?.width) return;
     const box = this.box(), frame = byId("frame").getBoundingClientRect();
     const left = box.left - frame.left + (this.point.x + 0.5) / this.camera.width * box.width, top = box.top - frame.top + (this.point.y + 0.5) / this.camera.height * box.height;

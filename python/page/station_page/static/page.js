@@ -2,6 +2,9 @@
 import { Events, camerasOf, rowOf } from "/static/events.js";
 import { Large } from "/static/large.js";
 import { Link, ask } from "/static/link.js";
+import { Alarm } from "/static/alarm.js";
+import { Levels } from "/static/levels.js";
+import { Ruler } from "/static/ruler.js";
 import { speak } from "/static/spoken.js";
 import { Stage } from "/static/stage.js";
 import { Timeline, rangeWords } from "/static/timeline.js";
@@ -27,15 +30,19 @@ let answeredAt = -Infinity;
 const large = new Large();
 const stage = new Stage((name) => view.open(name));
 const link = new Link((head, body) => hear(head, body));
-const events = new Events({ play: (event) => view.playEvent(event), answered });
+const events = new Events({ play: (event) => view.playEvent(event), answered, now: () => timeline.now() });
 const timeline = new Timeline({ scrub: (time) => view.scrub(time), pin: (time) => view.pin(time), choose: () => name() });
 const view = new View(link, stage, large, timeline, (text) => answered(text, "bad"));
+const ruler = new Ruler(large, () => { if (view.moment === null) view.pin(timeline.now()); });
+const alarm = new Alarm((ids) => sawAll(ids));
+view.levels = new Levels(view);
 large.wish = (camera) => view.stretch[camera];
 large.stretched = (points) => view.setStretch(large.name, points);
 view.told = () => {
   events.plays(view.event ? rowOf(view.event) : null);
   lanes();
   within();
+  if (view.moment === null || !view.camera) ruler.close();
 };
 
 // ------------------------------------------------------------------------------------------------ what the server says
@@ -60,6 +67,7 @@ function hear(head, body) {
     if (standing) show(standing);
   } else if (head.kind === "events") {
     events.show(JSON.parse(text.decode(body)));
+    timeline.caused(events.events);
     within();
   } else if (head.kind === "progress") {
     events.moved(JSON.parse(text.decode(body)));
@@ -117,6 +125,7 @@ function begin(cameras, names) {
   byId("camera").hidden = names.length < 2;
   events.names(names);
   if (cameras[0].keep) byId("seconds").value = cameras[0].keep;
+  byId("then").value = afterOf("");
 }
 
 // ------------------------------------------------------------------------------------------------ how it stands
@@ -200,7 +209,8 @@ const alertRows = new Map();
 /** The warnings that nobody has seen, under the bell, the newest first. */
 function alerts() {
   const list = standing.alerts;
-  document.title = list.length ? `(${list.length}) Laboratory` : "Laboratory";
+  alarm.take(list, standing.seen);
+  title();
   const bell = byId("bell"), badge = byId("badge");
   mark(bell, "aria-label", list.length ? `Warnings: ${list.length} not seen` : "Warnings: none");
   badge.hidden = !list.length;
@@ -226,6 +236,13 @@ function alerts() {
     say(row.children[1], clock(alert.time * 1e6));
   }
   happened();
+}
+
+/** The station's own name stands in the title and above the page; before it how much nobody has taken notice of. */
+function title() {
+  const name = standing?.name || "Laboratory", wanted = alarm.title() + name;
+  if (document.title !== wanted) document.title = wanted;
+  say(byId("name"), name);
 }
 
 /** What happened, and who changed what, the newest first. */
@@ -311,10 +328,12 @@ function name() {
   const range = timeline.range, seconds = wishedSeconds(), camera = byId("camera").value;
   const lasting = range ? (range.to - range.from) / 1e6 : seconds;
   let words = range ? `Keep ${length(lasting)} from ${clock(range.from)}` : `Keep the last ${seconds ? (seconds < 100 ? `${seconds} s` : length(seconds)) : "? s"}`;
-  const after = range ? 0 : afterOf(camera);
-  if (after) words += ` and the next ${length(after)}`;
+  const after = range ? 0 : thenSeconds();
+  byId("then").disabled = Boolean(range);
+  if (after === null) words += " and then ? s";
+  else if (after) words += ` and the next ${length(after)}`;
   if (camera) words += ` of ${camera}`;
-  const number = standing && lasting ? left(lasting) : null;
+  const number = standing && lasting ? left(lasting + (after || 0)) : null;
   if (number === 0) words += ": the ring is then full, and recording stops";
   say(byId("press-text"), words);
   byId("press").classList.toggle("long", words.length > 26);
@@ -327,20 +346,32 @@ function name() {
   }
 }
 
+/** The seconds still to come that are wished; nothing where the field has none. */
+function thenSeconds() {
+  const typed = byId("then").value.trim();
+  if (!typed) return 0;
+  return /^\d{1,5}$/.test(typed) && Number(typed) <= MOST_SECONDS ? Number(typed) : null;
+}
+
 /** The seconds still to come that a press keeps too, by the station's configuration: of one camera, or the most of all. */
 function afterOf(name) {
   return Math.max(0, ...(standing?.cameras || []).filter((camera) => !name || camera.name === name).map((camera) => camera.after || 0));
 }
 
-/** Keeps the last seconds before the press, or the range, of all cameras or of one. `moment` is when that was, as events have it. */
+/** Keeps the last seconds before the press and those that are wished after it, or the range, of all cameras or of one. `moment` is when that was, as events have it. */
 async function keep(moment) {
-  const range = timeline.range, seconds = wishedSeconds(), camera = byId("camera").value;
+  const range = timeline.range, seconds = wishedSeconds(), after = thenSeconds(), camera = byId("camera").value;
+  if (!range && after === null) {
+    answered(`Then is a whole number of seconds, ${MOST_SECONDS} at most.`, "bad");
+    byId("then").focus();
+    return;
+  }
   if (!range && !seconds) {
     answered(`Seconds are a whole number from 1 to ${MOST_SECONDS}.`, "bad");
     byId("seconds").focus();
     return;
   }
-  const wish = range ? { from: Math.round(range.from), to: Math.round(range.to) } : { seconds };
+  const wish = range ? { from: Math.round(range.from), to: Math.round(range.to) } : { seconds, after };
   const at = range ? null : link.clock.at(moment);
   if (at !== null) wish.at = at;
   if (camera) wish.camera = camera;
@@ -433,7 +464,7 @@ function within() {
 const KEYS = [
   ["K", "keep: the last seconds, or the range"], ["N", "write the note"], ["1 to 9", "that camera large; two digits for the tenth and on"], ["0, Esc", "all cameras; let the range go; live"],
   ["L", "live"], ["Space", "play, stop"], ["\u2190 \u2192", "a frame back, on; with Shift a range"], ["Page Up, Page Down", "a second back, on"], ["Home, End", "the first moment, the last"],
-  ["I, O", "the range starts here, ends here"], ["+ \u2212", "zoom the timeline"], ["< >", "move the timeline"], ["A", "stretch a large picture by itself, or not"], ["B", "warnings"], ["E", "events"], ["?", "these keys"],
+  ["I, O", "the range starts here, ends here"], ["[ ]", "the event before, the next one"], ["+ \u2212", "zoom the timeline"], ["< >", "move the timeline"], ["A", "stretch pictures by themselves, or not"], ["M", "measure in a large picture; arrows move an end, with Shift by ten"], ["B", "warnings"], ["E, /", "events; search them"], ["?", "these keys"],
 ];
 let digits = "";
 let digitsTimer = null;
@@ -453,6 +484,7 @@ function digit(key) {
 function escape() {
   if (byId("warnings").open) ring();
   else if (timeline.range) timeline.choose(null);
+  else if (ruler.ends) ruler.close();
   else if (view.moment !== null || view.scrubbed !== null) view.live();
   else if (view.camera) view.open(null);
 }
@@ -464,10 +496,18 @@ function step(by, isRange) {
   view.step(by, isRange ? (moment) => timeline.extend(from, moment) : undefined);
 }
 
+/** The moment at which the next event was asked for, or the one before. */
+function toEvent(by) {
+  const found = timeline.beside(view.moment ?? timeline.now(), by);
+  if (found === null) return;
+  view.pin(found);
+  timeline.see(found);
+}
+
 const WORK = {
   k: keep, n: () => byId("note").focus(), l: () => view.live(), " ": () => view.toggle(), i: () => view.bound("from"), o: () => view.bound("to"),
   "+": () => timeline.zoom(1 / 1.5), "=": () => timeline.zoom(1 / 1.5), "-": () => timeline.zoom(1.5), "<": () => timeline.pan(-0.3), ">": () => timeline.pan(0.3),
-  a: () => large.auto(), b: ring, e: () => (byId("events").querySelector("button") || byId("events")).focus(), "?": () => byId("help").showModal(),
+  "[": () => toEvent(-1), "]": () => toEvent(1), m: () => ruler.toggle(), a: () => (view.camera ? large.auto() : view.levels.auto()), b: ring, "/": () => byId("search").focus(), e: () => (byId("events").querySelector("button") || byId("events")).focus(), "?": () => byId("help").showModal(),
   pageup: () => view.second(-1), pagedown: () => view.second(1), home: () => view.edge(false), end: () => view.edge(true),
 };
 
@@ -518,7 +558,11 @@ byId("letters").onchange = () => localStorage.setItem("letters", byId("letters")
 byId("less").onclick = () => stepSeconds(-1);
 byId("more").onclick = () => stepSeconds(1);
 byId("seconds").oninput = () => { name(); if (standing) room(); };
-byId("camera").onchange = name;
+byId("then").oninput = name;
+byId("camera").onchange = () => {
+  byId("then").value = afterOf(byId("camera").value);
+  name();
+};
 byId("keep").onsubmit = (event) => {
   event.preventDefault();
   keep(event.timeStamp);

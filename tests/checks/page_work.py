@@ -1,0 +1,282 @@
+"""Steps of page_check's part `console`: work with events and pictures. Search, causes, seconds to
+come, an alarm, cameras in step, levels of deep pictures, a line that is measured, the name."""
+import re
+import time
+
+from browser import ActionChains, Keys
+from page_strangers import expect
+
+# The station's name in the title and the head.
+NAME = "Laser bench 2"
+# What the events' rows say, and what each large picture's pixels are: darkest, brightest.
+ROWS = """return [...document.querySelectorAll('#events .event')].filter((it) => it.checkVisibility())
+    .map((it) => it.innerText + ' ' + it.querySelector('input').value)"""
+# The darkest and the brightest grey of a picture that is shown.
+ENDS = """const it = document.querySelector(arguments[0]), data = it.getContext('2d')
+    .getImageData(0, 0, it.width, it.height).data; let [low, high, seen] = [255, 0, new Set()];
+for (let at = 0; at < data.length; at += 4) { low = Math.min(low, data[at]);
+    high = Math.max(high, data[at]); seen.add(data[at]); } return [low, high, seen.size];"""
+# Counts the tones that are begun from here on.
+TONES = """window.tones = 0; const plain = OscillatorNode.prototype.start;
+OscillatorNode.prototype.start = function (...words) { window.tones++; plain.apply(this, words); };"""
+# The numbers of the frames that are shown, by camera.
+SHOWN = """return Object.fromEntries([...document.querySelectorAll('.cam')].filter((it) =>
+    it.checkVisibility()).map((it) => [it.dataset.camera, Number(it.dataset.number)]))"""
+
+
+def typed(browser, selector, text):
+    """Writes into a field, as somebody types."""
+    script = (
+        "const it = document.querySelector(arguments[0]); it.value = arguments[1];"
+        " for (const kind of ['input', 'change']) it.dispatchEvent(new Event(kind))"
+    )
+    browser.run(script, selector, text)
+
+
+def rows(browser):
+    """The events that are shown."""
+    return browser.run(ROWS)
+
+
+def released(lab):
+    """All events are released."""
+    for event in lab.ask("/api/events").json()["events"]:
+        clips = [{key: it[key] for key in ("camera", "id", "first")} for it in event["clips"]]
+        lab.post("/api/event/release", {"clips": clips})
+    lab.until(lambda: not lab.ask("/api/events").json()["events"], "end of all events")
+
+
+def name(browser, lab, shots):
+    """The station's own name stands in the title and above the page; what warns stands before
+    it."""
+    browser.until(lambda: browser.driver.title == NAME, f"title {NAME}")
+    expect(browser.text("h1") == NAME, f"the head says {browser.text('h1')!r}")
+
+
+def search(browser, lab, shots):
+    """Events are found by words of their notes, by camera, tag and time, and how many is said."""
+    released(lab)
+    names = lab.names()
+    lab.post("/api/keep", {"seconds": 2, "note": "run 7: discharge"})
+    lab.post("/api/keep", {"seconds": 1, "note": "pump spike", "camera": "pump"})
+    lab.order_done("keep pendulum 1 7")
+    browser.until(lambda: len(rows(browser)) == 3, "three events")
+    browser.keys("/", "discharge RUN")
+    browser.until(lambda: len(rows(browser)) == 1, "one event by its note")
+    expect(browser.text("#found") == "1 of 3", f"it says {browser.text('#found')!r}")
+    browser.shot(shots, "search")
+    browser.keys(Keys.ESCAPE)
+    browser.until(lambda: len(rows(browser)) == 3, "all events by Escape")
+    browser.named("Filter").click()
+    for field, value, count in (
+        ("#filter", names[1], 1), ("#filter", "pump", 2), ("#filter", "", 3),
+        ("#tag", "7", 1), ("#tag", "", 3), ("#age", "1", 3),
+    ):
+        typed(browser, field, value)
+        browser.until(
+            lambda count=count: len(rows(browser)) == count, f"{count} events: {field} {value}"
+        )
+    typed(browser, "#age", "span")
+    typed(browser, "#until", "2020-01-01T00:00:00")
+    browser.until(lambda: browser.one("#none-found").is_displayed(), "word that none is like that")
+    expect(not browser.one("#no-events").is_displayed(), "it is said that nothing is kept")
+    browser.shot(shots, "sieve")
+    browser.named("Show all").click()
+    browser.until(lambda: len(rows(browser)) == 3, "all events again")
+    expect(browser.text("#found") == "newest first", f"it says {browser.text('#found')!r}")
+
+
+def lacking(browser, lab, shots):
+    """Events that lost frames, or have less than was asked for, are found."""
+    released(lab)
+    lab.order("!pause pump")
+    time.sleep(2.5)
+    lab.order("!go pump")
+    lab.until(lambda: lab.camera("pump")["level"] == "good", "camera that goes on")
+    lab.post("/api/keep", {"camera": "pump", "seconds": 4})
+    time.sleep(4)
+    lab.post("/api/keep", {"camera": "pendulum", "seconds": 2})
+    browser.until(lambda: len(rows(browser)) == 2, "two events")
+    browser.named("Filter").click()
+    browser.run("document.querySelector('#lost').click()")
+    told = [(it["cameras"], it["lacks"]) for it in lab.ask("/api/events").json()["events"]]
+    browser.until(lambda: len(rows(browser)) == 1, f"one event of {told} that lacks frames")
+    expect("pump" in rows(browser)[0], f"it is {rows(browser)}")
+
+
+def alarm(browser, lab, shots):
+    """A warning is heard once somebody has touched the page, stands in the title, and stays in its
+    bar, also where it is over and over a reload, until Seen is pressed; on all pages."""
+    browser.run("localStorage.clear()")
+    browser.open()
+    browser.run(TONES)
+    lab.say("given_up", camera="pendulum", frames=12, since="2026-11-22T15:38:00.123Z")
+    browser.until(lambda: browser.one("#alarm").is_displayed(), "bar of an alarm")
+    expect("12" in browser.text("#alarm-text"), f"the bar says {browser.text('#alarm-text')!r}")
+    expect("waits for a click" in browser.text("#sound"), "it isn't said that the sound waits")
+    browser.until(lambda: browser.driver.title == f"\u25b2 1 {NAME}", "title with the alarm")
+    time.sleep(3.5)
+    expect(browser.run("return window.tones") == 0, "it rings before anybody touched the page")
+    browser.keys(Keys.SHIFT)
+    browser.until(lambda: browser.run("return window.tones") >= 4, "tones, again and again")
+    browser.until(lambda: browser.text("#sound") == "Sound is on", "word that it is heard")
+    browser.shot(shots, "alarm")
+    browser.named("Sound is on").click()
+    before = browser.run("return window.tones")
+    time.sleep(3.5)
+    expect(browser.run("return window.tones") == before, "it rings though its sound is off")
+    browser.named("Sound is off").click()
+    lab.order("!pause pump")
+    browser.until(lambda: "pump" in browser.text("#alarm-text"), "alarm of a camera")
+    lab.order("!go pump")
+    browser.until(lambda: "It is over." in browser.text("#alarm-text"), "word that it is over")
+    browser.open()
+    browser.until(lambda: "It is over." in browser.text("#alarm-text"), "alarm after a reload")
+    expect(" And 1 other" in browser.text("#alarm-text"), "the other alarm is gone")
+    browser.named("Seen").click()
+    browser.until(lambda: not browser.one("#alarm").is_displayed(), "end of the bar")
+    lab.until(lambda: not lab.alerts(), "end of the warnings")
+    time.sleep(1.5)
+    expect(not browser.one("#alarm").is_displayed(), "the bar is back though it was seen")
+    expect(browser.driver.title == NAME, f"the title is {browser.driver.title!r}")
+    lab.say("given_up", camera="pendulum", frames=3, since="2026-11-22T15:39:00.123Z")
+    browser.until(lambda: browser.one("#alarm").is_displayed(), "alarm that comes again")
+    lab.post("/api/seen", {"ids": [it["id"] for it in lab.status()["alerts"]]})
+    browser.until(lambda: not browser.one("#alarm").is_displayed(), "end by another page")
+
+
+def moment_of(lab, camera, number):
+    """The time of a frame, by the layout alone."""
+    return next(it.time for it in lab.stored(camera) if it.number == number)
+
+
+def steps(browser, lab, shots):
+    """All cameras of an event go frame by frame by keys, in step: each shows the last of its frames
+    until the moment, which is a frame of one of them."""
+    released(lab)
+    lab.post("/api/keep", {"seconds": 3})
+    browser.until(lambda: len(rows(browser)) == 1, "event")
+    event = lab.ask("/api/events").json()["events"][0]
+    times = {
+        name: [(it.time, it.number) for it in lab.stored(name)
+               if event["from_us"] <= it.time <= event["to_us"]]
+        for name in event["cameras"]
+    }
+    browser.run("document.querySelector('#events .acts button').click()")
+    browser.until(lambda: browser.all("#events .event.playing"), "event that is played")
+    browser.keys(" ", Keys.HOME)
+    every = sorted({time for found in times.values() for time, _ in found})
+    # From the first moment at which each camera has a frame.
+    begin = max(found[0][0] for found in times.values())
+    place = every.index(event["from_us"]) if event["from_us"] in every else 0
+    for key, by in [(Keys.ARROW_RIGHT, 1)] * 14 + [(Keys.ARROW_LEFT, -1)] * 3:
+        browser.keys(key)
+        place += by
+        if every[place] < begin:
+            time.sleep(0.2)
+            continue
+        wanted = {
+            name: max(number for time, number in found if time <= every[place])
+            for name, found in times.items()
+        }
+        browser.until(lambda wanted=wanted: browser.run(SHOWN) == wanted, f"frames {wanted}")
+    browser.shot(shots, "steps")
+    browser.keys("l")
+
+
+def levels(browser, lab, shots):
+    """The pictures of an event have a black and a white level together: of 12 bits by their own
+    values, while it is played and while it stands."""
+    deep = lab.names()[1]
+    tile = f".cam[data-camera='{deep}'] .picture"
+    if not rows(browser):
+        lab.post("/api/keep", {"seconds": 3})
+        browser.until(lambda: rows(browser), "event")
+    expect(not browser.one("#levels").is_displayed(), "levels stand beside live pictures")
+    browser.run("document.querySelector('#events .acts button').click()")
+    browser.until(lambda: browser.one("#levels").is_displayed(), "levels of an event")
+    browser.keys(" ")
+    expect(browser.one("#all-white").get_property("value") == "4095", "white isn't that of 12 bits")
+    expect("12 bits" in browser.text("#levels-of"), f"levels of {browser.text('#levels-of')!r}")
+    other = browser.run(ENDS, ".cam .picture")
+    typed(browser, "#all-white", "400")
+    browser.until(lambda: grey_of(browser, tile)[1] > 250, "bright picture")
+    clipped = grey_of(browser, tile)
+    browser.until(lambda: browser.all(f".cam[data-camera='{deep}'] .eye"), "stretched picture")
+    said = "return document.querySelector(arguments[0]).title"
+    chip = f".cam[data-camera='{deep}'] .eye"
+    browser.until(lambda: "0 to 400" in browser.run(said, chip), "word of the levels")
+    expect(browser.run(ENDS, ".cam .picture") == other, "a picture of 8 bits is changed too")
+    browser.shot(shots, "levels")
+    browser.keys("a")
+    browser.until(lambda: "0 to 400" not in browser.run(said, chip), "levels by the pictures")
+    browser.named("As stored").click()
+    browser.until(lambda: not browser.one(chip).is_displayed(), "picture as it is stored")
+    expect(clipped[1] > 250, f"the levels don't show: {clipped}")
+    browser.keys("l")
+
+
+def grey_of(browser, selector):
+    """The darkest and the brightest grey, and how many there are."""
+    return browser.run(ENDS, selector)
+
+
+def measured(browser):
+    """What is measured: the length, and how far it goes to the right and down."""
+    found = re.match(r"([\d.]+) px, x (-?\d+), y (-?\d+), (-?[\d.]+)\u00b0", browser.text("#measured"))
+    return tuple(float(it) for it in found.groups())
+
+
+def measure(browser, lab, shots):
+    """A line between two points of a picture that stands, by keys and by the pointer: its length in
+    the picture's own pixels."""
+    browser.keys("1")
+    browser.until(lambda: browser.one("#frame").get_attribute("data-number"), "large picture")
+    browser.keys("m")
+    browser.until(lambda: browser.one("#measured").is_displayed(), "measure")
+    browser.until(lambda: browser.text("#large-ago") != "live", "picture that stands")
+    expect(measured(browser) == (160, 160, 0, 0), f"the first line is {measured(browser)}")
+    browser.keys(*[Keys.ARROW_UP] * 3)
+    ActionChains(browser.driver).key_down(Keys.SHIFT).send_keys(Keys.ARROW_LEFT * 4).key_up(
+        Keys.SHIFT
+    ).perform()
+    length = (120**2 + 3**2) ** 0.5
+    expect(abs(measured(browser)[0] - length) < 0.01, f"the line is {measured(browser)}")
+    expect(measured(browser)[1:3] == (120, -3), f"the line is {measured(browser)}")
+    expect(browser.focused() == "End of the line: x 200, y 117", f"heard: {browser.focused()!r}")
+    number = browser.one("#frame").get_attribute("data-number")
+    time.sleep(0.7)
+    still = browser.one("#frame").get_attribute("data-number") == number
+    expect(still, "the picture goes on while it is measured")
+    drawn(browser)
+    browser.shot(shots, "measure")
+    browser.keys(Keys.ESCAPE)
+    browser.until(lambda: not browser.one("#measured").is_displayed(), "end of the line")
+    expect(browser.one("#large").is_displayed(), "Escape leaves the picture too")
+    browser.keys("l", "0")
+
+
+def drawn(browser):
+    """A line that the pointer draws has the length that is seen: a third of the picture's width."""
+    box = browser.run(
+        "const it = document.querySelector('#large-picture'), box = it.getBoundingClientRect();"
+        " const part = Math.min(box.width / 320, box.height / 240); return [box.x + (box.width -"
+        " part * 320) / 2, box.y + (box.height - part * 240) / 2, part]"
+    )
+    at = [round(box[0] + 50.5 * box[2]), round(box[1] + 60.5 * box[2])]
+    to = [round(box[0] + 130.5 * box[2]), round(box[1] + 120.5 * box[2])]
+    mouse = ActionChains(browser.driver, duration=60)
+    mouse.w3c_actions.pointer_action.move_to_location(*at).pointer_down()
+    mouse.w3c_actions.pointer_action.move_to_location(*to).pointer_up()
+    mouse.perform()
+    expect(measured(browser)[:3] == (100, 80, 60), f"80 and 60 are {measured(browser)}")
+    line = browser.run(
+        "const it = document.querySelector('#ruler line:last-child'), frame = document"
+        ".querySelector('#frame').getBoundingClientRect(); return ['x1', 'y1', 'x2', 'y2'].map((a,"
+        " p) => Number(it.getAttribute(a)) + (p % 2 ? frame.y : frame.x))"
+    )
+    apart = max(abs(one - other) for one, other in zip(line, [*at, *to]))
+    expect(apart <= box[2] + 2, f"the line is drawn {apart:.1f} pixels beside its points")
+
+
+STEPS = (name, search, lacking, alarm, steps, levels, measure)
