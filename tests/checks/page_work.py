@@ -117,7 +117,7 @@ def alarm(browser, lab, shots):
     browser.until(lambda: browser.driver.title == f"\u25b2 1 {NAME}", "title with the alarm")
     time.sleep(3.5)
     expect(browser.run("return window.tones") == 0, "it rings before anybody touched the page")
-    browser.keys(Keys.SHIFT)
+    browser.one("h1").click()
     browser.until(lambda: browser.run("return window.tones") >= 4, "tones, again and again")
     browser.until(lambda: browser.text("#sound") == "Sound is on", "word that it is heard")
     browser.shot(shots, "alarm")
@@ -145,9 +145,101 @@ def alarm(browser, lab, shots):
     browser.until(lambda: not browser.one("#alarm").is_displayed(), "end by another page")
 
 
-def moment_of(lab, camera, number):
-    """The time of a frame, by the layout alone."""
-    return next(it.time for it in lab.stored(camera) if it.number == number)
+def then(browser, lab, shots):
+    """The seconds that are still to come stand beside the button, which says them, and are kept."""
+    released(lab)
+    typed(browser, "#then", "4")
+    browser.until(lambda: "and the next 4 s" in browser.text("#press-text"), "words of the button")
+    browser.shot(shots, "then")
+    browser.run("document.activeElement.blur()")
+    browser.keys("k")
+    browser.until(lambda: "and on until" in browser.text("#answer"), "word that it goes on")
+    browser.until(lambda: any("Goes on until" in it for it in rows(browser)), "event that goes on")
+
+    def lasting():
+        """The seconds of the event, once it is whole."""
+        (event,) = lab.ask("/api/events").json()["events"]
+        return event["until_us"] is None and event["seconds"]
+
+    found = lab.until(lasting, "end of the event")
+    expect(6.3 < found < 8.2, f"3 s and the next 4 last {found:.1f} s")
+    typed(browser, "#then", "x")
+    browser.keys("k")
+    browser.until(lambda: "whole number" in browser.text("#answer"), "word of what isn't a number")
+    typed(browser, "#then", "0")
+    expect("next" not in browser.text("#press-text"), "the button keeps what is to come for ever")
+
+
+def causes(browser, lab, shots):
+    """Why each event was kept stands in the list and above the timeline, where it was asked for: a
+    press, a trigger, an order by MQTT, a program; the keys go from one to the next."""
+    released(lab)
+    for more in ({"cause": "trigger", "by": "door"}, {"cause": "mqtt", "by": "run-7"}, {}):
+        expect(lab.post("/api/keep", {"seconds": 1, **more}).status == 200, "nothing is kept")
+        time.sleep(2)
+    browser.run("document.activeElement.blur()")
+    browser.keys("k")
+    browser.until(lambda: len(rows(browser)) == 4, "four events")
+    said = "return [...document.querySelectorAll('#events .cause')].map((it) => it.textContent)"
+    for place, text in enumerate(("Pressed: 127.0.0.1", "By HTTP: ", "By MQTT: run-7")):
+        browser.until(lambda text=text, place=place: browser.run(said)[place].startswith(text), text)
+    expect(browser.run(said)[3] == "By a trigger: door", f"the causes are {browser.run(said)}")
+    marks = "return document.querySelector('#scale').dataset.causes.split(' ').sort().join(' ')"
+    browser.until(lambda: browser.run(marks) == "http mqtt press trigger", "marks of four causes")
+    expect("trigger" in browser.run(KEY), f"the marks aren't explained: {browser.run(KEY)!r}")
+    events = lab.ask("/api/events").json()["events"]
+    moments = sorted(it["cause"]["at_us"] for it in events)
+    for key, place in (("[", 3), ("[", 2), ("]", 3), ("[", 2), ("[", 1)):
+        browser.keys(key)
+        time.sleep(0.3)
+        found = int(browser.one("#tracks").get_attribute("aria-valuenow"))
+        expect(abs(found - moments[place] // 1000) <= 1, f"{key} goes to {found}, not {moments}")
+    expect(
+        "By MQTT: run-7" in browser.one("#tracks").get_attribute("aria-valuetext"),
+        f"heard is {browser.one('#tracks').get_attribute('aria-valuetext')!r}",
+    )
+    inked(browser, moments)
+    browser.shot(shots, "causes")
+    browser.keys("l")
+    browser.named("Filter").click()
+    typed(browser, "#cause", "trigger")
+    browser.until(lambda: len(rows(browser)) == 1, "events of triggers alone")
+    typed(browser, "#cause", "")
+    browser.keys("/", "run-7")
+    browser.until(lambda: len(rows(browser)) == 1, "event by who asked for it")
+    browser.named("Show all").click()
+
+
+KEY = "return document.querySelector('#causes-key').textContent"
+
+
+# Where marks are drawn below the times: the middle of each, and the width of that canvas.
+MARKS = """const it = document.querySelector('#scale'), part = it.width / it.clientWidth;
+const row = it.getContext('2d').getImageData(0, Math.round(23 * part), it.width, 1).data;
+const found = []; for (let x = 0; x < it.width; x++) if (row[4 * x + 3] > 200) {
+    if (found.length && x - found.at(-1).at(-1) < 4) found.at(-1).push(x); else found.push([x]); }
+return [found.map((it) => (it[0] + it.at(-1)) / 2 / part), it.clientWidth];"""
+# From when to when the timeline is, in milliseconds.
+SPAN = """return ['min', 'max'].map((word) => Number(document.querySelector('#tracks')
+    .getAttribute(`aria-value${word}`)))"""
+
+
+def inked(browser, moments):
+    """A mark is drawn where each cause was, and a click on it goes there."""
+    browser.keys("l")
+    time.sleep(0.5)
+    (places, wide), (begin, end) = browser.run(MARKS), browser.run(SPAN)
+    wanted = [(it / 1000 - begin) / (end - begin) * wide for it in moments]
+    expect(len(places) == len(wanted), f"{len(places)} marks are drawn: {places}, and not {wanted}")
+    apart = max(abs(one - other) for one, other in zip(places, wanted))
+    expect(apart < wide / 40, f"marks are {apart:.0f} pixels beside their moments")
+    scale = browser.one("#scale")
+    x = int(browser.run(MARKS)[0][0] - scale.size["width"] / 2)
+    mouse = ActionChains(browser.driver, duration=20)
+    mouse.move_to_element_with_offset(scale, x, 23 - scale.size["height"] // 2).click().perform()
+    browser.until(lambda: scale.get_attribute("title").endswith("door"), "words of a mark")
+    found = browser.one("#tracks").get_attribute("aria-valuetext")
+    expect("trigger: door" in found, f"a click on the mark goes to {found!r}")
 
 
 def steps(browser, lab, shots):
@@ -279,4 +371,4 @@ def drawn(browser):
     expect(apart <= box[2] + 2, f"the line is drawn {apart:.1f} pixels beside its points")
 
 
-STEPS = (name, search, lacking, alarm, steps, levels, measure)
+STEPS = (name, search, lacking, then, causes, alarm, steps, levels, measure)

@@ -176,7 +176,7 @@ function banner() {
   const unseen = (standing?.alerts || []).filter((alert) => !alert.over);
   let level = "good", words = standing ? calm() : "The page connects to its server.", camera = "";
   if (list.length) [level, words, camera] = [list[0].level, list[0].text, list[0].camera || ""];
-  else if (unseen.length) [level, words] = ["warn", `${clock(unseen.at(-1).time * 1e6)} ${unseen.at(-1).text}`];
+  else if (unseen.length) [level, words] = ["warn", `Nothing is wrong now. ${count(unseen.length, "warning")} ${unseen.length === 1 ? "isn't" : "aren't"} seen yet.`];
   else if (!standing) level = "unknown";
   const rest = list.length > 1 ? ` And ${list.length - 1} more.` : "";
   const wanted = `banner ${level}`;

@@ -1,6 +1,6 @@
 // One timeline for all cameras, a lane each: what is held, gaps, events, what goes next, and now. It shows a span of time that follows the clock, or stands.
 import { causeAt, causeWords } from "/static/search.js";
-import { byId, clock, colour, length, make, penOf, say, zone } from "/static/words.js";
+import { byId, clock, colour, length, make, mark, penOf, say, zone } from "/static/words.js";
 
 const SECOND = 1e6;
 const DRAG = 5;
@@ -12,7 +12,7 @@ const NAME_PART = 1 / 3;
 const NAME_GAP = 8;
 // The height of the times above the lanes; half of the size of a cause's mark below them, and how near to it the pointer has to be; the shape of each kind.
 const TIMES = 18;
-const MARK = 4;
+const MARK = 5;
 const NEAR_MARK = 9;
 const SHAPES = {
   press: (pen, x, y) => pen.arc(x, y, MARK, 0, 2 * Math.PI),
@@ -324,11 +324,14 @@ export class Timeline {
   name(text) {
     const [begin, end] = this.window();
     const canvas = this.canvas;
-    canvas.setAttribute("aria-valuemin", Math.floor(begin / 1000));
-    canvas.setAttribute("aria-valuemax", Math.floor(end / 1000));
-    canvas.setAttribute("aria-valuenow", Math.floor((this.at ?? end) / 1000));
+    this.bounds(begin, end);
     const cause = this.at === null ? null : this.events.find((event) => event.cause && Math.abs(causeAt(event) - this.at) < SECOND / 2);
     canvas.setAttribute("aria-valuetext", cause ? `${text}, ${causeWords(cause)}` : text);
+  }
+
+  /** From when to when the timeline is, and where the pictures stand, as it is heard. */
+  bounds(begin, end) {
+    for (const [word, time] of [["min", begin], ["max", end], ["now", this.at ?? end]]) mark(this.canvas, `aria-value${word}`, String(Math.floor(time / 1000)));
   }
 
   // ---------------------------------------------------------------------------------------------- drawing
@@ -337,6 +340,7 @@ export class Timeline {
   draw() {
     if (!this.cameras.length) return;
     const [begin, end] = this.window();
+    this.bounds(begin, end);
     const { pen, width, height } = penOf(this.canvas);
     this.x = (time) => (time - begin) / (end - begin) * width;
     const high = height / this.cameras.length;
