@@ -401,7 +401,12 @@ STATE = table(
     },
 )
 ROOM = {word: COUNT for word in ("room_blocks", "slots", "segments", "clips_left")}
-MORE = table({"cameras": named(table({}, {"advice": TEXT, "source": TEXT} | ROOM), CAMERA)})
+DISK = table(
+    {"ring_bytes": COUNT, "writes": COUNT, "left_seconds": SECONDS},
+    {"oldest_us": maybe(MOMENT), "disk_bytes": maybe(COUNT), "free_bytes": maybe(COUNT)},
+)
+OF_CAMERA = {"advice": TEXT, "source": TEXT, "disk": DISK}
+MORE = table({"cameras": named(table({}, OF_CAMERA | ROOM), CAMERA)})
 PUSHED: dict[str, Shape] = {"state": STATE, "more": MORE, "events": EVENTS}
 
 # What stands before each message of the answer that doesn't end.

@@ -242,6 +242,47 @@ def inked(browser, moments):
     expect("trigger: door" in found, f"a click on the mark goes to {found!r}")
 
 
+def disk(browser, lab, shots):
+    """What the rings take, what is written, how old the oldest frame is and how long there is room
+    that isn't locked: of all cameras, and of one."""
+    released(lab)
+
+    def said(selector):
+        """What a list says, by its words."""
+        words = browser.run(
+            "return [...document.querySelectorAll(arguments[0] + ' > *')].map((it) =>"
+            " it.textContent)",
+            selector,
+        )
+        return dict(zip(words[::2], words[1::2]))
+
+    def rate():
+        """What is said to be written, in MB a second."""
+        return float(re.match(r"([\d.]+) MB/s", said("#disk").get("Writes", "")).group(1))
+
+    # A frame of each camera with its head, and so many of them a second.
+    wanted = (25 * (320 * 240 * 1.5) + 10 * (320 * 120) + 10 * (96 * 128)) / 1e6
+    browser.until(lambda: "Writes" in said("#disk"), "figures of the disk")
+    browser.until(lambda: abs(rate() - wanted) < 0.15 * wanted, f"{wanted:.1f} MB/s")
+    bytes_ = sum((lab.folder / f"{it}.loop").stat().st_size for it in lab.names()) / 1e6
+    expect(said("#disk")["Rings"].startswith(f"{bytes_:.0f} MB"), f"{said('#disk')}, {bytes_:.0f}")
+    browser.keys("1")
+    browser.until(lambda: "Ring" in said("#facts"), "figures of a camera")
+
+    def old():
+        """How old the oldest frame is said to be, and how old it is, in seconds."""
+        told = re.match(r"([\d.]+) s old", said("#facts")["Oldest"])
+        return told and (float(told.group(1)), time.time() - lab.stored("pendulum")[0].time / 1e6)
+
+    browser.until(lambda: old() and abs(old()[0] - old()[1]) < 4, "age of the oldest frame")
+    before = said("#facts")["Left"]
+    lab.post("/api/keep", {"camera": "pendulum", "seconds": 6})
+    browser.until(lambda: said("#facts")["Left"] != before, "less room once some is locked")
+    expect("not locked" in said("#facts")["Left"], f"{said('#facts')}")
+    browser.shot(shots, "disk")
+    browser.keys("0")
+
+
 def steps(browser, lab, shots):
     """All cameras of an event go frame by frame by keys, in step: each shows the last of its frames
     until the moment, which is a frame of one of them."""
@@ -371,4 +412,4 @@ def drawn(browser):
     expect(apart <= box[2] + 2, f"the line is drawn {apart:.1f} pixels beside its points")
 
 
-STEPS = (name, search, lacking, then, causes, alarm, steps, levels, measure)
+STEPS = (name, search, lacking, then, causes, disk, alarm, steps, levels, measure)

@@ -10,6 +10,7 @@ stands on it.
     push        what an open page is sent, over one answer that doesn't end
     films       clips as MP4, YUV4MPEG2, PNGs and CSV
     heard       what the station said of its events
+    disks       what a camera takes of its disk
     events      clips of one press as one event
     bundle      an event as one zip
     words       the lines that the station prints, and sentences with what to do

@@ -6,6 +6,7 @@ from dataclasses import dataclass, field
 import layout
 
 from . import limits
+from .disks import Space, space_at
 from .reader import Reading, Source
 from .rings import Ring, Sources, Stores
 from .settings import Camera
@@ -46,6 +47,8 @@ class Watched:
     is_first: bool = True
     looking: asyncio.Task | None = None
     began: float = 0.0
+    # The file system of its store, as it was seen last.
+    space: Space | None = None
     looks: Workers = field(default_factory=lambda: looks_of(""))
 
     def begin(self) -> None:
@@ -91,6 +94,7 @@ class Watched:
         except (layout.Refused, OSError) as fault:
             self.reading, self.source, self.why, self.looked = None, None, str(fault), begun
             return
+        self.space = space_at(self.camera.store)
         frame = reading.newest()
         newest = (frame.number, frame.time) if frame else None
         if newest != self.newest:

@@ -88,6 +88,7 @@ export class Large {
       ["Locked", camera.locked === undefined ? "nothing" : `${count(events, "clip")}, ${Math.round(camera.locked * 100)} %`, camera.locked > 0.8],
       ["Behind", camera.behind === null ? "unknown" : `${camera.behind.toFixed(1)} s`, camera.behind > 0.5],
       ["Lost", camera.given_up === null ? "unknown" : count(camera.given_up, "frame"), camera.given_up > 0],
+      ...(more?.disk || []),
       ["Source", more?.source || "unknown"],
     ];
     const list = byId("facts"), wanted = rows.flatMap(([word, text, isIll]) => [make("dt", {}, word), make("dd", { className: isIll ? "ill" : "" }, text)]);

@@ -3,6 +3,7 @@ import { Events, camerasOf, rowOf } from "/static/events.js";
 import { Large } from "/static/large.js";
 import { Link, ask } from "/static/link.js";
 import { Alarm } from "/static/alarm.js";
+import { diskRows, showDisk } from "/static/disk.js";
 import { Levels } from "/static/levels.js";
 import { Ruler } from "/static/ruler.js";
 import { speak } from "/static/spoken.js";
@@ -100,7 +101,7 @@ function show(state) {
   stage.show(state.cameras);
   lanes();
   const shown = state.cameras.find((camera) => camera.name === view.camera);
-  if (shown) large.show(shown, more[shown.name]);
+  if (shown) large.show(shown, { ...more[shown.name], disk: diskRows(more[shown.name]?.disk, timeline.now()) });
   pill();
   banner();
   alerts();
@@ -298,6 +299,7 @@ function room() {
   const seconds = wishedSeconds() || 60, number = left(seconds);
   byId("meter").parentElement.classList.toggle("full", number === 0);
   say(byId("room"), roomWords(number, seconds));
+  showDisk(standing.cameras.map((camera) => more[camera.name]?.disk), timeline.now());
 }
 
 function roomWords(number, seconds) {
