@@ -412,4 +412,48 @@ def drawn(browser):
     expect(apart <= box[2] + 2, f"the line is drawn {apart:.1f} pixels beside its points")
 
 
-STEPS = (name, search, lacking, then, causes, disk, alarm, steps, levels, measure)
+# Answers who is at the page in the server's place: the rights of the person.
+ME = """const plain = window.fetch; window.fetch = (path, ...more) => path === '/api/me'
+    ? Promise.resolve(new Response(JSON.stringify({ name: 'ann', rights: %s }))) :
+    plain(path, ...more);"""
+# The controls by which something is changed, as far as they are there.
+OFFERED = """return [...document.querySelectorAll('#press, #note, #skip, #alarm-seen, #events .release,'
+    + ' #events input:not([readonly])')].filter((it) => it.checkVisibility()).map((it) =>
+    it.id || it.className || it.tagName)"""
+
+
+def rights(browser, lab, shots):
+    """What somebody may not do isn't offered, and no key does it; who may, is offered all."""
+    released(lab)
+    lab.post("/api/keep", {"seconds": 2, "note": "a note"})
+    lab.say("given_up", camera="pendulum", frames=2, since="2026-11-22T15:38:00.123Z")
+    for may, offered in (
+        ('["see"]', set()),
+        ('["see", "keep"]', {"press", "note", "alarm-seen", "INPUT"}),
+        ('["see", "keep", "release"]', {"press", "note", "alarm-seen", "INPUT", "quiet release"}),
+    ):
+        script = browser.cdp("Page.addScriptToEvaluateOnNewDocument", {"source": ME % may})
+        try:
+            browser.open()
+            browser.until(lambda: len(rows(browser)) == 1, "event")
+            browser.until(lambda: browser.one("#alarm").is_displayed(), "alarm")
+            browser.until(
+                lambda offered=offered: set(browser.run(OFFERED)) == offered,
+                f"{offered} alone with {may}, and not {browser.run(OFFERED)}",
+            )
+            before = lab.ordered()
+            browser.run("document.activeElement.blur()")
+            browser.keys("k")
+            time.sleep(0.7)
+            keeps = [it for it in lab.ordered()[len(before) :] if it.startswith("keep")]
+            expect(bool(keeps) == ("press" in offered), f"with {may} the key K gives {keeps}")
+            browser.shot(shots, f"rights-{len(offered)}")
+        finally:
+            words = {"identifier": script["identifier"]}
+            browser.cdp("Page.removeScriptToEvaluateOnNewDocument", words)
+        released(lab)
+        lab.post("/api/keep", {"seconds": 2, "note": "a note"})
+    lab.post("/api/seen", {"ids": [it["id"] for it in lab.status()["alerts"]]})
+
+
+STEPS = (name, search, lacking, then, causes, disk, alarm, steps, levels, measure, rights)

@@ -78,3 +78,7 @@ def test_a_name_that_can_be_none_is_refused(wrong):
             name_in(wrong)
     else:
         assert name_in(wrong) == "Laboratory"
+
+
+def test_who_asks_is_told_what_that_one_may_do(lab):
+    assert lab.ask("/api/me").json() == {"name": None, "rights": ["see", "keep", "release"]}

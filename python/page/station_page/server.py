@@ -45,6 +45,8 @@ from .workers import DRAWING, NO_ANSWER
 
 log = logging.getLogger("loop_page")
 TOO_MANY = "Too many wrong tokens came from your address. Wait a minute, or bring the right one."
+# What somebody may do at the page: look, keep and write notes, and release.
+RIGHTS = ("see", "keep", "release")
 STATIC = Path(__file__).parent / "static"
 TYPES = {
     ".html": "text/html",
@@ -146,6 +148,7 @@ class Page:
         get(f"/api/cameras/{camera}/frame", self.frame)
         get(rf"/api/cameras/{camera}/frames/{{number:{FRAME}}}.jpg", self.frame_picture)
         get(rf"/api/clips/{camera}/{{id:\d{{1,5}}}}.{{kind:mp4|y4m|zip|csv|jpg}}", self.fetch)
+        get("/api/me", self.me)
         post("/api/keep", self.keep)
         post("/api/release", self.release)
         post("/api/note", self.note)
@@ -357,6 +360,10 @@ class Page:
             return response
         finally:
             self.laboratory.streams -= 1
+
+    async def me(self, request: web.Request) -> web.Response:
+        """Who asks, and what that one may do: the page offers nothing else."""
+        return web.json_response({"name": None, "rights": list(RIGHTS)})
 
     # ------------------------------------------------------------------------------ for instruments
 

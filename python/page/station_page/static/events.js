@@ -1,5 +1,6 @@
 // Events: one press is one event of all its cameras. Play, note, download, release.
 import { ask } from "/static/link.js";
+import { may } from "/static/rights.js";
 import { Search, causeWords } from "/static/search.js";
 import { byId, clock, count, icon, length, make, mark, say, size, zone } from "/static/words.js";
 
@@ -159,6 +160,7 @@ class Row {
     this.size = make("span", { className: "size num" });
     this.note = make("input", { value: event.note, maxLength: 400, autocomplete: "off", placeholder: "add a note" });
     this.note.note = event.note;
+    this.note.readOnly = !may("keep");
     this.note.onkeydown = (key) => {
       if (key.key === "Enter") this.note.blur();
       if (key.key === "Escape") {
@@ -172,6 +174,7 @@ class Row {
     this.play = button("play", "Play", () => events.told.play(this.event));
     this.get = button("down", "Download", () => events.fetch(this.event));
     this.let = button(null, "Release", () => events.release(this.event));
+    this.let.classList.add("release");
     const top = make("div", { className: "top" }, this.time, this.length, make("span", { className: "grow" }), this.size);
     const acts = make("div", { className: "acts" }, this.play, this.get, make("span", { className: "grow" }), this.let);
     this.lack = make("p", { className: "lack warn", hidden: true });

@@ -6,6 +6,7 @@ import { Alarm } from "/static/alarm.js";
 import { diskRows, showDisk } from "/static/disk.js";
 import { Levels } from "/static/levels.js";
 import { Ruler } from "/static/ruler.js";
+import { askRights, may } from "/static/rights.js";
 import { speak } from "/static/spoken.js";
 import { Stage } from "/static/stage.js";
 import { Timeline, rangeWords } from "/static/timeline.js";
@@ -362,6 +363,7 @@ function afterOf(name) {
 
 /** Keeps the last seconds before the press and those that are wished after it, or the range, of all cameras or of one. `moment` is when that was, as events have it. */
 async function keep(moment) {
+  if (!may("keep")) return;
   const range = timeline.range, seconds = wishedSeconds(), after = thenSeconds(), camera = byId("camera").value;
   if (!range && after === null) {
     answered(`Then is a whole number of seconds, ${MOST_SECONDS} at most.`, "bad");
@@ -507,7 +509,7 @@ function toEvent(by) {
 }
 
 const WORK = {
-  k: keep, n: () => byId("note").focus(), l: () => view.live(), " ": () => view.toggle(), i: () => view.bound("from"), o: () => view.bound("to"),
+  k: keep, n: () => may("keep") && byId("note").focus(), l: () => view.live(), " ": () => view.toggle(), i: () => view.bound("from"), o: () => view.bound("to"),
   "+": () => timeline.zoom(1 / 1.5), "=": () => timeline.zoom(1 / 1.5), "-": () => timeline.zoom(1.5), "<": () => timeline.pan(-0.3), ">": () => timeline.pan(0.3),
   "[": () => toEvent(-1), "]": () => toEvent(1), m: () => ruler.toggle(), a: () => (view.camera ? large.auto() : view.levels.auto()), b: ring, "/": () => byId("search").focus(), e: () => (byId("events").querySelector("button") || byId("events")).focus(), "?": () => byId("help").showModal(),
   pageup: () => view.second(-1), pagedown: () => view.second(1), home: () => view.edge(false), end: () => view.edge(true),
@@ -570,6 +572,7 @@ byId("keep").onsubmit = (event) => {
   keep(event.timeStamp);
 };
 document.addEventListener("keydown", pressed);
+askRights();
 link.listen();
 link.clock.measure();
 setInterval(watch, 250);
