@@ -370,6 +370,7 @@ CAMERA_STANDING = table(
         "stores": maybe(NUMBERS),
         "newest": NUMBERS,
         "oldest": NUMBERS,
+        "known_us": maybe(MOMENT),
     },
 )
 ALERT = table(
@@ -422,6 +423,8 @@ HEADS: dict[str, Shape] = {
             "sequence": COUNT,
             "store": COUNT,
             "stretch": maybe(each(COUNT, 2, 2)),
+            "sent": MOMENT,
+            "age": COUNT,
         },
     ),
 }

@@ -187,3 +187,41 @@ def test_a_disk_that_does_not_answer_holds_up_no_other_camera(monkeypatch):
     assert (
         state[0] == "bad" and "disk hasn't answered" in state[1] and hangs == 0 and why == "missing"
     )
+
+
+def test_a_look_that_works_is_one_of_a_busy_machine_and_no_disk_that_hangs(monkeypatch):
+    import asyncio
+    import time
+    import types
+
+    from station_page import limits
+    from station_page import watched as looks
+
+    monkeypatch.setattr(limits, "DISK_SECONDS", 0.1)
+
+    def work():
+        end = time.monotonic() + 2
+        while time.monotonic() < end:
+            pass
+        raise OSError("done")
+
+    async def look():
+        reader = types.SimpleNamespace(read=work)
+        watched = looks.Watched(types.SimpleNamespace(name="left"), reader)
+        watched.begin()
+        found = []
+        while not watched.looking.done():
+            found.append(watched.hangs())
+            await asyncio.sleep(0.02)
+        return found, watched
+
+    found, watched = asyncio.run(look())
+    assert not any(found) and len(found) > 3 and watched.why == "done"
+    # One that waits for a processor works as soon as it can.
+    watched.looking, watched.began = types.SimpleNamespace(done=lambda: False), 0.0
+    watched.idle = watched.worked = 0.0
+    monkeypatch.setattr(watched.looks, "worked", lambda: float("inf"))
+    assert watched.hangs() == 0
+    monkeypatch.setattr(watched.looks, "worked", lambda: 0.0)
+    time.sleep(0.3)
+    assert watched.hangs() > 0

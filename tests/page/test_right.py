@@ -11,6 +11,7 @@ from conftest import LIMIT
 from station_page import spans
 from station_page.heard import Heard
 from station_page.reader import Clip, Reader
+from station_page.warned import OVER
 from station_page.words import read_line
 
 TWO = [
@@ -78,7 +79,10 @@ def test_a_warning_whose_cause_is_over_leaves_and_says_so(make):
         lab.until(lambda kind=kind: (kind, "left") in lab.alerts(), kind)
         lab.say(good[0], camera="left", **good[1])
         lab.until(lambda: not lab.alerts(), f"end of {kind}")
-        assert any(it["text"].startswith("Over: left: ") for it in lab.status()["news"]), kind
+        # In words of its own: what was wrong isn't said again.
+        news = [it["text"] for it in lab.status()["news"]]
+        assert f"left: {OVER[kind]}" in news, kind
+        assert not any(it.startswith("Over: ") for it in news)
 
 
 def test_a_warning_without_an_end_stays(make):

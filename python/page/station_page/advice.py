@@ -9,8 +9,9 @@ ADVICE = {
     "unusable": "Change the camera's size, format or rate, or what the program that feeds its "
         "pipe makes of them.",
     "making": "Wait: a large store takes a while. Frames are stored once it is whole.",
-    "locked": "Release events that you don't need, and recording goes on at once. Download them "
-        "before, if they matter.",
+    "locked": "The camera is well: every block of its ring belongs to an event, so there is no room "
+        "for new frames. Release events that you don't need, and recording goes on at once. "
+        "Download them before, if they matter.",
     "silent": "See that the camera has power, that its cable is in and its program runs. The "
         "station opens the source again by itself.",
     "empty": "Wait a moment. If no frame comes, see that the camera's program runs.",

@@ -84,6 +84,10 @@ class Alerts:
         self.alerts = [alert for alert in self.alerts if alert not in ended]
         return ended[0].text if ended else None
 
+    def forget(self, camera: str) -> None:
+        """A camera isn't there any more, nor its warnings."""
+        self.alerts = [alert for alert in self.alerts if alert.camera != camera]
+
     def seen(self, id_: int) -> bool:
         """Somebody has seen an alert."""
         before = len(self.alerts)

@@ -24,7 +24,7 @@ from .words import Unfit
 from .workers import DRAWING
 
 # The words of a view that a page asks for.
-VIEW = {"stream", "turn", "width", "cameras", "stretch", "moment", "speed", "until"}
+VIEW = {"stream", "turn", "width", "cameras", "stretch", "moment", "speed", "until", "rate"}
 
 # Under what fetches of events are counted, beside those of each camera.
 EVENTS = ""
@@ -50,6 +50,7 @@ class Console:
         frame = rf"/api/cameras/{camera}/frames/{{number:{FRAME}}}"
         get("/api/stream", self.stream, allow_head=False)
         post("/api/view", self.view)
+        post("/api/took", self.took)
         post("/api/step", self.step)
         get("/api/events", self.events)
         get("/api/event.zip", self.zip, allow_head=False)
@@ -66,6 +67,7 @@ class Console:
         for all pages, where something has been seen anew."""
         laboratory = self.laboratory
         if self.told[0] != laboratory.version:
+            self.push.follow()
             clips = laboratory.held.clips(), laboratory.heard.version, laboratory.causes.version
             if clips != self.clips:
                 self.clips, self.listed = clips, self.events_of(clips[0])
@@ -114,6 +116,13 @@ class Console:
         stream = self.push.stream(body.get("stream"))
         stream.turn(view_of(body, list(self.push.eyes)))
         return web.json_response({"moment": stream.view.now()})
+
+    async def took(self, request: web.Request) -> web.Response:
+        """How many bytes of its answer a page has taken."""
+        body = await self.page.body(request, {"stream", "bytes"})
+        stream = self.push.stream(body.get("stream"))
+        stream.line.told(whole(body.get("bytes"), 0, limits.NUMBERS_END, "bytes"))
+        return web.Response(status=204)
 
     async def step(self, request: web.Request) -> web.Response:
         """The moment some frames after another one, or before it: of one camera, or whichever of

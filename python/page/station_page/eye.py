@@ -85,12 +85,12 @@ class Eye:
             self.known = Moments(reading)
         return self.known
 
-    async def newest(self) -> Frame | None:
-        """The newest stored frame. Pages that ask at nearly the same time cost one look."""
+    async def newest(self, within: float = limits.PEEK_SECONDS) -> Frame | None:
+        """The newest stored frame. Pages that ask within so many seconds cost one look."""
         source = self.watched.source
         if source is None:
             return None
-        if time.monotonic() - self.peeked < limits.PEEK_SECONDS:
+        if time.monotonic() - self.peeked < within:
             return self.frame
         self.peeked = time.monotonic()
         with contextlib.suppress(layout.Unsteady, layout.Refused, OSError, Unfit, Gone):

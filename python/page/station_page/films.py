@@ -22,6 +22,14 @@ from .words import Unfit, iso
 from .workers import DRAWING
 
 FRAME_LINE = b"FRAME\n"
+# The types of files, by their kind.
+KINDS = {
+    "mp4": "video/mp4",
+    "y4m": "video/x-yuv4mpeg2",
+    "zip": "application/zip",
+    "csv": "text/csv",
+    "jpg": "image/jpeg",
+}
 # How folders of films are called, and the file in one that its page has locked.
 PREFIX, LOCK = "loop_page.", "lock"
 # A film that plays while it is made: it needs no end to be read.

@@ -30,6 +30,9 @@ HEADERS = {
     "Cross-Origin-Resource-Policy": "same-origin",
     "Cross-Origin-Opener-Policy": "same-origin",
 }
+# Of what another station has sent: a browser that takes it for a page runs and loads nothing of it,
+# and it isn't of this page's origin.
+FOREIGN = "sandbox; default-src 'none'; base-uri 'none'; form-action 'none'; frame-ancestors 'none'"
 # What is answered to anybody.
 OPEN = {"/sign-in", "/healthz", "/static/page.css", "/static/icon.svg", "/favicon.ico"}
 # To what a page of another site may lead: of all else it may use nothing.

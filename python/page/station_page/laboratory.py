@@ -19,7 +19,7 @@ from .noting import Noting
 from .orders import NoStation, Orders
 from .reader import Reading, Source
 from .rings import Ring, Sources, Stores
-from .settings import Settings
+from .settings import BadSettings, Camera, Settings, cameras_of, toml_of
 from .standing import Standing
 from .warned import Warned
 from .watched import Watched, refusal, settle
@@ -39,10 +39,18 @@ OF_STATION = (
     "behind",
     "save waits",
 )
+# What the station says of each of its cameras.
+STANDS = ("status", "absent", "status_making")
 UNREAD = (
     "The station's answers can't be read. Its configuration needs `answers_form = \"json\"`; "
     "start the station again, and then the page."
 )
+
+
+def watched_of(camera: Camera) -> Watched:
+    """A camera that wasn't looked at yet."""
+    name = camera.name
+    return Watched(camera, Stores(camera.store, reads_of(name)), looks=looks_of(name))
 
 
 class Laboratory:
@@ -50,12 +58,7 @@ class Laboratory:
 
     def __init__(self, settings: Settings) -> None:
         self.settings = settings
-        self.cameras = {
-            camera.name: Watched(
-                camera, Stores(camera.store, reads_of(camera.name)), looks=looks_of(camera.name)
-            )
-            for camera in settings.cameras
-        }
+        self.cameras = {camera.name: watched_of(camera) for camera in settings.cameras}
         self.journal = Journal()
         self.alerts = Alerts(settings.on_alert, settings.webhook, self.journal)
         self.orders, self.heard = Orders(settings.orders, settings.answers, self), Heard()
@@ -142,8 +145,34 @@ class Laboratory:
 
     async def ask_status(self) -> None:
         """Asks once."""
-        await self.orders.ask("status", each=self.on_status)
+        lines = await self.orders.ask("status", each=self.on_status)
         self.said = time.monotonic()
+        self.follow({it.camera for it in lines if it.kind in STANDS})
+
+    def follow(self, names: set[str | None]) -> None:
+        """The station has these cameras. One that it hasn't, and that its file doesn't name any
+        more, goes; one that is new to both comes."""
+        path = self.settings.config
+        if not names or not path or names == set(self.cameras):
+            return
+        try:
+            cameras = cameras_of(toml_of(path), self.settings.folder, path)
+        except BadSettings:
+            return
+        found = {it.name: it for it in cameras}
+        for name in set(self.cameras) - names - set(found):
+            self.remove(name)
+        for name in found:
+            if name in names and name not in self.cameras:
+                self.cameras[name] = watched_of(found[name])
+                self.warned.tell_news(f"{name} was added to the station.")
+
+    def remove(self, name: str) -> None:
+        """A camera was taken out of the station: nothing of it is told any more."""
+        del self.cameras[name]
+        self.noting.forget(name)
+        self.warned.forget(name)
+        self.warned.tell_news(f"{name} was taken out of the station.")
 
     def on_status(self, line: Line) -> None:
         """A line of the station's `status`. What it says is so now: what was said before the page

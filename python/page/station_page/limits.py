@@ -41,6 +41,8 @@ IDLE_ASK_SECONDS = 60.0
 # How long a disk may need for a look before nobody waits for it, and for a picture.
 DISK_SECONDS = 1.0
 PICTURE_SECONDS = 5.0
+# Which part of a processor a look has that isn't held up by its disk.
+IDLE_PART = 0.01
 # The threads that read one camera's frames, and how many reads may wait for them; the threads that
 # draw pictures of all cameras.
 CAMERA_THREADS = 2
@@ -86,6 +88,9 @@ THUMB_WIDTH = 160
 # Pictures that are remembered, and the bytes that these may take together.
 PICTURES = 64
 PICTURE_BYTES = 16 * 1024 * 1024
+# The bytes and the pixels of a picture of another station.
+PICTURE_MOST = 32 * 1024 * 1024
+PIXELS = 2**24
 # Films that wait to be made, that are remembered, and the bytes that these may take together.
 FILMS_WAITING = 8
 FILMS = 16
@@ -104,19 +109,27 @@ WRONG_TOKENS = 20
 GUESSERS = 1000
 # The largest number of a frame.
 NUMBERS_END = 2**62
-# Pictures of one camera a second: live, while an event is played, at least, and of all cameras of a
-# page together.
+# Pictures of one camera a second: live, while an event is played, and of all cameras of a page
+# together; of each at least, and how many there have to be before they become smaller.
 LIVE_RATE = 8
 PLAY_RATE = 25
+PICTURES_A_SECOND = 40
+SLOWEST = 2
 LEAST_PICTURES = 5
-PICTURES_A_SECOND = 60
 # How long a look at the newest frame serves all pages; how long a round waits for a disk.
 PEEK_SECONDS = 0.04
 ROUND_SECONDS = 1.0
-# The bytes that a page may not have taken yet before it is sent no further picture, and for how
-# many seconds it is then sent no state either.
-WAITING_BYTES = 64 * 1024
+# The bytes that may be on their way to a page: at first, at least and at most; after how many
+# seconds they come late. How often it is told how all stands where its line is slow: seldom enough
+# that this takes such a part of the line, and once in so many seconds.
+WINDOW_FIRST = 64 * 1024
+WINDOW_LEAST = 6 * 1024
+WINDOW_MOST = 4 * 1024 * 1024
+LATE_SECONDS = 0.8
+STATE_PART = 0.25
 STATE_SECONDS = 2.0
+# The bytes of a picture that wasn't sent yet.
+PICTURE_GUESS = 8 * 1024
 # Reads for pictures of one camera that may wait.
 EYE_READS = 64
 # After how many seconds pictures become smaller where the network is slow, and larger where it

@@ -26,6 +26,11 @@ class Noting:
         # Notes of clips that aren't seen yet.
         self.waiting: dict[tuple[str, Clip], str] = {}
 
+    def forget(self, name: str) -> None:
+        """A camera isn't there any more."""
+        self.growing = {key: it for key, it in self.growing.items() if key[0] != name}
+        self.waiting = {key: it for key, it in self.waiting.items() if key[0] != name}
+
     async def noted(self, kept: list[Kept], note: str) -> list[Kept]:
         """Writes a note to what was kept, or remembers it where a clip isn't seen yet. Where it
         can't be written, the answer says so, and the clip is kept nevertheless."""
@@ -80,6 +85,8 @@ class Noting:
     async def carry_waiting(self) -> None:
         """Writes the notes of clips that are seen now. One that somebody wrote meanwhile stays."""
         for (name, clip), text in list(self.waiting.items()):
+            if name not in self.laboratory.cameras:
+                continue
             found = self.seen(name, clip)
             if found is None:
                 continue
@@ -108,6 +115,8 @@ class Noting:
         clip's ends."""
         laboratory = self.laboratory
         for (name, number), text in list(self.growing.items()):
+            if name not in laboratory.cameras:
+                continue
             store = laboratory.cameras[name].camera.store
             is_open = laboratory.heard.told(number).goes_on(name)
             clips = [
@@ -123,6 +132,6 @@ class Noting:
                     await asyncio.to_thread(self.put, lacking, text)
             # The last one may not have been seen yet when the station says that it is.
             if not is_open and (name, number) in self.grown:
-                del self.growing[name, number]
+                self.growing.pop((name, number), None)
             (self.grown.discard if is_open else self.grown.add)((name, number))
             self.grown &= set(self.growing)

@@ -4,7 +4,8 @@ pictures of all cameras, as quickly as the network takes them.
 A message is two lengths of 4 bytes (big-endian), those of its head and of its body; the head, which
 is JSON and says by `kind` what it is; and the body. A picture is made once for all pages that look
 at the same time. A page whose network is slow is sent fewer and smaller pictures, each of them new:
-none waits behind others."""
+none waits behind others. A page says now and then how many bytes it has taken (`/api/took`), since
+what is between may hold much. Each picture has its age when it was sent, and when that was."""
 import asyncio
 import contextlib
 import fcntl
@@ -19,6 +20,7 @@ from aiohttp import web
 
 from . import limits
 from .eye import Eye, Look, Picture
+from .line import Line
 from .reader import Gone, store_in
 from .words import Unfit
 
@@ -45,6 +47,8 @@ class View:
     moment: int | None = None
     speed: float = 0.0
     until: int | None = None
+    # The pictures of a camera a second, at most.
+    rate: float = limits.PLAY_RATE
     since: float = field(default_factory=time.monotonic)
 
     def now(self) -> int | None:
@@ -65,6 +69,14 @@ def whole(value: object, least: int, most: int, what: str) -> int:
     if not isinstance(value, int) or isinstance(value, bool) or not least <= value <= most:
         raise Unfit(400, f"{what} is a whole number from {least} to {most}.")
     return value
+
+
+def number(value: object, least: float, most: float, what: str) -> float:
+    """A number of a request, within its bounds."""
+    is_number = isinstance(value, (int, float)) and not isinstance(value, bool)
+    if not is_number or not least <= value <= most:
+        raise Unfit(400, f"{what} is a number from {least} to {most}.")
+    return float(value)
 
 
 def stretch_in(value: object, names: set[str]) -> dict:
@@ -92,9 +104,8 @@ def view_of(body: dict, names: list[str]) -> View:
         not isinstance(cameras, list) or not set(map(str, cameras)) <= set(names)
     ):
         raise Unfit(404, "There is no camera of that name.")
-    speed = body.get("speed", 0)
-    if not isinstance(speed, (int, float)) or isinstance(speed, bool) or not 0 <= speed <= 64:
-        raise Unfit(400, "speed is a number from 0 to 64.")
+    speed = number(body.get("speed", 0), 0, 64, "speed")
+    rate = number(body.get("rate", limits.PLAY_RATE), 0.1, limits.PLAY_RATE, "rate")
     for value, what in ((moment, "moment"), (until, "until")):
         if value is not None:
             whole(value, 0, limits.NUMBERS_END, what)
@@ -104,8 +115,9 @@ def view_of(body: dict, names: list[str]) -> View:
         cameras,
         stretch_in(body.get("stretch", {}), set(names)),
         moment,
-        float(speed),
+        speed,
         until,
+        rate,
     )
 
 
@@ -131,19 +143,19 @@ class Pace:
         self.since = time.monotonic()
         self.calm = limits.CALM_SECONDS
 
-    def round(self, is_late: bool) -> None:
-        """A round of pictures was sent, or couldn't be, since the client still takes earlier
-        ones."""
+    def round(self, is_late: bool, most: float = limits.LIVE_RATE) -> None:
+        """A round of pictures was sent, of which there are so many a second at most; or couldn't
+        be, since the client still takes earlier ones."""
         self.late += is_late
         self.rounds += not is_late
-        took = time.monotonic() - self.since
-        if self.late and took >= limits.PACE_SECONDS and self.rounds / took < limits.LEAST_PICTURES:
+        took, least = time.monotonic() - self.since, min(limits.LEAST_PICTURES, most * 0.6)
+        if self.late and took >= limits.PACE_SECONDS and self.rounds / took < least:
             if self.level + 1 < len(LEVELS):
                 self.level += 1
             # Each time that larger ones were too much, they are tried later.
             self.calm = min(self.calm * 2, limits.CALM_MOST)
             self.begin()
-        elif took >= self.calm and self.level and self.rounds / took > limits.LEAST_PICTURES:
+        elif took >= self.calm and self.level and self.rounds / took > least:
             self.level -= 1
             self.begin()
         elif took >= limits.CALM_MOST:
@@ -157,12 +169,20 @@ class Pace:
 class Stream:
     """An open page."""
 
-    def __init__(self, eyes: dict[str, Eye]) -> None:
-        self.id, self.eyes = secrets.token_urlsafe(12), eyes
-        self.view, self.pace = View(), Pace()
+    def __init__(self, eyes: dict[str, Eye], ahead=lambda: 0) -> None:
+        """`ahead` says by how many microseconds the station's clock is ahead."""
+        self.id, self.eyes, self.ahead = secrets.token_urlsafe(12), eyes, ahead
+        self.view, self.pace, self.line = View(), Pace(), Line()
         self.turned = asyncio.Event()
         self.shown: dict[str, tuple] = {}
         self.tasks: dict[str, asyncio.Task] = {}
+        # The newest message with a picture of each camera of another station: an older one that
+        # wasn't sent is dropped. Of all cameras, the bytes of what was sent last, and when.
+        self.foreign: dict[str, bytes] = {}
+        # All cameras of other stations that are shown.
+        self.elsewhere: set[str] = set()
+        self.sizes: dict[str, int] = {}
+        self.served: dict[str, float] = {}
 
     def turn(self, view: View) -> None:
         """The page looks at something else. A view that a newer one has overtaken is dropped."""
@@ -172,14 +192,34 @@ class Stream:
         self.turned.set()
 
     def names(self) -> list[str]:
-        """The cameras that are shown."""
-        return self.view.cameras if self.view.cameras is not None else list(self.eyes)
+        """The cameras of this station that are shown. One that was removed isn't any more."""
+        if self.view.cameras is None:
+            return list(self.eyes)
+        return [name for name in self.view.cameras if name in self.eyes]
 
-    def period(self) -> float:
-        """The seconds from one round of pictures to the next."""
+    def due(self) -> tuple[list[str], bool]:
+        """The cameras of which a picture may be sent now, the one that waited longest first; and
+        whether the line has no room for one of the others."""
+        found, room = [], self.line.room()
+        names = [*self.names(), *self.foreign]
+        for name in sorted(names, key=lambda it: self.served.get(it, 0.0)):
+            if room <= 0:
+                return found, True
+            found.append(name)
+            room -= self.sizes.get(name, limits.PICTURE_GUESS)
+        return found, False
+
+    def most(self) -> float:
+        """The rounds of pictures a second, at most."""
         most = limits.PLAY_RATE if self.view.speed else limits.LIVE_RATE
-        fair = limits.PICTURES_A_SECOND / max(1, len(self.names()))
-        return 1 / max(limits.LEAST_PICTURES, min(most, fair))
+        fair = limits.PICTURES_A_SECOND / max(1, len(self.names()) + len(self.elsewhere))
+        return min(self.view.rate, max(limits.SLOWEST, min(most, fair)))
+
+    def pause(self) -> float:
+        """The seconds to the next round of pictures. Those of all pages begin together, so that
+        they are sent the same ones."""
+        period = 1 / self.most()
+        return period - time.monotonic() % period
 
     def look(self, name: str) -> Look:
         """How a camera is to be shown. One that stands still is shown as well as can be."""
@@ -192,7 +232,8 @@ class Stream:
         """The message with what a camera shows; none where the page has it."""
         eye, view, look = self.eyes[name], self.view, self.look(name)
         moments = eye.moments() if moment is not None else None
-        frame = (moments and moments.at(moment)) if moment is not None else await eye.newest()
+        within = max(limits.PEEK_SECONDS, 1 / self.most() / 4)
+        frame = (moments and moments.at(moment)) if moment is not None else await eye.newest(within)
         mark = (frame and (frame.number, frame.time), look, view.turn if frame is None else 0)
         if self.shown.get(name) == mark:
             return None
@@ -207,17 +248,25 @@ class Stream:
             # one.
             return None
         self.shown[name] = mark
-        return message("picture", picture.body, **told, **words_of(picture))
+        now = time.time_ns() // 1000
+        told |= {"sent": now, "age": max(0, now + self.ahead() - frame.time)}
+        found = message("picture", picture.body, **told, **words_of(picture))
+        self.sizes[name] = len(found)
+        return found
 
-    async def pictures(self) -> list[bytes]:
-        """The messages of a round. A camera whose disk hangs is left out, and asked again later."""
+    async def pictures(self, names: list[str] | None = None) -> list[bytes]:
+        """The messages of a round, of some cameras or of all. A camera whose disk hangs is left
+        out, and asked again later."""
         moment = self.view.now()
-        for name in self.names():
+        for name in self.names() if names is None else names:
+            self.served[name] = time.monotonic()
+            if name in self.foreign:
+                continue
             if name not in self.tasks:
                 self.tasks[name] = asyncio.create_task(self.picture(name, moment))
         if self.tasks:
             await asyncio.wait(self.tasks.values(), timeout=limits.ROUND_SECONDS)
-        found = []
+        found = [self.foreign.pop(name) for name in names or [] if name in self.foreign]
         for name, task in list(self.tasks.items()):
             if task.done():
                 del self.tasks[name]
@@ -250,14 +299,24 @@ def is_open(request: web.Request) -> bool:
 class Push:
     """All open pages, and what each is sent."""
 
-    def __init__(self, laboratory, state, is_known) -> None:
-        """`state` answers what all pages are sent, and `is_known` whether a request may be
-        answered."""
+    def __init__(self, laboratory, state, is_known, hello=lambda request: {}) -> None:
+        """`state` answers what all pages are sent, `is_known` whether a request may be answered,
+        and `hello` what a page is told first."""
         self.laboratory, self.state, self.is_known = laboratory, state, is_known
+        self.hello = hello
         self.eyes = {name: Eye(watched) for name, watched in laboratory.cameras.items()}
         self.streams: dict[str, Stream] = {}
-        # What else a page is sent, by its stream and answer, until it goes away.
+        # What else a page is sent, by its stream, until it goes away.
         self.beside = None
+
+    def follow(self) -> None:
+        """Cameras may have come and gone."""
+        cameras = self.laboratory.cameras
+        for name in [it for it in self.eyes if self.eyes[it].watched is not cameras.get(it)]:
+            del self.eyes[name]
+        for name, watched in cameras.items():
+            if name not in self.eyes:
+                self.eyes[name] = Eye(watched)
 
     def stream(self, id_: object) -> Stream:
         """The stream of a page."""
@@ -268,16 +327,18 @@ class Push:
     async def answer(self, request: web.Request, response: web.StreamResponse) -> None:
         """Sends a page all that is new, until it goes away."""
         if self.laboratory.streams >= limits.STREAMS:
-            raise Unfit(503, "Too many pages are open.")
+            many = f"Too many pages are open: {limits.STREAMS}. Close one, and this one begins."
+            raise Unfit(503, many)
         self.laboratory.streams += 1
-        stream, beside = Stream(self.eyes), None
+        stream, beside = Stream(self.eyes, self.laboratory.orders.clock.ahead), None
         self.streams[stream.id] = stream
         try:
             await response.prepare(request)
             self.laboratory.hurry.set()
-            await response.write(message("hello", id=stream.id, cameras=list(self.eyes)))
+            hello = message("hello", id=stream.id, cameras=list(self.eyes), **self.hello(request))
+            await self.write(stream, response, hello)
             if self.beside:
-                beside = asyncio.create_task(self.beside(stream, response))
+                beside = asyncio.create_task(self.beside(stream))
             await self.run(stream, request, response)
         except (ConnectionResetError, ConnectionAbortedError):
             return
@@ -288,34 +349,39 @@ class Push:
             self.laboratory.streams -= 1
             del self.streams[stream.id]
 
-    async def run(self, stream: Stream, request: web.Request, response: web.StreamResponse) -> None:
-        """Round after round, as long as the page's session lasts."""
-        told: dict[str, object] = {}
-        said = 0.0
-        while is_open(request) and self.is_known(request):
-            begun = time.monotonic()
-            stream.turned.clear()
-            is_late = waiting(request.transport) > limits.WAITING_BYTES
-            if not is_late or begun - said > limits.STATE_SECONDS:
-                said = begun
-                for mark, kind, body in self.state():
-                    if told.get(kind) != mark:
-                        told[kind] = mark
-                        await response.write(message(kind, body))
-            if not is_late:
-                await self.round(stream, response)
-            stream.pace.round(is_late)
-            left = stream.period() - (time.monotonic() - begun)
-            with contextlib.suppress(asyncio.TimeoutError):
-                await asyncio.wait_for(stream.turned.wait(), max(0.01, left))
+    async def write(self, stream: Stream, response: web.StreamResponse, data: bytes) -> None:
+        """Sends a page something."""
+        stream.line.send(len(data))
+        await response.write(data)
 
-    async def round(self, stream: Stream, response: web.StreamResponse) -> None:
-        """A round of pictures, and the moment of what is played."""
+    async def run(self, stream: Stream, request: web.Request, response: web.StreamResponse) -> None:
+        """Round after round, as long as the page's session lasts, and it reads."""
+        told: dict[str, object] = {}
+        while is_open(request) and self.is_known(request):
+            stream.turned.clear()
+            stream.line.look(waiting(request.transport))
+            if stream.line.is_dead():
+                request.transport.abort()
+                return
+            for mark, kind, body in self.state():
+                if told.get(kind) != mark and stream.line.is_due(kind, len(body)):
+                    told[kind] = mark
+                    await self.write(stream, response, message(kind, body))
+            is_late = await self.round(stream, response)
+            stream.pace.round(is_late, stream.most())
+            with contextlib.suppress(asyncio.TimeoutError):
+                await asyncio.wait_for(stream.turned.wait(), max(0.01, stream.pause()))
+
+    async def round(self, stream: Stream, response: web.StreamResponse) -> bool:
+        """A round of pictures, and the moment of what is played. Answers whether the line has no
+        room for all of them."""
         view, is_over = stream.view, stream.view.is_over()
-        found = await stream.pictures()
+        names, is_late = stream.due()
+        found = await stream.pictures(names)
         if view.speed:
             found.append(message("moment", turn=view.turn, moment=view.now(), over=is_over))
             if is_over:
                 view.moment, view.speed = view.until, 0.0
         if found:
-            await response.write(b"".join(found))
+            await self.write(stream, response, b"".join(found))
+        return is_late

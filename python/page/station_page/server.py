@@ -29,7 +29,7 @@ from .asked import (
 )
 from .causes import cause
 from .console import Console
-from .films import FilmFault, Text, csv_of, zip_stream
+from .films import KINDS, FilmFault, Text, csv_of, zip_stream
 from .guard import COOKIE, HEADERS, OPEN, Connection, Gate, bearer_of, session_word
 from .journal import Expected, PlainFormatter
 from .laboratory import Laboratory
@@ -57,15 +57,6 @@ TYPES = {
 STATIC_FILES = {
     path.name: TYPES[path.suffix] for path in sorted(STATIC.iterdir()) if path.suffix in TYPES
 }
-KINDS = {
-    "mp4": "video/mp4",
-    "y4m": "video/x-yuv4mpeg2",
-    "zip": "application/zip",
-    "csv": "text/csv",
-    "jpg": "image/jpeg",
-}
-
-
 # Requests that are none, and clients that leave, for which aiohttp would write where it failed: it
 # asserts that they are there.
 MALFORMED = Expected(
@@ -175,8 +166,9 @@ class Page:
         return response
 
     def dress(self, response: web.StreamResponse) -> None:
-        """The headers of each answer."""
-        response.headers.update(HEADERS)
+        """The headers of each answer, where it hasn't its own."""
+        for key, value in HEADERS.items():
+            response.headers.setdefault(key, value)
         response.headers.setdefault("Cache-Control", "no-store")
 
     async def judged(self, request: web.Request, handler) -> web.StreamResponse:

@@ -72,6 +72,9 @@ class Settings:
     stations: list[OtherStation] = field(default_factory=list)
     # What stands in the title and above the page.
     name: str = NAMELESS
+    # The station's file, and the folder of its paths.
+    config: str | None = None
+    folder: str = "."
 
     def is_loopback(self) -> bool:
         """Whether this machine alone can reach the page."""
@@ -352,5 +355,7 @@ def read_settings(given: argparse.Namespace) -> Settings:
         own.get("webhook"),
         archive and os.path.join(folder, archive),
         stations_of(own.get("station", []), given.settings or ""),
-        name_in(named["name"]),
+        name=name_in(named["name"]),
+        config=given.config,
+        folder=folder,
     )

@@ -12,6 +12,8 @@ AS_TEXT = (
     "The station's answers are text, which the page doesn't read. Write `answers_form = \"json\"` "
     "into its configuration, and start station and page again."
 )
+# What a camera is of which no frames are stored.
+DEAD = ("hangs", "absent", "other", "unusable", "making")
 # A camera that gives less of its rate is shown as one to look at.
 LEAST_RATE = 0.8
 
@@ -82,8 +84,12 @@ class Standing:
             "keeps": status and status.keeps,
         }
         reading = watched.reading
+        if kind == "hangs":
+            found["known_us"] = int((time.time() - (time.monotonic() - watched.looked)) * 1e6)
         if not reading:
             return found
+        # What doesn't come has no rate, whatever it was.
+        is_dead = kind in DEAD or watched.is_silent(limits.STILL_SECONDS)
         geometry, removed = reading.geometry, reading.removed_next()
         found |= {
             "width": geometry.width // (2 if reading.bits() > 8 else 1),
@@ -91,7 +97,7 @@ class Standing:
             "format": geometry.format.decode(),
             "bits": reading.bits(),
             "asked_rate": geometry.rate(),
-            "rate": reading.rate(),
+            "rate": None if is_dead else reading.rate(),
             "seconds": reading.seconds(),
             "frames": reading.count(),
             "locked": reading.locked(),
@@ -120,6 +126,7 @@ class Standing:
                 "disk hangs",
             )
         reading, source = watched.reading, self.source_of(watched)
+        status = watched.status if self.laboratory.orders.has_answers else None
         # While others of several stores are made, frames come into one that is there.
         is_made = reading is not None and reading.stores is not None
         if watched.making is not None and self.laboratory.orders.has_answers and not is_made:
@@ -152,7 +159,9 @@ class Standing:
                 "other frames",
             )
         is_silent = watched.is_silent(limits.STILL_SECONDS)
-        if reading.is_all_locked():
+        # The station knows before the newest block is full.
+        has_no_room = status is not None and status.room == 0 and is_silent
+        if reading.is_all_locked() or has_no_room:
             when = "has stopped" if is_silent else "stops when the newest block is full"
             return (
                 "bad",

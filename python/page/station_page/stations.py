@@ -19,10 +19,12 @@ from . import limits, words
 from .asked import CAUSES, number_in
 from .bundle import PARTS, Progress, entry, parts_in, stamp
 from .console import EVENTS, VIEW
-from .films import Gathered
+from .films import KINDS, Gathered
+from .guard import FOREIGN
 from .orders import NoStation
 from .others import UNUSABLE, Other, parsed, within
-from .push import Stream, message, view_of, whole
+from .push import LEVELS, Stream, View, message, view_of, whole
+from .redrawn import Redrawn
 from .settings import OtherStation
 from .standing import for_programs
 from .together import (
@@ -37,24 +39,24 @@ from .together import (
 )
 from .words import Unfit
 
-# What is given on of a request for a file, and of its answer.
+# What is given on of a request for a file.
 ASKED = ("Range", "If-Range")
-TOLD = (
-    "Accept-Ranges",
-    "Content-Disposition",
-    "Content-Length",
-    "Content-Range",
-    "Content-Type",
-    "ETag",
-    "Retry-After",
-    "X-Frame-Number",
-    "X-Frame-Store",
-    "X-Frame-Time",
-)
+# What is given on of its answer, and what that may be.
+TOLD = {
+    "Accept-Ranges": r"bytes|none",
+    "Content-Range": r"bytes (\d{1,19}-\d{1,19}|\*)/\d{1,19}",
+    "ETag": r'(W/)?"[\x21\x23-\x7e]{0,100}"',
+    "Retry-After": r"\d{1,5}",
+    "X-Frame-Number": r"\d{1,19}",
+    "X-Frame-Store": r"\d{1,3}",
+    "X-Frame-Time": r"\d{1,19}",
+}
+NAMED = r'attachment; filename="([A-Za-z0-9_.-]{1,100})"'
 NAME = answers.NAME
-# What a file of another station may be: nothing that a browser would run as this page's own.
-FILES = ("image/jpeg", "image/png", "video/mp4", "video/x-yuv4mpeg2", "text/csv", "application/zip")
-JSON = "application/json"
+# What a file of another station is said to be there, and is here, whatever it says: by its kind.
+PICTURE, JSON = "image/jpeg", "application/json"
+FILES = {PICTURE, "image/png", *KINDS.values()}
+STATUSES = {200, 206, 400, 404, 409, 416, 429, 503, 507}
 
 
 class Told:
@@ -68,14 +70,21 @@ class Told:
         return self.answer["text"]
 
 
-class Beside:
-    """What an open page is sent of another station: pictures, by a stream of its own there."""
+# What is given on of what stands before a picture, but for its camera and its times.
+HEAD = ("turn", "live", "number", "time", "sequence", "store", "stretch", "age")
 
-    def __init__(self, other: Other, response: web.StreamResponse) -> None:
-        self.other, self.response = other, response
+
+class Beside:
+    """What an open page is sent of another station: the newest picture of each camera, by a stream
+    of its own there. It is put beside those of this station, and an older one that wasn't sent yet
+    is dropped: however slow the page's line is, the station's stream is read at once."""
+
+    def __init__(self, other: Other, stream: Stream, redrawn: Redrawn) -> None:
+        self.other, self.stream, self.redrawn = other, stream, redrawn
         self.id: str | None = None
         self.view: dict = {}
         self.turned = asyncio.Event()
+        self.level, self.rate = 0, 0.0
 
     def turn(self, view: dict) -> None:
         """The page looks at something else."""
@@ -83,7 +92,7 @@ class Beside:
         self.turned.set()
 
     async def run(self) -> None:
-        """Sends what comes, again where the station was lost."""
+        """Takes what comes, again where the station was lost."""
         while True:
             try:
                 await self.listen()
@@ -95,7 +104,7 @@ class Beside:
             await asyncio.sleep(limits.AGAIN_SECONDS)
 
     async def listen(self) -> None:
-        """Sends what comes until the station is lost."""
+        """Takes what comes until the station is lost."""
         async with self.other.answer("/api/stream") as found:
             if found.status != 200:
                 return
@@ -106,12 +115,38 @@ class Beside:
                         self.id = head["id"]
                         self.turned.set()
                     elif head["kind"] in ("picture", "none") and MARK not in head["camera"]:
-                        more = {key: it for key, it in head.items() if key not in ("kind", "camera")}
-                        camera = named(self.other, head["camera"])
-                        told = message(head["kind"], body, **more, camera=camera)
-                        await self.response.write(told)
+                        await self.take(head, body)
+                    if (self.level, self.rate) != (self.stream.pace.level, self.stream.most()):
+                        self.turned.set()
             finally:
                 sends.cancel()
+
+    async def take(self, head: dict, body: bytes) -> None:
+        """A picture, or that there is none. A picture is made anew."""
+        if head["kind"] == "picture":
+            try:
+                body = await self.redrawn.picture(body)
+            except answers.Unusable as fault:
+                raise self.other.unfit("a picture", fault) from None
+        more = {key: head[key] for key in HEAD if key in head}
+        offset, now = self.other.clock.offset(), time.time_ns() // 1000
+        sent = head["sent"] - offset[0] if offset and "sent" in head else now
+        camera = named(self.other, head["camera"])
+        told = message(head["kind"], body if head["kind"] == "picture" else b"", **more,
+                       camera=camera, sent=min(sent, now))
+        self.stream.foreign[camera] = told
+        self.stream.elsewhere.add(camera)
+        self.stream.sizes[camera] = len(told)
+
+    def wished(self) -> dict:
+        """The page's view as this station is asked for it: smaller where the page's line is
+        slow."""
+        self.level = self.stream.pace.level
+        stands = self.view.get("moment") is not None and not self.view.get("speed")
+        part = 1.0 if stands else LEVELS[self.level][0]
+        width = max(limits.LEAST_WIDTH, int(self.view.get("width", View.width) * part))
+        self.rate = self.stream.most()
+        return {**self.view, "width": width, "rate": self.rate, "stream": self.id}
 
     async def send_views(self) -> None:
         """Says what the page looks at, each time that it is something else."""
@@ -120,7 +155,7 @@ class Beside:
             self.turned.clear()
             if self.id and self.view:
                 with contextlib.suppress(Unfit):
-                    await self.other.ask("/api/view", {**self.view, "stream": self.id})
+                    await self.other.ask("/api/view", self.wished())
 
 
 def is_of_this(request: web.Request) -> bool:
@@ -145,6 +180,7 @@ class Stations:
         self.join, self.joins = Joined(self.presses), asyncio.Lock()
         self.last: tuple[list, list[dict], bytes | None] = ([], [], None)
         self.joining: asyncio.Task | None = None
+        self.redrawn = Redrawn()
         # This page itself, which is asked as the others are.
         self.this: Other | None = None
         if self.others:
@@ -314,9 +350,9 @@ class Stations:
 
     # -------------------------------------------------------------------------------- open pages
 
-    def begin_beside(self, stream: Stream, response: web.StreamResponse) -> Coroutine:
+    def begin_beside(self, stream: Stream) -> Coroutine:
         """What a page is sent beside its own station's pictures, until it goes away."""
-        self.beside[stream.id] = [Beside(other, response) for other in self.others]
+        self.beside[stream.id] = [Beside(it, stream, self.redrawn) for it in self.others]
         return self.run_beside(stream.id)
 
     async def run_beside(self, id_: str) -> None:
@@ -340,6 +376,7 @@ class Stations:
         eyes = list(self.console.push.eyes)
         own = body | {"stretch": {it: to for it, to in stretch.items() if MARK not in str(it)}}
         stream.turn(view_of(own if names is None else own | {"cameras": by_station[""]}, eyes))
+        stream.foreign, stream.elsewhere = {}, set()
         for one in self.beside.get(stream.id, []):
             name = one.other.name
             view = {key: it for key, it in body.items() if key != "stream"}
@@ -573,7 +610,8 @@ class Stations:
     # ------------------------------------------------------------------------------------- files
 
     async def file(self, request: web.Request) -> web.StreamResponse:
-        """A picture or a file of another station's camera."""
+        """A picture or a file of another station's camera. Its type is this page's own, whatever
+        the station says, and no browser takes it for a page of this origin."""
         match = request.match_info
         found = self.other_of(match["camera"])
         if found is None:
@@ -587,15 +625,39 @@ class Stations:
                 raise other.away("it wants another token")
             if found.content_type == JSON:
                 return await self.words_of(found, other)
-            if found.content_type not in FILES:
-                fault = answers.Unusable(f"is {found.content_type}")
+            if found.content_type not in FILES or found.status not in STATUSES:
+                fault = answers.Unusable(f"is {found.content_type}, with the status {found.status}")
                 raise other.unfit("a file", fault)
-            response = web.StreamResponse(status=found.status)
-            for key in TOLD:
-                if key in found.headers:
-                    response.headers[key] = found.headers[key]
-            self.page.dress(response)
-            return await self.page.send(request, response, pieces_of(found, other))
+            kind = match["rest"].rpartition(".")[2]
+            if kind == "jpg" or kind.endswith("picture"):
+                return await self.picture_of(found, other)
+            return await self.sent(request, found, other, kind)
+
+    async def picture_of(self, found, other: Other) -> web.Response:
+        """A picture of another station, made anew."""
+        try:
+            data = await within(found, limits.PICTURE_MOST)
+            body = await self.redrawn.picture(data)
+        except answers.Unusable as fault:
+            raise other.unfit("a picture", fault) from None
+        headers = {"Content-Security-Policy": FOREIGN} | told_of(found)
+        return web.Response(body=body, content_type=PICTURE, headers=headers)
+
+    async def sent(self, request: web.Request, found, other: Other, kind: str):
+        """A file of another station, as it comes: one that is saved, or a film that is played."""
+        if kind not in KINDS:
+            raise Unfit(404, "There is no such file.")
+        response = web.StreamResponse(status=found.status)
+        response.headers["Content-Security-Policy"] = FOREIGN
+        response.headers.update(told_of(found))
+        response.headers["Content-Type"] = KINDS[kind]
+        response.content_length = found.content_length
+        if kind != "mp4" or "play" not in request.query:
+            name = re.fullmatch(NAMED, found.headers.get("Content-Disposition", ""))
+            name = name[1] if name else f"{other.name}.{kind}"
+            response.headers["Content-Disposition"] = f'attachment; filename="{name}"'
+        self.page.dress(response)
+        return await self.page.send(request, response, pieces_of(found, other))
 
     async def words_of(self, found, other: Other) -> web.Response:
         """What another station says of a frame, in JSON."""
@@ -603,7 +665,10 @@ class Stations:
             told = await parsed(await within(found, limits.MESSAGE_BYTES), answers.SAID)
         except answers.Unusable as fault:
             raise other.unfit("a file", fault) from None
-        return web.json_response(told, status=found.status)
+        status = found.status if found.status in STATUSES else UNUSABLE
+        return web.json_response(
+            told, status=status, headers={"Content-Security-Policy": FOREIGN}
+        )
 
     async def zip(self, request: web.Request) -> web.StreamResponse:
         """An event as one zip, with the files of all its stations."""
@@ -618,6 +683,7 @@ class Stations:
         name, progress = f"event_{stamp(since)}", Progress(len(files))
         response = web.StreamResponse(headers={"Content-Type": "application/zip"})
         response.headers["Content-Disposition"] = f'attachment; filename="{name}.zip"'
+        response.headers["Content-Security-Policy"] = FOREIGN
         self.page.dress(response)
         if shown := request.query.get("as", "")[:40]:
             self.console.progress[shown] = progress
@@ -657,6 +723,15 @@ class Stations:
             if f"{clip['camera']}.{clip['id']}.{clip['first']}" in keys
         ]
         return min(known, default=time.time_ns() // 1000)
+
+
+def told_of(found) -> dict[str, str]:
+    """What is given on of an answer's headers."""
+    return {
+        key: found.headers[key]
+        for key, form in TOLD.items()
+        if re.fullmatch(form, found.headers.get(key, ""), re.ASCII)
+    }
 
 
 def asked_of(span: tuple[int, int], note: str, why: dict) -> dict:

@@ -4,6 +4,7 @@ import collections
 import json
 import logging
 import threading
+import time
 from bisect import bisect_left
 from typing import NamedTuple
 
@@ -34,7 +35,9 @@ def cameras_of(other: Other) -> list[dict]:
     kind, why = other.trouble()
     text = f"{why} What you see of it is of before."
     shortly = "unusable answer" if kind == "unusable" else "no answer"
-    away = {"level": "bad", "state": text, "kind": "away", "short": shortly}
+    away = {"level": "bad", "state": text, "kind": "away", "short": shortly, "rate": None}
+    # From then on nobody knows here what came.
+    away["known_us"] = int((time.time() - (time.monotonic() - other.heard)) * 1e6)
     return [it | away for it in found]
 
 

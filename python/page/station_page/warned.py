@@ -21,6 +21,29 @@ ENDS = {
 }
 # What is the cause where no frames come, so that it isn't warned of twice.
 NO_FRAMES = ("missing", "other", "unusable", "absent", "not a store", "locked", "lost", "hangs")
+# What is said once something is over, by its kind: never what was wrong again.
+OVER = {
+    "silent": "frames come again.",
+    "missing": "its source is there again.",
+    "other": "its source gives the frames of its store again.",
+    "unusable": "its source gives frames that are stored again.",
+    "absent": "its store is there again.",
+    "lost": "its store is there again.",
+    "not a store": "its store is there again.",
+    "one absent": "all of its stores are used again.",
+    "locked": "there is room again, and it is recorded.",
+    "nearly locked": "there is room again.",
+    "behind": "no frames wait for the disk any more.",
+    "hangs": "its disk answers again.",
+    "small": "its store holds what was asked for.",
+    "save waits": "its clips are written again.",
+    "station": "The station runs again.",
+    "answers": "The station's answers are read again.",
+    "archive": "The archive goes on.",
+    "away": "it answers again.",
+    "unusable page": "what it says can be used again.",
+    "clock": "its clock is right again.",
+}
 # Which part of its room is locked where the station says that it nearly is.
 NEARLY = 0.8
 OTHER_SIZE = (
@@ -70,7 +93,17 @@ class Warned:
         self.pass_by(kind, camera)
         text = self.laboratory.alerts.over(kind, camera)
         if text and is_told:
-            self.tell_news(f"Over: {text}")
+            is_page = kind == "unusable" and camera not in self.laboratory.cameras
+            front = f"{camera}: " if camera else ""
+            said = OVER.get("unusable page" if is_page else kind)
+            self.tell_news(front + (said or f"what was warned of ({kind}) is over."))
+
+    def forget(self, camera: str) -> None:
+        """A camera isn't there any more, and nothing is wrong with it."""
+        for kind, name in [*self.passing, *self.laboratory.alerts.standing]:
+            if name == camera:
+                self.over(kind, camera, is_told=False)
+        self.laboratory.alerts.forget(camera)
 
     def tell_news(self, text: str) -> None:
         """Good news, for all open pages."""

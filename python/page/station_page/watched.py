@@ -49,6 +49,9 @@ class Watched:
     began: float = 0.0
     # The file system of its store, as it was seen last.
     space: Space | None = None
+    # Since when a look has hardly worked, and what it had of a processor then.
+    idle: float = 0.0
+    worked: float = 0.0
     looks: Workers = field(default_factory=lambda: looks_of(""))
 
     def begin(self) -> None:
@@ -59,15 +62,18 @@ class Watched:
                 asyncio.create_task(self.looks.do(self.look)),
                 time.monotonic(),
             )
+            self.idle, self.worked = self.began, self.looks.worked()
 
     def hangs(self) -> float:
-        """For how many seconds its disk hasn't answered, where that is long; else 0."""
-        waited = time.monotonic() - self.began
-        return (
-            waited
-            if self.looking and not self.looking.done() and waited > 2 * limits.DISK_SECONDS
-            else 0.0
-        )
+        """For how many seconds its disk hasn't answered, where that is long; else 0. A look that
+        has worked meanwhile, or waits for a processor, is one of a busy machine."""
+        now = time.monotonic()
+        if not self.looking or self.looking.done() or now - self.began <= 2 * limits.DISK_SECONDS:
+            return 0.0
+        worked = self.looks.worked()
+        if worked - self.worked > (now - self.idle) * limits.IDLE_PART:
+            self.idle, self.worked = now, worked if worked < float("inf") else self.worked
+        return now - self.began if now - self.idle > 2 * limits.DISK_SECONDS else 0.0
 
     def silent(self) -> float:
         """For how many seconds no new frame was seen. A clock that is set changes nothing of it."""

@@ -24,6 +24,8 @@ class Workers:
         self.name, self.most, self.waiting = name, threads, waiting
         self.queue: queue.SimpleQueue = queue.SimpleQueue()
         self.begun, self.count = 0, 0
+        # The system's number of the thread that began last.
+        self.thread = 0
 
     async def do(self, work: Callable, *words: Any, seconds: float | None = None) -> Any:
         """Does a piece of work in a thread, and answers what it answers. Unfit (503) where too many
@@ -44,6 +46,7 @@ class Workers:
 
     def run(self) -> None:
         """Works, without end."""
+        self.thread = threading.get_native_id()
         while True:
             loop, done, work, words = self.queue.get()
             result, fault = None, None
@@ -57,6 +60,19 @@ class Workers:
                 loop.call_soon_threadsafe(self.end, done, result, fault)
             # Nothing of it stays in memory until the next piece comes.
             del loop, done, work, words, result, fault
+
+    def worked(self) -> float:
+        """The seconds of a processor that the thread which began last has had; all there can be
+        while it waits for a processor."""
+        place = f"/proc/self/task/{self.thread}"
+        try:
+            with open(f"{place}/stat", encoding="ascii") as file:
+                is_ready = file.read().rsplit(")", 1)[1].split()[0] == "R"
+            with open(f"{place}/schedstat", encoding="ascii") as file:
+                had = int(file.read().split()[0]) / 1e9
+        except (OSError, ValueError, IndexError):
+            return 0.0
+        return float("inf") if is_ready else had
 
     def end(self, done: asyncio.Future, result: Any, fault: Exception | None) -> None:
         """A piece of work has ended."""

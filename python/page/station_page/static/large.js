@@ -1,6 +1,6 @@
 // A camera as large as the screen takes: pixel values under the pointer, the histogram with black and white point, and what is known of the camera.
 import { ask } from "/static/link.js";
-import { paint, stretchWords } from "/static/stage.js";
+import { paint, sayAge, stretchWords } from "/static/stage.js";
 import { byId, clock, colour, count, lasting, length, make, penOf, say, trimmed, zone } from "/static/words.js";
 
 const LIGHT_EVERY = 700;
@@ -102,6 +102,7 @@ export class Large {
   /** Shows a picture that has come. */
   take(head, bytes) {
     if (head.camera !== this.name) return;
+    head.came = performance.now();
     paint(this.canvas, bytes, () => {
       if (head.camera !== this.name) return;
       this.head = head;
@@ -116,6 +117,11 @@ export class Large {
       this.value();
       this.askLight();
     });
+  }
+
+  /** Says how old the picture is, as on a tile. */
+  old(now) {
+    sayAge(byId("large-age"), this.name ? this.head : null, now);
   }
 
   /** There is no picture. */

@@ -17,6 +17,7 @@ export async function ask(path, body) {
 }
 
 const AGAIN = 1000;
+const TELL = 300;
 const LENGTHS = 8;
 const SAMPLES = 8;
 const SOON = 500;
@@ -94,6 +95,7 @@ export class Link {
   constructor(heard) {
     this.heard = heard;
     this.clock = new Clock();
+    this.refused = "";
     this.view = {};
     this.turn = 0;
     this.id = null;
@@ -117,14 +119,31 @@ export class Link {
   async once() {
     const answer = await fetch("/api/stream");
     if (answer.status === 401) location.assign("/sign-in");
+    // Why this page isn't let in, as where too many are open.
+    this.refused = answer.ok ? "" : (await answer.json().catch(() => ({}))).error || "";
     if (!answer.ok) return;
     const reader = answer.body.getReader(), gathered = new Gathered();
+    this.taken = this.told = 0;
     for (;;) {
       const { done, value } = await reader.read();
       if (done) return;
+      this.taken += value.length;
       gathered.add(value);
+      this.tell();
       while (this.message(gathered));
     }
+  }
+
+  /** Says now and then how many bytes were taken: what is between may hold much, and the server sends no more than the line takes. */
+  tell() {
+    if (this.isTelling || !this.id) return;
+    this.isTelling = true;
+    setTimeout(async () => {
+      this.told = this.taken;
+      await ask("/api/took", { stream: this.id, bytes: this.told }).catch(() => {});
+      this.isTelling = false;
+      if (this.told !== this.taken) this.tell();
+    }, TELL);
   }
 
   /** Hands on a message, where one is whole. */

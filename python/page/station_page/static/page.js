@@ -28,6 +28,7 @@ let cameraNames = [];
 let heard = performance.now();
 let isLost = false;
 let answeredAt = -Infinity;
+let isBegun = false;
 
 const large = new Large();
 const stage = new Stage((name) => view.open(name));
@@ -78,9 +79,15 @@ function hear(head, body) {
 
 /** Says that the server is lost, once nothing was heard of it for a while. */
 function watch() {
+  if (link.refused) {
+    banner();
+    pill();
+  }
   if (isLost || performance.now() - heard < LOST_AFTER) return;
   isLost = true;
   document.body.classList.add("lost");
+  // From then on nobody knows here what came.
+  timeline.known = link.clock.at(heard);
   banner();
   pill();
 }
@@ -89,6 +96,7 @@ function watch() {
 function found() {
   isLost = false;
   document.body.classList.remove("lost");
+  timeline.known = null;
   banner();
   pill();
 }
@@ -99,6 +107,8 @@ function show(state) {
   byId("leave").hidden = !state.has_token;
   const names = state.cameras.map((camera) => camera.name);
   if (names.join() !== cameraNames.join()) begin(state.cameras, names);
+  // One that was removed goes.
+  if (view.camera && !names.includes(view.camera)) view.open(null);
   stage.show(state.cameras);
   lanes();
   const shown = state.cameras.find((camera) => camera.name === view.camera);
@@ -126,8 +136,11 @@ function begin(cameras, names) {
   byId("camera").replaceChildren(make("option", { value: "" }, names.length > 1 ? `All ${names.length}${PHONE.matches ? "" : " cameras"}` : "The camera"), ...names.map((name) => make("option", { value: name }, `${name} alone`)));
   byId("camera").hidden = names.length < 2;
   events.names(names);
-  if (cameras[0].keep) byId("seconds").value = cameras[0].keep;
-  byId("then").value = afterOf("");
+  if (cameras.length && !isBegun) {
+    if (cameras[0].keep) byId("seconds").value = cameras[0].keep;
+    byId("then").value = afterOf("");
+  }
+  isBegun ||= cameras.length > 0;
 }
 
 // ------------------------------------------------------------------------------------------------ how it stands
@@ -140,7 +153,7 @@ function pill() {
   const element = byId("pill");
   if (isLost || !standing) {
     element.className = "pill unknown";
-    say(element, isLost ? "Server lost" : "Not connected yet");
+    say(element, link.refused ? "Not let in" : isLost ? "Server lost" : "Not connected yet");
     return;
   }
   const all = standing.cameras.length, good = standing.cameras.filter(records).length;
@@ -152,6 +165,7 @@ function pill() {
 
 /** All that is wrong now, the worst first, each as {level, text, advice}. */
 function troubles() {
+  if (link.refused) return [{ level: "bad", text: link.refused, advice: "Close pages that nobody looks at, on this computer or another. This one tries again each second." }];
   if (isLost) {
     const at = clock((Date.now() - (performance.now() - heard)) * 1000);
     return [{ level: "bad", text: `This page has lost its server at ${at}. What you see is of that time. Recording may well go on.`,
@@ -162,7 +176,9 @@ function troubles() {
   const [level, text] = standing.station;
   if (level !== "good") list.push({ level, text, advice: level === "bad" ? "Start the station: systemctl start loop_station. Until then nothing is recorded." : "docs/page.md, \u201cBegin\u201d, says how the station's file names its pipes." });
   for (const camera of standing.cameras) {
-    if (camera.level !== "good") list.push({ level: camera.level, camera: camera.name, text: camera.state, advice: more[camera.name]?.advice || "" });
+    if (camera.level !== "good") {
+      list.push({ level: camera.level, camera: camera.name, kind: camera.kind, short: camera.short || camera.level, text: camera.state, advice: more[camera.name]?.advice || "" });
+    }
   }
   for (const station of standing.stations || []) {
     if (station.level !== "good") list.push({ level: station.level, text: station.text, advice: `docs/several.md says more. Its own page is ${station.url}/` });
@@ -177,10 +193,10 @@ function banner() {
   const list = troubles(), element = byId("banner");
   const unseen = (standing?.alerts || []).filter((alert) => !alert.over);
   let level = "good", words = standing ? calm() : "The page connects to its server.", camera = "";
-  if (list.length) [level, words, camera] = [list[0].level, list[0].text, list[0].camera || ""];
+  if (list.length) [level, words, camera] = [list[0].level, list[0].text, alike(list).join(", ")];
   else if (unseen.length) [level, words] = ["warn", `Nothing is wrong now. ${count(unseen.length, "warning")} ${unseen.length === 1 ? "isn't" : "aren't"} seen yet.`];
   else if (!standing) level = "unknown";
-  const rest = list.length > 1 ? ` And ${list.length - 1} more.` : "";
+  const rest = restOf(list);
   const wanted = `banner ${level}`;
   if (element.className !== wanted) element.className = wanted;
   if (byId("banner-text").textContent !== `${camera}${camera ? ": " : ""}${words}${rest}`) {
@@ -188,6 +204,17 @@ function banner() {
   }
   byId("what").hidden = !list.some((it) => it.advice);
   speak(standing, isLost);
+}
+
+/** The cameras of which the worst thing is so. */
+const alike = (list) => list.filter((it) => it.camera && it.kind === list[0].kind && it.level === list[0].level).map((it) => it.camera);
+
+/** What else is wrong, shortly: each camera by its name, and how many other things. */
+function restOf(list) {
+  const said = new Set(list.length ? alike(list) : []);
+  const others = list.slice(1).filter((it) => !said.has(it.camera)), more = others.filter((it) => !it.camera).length;
+  const named = others.filter((it) => it.camera).map((it) => `${it.camera} (${it.short})`);
+  return (named.length ? ` Also ${named.join(", ")}.` : "") + (more ? ` And ${more} more.` : "");
 }
 
 /** What is said where nothing is wrong. */
@@ -576,4 +603,8 @@ askRights();
 link.listen();
 link.clock.measure();
 setInterval(watch, 250);
+setInterval(() => {
+  stage.ages(link.clock.at());
+  large.old(link.clock.at());
+}, 250);
 setInterval(tick, 100);

@@ -23,6 +23,19 @@ export async function paint(canvas, bytes, told) {
 /** How a picture is stretched, in words; nothing where it isn't. */
 export const stretchWords = (stretch) => (stretch ? `stretched for the eye: ${stretch[0]} to ${stretch[1]}` : "");
 
+/** The seconds that a picture is old: what it was when it was sent, and what has passed since. */
+export function ageOf(head, now) {
+  const since = now === null ? (performance.now() - head.came) * 1000 : now - head.sent;
+  return (head.age + Math.max(0, since)) / 1e6;
+}
+
+/** Shows on a picture how old it is, where it is live and that is a second or more. */
+export function sayAge(element, head, now) {
+  const seconds = head?.live && head.age !== undefined ? ageOf(head, now) : 0;
+  element.hidden = seconds < 1;
+  if (seconds >= 1) say(element, `${seconds < 100 ? seconds.toFixed(1) : Math.round(seconds)} s old`);
+}
+
 class Tile {
   constructor(name, place, open) {
     this.name = name;
@@ -32,6 +45,7 @@ class Tile {
     this.past = make("span", { className: "chip past num", hidden: true });
     this.eye = make("span", { className: "chip eye", hidden: true, title: "The picture is stretched for the eye; files keep every bit" }, "stretched");
     this.rate = make("span", { className: "chip rate num" });
+    this.age = make("span", { className: "chip age num", hidden: true, title: "How old this picture is" });
     this.when = make("span");
     this.holds = make("span");
     this.none = make("p", { className: "none" }, "No picture yet.");
@@ -39,7 +53,7 @@ class Tile {
     this.button.onclick = () => open(name);
     const title = make("h2", { title: place < 9 ? `${name}: key ${place + 1}` : name }, name), grow = () => make("span", { className: "grow" });
     for (const canvas of [this.picture, this.ring]) canvas.setAttribute("aria-hidden", "true");
-    const top = make("header", {}, make("span", { className: "rec" }), title, grow(), this.past, this.eye, this.chip, this.rate);
+    const top = make("header", {}, make("span", { className: "rec" }), title, grow(), this.past, this.age, this.eye, this.chip, this.rate);
     const bottom = make("footer", { className: "num" }, this.when, grow(), this.holds);
     this.element = make("article", { className: "cam unknown blank" }, this.picture, this.none, top, bottom, this.ring, this.button);
     this.element.dataset.camera = name;
@@ -67,6 +81,7 @@ class Tile {
 
   /** Shows a picture that has come. */
   take(head, bytes) {
+    head.came = performance.now();
     paint(this.picture, bytes, () => {
       this.shown = head;
       this.element.classList.remove("blank");
@@ -77,6 +92,11 @@ class Tile {
       this.eye.hidden = !head.stretch;
       if (head.stretch) this.eye.title = stretchWords(head.stretch);
     });
+  }
+
+  /** Says how old a live picture is, from a second on: by the server's clock, or, where that isn't known, since it came. */
+  old(now) {
+    sayAge(this.age, this.shown, now);
   }
 
   /** There is no frame of the moment. */
@@ -180,6 +200,11 @@ export class Stage {
 
   blank(head) {
     this.tiles.get(head.camera)?.blank(head);
+  }
+
+  /** Says on each live picture how old it is, at a time of the server; null where that isn't known. */
+  ages(now) {
+    for (const tile of this.tiles.values()) tile.old(now);
   }
 
   /** Says on each picture of which moment it is, where it isn't live. */

@@ -43,6 +43,8 @@ export class Timeline {
     this.at = null;
     this.hover = this.held = null;
     this.skew = 0;
+    // Until when the page knows what came, where it has lost its server.
+    this.known = null;
     this.pointers = new Map();
     const canvas = this.canvas;
     canvas.onpointerdown = (event) => this.down(event);
@@ -361,8 +363,11 @@ export class Timeline {
   /** A camera's lane: what is held, and above it its clips and what goes next. Where nothing is held, upright stripes. */
   drawLane(pen, camera, y, high, width) {
     const room = high - this.above, top = y + this.above + room * 0.2, tall = room * 0.6;
+    const known = Math.min(this.known ?? Infinity, camera.known_us ?? Infinity), now = Math.min(width, this.x(this.now()));
+    const until = Math.max(0, Math.min(now, known === Infinity ? now : this.x(known)));
     pen.fillStyle = striped(pen, colour("edge"), 0);
-    pen.fillRect(0, top, Math.min(width, this.x(this.now())), tall);
+    pen.fillRect(0, top, until, tall);
+    if (until < now) this.drawUnknown(pen, until, top, now - until, tall);
     if (!camera.pieces) return;
     const fill = (from, to, style, spare = 0) => {
       const left = Math.max(0, this.x(from)), right = Math.min(width, Math.max(this.x(to), this.x(from) + 2));
@@ -381,6 +386,17 @@ export class Timeline {
       fill(...next, colour("panel"));
       fill(...next, striped(pen, colour("bad"), 1));
     }
+  }
+
+  /** A time of which nobody knows here what came: no stripes, which say that nothing did. */
+  drawUnknown(pen, left, top, wide, tall) {
+    pen.fillStyle = colour("raised");
+    pen.fillRect(left, top, wide, tall);
+    if (wide < 60) return;
+    pen.fillStyle = colour("faint");
+    pen.font = "11px system-ui, sans-serif";
+    pen.textBaseline = "middle";
+    pen.fillText("unknown", left + 4, top + tall / 2);
   }
 
   /** The range that is chosen. */
