@@ -30,6 +30,8 @@ for (const name of document.querySelectorAll('#names li')) {
         found.push(`${name.textContent} stands on its track`); }
 if (Math.abs(document.querySelector('#scale').getBoundingClientRect().left - box.left) > 1)
     found.push('the times do not stand over the tracks');
+if (box.width < tracks.parentElement.clientWidth / 2)
+    found.push('the names leave the tracks no room');
 return found;"""
 # Roles that say nothing of what a control is.
 NO_ROLE = {"generic", "none", "presentation", "unknown", "GenericContainer", ""}

@@ -9,8 +9,8 @@ from page_strangers import expect
 # The station's name in the title and the head.
 NAME = "Laser bench 2"
 # What the events' rows say, and what each large picture's pixels are: darkest, brightest.
-ROWS = """return [...document.querySelectorAll('#events .event')].filter((it) => it.checkVisibility())
-    .map((it) => it.innerText + ' ' + it.querySelector('input').value)"""
+ROWS = """return [...document.querySelectorAll('#events .event')].filter((it) =>
+    it.checkVisibility()).map((it) => it.innerText + ' ' + it.querySelector('input').value)"""
 # The darkest and the brightest grey of a picture that is shown.
 ENDS = """const it = document.querySelector(arguments[0]), data = it.getContext('2d')
     .getImageData(0, 0, it.width, it.height).data; let [low, high, seen] = [255, 0, new Set()];
@@ -18,7 +18,8 @@ for (let at = 0; at < data.length; at += 4) { low = Math.min(low, data[at]);
     high = Math.max(high, data[at]); seen.add(data[at]); } return [low, high, seen.size];"""
 # Counts the tones that are begun from here on.
 TONES = """window.tones = 0; const plain = OscillatorNode.prototype.start;
-OscillatorNode.prototype.start = function (...words) { window.tones++; plain.apply(this, words); };"""
+OscillatorNode.prototype.start = function (...words) { window.tones++;
+    plain.apply(this, words); };"""
 # The numbers of the frames that are shown, by camera.
 SHOWN = """return Object.fromEntries([...document.querySelectorAll('.cam')].filter((it) =>
     it.checkVisibility()).map((it) => [it.dataset.camera, Number(it.dataset.number)]))"""
@@ -89,12 +90,13 @@ def search(browser, lab, shots):
 def lacking(browser, lab, shots):
     """Events that lost frames, or have less than was asked for, are found."""
     released(lab)
+    since = lab.stored("pump")[-1].time
     lab.order("!pause pump")
     time.sleep(2.5)
     lab.order("!go pump")
-    lab.until(lambda: lab.camera("pump")["level"] == "good", "camera that goes on")
-    lab.post("/api/keep", {"camera": "pump", "seconds": 4})
-    time.sleep(4)
+    lab.until(lambda: lab.stored("pump")[-1].time > since + 3_500_000, "camera that goes on")
+    span = {"from": since - 500_000, "to": lab.stored("pump")[-1].time}
+    lab.post("/api/keep", {"camera": "pump", **span})
     lab.post("/api/keep", {"camera": "pendulum", "seconds": 2})
     browser.until(lambda: len(rows(browser)) == 2, "two events")
     browser.named("Filter").click()
@@ -181,8 +183,8 @@ def causes(browser, lab, shots):
     browser.keys("k")
     browser.until(lambda: len(rows(browser)) == 4, "four events")
     said = "return [...document.querySelectorAll('#events .cause')].map((it) => it.textContent)"
-    for place, text in enumerate(("Pressed: 127.0.0.1", "By HTTP: ", "By MQTT: run-7")):
-        browser.until(lambda text=text, place=place: browser.run(said)[place].startswith(text), text)
+    for at, text in enumerate(("Pressed: 127.0.0.1", "By HTTP: ", "By MQTT: run-7")):
+        browser.until(lambda at=at, text=text: browser.run(said)[at].startswith(text), text)
     expect(browser.run(said)[3] == "By a trigger: door", f"the causes are {browser.run(said)}")
     marks = "return document.querySelector('#scale').dataset.causes.split(' ').sort().join(' ')"
     browser.until(lambda: browser.run(marks) == "http mqtt press trigger", "marks of four causes")
@@ -238,8 +240,10 @@ def inked(browser, moments):
     mouse = ActionChains(browser.driver, duration=20)
     mouse.move_to_element_with_offset(scale, x, 23 - scale.size["height"] // 2).click().perform()
     browser.until(lambda: scale.get_attribute("title").endswith("door"), "words of a mark")
-    found = browser.one("#tracks").get_attribute("aria-valuetext")
-    expect("trigger: door" in found, f"a click on the mark goes to {found!r}")
+    tracks = browser.one("#tracks")
+    browser.until(
+        lambda: "trigger: door" in tracks.get_attribute("aria-valuetext"), "moment of a mark"
+    )
 
 
 def disk(browser, lab, shots):
@@ -356,7 +360,8 @@ def grey_of(browser, selector):
 
 def measured(browser):
     """What is measured: the length, and how far it goes to the right and down."""
-    found = re.match(r"([\d.]+) px, x (-?\d+), y (-?\d+), (-?[\d.]+)\u00b0", browser.text("#measured"))
+    words = browser.text("#measured")
+    found = re.match(r"([\d.]+) px, x (-?\d+), y (-?\d+), (-?[\d.]+)\u00b0", words)
     return tuple(float(it) for it in found.groups())
 
 
@@ -417,7 +422,7 @@ ME = """const plain = window.fetch; window.fetch = (path, ...more) => path === '
     ? Promise.resolve(new Response(JSON.stringify({ name: 'ann', rights: %s }))) :
     plain(path, ...more);"""
 # The controls by which something is changed, as far as they are there.
-OFFERED = """return [...document.querySelectorAll('#press, #note, #skip, #alarm-seen, #events .release,'
+OFFERED = """return [...document.querySelectorAll('#press, #note, #alarm-seen, #events .release,'
     + ' #events input:not([readonly])')].filter((it) => it.checkVisibility()).map((it) =>
     it.id || it.className || it.tagName)"""
 

@@ -1,9 +1,14 @@
 """What the console needs of the page besides pictures: the seconds that are still to come of a
-keep, which warnings somebody has seen, and the station's own name."""
+keep, which warnings somebody has seen, the station's own name, and the figures of the disk."""
+import json
+import os
+
 import pytest
 from conftest import Laboratory
 from station_page.asked import moment_in
+from station_page.disks import space_at
 from station_page.settings import BadSettings, name_in
+from test_push import Open
 
 CAMERAS = [{"name": "left", "pattern": "64x48 YM12 25:1", "after": 5}]
 
@@ -82,3 +87,33 @@ def test_a_name_that_can_be_none_is_refused(wrong):
 
 def test_who_asks_is_told_what_that_one_may_do(lab):
     assert lab.ask("/api/me").json() == {"name": None, "rights": ["see", "keep", "release"]}
+
+
+def figures(lab):
+    """The disk's figures of the camera, as an open page is sent them."""
+    page = Open(lab)
+    try:
+        return json.loads(page.next("more")[1])["cameras"]["left"]["disk"]
+    finally:
+        page.close()
+
+
+def test_the_disks_figures_are_those_of_the_store(lab):
+    found, store = figures(lab), lab.folder / "left.loop"
+    assert found["ring_bytes"] == store.stat().st_size
+    # A frame of 64x48 with its head, 25 times a second.
+    assert 0.8 < found["writes"] / (25 * (64 * 48 * 1.5)) < 1.3, found
+    assert abs(found["oldest_us"] - lab.stored()[0].time) < 5_000_000
+    assert found["disk_bytes"] >= found["free_bytes"] > 0
+
+
+def test_what_is_locked_is_not_left(lab):
+    before = figures(lab)["left_seconds"]
+    lab.keep(5)
+    lab.until(lambda: figures(lab)["left_seconds"] < before, "less room")
+
+
+def test_a_file_system_that_does_not_say_has_no_figures(tmp_path):
+    assert space_at(str(tmp_path / "none" / "left.loop")) is None
+    found, told = space_at(str(tmp_path / "left.loop")), os.statvfs(tmp_path)
+    assert found and found.bytes == told.f_frsize * told.f_blocks and 0 < found.free <= found.bytes
