@@ -419,7 +419,7 @@ def drawn(browser):
 
 # Answers who is at the page in the server's place: the rights of the person.
 ME = """const plain = window.fetch; window.fetch = (path, ...more) => path === '/api/me'
-    ? Promise.resolve(new Response(JSON.stringify({ name: 'ann', rights: %s }))) :
+    ? Promise.resolve(new Response(JSON.stringify({ user: 'ann', rights: %s }))) :
     plain(path, ...more);"""
 # The controls by which something is changed, as far as they are there.
 OFFERED = """return [...document.querySelectorAll('#press, #note, #alarm-seen, #events .release,'

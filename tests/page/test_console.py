@@ -86,7 +86,7 @@ def test_a_name_that_can_be_none_is_refused(wrong):
 
 
 def test_who_asks_is_told_what_that_one_may_do(lab):
-    assert lab.ask("/api/me").json() == {"name": None, "rights": ["see", "keep", "release"]}
+    assert lab.ask("/api/me").json() == {"user": "", "rights": ["see", "keep", "release"]}
 
 
 def figures(lab):

@@ -36,7 +36,7 @@ class Console:
 
     def __init__(self, page) -> None:
         self.page, self.laboratory = page, page.laboratory
-        self.push = Push(self.laboratory, self.state, page.gate.is_known)
+        self.push = Push(self.laboratory, self.state, page.gate.is_known, page.rights)
         self.progress: collections.OrderedDict[str, Progress] = collections.OrderedDict()
         self.told: tuple[int, list] = (-1, [])
         self.clips: tuple[list[dict], int, int] = ([], 0, 0)

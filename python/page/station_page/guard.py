@@ -13,6 +13,8 @@ from yarl import URL
 
 from . import limits
 from .settings import Settings, is_loopback
+from .users import OWNER, User, Users, right_for
+from .words import Unfit
 
 COOKIE = "loop_page"
 # Scripts, styles and pictures come from this server alone, and none of them from within the page's
@@ -35,6 +37,8 @@ HEADERS = {
 FOREIGN = "sandbox; default-src 'none'; base-uri 'none'; form-action 'none'; frame-ancestors 'none'"
 # What is answered to anybody.
 OPEN = {"/sign-in", "/healthz", "/static/page.css", "/static/icon.svg", "/favicon.ico"}
+# What asks for no right: to leave, and to know which rights one has.
+FREE = {"/sign-out", "/api/me"}
 # To what a page of another site may lead: of all else it may use nothing.
 ENTRANCES = {"/", "/sign-in", "/healthz", "/favicon.ico"}
 OWN_HEADER = "X-Loop-Page"
@@ -52,7 +56,7 @@ class Connection(asyncio.BufferedProtocol):
         self.is_in = False
         # Whether somebody who may pass has used it. Until then it has its first seconds alone, and
         # makes room for others.
-        self.is_known = gate.settings.token is None
+        self.is_known = gate.is_open()
 
     def connection_made(self, transport: asyncio.BaseTransport) -> None:
         """It has begun; one too many ends at once."""
@@ -151,6 +155,9 @@ class Gate:
         # What has just come of any connection: it is taken from here at once.
         self.buffer = memoryview(bytearray(limits.RECEIVE_BYTES))
         self.sessions: dict[str, float] = {}
+        # Of each session the user's name; nothing where it is of the page's own token.
+        self.people: dict[str, str] = {}
+        self.users = Users(settings.users) if settings.users else None
         self.wrong: dict[str, list[float]] = {}
 
     async def watch(self) -> None:
@@ -183,16 +190,42 @@ class Gate:
             name = urlsplit("//" + request.headers.get("Host", "")).hostname or ""
         except ValueError:
             return False
-        return bool(self.settings.token) or is_loopback(name) or name == self.settings.host
+        return not self.is_open() or is_loopback(name) or name == self.settings.host
+
+    def is_open(self) -> bool:
+        """Whether anybody may pass."""
+        return self.settings.token is None and self.users is None
 
     def is_known(self, request: web.Request) -> bool:
-        """Whether a request comes from somebody who knows the token. The right one always counts,
-        also from an address that others guess from: behind a proxy all have one address."""
-        return (
-            self.settings.token is None
-            or self.is_same(bearer_of(request))
-            or self.is_signed_in(request)
-        )
+        """Whether a request comes from somebody who knows the token, or has one of their own. The
+        right one always counts, also from an address that others guess from: behind a proxy all
+        have one address."""
+        return self.user_of(request) is not None
+
+    def user_of(self, request: web.Request) -> User | None:
+        """Whose request it is; nobody's where it has neither token nor session."""
+        if self.is_open():
+            return OWNER
+        return self.user_with(bearer_of(request)) or self.user_in(request)
+
+    def user_with(self, token: str) -> User | None:
+        """The user of a token."""
+        if self.is_same(token):
+            return OWNER
+        return self.users.of_token(token) if self.users else None
+
+    def user_in(self, request: web.Request) -> User | None:
+        """The user who has signed in; nobody once the file of users doesn't name them any more."""
+        if not self.is_signed_in(request):
+            return None
+        name = self.people.get(request.cookies[COOKIE], "")
+        return (self.users.named(name) if self.users else None) if name else OWNER
+
+    def refuse_without_right(self, request: web.Request) -> None:
+        """Unfit where a user hasn't the right for a request."""
+        user, right = self.user_of(request), right_for(request.path)
+        if user and right not in user.rights and request.path not in OPEN | FREE:
+            raise Unfit(403, f"{user.name} may not {right} here. The file of users says who may.")
 
     def is_same(self, given: str) -> bool:
         """Whether a text is the token, in a time that doesn't depend on where they differ."""
@@ -223,14 +256,17 @@ class Gate:
         end = self.sessions.get(request.cookies.get(COOKIE, ""))
         return end is not None and end > time.monotonic()
 
-    def sign_in(self) -> str:
-        """A new session, by its secret name. The oldest one ends where there are too many."""
+    def sign_in(self, user: User = OWNER) -> str:
+        """A new session of a user, by its secret name. The oldest one ends where there are too
+        many."""
         now = time.monotonic()
         self.sessions = {name: end for name, end in self.sessions.items() if end > now}
         while len(self.sessions) >= limits.SESSIONS:
             del self.sessions[next(iter(self.sessions))]
         name = secrets.token_urlsafe(32)
         self.sessions[name] = now + limits.SESSION_SECONDS
+        self.people = {it: to for it, to in self.people.items() if it in self.sessions}
+        self.people[name] = user.name
         return name
 
     def who(self, request: web.Request) -> tuple[str, str]:
@@ -240,9 +276,12 @@ class Gate:
         address, forwarded = str(request.remote), request.headers.get("X-Forwarded-For", "")
         if forwarded and is_loopback(address):
             address = f"{forwarded.split(',')[-1].strip()[:64]} by {address}"
+        user = self.user_of(request)
+        front = f"{user.name}, " if user and user.name else ""
         if self.is_signed_in(request):
-            return address, f"session {session_word(request.cookies[COOKIE])}"
-        return address, "token" if self.is_same(bearer_of(request)) else "no session"
+            return address, f"{front}session {session_word(request.cookies[COOKIE])}"
+        has_token = self.user_with(bearer_of(request)) is not None
+        return address, f"{front}token" if has_token else "no session"
 
     def is_own(self, request: web.Request) -> bool:
         """Whether a change is asked for by this page, or by no page at all: a browser names the
@@ -252,7 +291,7 @@ class Gate:
             return False
         if origin is not None:
             return origin in (f"http://{request.host}", f"https://{request.host}")
-        return OWN_HEADER in request.headers or self.is_same(bearer_of(request))
+        return OWN_HEADER in request.headers or self.user_with(bearer_of(request)) is not None
 
     def is_elsewhere(self, request: web.Request) -> bool:
         """Whether another site's page asks, by what the browser says of it. It may lead people to

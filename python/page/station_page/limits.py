@@ -107,6 +107,9 @@ SESSION_SECONDS = 7 * 24 * 3600
 SESSIONS = 1000
 WRONG_TOKENS = 20
 GUESSERS = 1000
+# The bytes of a file of users, and how often it is looked at whether it is another one.
+USERS_BYTES = 256 * 1024
+USERS_SECONDS = 1.0
 # The largest number of a frame.
 NUMBERS_END = 2**62
 # Pictures of one camera a second: live, while an event is played, and of all cameras of a page

@@ -45,8 +45,6 @@ from .workers import DRAWING, NO_ANSWER
 
 log = logging.getLogger("loop_page")
 TOO_MANY = "Too many wrong tokens came from your address. Wait a minute, or bring the right one."
-# What somebody may do at the page: look, keep and write notes, and release.
-RIGHTS = ("see", "keep", "release")
 STATIC = Path(__file__).parent / "static"
 TYPES = {
     ".html": "text/html",
@@ -132,6 +130,7 @@ class Page:
         get("/events", self.events, allow_head=False)
         get("/healthz", self.healthz)
         get("/metrics", self.metrics)
+        get("/api/me", self.me)
         get("/api/status", self.status)
         get("/api/clips", self.clips)
         get("/api/journal", self.journal)
@@ -139,7 +138,6 @@ class Page:
         get(f"/api/cameras/{camera}/frame", self.frame)
         get(rf"/api/cameras/{camera}/frames/{{number:{FRAME}}}.jpg", self.frame_picture)
         get(rf"/api/clips/{camera}/{{id:\d{{1,5}}}}.{{kind:mp4|y4m|zip|csv|jpg}}", self.fetch)
-        get("/api/me", self.me)
         post("/api/keep", self.keep)
         post("/api/release", self.release)
         post("/api/note", self.note)
@@ -218,6 +216,7 @@ class Page:
             )
         if not self.gate.is_known(request) and request.path not in OPEN:
             self.refuse_stranger(request)
+        self.gate.refuse_without_right(request)
         if request.headers.get("Content-Encoding", "identity").lower() != "identity":
             raise Unfit(415, "Send the body as it is, and not packed.")
         if self.gate.is_elsewhere(request):
@@ -288,12 +287,14 @@ class Page:
         except (ValueError, LookupError):
             raise Unfit(400, "The form can't be read.") from None
         token = form.get("token", "")
-        if not isinstance(token, str) or not self.gate.is_same(token):
+        user = self.gate.user_with(token) if isinstance(token, str) else None
+        if user is None:
             return await self.refuse_sign_in(request, str(token))
-        name = self.gate.sign_in()
+        name = self.gate.sign_in(user)
         address, _ = self.gate.who(request)
+        front = f"{user.name}, " if user.name else ""
         self.laboratory.journal.add(
-            "sign-in", "signed in.", (address, f"session {session_word(name)}")
+            "sign-in", "signed in.", (address, f"{front}session {session_word(name)}")
         )
         answer = web.HTTPSeeOther("/")
         answer.set_cookie(
@@ -353,10 +354,6 @@ class Page:
         finally:
             self.laboratory.streams -= 1
 
-    async def me(self, request: web.Request) -> web.Response:
-        """Who asks, and what that one may do: the page offers nothing else."""
-        return web.json_response({"name": None, "rights": list(RIGHTS)})
-
     # ------------------------------------------------------------------------------ for instruments
 
     async def healthz(self, request: web.Request) -> web.Response:
@@ -370,6 +367,15 @@ class Page:
             body=metrics.text_of(self.registry),
             headers={"Content-Type": "text/plain; version=0.0.4; charset=utf-8"},
         )
+
+    def rights(self, request: web.Request) -> dict:
+        """Who asks, and what they may do."""
+        user = self.gate.user_of(request)
+        return {"user": user.name if user else "", "rights": list(user.rights if user else ())}
+
+    async def me(self, request: web.Request) -> web.Response:
+        """Who asks, and what they may do."""
+        return web.json_response(self.rights(request))
 
     async def status(self, request: web.Request) -> web.Response:
         """How all stands, once."""

@@ -12,7 +12,8 @@ from pathlib import Path
 from urllib.parse import urlsplit
 
 NAME = re.compile(r"[A-Za-z0-9_-]{1,32}")
-WORDS = {"listen", "token", "on_alert", "webhook", "notes", "folder", "archive", "station", "name"}
+WORDS = {"listen", "token", "on_alert", "webhook", "notes", "folder", "archive", "station"}
+WORDS |= {"users", "mail", "mqtt", "remind", "name"}
 # What the console is called where nobody gives it a name, and the letters of one.
 NAMELESS = "Laboratory"
 NAME_LETTERS = 64
@@ -75,6 +76,8 @@ class Settings:
     # The station's file, and the folder of its paths.
     config: str | None = None
     folder: str = "."
+    # The file of users, each with rights of their own.
+    users: str | None = None
 
     def is_loopback(self) -> bool:
         """Whether this machine alone can reach the page."""
@@ -251,6 +254,17 @@ def parser() -> argparse.ArgumentParser:
         "others may neither read nor write it",
     )
     words.add_argument(
+        "--users",
+        metavar="FILE",
+        help="a file of users, each with rights and the hash of a token of their own",
+    )
+    words.add_argument(
+        "--add-user",
+        nargs=3,
+        metavar=("FILE", "NAME", "RIGHTS"),
+        help="add a user to such a file, with rights of see,keep,release; print the token, and end",
+    )
+    words.add_argument(
         "--settings",
         metavar="FILE",
         help="more words: listen, token, name, on_alert, webhook, notes, folder, archive, station "
@@ -312,8 +326,9 @@ def options_of(words: list[str]) -> argparse.Namespace:
     options = parser()
     given = options.parse_args(words)
     is_page = given.config is not None or given.settings is not None
-    if is_page == (given.make_token is not None):
-        options.error("name the station's configuration file, or --make-token FILE alone")
+    others = (given.make_token is not None) + (given.add_user is not None)
+    if is_page + others != 1:
+        options.error("name the station's configuration file, or --make-token or --add-user alone")
     return given
 
 
@@ -328,12 +343,13 @@ def read_settings(given: argparse.Namespace) -> Settings:
         )
     named = {
         word: getattr(given, word) or text_at(own, word, given.settings or "")
-        for word in ("listen", "token", "folder", "notes", "name")
+        for word in ("listen", "token", "users", "folder", "notes", "name")
     }
     folder = str(Path(named["folder"] or ".").absolute())
     host, port = address_of(named["listen"] or "127.0.0.1:8080")
     token = token_in(named["token"]) if named["token"] else None
-    if token is None and not is_loopback(host):
+    users = named["users"] and os.path.join(folder, named["users"])
+    if token is None and users is None and not is_loopback(host):
         raise BadSettings(
             f"listen: {host} can be reached from elsewhere, so the page wants a token: --token FILE"
         )
@@ -358,4 +374,5 @@ def read_settings(given: argparse.Namespace) -> Settings:
         name=name_in(named["name"]),
         config=given.config,
         folder=folder,
+        users=users,
     )

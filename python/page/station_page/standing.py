@@ -52,7 +52,7 @@ class Standing:
             station = ["good", "The station runs."]
         return {
             "version": self.laboratory.version,
-            "has_token": self.laboratory.settings.token is not None,
+            "has_token": bool(self.laboratory.settings.token or self.laboratory.settings.users),
             "now": time.time(),
             "station": station,
             "name": self.laboratory.settings.name,

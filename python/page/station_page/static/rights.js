@@ -13,5 +13,5 @@ export async function askRights() {
   rights = Array.isArray(found?.rights) ? ALL.filter((it) => found.rights.includes(it)) : ALL;
   for (const what of ALL) document.body.classList.toggle(`may-not-${what}`, !may(what));
   for (const input of document.querySelectorAll("#events input")) input.readOnly = !may("keep");
-  if (found?.name) byId("leave").querySelector("button").title = `Sign out ${found.name}`;
+  if (found?.user) byId("leave").querySelector("button").title = `Sign out ${found.user}`;
 }
