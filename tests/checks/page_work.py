@@ -221,6 +221,11 @@ const row = it.getContext('2d').getImageData(0, Math.round(23 * part), it.width,
 const found = []; for (let x = 0; x < it.width; x++) if (row[4 * x + 3] > 200) {
     if (found.length && x - found.at(-1).at(-1) < 4) found.at(-1).push(x); else found.push([x]); }
 return [found.map((it) => (it[0] + it.at(-1)) / 2 / part), it.clientWidth];"""
+# Points at the first mark, and clicks it: at once, since marks move with the clock.
+CLICK = """const scale = document.querySelector('#scale'), box = scale.getBoundingClientRect();
+const at = { clientX: box.x + places[0], clientY: box.y + 23, bubbles: true };
+scale.dispatchEvent(new PointerEvent('pointermove', at));
+scale.dispatchEvent(new MouseEvent('click', at)); return scale.title;"""
 # From when to when the timeline is, in milliseconds.
 SPAN = """return ['min', 'max'].map((word) => Number(document.querySelector('#tracks')
     .getAttribute(`aria-value${word}`)))"""
@@ -235,11 +240,8 @@ def inked(browser, moments):
     expect(len(places) == len(wanted), f"{len(places)} marks are drawn: {places}, and not {wanted}")
     apart = max(abs(one - other) for one, other in zip(places, wanted))
     expect(apart < wide / 40, f"marks are {apart:.0f} pixels beside their moments")
-    scale = browser.one("#scale")
-    x = int(browser.run(MARKS)[0][0] - scale.size["width"] / 2)
-    mouse = ActionChains(browser.driver, duration=20)
-    mouse.move_to_element_with_offset(scale, x, 23 - scale.size["height"] // 2).click().perform()
-    browser.until(lambda: scale.get_attribute("title").endswith("door"), "words of a mark")
+    title = browser.run(f"const [places] = (() => {{ {MARKS} }})(); {CLICK}")
+    expect(title.endswith("door"), f"a mark says {title!r}")
     tracks = browser.one("#tracks")
     browser.until(
         lambda: "trigger: door" in tracks.get_attribute("aria-valuetext"), "moment of a mark"

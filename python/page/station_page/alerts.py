@@ -42,8 +42,8 @@ class Alerts:
         # What is wrong now, whether somebody has seen it or not.
         self.standing: set[Cause] = set()
         self.count, self.told, self.not_told = 0, 0, 0
-        # The numbers of those that somebody has seen, the last ones: a page that rings knows by them
-        # that it need not any more.
+        # The numbers of those that somebody has seen, the last ones: a page that rings knows by
+        # them that it need not any more.
         self.noticed: collections.deque[int] = collections.deque(maxlen=limits.ALERTS)
         self.queue: asyncio.Queue[Alert] = asyncio.Queue(limits.DELIVERIES)
 

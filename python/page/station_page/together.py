@@ -60,7 +60,7 @@ def state_of(local: dict, others: list[Other]) -> dict:
         found["cameras"] = found["cameras"] + cameras_of(other)
         found["alerts"] = found["alerts"] + alerts_of(other, place)
         seen = (other.state or {}).get("seen", [])
-        found["seen"] = found["seen"] + [id_ + (place + 1) * ALERTS for id_ in seen]
+        found["seen"] = found.get("seen", []) + [id_ + (place + 1) * ALERTS for id_ in seen]
     return found
 
 
