@@ -1,5 +1,5 @@
 -- What holds over any list of events.
-use Rattle.std.specs.Prelude.{ℕ, ◌+◌, ◌-◌, ◌*◌, ◌^◌, ◌≡◌, ◌≤◌, ◌<◌, ◌⊎◌, Bool, true, false, List, [], ◌∷◌, zero, suc, Option, Some, None, IfSome, is_some, option_map, if◌then◌else◌}
+use Rattle.std.specs.Prelude.{ℕ, ◌+◌, ◌++◌, ◌-◌, ◌*◌, ◌^◌, ◌≡◌, ◌≤◌, ◌<◌, ◌⊎◌, Bool, true, false, List, [], ◌∷◌, zero, suc, Option, Some, None, IfSome, is_some, option_map, if◌then◌else◌}
 use Rattle.std.specs.List.{list_any}
 use Rattle.loop_station_core.specs.Answers.{all_answered, answers_of, given_by}
 use Rattle.loop_station_core.specs.Cameras.{lived, step_camera}
@@ -17,7 +17,7 @@ use Rattle.loop_station_core.specs.Saving.{Places, asked, covers, is_read, is_sa
 use Rattle.loop_station_core.specs.declared.clips.MayRelease.TheVariants.{Now}
 use Rattle.loop_station_core.specs.declared.saves.Asked.TheVariants.{Waits}
 use Rattle.loop_station_core.specs.declared.saves.SaveKey.{SaveKey}
-use Rattle.loop_station_core.specs.Telling.{known_after, lines_of, told_locked}
+use Rattle.loop_station_core.specs.Telling.{IsLineOfKind, known_after, lines_of, told_locked}
 use Rattle.loop_station_core.specs.declared.camera.Camera.{Camera}
 use Rattle.loop_station_core.specs.declared.camera.Event.{Event}
 use Rattle.loop_station_core.specs.declared.camera.Event.TheVariants.{Filming}
@@ -29,7 +29,7 @@ use Rattle.loop_station_core.specs.declared.save_end.SaveEnd.{SaveEnd}
 use Rattle.loop_station_core.specs.declared.saves.Save.{Save}
 use Rattle.loop_station_core.specs.declared.search.Search.{Search}
 use Rattle.loop_station_core.specs.declared.search.SearchTurn.TheVariants.{Read, Gap as SearchGap, Again, Over}
-use Rattle.loop_station_core.specs.declared.text.TextStep.TheVariants.{SyncText, SyncName, Saved}
+use Rattle.loop_station_core.specs.declared.text.TextStep.TheVariants.{SyncText, SyncName, Saved, Unname, NotSaved}
 use Rattle.loop_station_core.specs.declared.changes.SourceSeen.TheVariants.{Missing, Silent, Unusable, On}
 use Rattle.loop_station_core.specs.declared.changes.StoreSeen.TheVariants.{Open, Absent, Making}
 use Rattle.loop_station_core.specs.declared.changes.Seen.{Seen}
@@ -65,6 +65,14 @@ OrdersSpareReadClips = (places camera id : ℕ) (tag : Option ℕ) (steps : List
     → (saves_taken_in (covers camera id tag) p steps ≡ saves_ended_in (covers camera id tag) p steps)
     × ((said ≡ None) ⊎ (said ≡ first))
 
+-- And it releases the clip where each of these saves has ended, and the order says no clip or that one.
+abbrev pub OrdersReleaseUnreadClips : Type 0
+OrdersReleaseUnreadClips = (places camera id : ℕ) (tag : Option ℕ) (steps : List SaveStep) (said first : Option ℕ)
+    → let p = no_saves places in
+    saves_taken_in (covers camera id tag) p steps ≡ saves_ended_in (covers camera id tag) p steps
+    → (said ≡ None) ⊎ (said ≡ first)
+    → may_release (is_read (saves_after_all p steps) camera id tag) said first ≡ Now
+
 -- Saves release a clip only where a save of it that began by itself has come to an end with its text whole, or saved
 -- already, and clips of its camera are released then. So it is of each list of what happens to saves.
 abbrev pub ReleasesAreEarned : Type 0
@@ -83,6 +91,14 @@ SavedClipsAreReleased = (places : ℕ) (saved : SaveKey) (steps : List SaveStep)
     may_release_saved (is_read (saves_after_all p steps) saved.camera saved.id (Some saved.tag)) saved there ≡ Now
     → (option_map clip_key there ≡ Some (clip_key saved))
     × (saves_taken_in reads p steps ≡ saves_ended_in reads p steps)
+
+-- And it is released then, where each save that reads it has ended.
+abbrev pub UnreadSavedClipsAreReleased : Type 0
+UnreadSavedClipsAreReleased = (places : ℕ) (saved there : SaveKey) (steps : List SaveStep)
+    → let p = no_saves places in let reads = covers saved.camera saved.id (Some saved.tag) in
+    saves_taken_in reads p steps ≡ saves_ended_in reads p steps → clip_key there ≡ clip_key saved
+    → may_release_saved (is_read (saves_after_all p steps) saved.camera saved.id (Some saved.tag)) saved (Some there)
+    ≡ Now
 
 -- A save that is withdrawn once it was told to wait leaves all as if it hadn't been asked for.
 abbrev pub WithdrawnSavesLeaveNothing : Type 0
@@ -118,13 +134,15 @@ IsSo s (Syncs micros) = option_map (λ d. d.sync) s.disk ≡ Some micros
 IsSo s (TooSlow micros frames) = (option_map (λ d. d.sync) s.disk ≡ Some micros)
     × IfSome s.disk (λ d. frames * d.rate_den < d.rate_num)
 
--- Each line says what was so when it was seen.
+-- Each line says what was so when it was seen, of whichever kind it is.
 abbrev pub LinesAreSo : Type 0
-LinesAreSo = (r : Reported) (s : Seen) → let lines = lines_of r s in
-    IfSome lines.source (IsSo s) × IfSome lines.store (IsSo s) × IfSome lines.given_up (IsSo s)
-    × IfSome lines.locked (IsSo s) × IfSome lines.nearly (IsSo s) × IfSome lines.behind (IsSo s)
-    × IfSome lines.waited (IsSo s) × IfSome lines.unusable (IsSo s) × IfSome lines.making (IsSo s)
-    × IfSome lines.syncs (IsSo s) × IfSome lines.slow (IsSo s)
+LinesAreSo = (r : Reported) (s : Seen) (kind : ℕ) (line : Option Change) → kind < 11
+    → IsLineOfKind (lines_of r s) kind line → IfSome line (IsSo s)
+
+-- Where a camera is looked at again, and nothing has changed, nothing is told.
+abbrev pub NothingIsToldTwice : Type 0
+NothingIsToldTwice = (r : Reported) (s : Seen) (kind : ℕ) (line : Option Change) → kind < 11
+    → IsLineOfKind (lines_of (known_after r s) s) kind line → line ≡ None
 
 -- how many lines of some looks say how fast the disk is
 abbrev pub syncs_in : Reported → List Seen → ℕ
@@ -180,6 +198,18 @@ Alternate _ _ = ⊥
 abbrev pub LockedLinesAlternate : Type 0
 LockedLinesAlternate = (known : Bool) (locked : List Bool) → Alternate known (locked_lines known locked)
 
+-- each block is locked, by the lines that are read
+abbrev pub heard_locked : Bool → List Change → Bool
+heard_locked known [] = known
+heard_locked known (AllLocked ∷ lines) = heard_locked true lines
+heard_locked known (RoomAgain ∷ lines) = heard_locked false lines
+heard_locked known (_ ∷ lines) = heard_locked known lines
+
+-- Whoever reads the lines knows whether each block was locked at the last look.
+abbrev pub LockedLinesTellAll : Type 0
+LockedLinesTellAll = (known last : Bool) (locked : List Bool)
+    → heard_locked known (locked_lines known (locked ++ last ∷ [])) ≡ last
+
 -- Once the program ends, it ends for each camera, whatever happens.
 abbrev pub StopsAreForGood : Type 0
 StopsAreForGood = (c : Camera) (events : List Event) → (lived c (Filming Stop ∷ events)).stopping ≡ true
@@ -206,6 +236,11 @@ NoneBegins (e ∷ events) = NoneBegins events
 abbrev pub MovedStoresAreLeft : Type 0
 MovedStoresAreLeft = (c : Camera) (events : List Event) → NoneBegins events
     → (step_camera (lived c (Filming Move ∷ events)) (Filming AllAreLocked)).1 ≡ GiveUp
+
+-- Once something breaks, or its store is moved away, a filming is over until another one begins, whatever happens.
+abbrev pub BrokenFilmingsEnd : Type 0
+BrokenFilmingsEnd = (c : Camera) (events : List Event) → NoneBegins events
+    → ((lived c (Filming Break ∷ events)).over ≡ true) × ((lived c (Filming Move ∷ events)).over ≡ true)
 
 -- A source that is told as silent waits for a byte.
 abbrev pub SilentSourcesWait : Type 0
@@ -248,12 +283,27 @@ FoundGapsAreSo = (time : ℕ → ℕ) (period a b turns from to : ℕ) → a ≤
     (turn s).1 ≡ SearchGap from to
     → (from ≡ time s.from.number) × (to ≡ time (s.from.number + 1)) × (period + most period < to - from)
 
+-- A search is over only once no gap is seen up to its end; it leaves no stretch with a gap that isn't told, and goes on
+-- where the last one ended.
+abbrev pub SearchesLookAtAll : Type 0
+SearchesLookAtAll = (s : Search) → let now = turn s in
+    (now.1 ≡ Over → (has_gap s.period s.from s.to ≡ false) × (s.end.number ≤ s.to.number))
+    × (now.1 ≡ Again → (has_gap s.period s.from s.to ≡ false) × (now.0.from ≡ s.to) × (now.0.to ≡ s.end))
+
 -- A stretch in which a frame is missing is looked into, where no frame comes earlier than a period after the one
 -- before.
 abbrev pub GapsAreLookedFor : Type 0
 GapsAreLookedFor = (time : ℕ → ℕ) (period a b n : ℕ) → ((k : ℕ) → time k + period ≤ time (suc k))
     → a ≤ n → n < b → time n + period + most period < time (suc n)
     → has_gap period (mark_at time a) (mark_at time b) ≡ true
+
+-- A text is told to be saved once its three steps came; where a new name can't be kept, it is taken away again, and
+-- where it replaced another, it stays.
+abbrev pub TextsAreSaved : Type 0
+TextsAreSaved = (replaces : Bool) (rest : List Bool)
+    → (after_steps SyncText replaces (true ∷ true ∷ true ∷ rest) ≡ Saved)
+    × (after_steps SyncText false (true ∷ true ∷ false ∷ []) ≡ Unname)
+    × (after_steps SyncText true (true ∷ true ∷ false ∷ []) ≡ NotSaved)
 
 -- A text is told to be saved only where its bytes were synced, then its name was given, and then its folder was synced;
 -- and it has its name only once its bytes are synced.

@@ -1,5 +1,5 @@
 -- Which lines about a camera follow from what is seen of it.
-use Rattle.std.specs.Prelude.{◌≡◌, ℕ, ◌+◌, ◌-◌, ◌*◌, ◌/◌, ◌^◌, ◌==◌, ◌&&◌, ◌||◌, Bool, true, false, not, Option, Some, None, is_some, unwrap_or, max, min, nat_lt, nat_le, if◌then◌else◌}
+use Rattle.std.specs.Prelude.{◌≡◌, ℕ, ◌+◌, ◌-◌, ◌*◌, ◌/◌, ◌^◌, ◌==◌, ◌&&◌, ◌||◌, Bool, true, false, not, Option, Some, None, is_some, unwrap_or, max, min, nat_lt, nat_le, if◌then◌else◌, ◌≤◌, ◌<◌, ◌⊎◌}
 use Rattle.loop_station_core.specs.declared.changes.SourceSeen.{SourceSeen}
 use Rattle.loop_station_core.specs.declared.changes.SourceSeen.TheVariants.{Missing, Silent, Other, Unusable, On}
 use Rattle.loop_station_core.specs.declared.changes.StoreSeen.{StoreSeen}
@@ -191,3 +191,64 @@ IsLineOfKind c kind line = (kind ≡ 0 → line ≡ c.source) × (kind ≡ 1 →
     × (kind ≡ 3 → line ≡ c.locked) × (kind ≡ 4 → line ≡ c.nearly) × (kind ≡ 5 → line ≡ c.behind)
     × (kind ≡ 6 → line ≡ c.waited) × (kind ≡ 7 → line ≡ c.unusable) × (kind ≡ 8 → line ≡ c.making)
     × (kind ≡ 9 → line ≡ c.syncs) × (kind ≡ 10 → line ≡ c.slow)
+
+-- What is known of a store to whoever reads the lines about it.
+abbrev pub heard_store : StoreSeen → Option Change → StoreSeen
+heard_store known (Some StoreOpen) = Open
+heard_store known (Some (StoreAbsent cause)) = Absent cause
+heard_store known _ = known
+
+-- the same of how far the disk is behind
+abbrev pub heard_behind : ℕ → Option Change → ℕ
+heard_behind known (Some (Behind micros)) = micros
+heard_behind known (Some CaughtUp) = 0
+heard_behind known _ = known
+
+-- Whoever reads the lines knows all that is told: whether a store is there, or why not, unless it may still come; and
+-- how far its disk is behind: by no more than a second where nothing is told, and by less than double of what is.
+abbrev pub LinesTellAll : Type 0
+LinesTellAll = (r : Reported) (s : Seen) → let lines = lines_of r s in let known = known_after r s in
+    (known.store ≡ heard_store r.store lines.store) × (s.store ≡ Open → known.store ≡ Open)
+    × ((cause : ℕ) → s.store ≡ Absent cause → r.soon ≤ s.now → known.store ≡ Absent cause)
+    × (known.behind ≡ heard_behind r.behind lines.behind) × (known.behind ≡ 0 → s.behind ≤ 1000000)
+    × (1 ≤ known.behind → (500000 ≤ s.behind) × (s.behind < known.behind * 2))
+
+-- At the first look all that is so is told, but for a source or a store that may still come, and then no line says that
+-- it isn't there.
+abbrev pub FirstLooksTellAll : Type 0
+FirstLooksTellAll = (now : ℕ) (s : Seen) → now + 1000000 < 2 ^ 64 → let lines = lines_of (nothing_known now) s in
+    (s.source ≡ On → lines.source ≡ Some SourceOn) × (s.store ≡ Open → lines.store ≡ Some StoreOpen)
+    × (s.locked ≡ true → lines.locked ≡ Some AllLocked) × (1 ≤ s.lost → lines.given_up ≡ Some (GivenUp s.lost now))
+    × (s.source ≡ Missing → now + 1000000 ≤ s.now → lines.source ≡ Some SourceMissing)
+    × (s.source ≡ Missing → s.now < now + 1000000 → lines.source ≡ None)
+    × (s.source ≡ Unusable → lines.unusable ≡ Some (SourceUnusable s.unusable))
+    × (1 ≤ s.blocks → s.room * 5 ≤ s.blocks → lines.nearly ≡ Some NearlyAllLocked)
+    × (1000000 < s.behind → lines.behind ≡ Some (Behind s.behind))
+    × ((percent : ℕ) → s.store ≡ Making percent → lines.making ≡ Some (Made percent))
+
+-- The first look at which a disk is measured tells how fast it is, and that it is too slow exactly where it takes fewer
+-- frames a second than come. It takes as many as it can in the time of two syncs for each group.
+abbrev pub SlowDisksAreTold : Type 0
+SlowDisksAreTold = (r : Reported) (s : Seen) (d : DiskSeen) → r.disk ≡ false → s.disk ≡ Some d → 1 ≤ d.sync
+    → let lines = lines_of r s in let frames = disk_frames d in
+    (lines.syncs ≡ Some (Syncs d.sync)) × (frames * d.rate_den < d.rate_num → lines.slow ≡ Some (TooSlow d.sync frames))
+    × (d.rate_num ≤ frames * d.rate_den → lines.slow ≡ None)
+    × (frames * d.sync ≤ d.group * 500000) × (d.group * 500000 < (frames + 1) * d.sync)
+
+-- A wait for memory that wasn't told is told once it has lasted for a second, or once it is over, if it was a tenth of
+-- one: over once none was seen for a second.
+abbrev pub LongWaitsAreTold : Type 0
+LongWaitsAreTold = (r : Reported) (s : Seen) (since : ℕ) → r.waited.told ≡ 0 → let lines = lines_of r s in
+    (r.waited.since ≡ None → s.waited ≡ Some since → since + 1000000 ≤ s.now
+    → lines.waited ≡ Some (Waited (s.now - since) since))
+    × (r.waited.since ≡ Some since → s.waited ≡ None → r.waited.last + 1000000 ≤ s.now
+    → since + 100000 ≤ r.waited.last → lines.waited ≡ Some (Waited (r.waited.last - since) since))
+
+-- Lost frames are told as soon as they are seen, with how many and since when, but no more than once a second, unless
+-- the program ends.
+abbrev pub LostFramesAreToldSoon : Type 0
+LostFramesAreToldSoon = (r : Reported) (s : Seen) → let line = (lines_of r s).given_up in
+    (r.lost.frames < s.lost → r.lost.again ≤ s.now
+    → line ≡ Some (GivenUp (s.lost - r.lost.frames) r.lost.since))
+    × (is_some line ≡ true → ((r.lost.again ≤ s.now) ⊎ (s.stopping ≡ true))
+    × (s.now + 1000000 < 2 ^ 64 → (known_after r s).lost.again ≡ s.now + 1000000))
