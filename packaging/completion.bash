@@ -31,7 +31,7 @@ _loop_station() {
 _loop_page() {
     local word=${COMP_WORDS[COMP_CWORD]}
     case $word in
-        -*) mapfile -t COMPREPLY < <(compgen -W "--listen --token --make-token --settings --folder --notes --help --version" -- "$word") ;;
+        -*) mapfile -t COMPREPLY < <(compgen -W "--listen --token --name --make-token --settings --folder --notes --help --version" -- "$word") ;;
         *) _loop_files "$word" ;;
     esac
 }

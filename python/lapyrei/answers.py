@@ -394,15 +394,20 @@ STATE = table(
         "cameras": each(both(CAMERA_STANDING, has_what_it_shows), CAMERAS),
         "alerts": each(ALERT, ALERTS),
     },
-    {"station": is_level, "news": each(NEWS, ALERTS), "now": SECONDS},
+    {
+        "station": is_level,
+        "news": each(NEWS, ALERTS),
+        "now": SECONDS,
+        "seen": each(whole(0, ALERT_NUMBERS_END), ALERTS),
+    },
 )
 ROOM = {word: COUNT for word in ("room_blocks", "slots", "segments", "clips_left")}
 DISK = table(
-    {word: COUNT for word in ("free_bytes", "total_bytes", "write_bytes_a_second")},
-    {"oldest_seconds": maybe(SECONDS), "hours_left": maybe(SECONDS)},
+    {"ring_bytes": COUNT, "writes": COUNT, "left_seconds": SECONDS},
+    {"oldest_us": maybe(MOMENT), "disk_bytes": maybe(COUNT), "free_bytes": maybe(COUNT)},
 )
-MORE_WORDS = {"advice": TEXT, "source": TEXT, "disk": maybe(DISK)} | ROOM
-MORE = table({"cameras": named(table({}, MORE_WORDS), CAMERA)})
+OF_CAMERA = {"advice": TEXT, "source": TEXT, "disk": DISK}
+MORE = table({"cameras": named(table({}, OF_CAMERA | ROOM), CAMERA)})
 PUSHED: dict[str, Shape] = {"state": STATE, "more": MORE, "events": EVENTS}
 
 # What stands before each message of the answer that doesn't end.

@@ -49,11 +49,12 @@ from selenium.webdriver.common.action_chains import ActionChains
 from selenium.webdriver.common.by import By
 from selenium.webdriver.common.keys import Keys
 
-# The sizes at which the page is looked at: a desk, an older screen, a phone.
+# The sizes at which the page is looked at: a desk, an older screen, a phone, and a narrow one.
 SIZES = {
     "1440x900": (1440, 900, False),
     "1024x768": (1024, 768, False),
     "390x844": (390, 844, True),
+    "320x568": (320, 568, True),
 }
 # The ratio that WCAG 2 asks of text.
 CONTRAST = 4.5

@@ -21,7 +21,7 @@ def changed_page(name, old, new, place="python/page/station_page"):
 KIND = Kind(
     "page_check",
     [],
-    ["--quick", "tests", "browser", "strangers", "units"],
+    ["--quick", "tests", "browser", "console", "strangers", "units"],
     ["LOOP_STATION"],
     (
         "sees, presses and fetches in a browser, and asks the page what it has to refuse;"
@@ -114,6 +114,16 @@ KIND = Kind(
             },
             words=["--quick", "browser"],
             says="release: ",
+        ),
+        Wrong(
+            "a page that cuts off the names of lanes",
+            given={
+                "LOOP_PAGE": changed_page(
+                    "static/timeline.js", "isAbove ? 0 : longest", "isAbove ? 0 : 64"
+                )
+            },
+            words=["--quick", "console"],
+            says="lanes: ",
         ),
     ],
 )

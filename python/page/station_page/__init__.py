@@ -11,6 +11,7 @@ stands on it.
     films       clips as MP4, YUV4MPEG2, PNGs and CSV
     line        the line to an open page, and how much may be on its way
     heard       what the station said of its events
+    disks       what a camera takes of its disk
     events      clips of one press as one event
     bundle      an event as one zip
     words       the lines that the station prints, and sentences with what to do

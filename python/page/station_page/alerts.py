@@ -1,6 +1,7 @@
 """What went wrong, until somebody has seen it, or until it is over; told to a command or a webhook
 as well."""
 import asyncio
+import collections
 import contextlib
 import json
 import os
@@ -55,6 +56,9 @@ class Alerts:
         # What is wrong now, whether somebody has seen it or not.
         self.standing: set[Cause] = set()
         self.count, self.told, self.not_told = 0, 0, 0
+        # The numbers of those that somebody has seen, the last ones: a page that rings knows by
+        # them that it need not any more.
+        self.noticed: collections.deque[int] = collections.deque(maxlen=limits.ALERTS)
         self.queue: asyncio.Queue[tuple[Alert, str]] = asyncio.Queue(limits.DELIVERIES)
 
     def add(self, event: Event) -> None:
@@ -110,7 +114,10 @@ class Alerts:
             if alert.id == id_:
                 self.report(alert, "seen")
         self.alerts = [alert for alert in self.alerts if alert.id != id_]
-        return len(self.alerts) < before
+        is_seen = len(self.alerts) < before
+        if is_seen:
+            self.noticed.append(id_)
+        return is_seen
 
     def listed(self) -> list[dict]:
         """The alerts, for JSON."""

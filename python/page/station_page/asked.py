@@ -19,14 +19,16 @@ ISO_TIME = re.compile(r"\d{4}-\d\d-\d\dT\d\d:\d\d:\d\d(\.\d{1,6})?(Z|[+-]\d\d:\d
 
 
 # The words of a keep. What gives orders for others says what made it do so.
-KEEP = {"camera", "seconds", "from", "to", "note", "at", "cause", "by"}
+KEEP = {"camera", "seconds", "after", "from", "to", "note", "at", "cause", "by"}
+LONGEST = limits.KEEP_SECONDS
 CAUSES = ("mqtt", "trigger", "press")
 
 
 @dataclass(frozen=True)
 class Wish:
     """What a keep asks for: a camera or all; the seconds before a moment, or before now where there
-    is none, or a span of time; a note; and what made somebody ask, where that is said."""
+    is none, and those after it, where that is said, or a span of time; a note; and what made
+    somebody ask, where that is said."""
 
     camera: str | None
     seconds: int | None
@@ -35,6 +37,7 @@ class Wish:
     moment: int | None
     cause: str | None
     by: str
+    after: int | None = None
 
     def sentence(self) -> str:
         """What is asked for, in words."""
@@ -43,6 +46,7 @@ class Wish:
             what = f"from {words.iso(span[0])} to {words.iso(span[1])}"
         elif self.moment is not None:
             what += f" before {words.iso(self.moment)}"
+        what += f", and the next {self.after} s," if self.after else ""
         whom = self.camera if isinstance(self.camera, str) else "all cameras"
         note = f", note {self.note[:limits.NOTE_BYTES]!r}" if self.note else ""
         return f"{what} of {whom}{note}"
@@ -63,11 +67,23 @@ def wish_in(body: dict) -> Wish:
         or not 1 <= seconds <= limits.KEEP_SECONDS
     ):
         raise Unfit(400, f"seconds is a whole number from 1 to {limits.KEEP_SECONDS}.")
+    after = after_in(body, span)
     moment = moment_in(body["at"], "at") if "at" in body else None
     cause, by = body.get("cause"), body.get("by", "")
     if cause not in (None, *CAUSES) or not isinstance(by, str):
         raise Unfit(400, f"cause is one of {', '.join(CAUSES)}, and by a text.")
-    return Wish(body.get("camera"), seconds, span, note, moment, cause, by)
+    return Wish(body.get("camera"), seconds, span, note, moment, cause, by, after)
+
+
+def after_in(body: dict, span: tuple[int, int] | None) -> int | None:
+    """The seconds that are still to come of a keep; none where they aren't said: then the
+    configuration's are meant."""
+    after = body.get("after")
+    if after is None:
+        return None
+    if span or not isinstance(after, int) or isinstance(after, bool) or not 0 <= after <= LONGEST:
+        raise Unfit(400, f"after is a whole number from 0 to {LONGEST}, beside seconds.")
+    return after
 
 
 def number_in(text: str | None, end: int, what: str) -> int | None:

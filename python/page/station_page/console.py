@@ -12,7 +12,7 @@ from . import limits, pictures
 from .advice import advice_for
 from .asked import FRAME, frame_in, headers_of, number_in
 from .bundle import Bundle, Progress, parts_in
-from .disks import figures
+from .disks import figures_of, unlocked_blocks
 from .eye import Look
 from .events import events_of
 from .films import FilmFault
@@ -100,8 +100,7 @@ class Console:
             found[name] = {"advice": advice_for(kind), "source": watched.camera.source}
             if watched.reading:
                 found[name] |= room_of(watched.reading)
-                now = watched.now()
-                found[name]["disk"] = figures(watched.reading, watched.room, now)
+                found[name]["disk"] = figures_of(watched.reading, watched.space)
         return {"cameras": found}
 
     async def stream(self, request: web.Request) -> web.StreamResponse:
@@ -361,13 +360,11 @@ def clip_words(clips: list[tuple[str, int, int]]) -> str:
 
 
 def room_of(reading: Reading | Ring) -> dict:
-    """How much may still be locked: in blocks, of so many frames each, and in clips. With all
-    blocks of a store but one locked, recording into it stops when the newest block is full. Clips
-    are made where frames come now."""
-    rooms = [(part.geometry.segments, part.locked()) for part in reading.each()]
+    """How much may still be locked: in blocks, of so many frames each, and in clips. Clips are made
+    where frames come now."""
     return {
-        "room_blocks": sum(max(0, it - 1 - round(locked * it)) for it, locked in rooms),
+        "room_blocks": unlocked_blocks(reading),
         "slots": reading.geometry.slots,
-        "segments": sum(segments for segments, _ in rooms),
+        "segments": sum(part.geometry.segments for part in reading.each()),
         "clips_left": limits.EVENT_CLIPS_A_STORE - len(reading.active().clips),
     }

@@ -1,38 +1,47 @@
-"""How much room the disks of stores have, and for how long a ring holds what comes now."""
+"""What a camera takes of its disk: the room of its ring, what it writes, how old its oldest frame
+is, and for how long there is room that isn't locked."""
 import os
 from pathlib import Path
+from typing import NamedTuple
 
 from .reader import Reading
 from .rings import Ring
 
-# The bytes that a store writes beside each frame: its head.
-HEAD_BYTES = 32
+
+class Space(NamedTuple):
+    """A file system's bytes, and those of them that are free for anybody."""
+
+    bytes: int
+    free: int
 
 
-def room_at(store: str) -> tuple[int, int] | None:
-    """The bytes that are free on a store's disk, for its user, and all of them; none where the disk
-    doesn't say it. It may wait for a disk that hangs."""
+def space_at(path: str) -> Space | None:
+    """The file system of a store; none where it doesn't say. A dead disk holds this up."""
     try:
-        found = os.statvfs(Path(store).parent)
+        found = os.statvfs(Path(path).parent)
     except OSError:
         return None
-    return found.f_bavail * found.f_frsize, found.f_blocks * found.f_frsize
+    return Space(found.f_frsize * found.f_blocks, found.f_frsize * found.f_bavail)
 
 
-def figures(reading: Reading | Ring, room: tuple[int, int] | None, now: int) -> dict | None:
-    """The figures of a camera's disk. `hours_left` is for how many hours a frame that comes now
-    stays, while no more is locked; `now` is the station's time in microseconds since 1970."""
-    if room is None:
-        return None
-    rate, oldest = reading.rate() or 0.0, reading.oldest()
-    whole, locked = 0, 0.0
-    for part in reading.each():
-        frames = part.geometry.segments * part.geometry.slots
-        whole, locked = whole + frames, locked + frames * part.locked()
+def unlocked_blocks(reading: Reading | Ring) -> int:
+    """How many blocks may still be locked. With all blocks of a store but one locked, recording
+    into it stops when the newest block is full."""
+    rooms = [(part.geometry.segments, part.locked()) for part in reading.each()]
+    return sum(max(0, it - 1 - round(locked * it)) for it, locked in rooms)
+
+
+def figures_of(reading: Reading | Ring, space: Space | None) -> dict:
+    """The figures, for JSON, in bytes, bytes a second, microseconds since 1970 and seconds. What is
+    written goes by the frames that come now."""
+    geometry, oldest = reading.geometry, reading.oldest()
+    slots = unlocked_blocks(reading) * geometry.slots
+    frame = (geometry.segment_at(1) - geometry.segment_at(0)) / geometry.slots
     return {
-        "free_bytes": room[0],
-        "total_bytes": room[1],
-        "write_bytes_a_second": round(rate * (reading.geometry.size + HEAD_BYTES)),
-        "oldest_seconds": max(0.0, (now - oldest.time) / 1e6) if oldest else None,
-        "hours_left": round((whole - locked) / rate / 3600, 3) if rate else None,
+        "ring_bytes": sum(part.geometry.disk_size() for part in reading.each()),
+        "writes": round((reading.rate() or 0) * frame),
+        "oldest_us": oldest.time if oldest else None,
+        "left_seconds": round(slots / geometry.rate(), 1),
+        "disk_bytes": space.bytes if space else None,
+        "free_bytes": space.free if space else None,
     }

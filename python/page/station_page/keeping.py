@@ -20,13 +20,16 @@ class Keeping:
     def __init__(self, laboratory) -> None:
         self.laboratory = laboratory
 
-    def span_at(self, moment: int, seconds: int, names: list[str]) -> tuple[int, int]:
+    def span_at(
+        self, moment: int, seconds: int, names: list[str], after: int | None = None
+    ) -> tuple[int, int]:
         """The time that a press at a moment means, by the station's clock: the seconds before it,
-        and those that a camera's configuration adds, the most of all. A moment that is still to
-        come is now."""
+        and those after it; where these aren't said, what a camera's configuration adds, the most of
+        all. A moment that is still to come is now."""
         now = time.time_ns() // 1000
         moment = min(moment, now) + self.laboratory.orders.clock.ahead()
-        after = max((self.laboratory.cameras[name].camera.after for name in names), default=0)
+        if after is None:
+            after = max((self.laboratory.cameras[name].camera.after for name in names), default=0)
         return max(0, moment - seconds * 1_000_000), moment + after * 1_000_000
 
     async def keep(
@@ -36,17 +39,19 @@ class Keeping:
         span: tuple[int, int] | None,
         note: str,
         moment: int | None = None,
+        after: int | None = None,
     ) -> list[Kept]:
-        """Locks the last seconds before a moment, or before now where none is given, or a span of
-        time, of one camera or of all."""
+        """Locks the last seconds before a moment, or before now where none is given, and those
+        after it, or a span of time, of one camera or of all."""
         names = (
             [self.laboratory.watched(camera).camera.name]
             if camera is not None
             else list(self.laboratory.cameras)
         )
         if moment is not None and span is None and seconds is not None:
-            span = self.span_at(moment, seconds, names)
+            span = self.span_at(moment, seconds, names, after)
         what = f" from {words.iso(span[0])} to {words.iso(span[1])}" if span else f" {seconds}"
+        what += f" +{after}" if after is not None and not span else ""
         order = "keep" + (f" {camera}" if camera is not None else "") + what
         self.laboratory.wanted = time.monotonic()
         if self.laboratory.orders.has_answers:

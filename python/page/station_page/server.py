@@ -482,7 +482,9 @@ class Page:
             request,
             "keep",
             wish.sentence(),
-            keeping.keep(wish.camera, wish.seconds, wish.span, wish.note, wish.moment),
+            keeping.keep(
+                wish.camera, wish.seconds, wish.span, wish.note, wish.moment, wish.after
+            ),
         )
         is_kept = any(one.is_kept for one in kept)
         numbers = {one.event for one in kept if one.is_kept and one.event is not None}

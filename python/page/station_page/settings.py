@@ -14,7 +14,10 @@ from urllib.parse import urlsplit
 
 NAME = re.compile(r"[A-Za-z0-9_-]{1,32}")
 WORDS = {"listen", "token", "on_alert", "webhook", "notes", "folder", "archive", "station"}
-WORDS |= {"users", "mail", "mqtt", "remind"}
+WORDS |= {"users", "mail", "mqtt", "remind", "name"}
+# What the console is called where nobody gives it a name, and the letters of one.
+NAMELESS = "Laboratory"
+NAME_LETTERS = 64
 TOKEN_LEAST = 16
 MOST_STATIONS = 16
 # The random bytes of a token that the page makes.
@@ -69,6 +72,8 @@ class Settings:
     # The file in which loop_archive says how it stands.
     archive: str | None = None
     stations: list[OtherStation] = field(default_factory=list)
+    # What stands in the title and above the page.
+    name: str = NAMELESS
     # The station's file, and the folder of its paths.
     config: str | None = None
     folder: str = "."
@@ -186,6 +191,14 @@ def token_in(path: str) -> str:
     return token
 
 
+def name_in(text: str | None) -> str:
+    """The name of the console; BadSettings where it can't be one."""
+    name = (text or NAMELESS).strip()
+    if not name or len(name) > NAME_LETTERS or not name.isprintable():
+        raise BadSettings(f"name: a name has 1 to {NAME_LETTERS} letters, in one line")
+    return name
+
+
 def make_token(path: str) -> None:
     """Makes a file with a new token, which its owner alone may read. One that is there stays as it
     is."""
@@ -261,12 +274,18 @@ def parser() -> argparse.ArgumentParser:
     words.add_argument(
         "--settings",
         metavar="FILE",
-        help="more words: listen, token, on_alert, webhook, notes, folder, archive, station (TOML)",
+        help="more words: listen, token, name, on_alert, webhook, notes, folder, archive, station "
+        "(TOML)",
     )
     words.add_argument(
         "--folder",
         metavar="FOLDER",
         help="the folder in which the station runs, for paths that are relative (this one)",
+    )
+    words.add_argument(
+        "--name",
+        metavar="TEXT",
+        help="what the station is called in the page's title and head (Laboratory)",
     )
     words.add_argument(
         "--notes", metavar="FILE", help="where notes are kept (loop_page.notes in that folder)"
@@ -331,7 +350,7 @@ def read_settings(given: argparse.Namespace) -> Settings:
         )
     named = {
         word: getattr(given, word) or text_at(own, word, given.settings or "")
-        for word in ("listen", "token", "users", "folder", "notes")
+        for word in ("listen", "token", "users", "folder", "notes", "name")
     }
     folder = str(Path(named["folder"] or ".").absolute())
     host, port = address_of(named["listen"] or "127.0.0.1:8080")
@@ -359,6 +378,7 @@ def read_settings(given: argparse.Namespace) -> Settings:
         own.get("webhook"),
         archive and os.path.join(folder, archive),
         stations_of(own.get("station", []), given.settings or ""),
+        name=name_in(named["name"]),
         config=given.config,
         folder=folder,
         users=users,

@@ -59,6 +59,8 @@ def state_of(local: dict, others: list[Other]) -> dict:
     for place, other in enumerate(others):
         found["cameras"] = found["cameras"] + cameras_of(other)
         found["alerts"] = found["alerts"] + alerts_of(other, place)
+        seen = (other.state or {}).get("seen", [])
+        found["seen"] = found.get("seen", []) + [id_ + (place + 1) * ALERTS for id_ in seen]
     return found
 
 
@@ -329,11 +331,13 @@ def one_of(events: list[dict]) -> dict:
 
 def span_of(wish: Wish, moment: int, cameras: list[dict]) -> tuple[int, int]:
     """The span that all stations keep: their clocks say the same times. With seconds it ends at the
-    moment of the press, or after the seconds that a camera's configuration adds, the most of
-    all."""
+    moment of the press, or after those that are wished to come; where that isn't said, after what a
+    camera's configuration adds, the most of all."""
     if wish.span is not None or wish.seconds is None:
         return wish.span or (0, 0)
-    after = max((it.get("after") or 0 for it in cameras), default=0)
+    after = wish.after
+    if after is None:
+        after = max((it.get("after") or 0 for it in cameras), default=0)
     return max(0, moment - wish.seconds * 1_000_000), moment + after * 1_000_000
 
 

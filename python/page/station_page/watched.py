@@ -6,7 +6,7 @@ from dataclasses import dataclass, field
 import layout
 
 from . import limits
-from .disks import room_at
+from .disks import Space, space_at
 from .reader import Reading, Source
 from .rings import Ring, Sources, Stores
 from .settings import Camera
@@ -33,8 +33,6 @@ class Watched:
     # Whether one of its several stores couldn't be used when it was looked at last.
     is_spoilt: bool = False
     status: Status | None = None
-    # The bytes that are free on its disk, and all of them.
-    room: tuple[int, int] | None = None
     # Why the station has no store of it, in the station's word; and how much of a store is made, in
     # percent.
     absent: str = ""
@@ -49,6 +47,8 @@ class Watched:
     is_first: bool = True
     looking: asyncio.Task | None = None
     began: float = 0.0
+    # The file system of its store, as it was seen last.
+    space: Space | None = None
     # Since when a look has hardly worked, and what it had of a processor then.
     idle: float = 0.0
     worked: float = 0.0
@@ -100,13 +100,13 @@ class Watched:
         except (layout.Refused, OSError) as fault:
             self.reading, self.source, self.why, self.looked = None, None, str(fault), begun
             return
+        self.space = space_at(self.camera.store)
         frame = reading.newest()
         newest = (frame.number, frame.time) if frame else None
         if newest != self.newest:
             self.has_moved = self.has_moved or not self.is_first
             self.newest, self.changed = newest, begun
         self.is_first, self.looked = False, begun
-        self.room = room_at(self.camera.store)
         reading.pieces()
         self.reading, self.source, self.why = reading, source, ""
 

@@ -1,5 +1,7 @@
 // Events: one press is one event of all its cameras. Play, note, download, release.
 import { ask } from "/static/link.js";
+import { may } from "/static/rights.js";
+import { Search, causeWords } from "/static/search.js";
 import { byId, clock, count, icon, length, make, mark, say, size, zone } from "/static/words.js";
 
 const THUMBS = 5;
@@ -19,7 +21,7 @@ export const rowOf = (event) => event.number === null ? event.key : String(event
 export const called = (event) => `the event of ${clock(event.from_us)}, ${length(event.seconds)}`;
 
 export class Events {
-  /** `told` has play(event), answered(text, level), and cameras(), the names of all. */
+  /** `told` has play(event), answered(text, level), and now(), the time by the server's clock. */
   constructor(told) {
     this.told = told;
     this.events = [];
@@ -28,7 +30,8 @@ export class Events {
     this.progress = {};
     this.playing = null;
     this.isFirst = true;
-    byId("filter").onchange = () => this.draw();
+    this.cameras = [];
+    this.search = new Search(() => this.search && this.draw());
     byId("newer").onclick = () => {
       byId("events").scrollTop = 0;
       byId("newer").hidden = true;
@@ -38,15 +41,14 @@ export class Events {
 
   /** The cameras that there are. */
   names(names) {
-    const filter = byId("filter"), old = filter.value;
-    filter.replaceChildren(make("option", { value: "" }, "All cameras"), ...names.map((name) => make("option", { value: name }, name)));
-    filter.value = names.includes(old) ? old : "";
-    filter.hidden = names.length < 2;
+    this.cameras = names;
+    this.search.choices(names, this.events);
   }
 
   /** Shows the events that there are. */
   show(events) {
     this.events = events;
+    this.search.choices(this.cameras, events);
     this.draw();
   }
 
@@ -70,14 +72,16 @@ export class Events {
 
   /** Draws the list. Rows that stay are left as they are, with what is being typed there; and nothing moves under the pointer. */
   draw() {
-    const list = byId("events"), wanted = this.events.filter((event) => !byId("filter").value || event.cameras.includes(byId("filter").value));
+    const list = byId("events"), now = this.told.now(), wanted = this.events.filter((event) => this.search.has(event, now));
     const keys = new Set(wanted.map(rowOf)), old = list.scrollHeight;
     for (const [key, row] of this.rows) {
       if (keys.has(key)) continue;
       row.element.remove();
       this.rows.delete(key);
     }
-    byId("no-events").hidden = wanted.length > 0;
+    byId("no-events").hidden = this.events.length > 0;
+    byId("none-found").hidden = wanted.length > 0 || !this.events.length;
+    this.search.tell(wanted.length, this.events.length);
     list.hidden = !wanted.length;
     let newer = 0;
     wanted.forEach((event, place) => {
@@ -156,6 +160,7 @@ class Row {
     this.size = make("span", { className: "size num" });
     this.note = make("input", { value: event.note, maxLength: 400, autocomplete: "off", placeholder: "add a note" });
     this.note.note = event.note;
+    this.note.readOnly = !may("keep");
     this.note.onkeydown = (key) => {
       if (key.key === "Enter") this.note.blur();
       if (key.key === "Escape") {
@@ -169,12 +174,14 @@ class Row {
     this.play = button("play", "Play", () => events.told.play(this.event));
     this.get = button("down", "Download", () => events.fetch(this.event));
     this.let = button(null, "Release", () => events.release(this.event));
+    this.let.classList.add("release");
     const top = make("div", { className: "top" }, this.time, this.length, make("span", { className: "grow" }), this.size);
     const acts = make("div", { className: "acts" }, this.play, this.get, make("span", { className: "grow" }), this.let);
     this.lack = make("p", { className: "lack warn", hidden: true });
+    this.cause = make("p", { className: "cause", hidden: true });
     this.thumbs = thumbsOf(event);
     this.clips = event.key;
-    this.element.append(top, this.thumbs, this.lack, this.note, this.bar, acts);
+    this.element.append(top, this.cause, this.thumbs, this.lack, this.note, this.bar, acts);
     const title = called(event);
     mark(this.note, "aria-label", `Note of ${title}`);
     for (const [control, word] of [[this.play, "Play"], [this.get, "Download"], [this.let, "Release"]]) control.setAttribute("aria-label", `${word} ${title}`);
@@ -187,6 +194,9 @@ class Row {
     say(this.time, clock(event.from_us));
     say(this.length, `${length(event.seconds)} \u00b7 ${camerasOf(event)}${event.tag ? ` \u00b7 tag ${event.tag}` : ""}${event.archived ? " \u00b7 archived" : ""}`);
     say(this.size, size(event.bytes));
+    say(this.cause, causeWords(event));
+    this.cause.hidden = !event.cause;
+    this.cause.className = `cause ${event.cause?.kind || ""}`;
     say(this.lack, lackOf(event));
     this.lack.hidden = !this.lack.textContent;
     if (this.clips !== event.key) {
@@ -221,7 +231,8 @@ function lackOf(event) {
   const named = event.lacks.slice(0, 3).map(({ camera, held_us: held, asked_us: asked }) =>
     held === null ? `${camera} isn't whole` : `${camera} ${length(held / 1e6)} of ${length(asked / 1e6)}`);
   const rest = event.lacks.length - named.length;
-  return on + (named.length ? `Less than was asked for: ${named.join(", ")}${rest ? `, and ${rest} more` : ""}.` : "");
+  const lost = event.lost ? `${count(event.lost, "frame")} lost. ` : "";
+  return on + lost + (named.length ? `Less than was asked for: ${named.join(", ")}${rest ? `, and ${rest} more` : ""}.` : "");
 }
 
 /** A picture from the middle of each clip, the first few. */

@@ -88,6 +88,7 @@ export class Large {
       ["Locked", camera.locked === undefined ? "nothing" : `${count(events, "clip")}, ${Math.round(camera.locked * 100)} %`, camera.locked > 0.8],
       ["Behind", camera.behind === null ? "unknown" : `${camera.behind.toFixed(1)} s`, camera.behind > 0.5],
       ["Lost", camera.given_up === null ? "unknown" : count(camera.given_up, "frame"), camera.given_up > 0],
+      ...(more?.disk || []),
       ["Source", more?.source || "unknown"],
     ];
     const list = byId("facts"), wanted = rows.flatMap(([word, text, isIll]) => [make("dt", {}, word), make("dd", { className: isIll ? "ill" : "" }, text)]);
@@ -112,6 +113,7 @@ export class Large {
       byId("large-stretch").hidden = !head.stretch;
       say(byId("large-stretch"), stretchWords(head.stretch));
       this.points(head.stretch);
+      this.placed?.();
       this.value();
       this.askLight();
     });
@@ -187,6 +189,7 @@ export class Large {
 
   /** Puts the mark on its pixel, and the value beside it. */
   place() {
+    this.placed?.();
     if (!this.point || !this.camera?.width) return;
     const box = this.box(), frame = byId("frame").getBoundingClientRect();
     const left = box.left - frame.left + (this.point.x + 0.5) / this.camera.width * box.width, top = box.top - frame.top + (this.point.y + 0.5) / this.camera.height * box.height;

@@ -2,6 +2,12 @@
 import { Events, camerasOf, rowOf } from "/static/events.js";
 import { Large } from "/static/large.js";
 import { Link, ask } from "/static/link.js";
+import { Alarm } from "/static/alarm.js";
+import { diskRows, showDisk } from "/static/disk.js";
+import { Levels } from "/static/levels.js";
+import { Ruler } from "/static/ruler.js";
+import { askRights, may } from "/static/rights.js";
+import { speak } from "/static/spoken.js";
 import { Stage } from "/static/stage.js";
 import { Timeline, rangeWords } from "/static/timeline.js";
 import { View } from "/static/view.js";
@@ -21,21 +27,25 @@ let more = {};
 let cameraNames = [];
 let heard = performance.now();
 let isLost = false;
-let answeredAt = 0;
+let answeredAt = -Infinity;
 let isBegun = false;
 
 const large = new Large();
 const stage = new Stage((name) => view.open(name));
 const link = new Link((head, body) => hear(head, body));
-const events = new Events({ play: (event) => view.playEvent(event), answered });
+const events = new Events({ play: (event) => view.playEvent(event), answered, now: () => timeline.now() });
 const timeline = new Timeline({ scrub: (time) => view.scrub(time), pin: (time) => view.pin(time), choose: () => name() });
 const view = new View(link, stage, large, timeline, (text) => answered(text, "bad"));
+const ruler = new Ruler(large, () => { if (view.moment === null) view.pin(timeline.now()); });
+const alarm = new Alarm((ids) => sawAll(ids));
+view.levels = new Levels(view);
 large.wish = (camera) => view.stretch[camera];
 large.stretched = (points) => view.setStretch(large.name, points);
 view.told = () => {
   events.plays(view.event ? rowOf(view.event) : null);
   lanes();
   within();
+  if (view.moment === null || !view.camera) ruler.close();
 };
 
 // ------------------------------------------------------------------------------------------------ what the server says
@@ -60,6 +70,7 @@ function hear(head, body) {
     if (standing) show(standing);
   } else if (head.kind === "events") {
     events.show(JSON.parse(text.decode(body)));
+    timeline.caused(events.events);
     within();
   } else if (head.kind === "progress") {
     events.moved(JSON.parse(text.decode(body)));
@@ -101,7 +112,7 @@ function show(state) {
   stage.show(state.cameras);
   lanes();
   const shown = state.cameras.find((camera) => camera.name === view.camera);
-  if (shown) large.show(shown, more[shown.name]);
+  if (shown) large.show(shown, { ...more[shown.name], disk: diskRows(more[shown.name]?.disk, timeline.now()) });
   pill();
   banner();
   alerts();
@@ -125,8 +136,11 @@ function begin(cameras, names) {
   byId("camera").replaceChildren(make("option", { value: "" }, names.length > 1 ? `All ${names.length}${PHONE.matches ? "" : " cameras"}` : "The camera"), ...names.map((name) => make("option", { value: name }, `${name} alone`)));
   byId("camera").hidden = names.length < 2;
   events.names(names);
-  if (cameras[0]?.keep && !isBegun) byId("seconds").value = cameras[0].keep;
-  isBegun = true;
+  if (cameras.length && !isBegun) {
+    if (cameras[0].keep) byId("seconds").value = cameras[0].keep;
+    byId("then").value = afterOf("");
+  }
+  isBegun ||= cameras.length > 0;
 }
 
 // ------------------------------------------------------------------------------------------------ how it stands
@@ -180,7 +194,7 @@ function banner() {
   const unseen = (standing?.alerts || []).filter((alert) => !alert.over);
   let level = "good", words = standing ? calm() : "The page connects to its server.", camera = "";
   if (list.length) [level, words, camera] = [list[0].level, list[0].text, alike(list).join(", ")];
-  else if (unseen.length) [level, words] = ["warn", `${clock(unseen.at(-1).time * 1e6)} ${unseen.at(-1).text}`];
+  else if (unseen.length) [level, words] = ["warn", `Nothing is wrong now. ${count(unseen.length, "warning")} ${unseen.length === 1 ? "isn't" : "aren't"} seen yet.`];
   else if (!standing) level = "unknown";
   const rest = restOf(list);
   const wanted = `banner ${level}`;
@@ -189,6 +203,7 @@ function banner() {
     byId("banner-text").replaceChildren(...(camera ? [make("b", {}, camera), ": "] : []), words, rest);
   }
   byId("what").hidden = !list.some((it) => it.advice);
+  speak(standing, isLost);
 }
 
 /** The cameras of which the worst thing is so. */
@@ -223,7 +238,8 @@ const alertRows = new Map();
 /** The warnings that nobody has seen, under the bell, the newest first. */
 function alerts() {
   const list = standing.alerts;
-  document.title = list.length ? `(${list.length}) Laboratory` : "Laboratory";
+  alarm.take(list, standing.seen);
+  title();
   const bell = byId("bell"), badge = byId("badge");
   mark(bell, "aria-label", list.length ? `Warnings: ${list.length} not seen` : "Warnings: none");
   badge.hidden = !list.length;
@@ -249,6 +265,13 @@ function alerts() {
     say(row.children[1], clock(alert.time * 1e6));
   }
   happened();
+}
+
+/** The station's own name stands in the title and above the page; before it how much nobody has taken notice of. */
+function title() {
+  const name = standing?.name || "Laboratory", wanted = alarm.title() + name;
+  if (document.title !== wanted) document.title = wanted;
+  say(byId("name"), name);
 }
 
 /** What happened, and who changed what, the newest first. */
@@ -304,6 +327,7 @@ function room() {
   const seconds = wishedSeconds() || 60, number = left(seconds);
   byId("meter").parentElement.classList.toggle("full", number === 0);
   say(byId("room"), roomWords(number, seconds));
+  showDisk(standing.cameras.map((camera) => more[camera.name]?.disk), timeline.now());
 }
 
 function roomWords(number, seconds) {
@@ -319,6 +343,7 @@ function answered(text, level) {
   answeredAt = performance.now();
   const element = byId("answer");
   element.className = `answer ${level}`;
+  mark(element, "aria-live", "assertive");
   element.replaceChildren(make("span", {}, text));
 }
 
@@ -333,10 +358,12 @@ function name() {
   const range = timeline.range, seconds = wishedSeconds(), camera = byId("camera").value;
   const lasting = range ? (range.to - range.from) / 1e6 : seconds;
   let words = range ? `Keep ${length(lasting)} from ${clock(range.from)}` : `Keep the last ${seconds ? (seconds < 100 ? `${seconds} s` : length(seconds)) : "? s"}`;
-  const after = range ? 0 : afterOf(camera);
-  if (after) words += ` and the next ${length(after)}`;
+  const after = range ? 0 : thenSeconds();
+  byId("then").disabled = Boolean(range);
+  if (after === null) words += " and then ? s";
+  else if (after) words += ` and the next ${length(after)}`;
   if (camera) words += ` of ${camera}`;
-  const number = standing && lasting ? left(lasting) : null;
+  const number = standing && lasting ? left(lasting + (after || 0)) : null;
   if (number === 0) words += ": the ring is then full, and recording stops";
   say(byId("press-text"), words);
   byId("press").classList.toggle("long", words.length > 26);
@@ -344,8 +371,16 @@ function name() {
   if (performance.now() - answeredAt > ANSWER_STAYS && standing) {
     const element = byId("answer"), idle = range ? `K keeps the range of ${camera || "all cameras"}. Esc lets it go.` : roomWords(left(seconds || 60), seconds || 60);
     element.className = "answer idle";
+    mark(element, "aria-live", "off");
     if (element.textContent !== idle) element.replaceChildren(make("span", {}, idle ? idle[0].toUpperCase() + idle.slice(1) + (idle.endsWith(".") ? "" : ".") : ""));
   }
+}
+
+/** The seconds still to come that are wished; nothing where the field has none. */
+function thenSeconds() {
+  const typed = byId("then").value.trim();
+  if (!typed) return 0;
+  return /^\d{1,5}$/.test(typed) && Number(typed) <= MOST_SECONDS ? Number(typed) : null;
 }
 
 /** The seconds still to come that a press keeps too, by the station's configuration: of one camera, or the most of all. */
@@ -353,15 +388,21 @@ function afterOf(name) {
   return Math.max(0, ...(standing?.cameras || []).filter((camera) => !name || camera.name === name).map((camera) => camera.after || 0));
 }
 
-/** Keeps the last seconds before the press, or the range, of all cameras or of one. `moment` is when that was, as events have it. */
+/** Keeps the last seconds before the press and those that are wished after it, or the range, of all cameras or of one. `moment` is when that was, as events have it. */
 async function keep(moment) {
-  const range = timeline.range, seconds = wishedSeconds(), camera = byId("camera").value;
+  if (!may("keep")) return;
+  const range = timeline.range, seconds = wishedSeconds(), after = thenSeconds(), camera = byId("camera").value;
+  if (!range && after === null) {
+    answered(`Then is a whole number of seconds, ${MOST_SECONDS} at most.`, "bad");
+    byId("then").focus();
+    return;
+  }
   if (!range && !seconds) {
     answered(`Seconds are a whole number from 1 to ${MOST_SECONDS}.`, "bad");
     byId("seconds").focus();
     return;
   }
-  const wish = range ? { from: Math.round(range.from), to: Math.round(range.to) } : { seconds };
+  const wish = range ? { from: Math.round(range.from), to: Math.round(range.to) } : { seconds, after };
   const at = range ? null : link.clock.at(moment);
   if (at !== null) wish.at = at;
   if (camera) wish.camera = camera;
@@ -454,7 +495,7 @@ function within() {
 const KEYS = [
   ["K", "keep: the last seconds, or the range"], ["N", "write the note"], ["1 to 9", "that camera large; two digits for the tenth and on"], ["0, Esc", "all cameras; let the range go; live"],
   ["L", "live"], ["Space", "play, stop"], ["\u2190 \u2192", "a frame back, on; with Shift a range"], ["Page Up, Page Down", "a second back, on"], ["Home, End", "the first moment, the last"],
-  ["I, O", "the range starts here, ends here"], ["+ \u2212", "zoom the timeline"], ["< >", "move the timeline"], ["A", "stretch a large picture by itself, or not"], ["B", "warnings"], ["E", "events"], ["?", "these keys"],
+  ["I, O", "the range starts here, ends here"], ["[ ]", "the event before, the next one"], ["+ \u2212", "zoom the timeline"], ["< >", "move the timeline"], ["A", "stretch pictures by themselves, or not"], ["M", "measure in a large picture; arrows move an end, with Shift by ten"], ["B", "warnings"], ["E, /", "events; search them"], ["?", "these keys"],
 ];
 let digits = "";
 let digitsTimer = null;
@@ -474,6 +515,7 @@ function digit(key) {
 function escape() {
   if (byId("warnings").open) ring();
   else if (timeline.range) timeline.choose(null);
+  else if (ruler.ends) ruler.close();
   else if (view.moment !== null || view.scrubbed !== null) view.live();
   else if (view.camera) view.open(null);
 }
@@ -485,10 +527,18 @@ function step(by, isRange) {
   view.step(by, isRange ? (moment) => timeline.extend(from, moment) : undefined);
 }
 
+/** The moment at which the next event was asked for, or the one before. */
+function toEvent(by) {
+  const found = timeline.beside(view.moment ?? timeline.now(), by);
+  if (found === null) return;
+  view.pin(found);
+  timeline.see(found);
+}
+
 const WORK = {
-  k: keep, n: () => byId("note").focus(), l: () => view.live(), " ": () => view.toggle(), i: () => view.bound("from"), o: () => view.bound("to"),
+  k: keep, n: () => may("keep") && byId("note").focus(), l: () => view.live(), " ": () => view.toggle(), i: () => view.bound("from"), o: () => view.bound("to"),
   "+": () => timeline.zoom(1 / 1.5), "=": () => timeline.zoom(1 / 1.5), "-": () => timeline.zoom(1.5), "<": () => timeline.pan(-0.3), ">": () => timeline.pan(0.3),
-  a: () => large.auto(), b: ring, e: () => (byId("events").querySelector("button") || byId("events")).focus(), "?": () => byId("help").showModal(),
+  "[": () => toEvent(-1), "]": () => toEvent(1), m: () => ruler.toggle(), a: () => (view.camera ? large.auto() : view.levels.auto()), b: ring, "/": () => byId("search").focus(), e: () => (byId("events").querySelector("button") || byId("events")).focus(), "?": () => byId("help").showModal(),
   pageup: () => view.second(-1), pagedown: () => view.second(1), home: () => view.edge(false), end: () => view.edge(true),
 };
 
@@ -500,6 +550,8 @@ function pressed(event) {
     else escape();
     return;
   }
+  // Somebody whose words are typed as letters by a machine may switch these keys off.
+  if (!byId("letters").checked && key.length === 1 && key !== " ") return;
   // In a field letters are text; on a button the space bar presses it.
   if (isField || (key === " " && target.matches("button, summary, a"))) return;
   if (key === "arrowleft" || key === "arrowright") step((key === "arrowleft" ? -1 : 1), event.shiftKey);
@@ -532,15 +584,22 @@ byId("all-seen").onclick = () => sawAll(standing.alerts.map((alert) => alert.id)
 byId("ask").onclick = () => byId("help").showModal();
 byId("what").onclick = advise;
 byId("all").onclick = () => view.open(null);
+byId("letters").checked = localStorage.getItem("letters") !== "off";
+byId("letters").onchange = () => localStorage.setItem("letters", byId("letters").checked ? "on" : "off");
 byId("less").onclick = () => stepSeconds(-1);
 byId("more").onclick = () => stepSeconds(1);
 byId("seconds").oninput = () => { name(); if (standing) room(); };
-byId("camera").onchange = name;
+byId("then").oninput = name;
+byId("camera").onchange = () => {
+  byId("then").value = afterOf(byId("camera").value);
+  name();
+};
 byId("keep").onsubmit = (event) => {
   event.preventDefault();
   keep(event.timeStamp);
 };
 document.addEventListener("keydown", pressed);
+askRights();
 link.listen();
 link.clock.measure();
 setInterval(watch, 250);

@@ -1,11 +1,32 @@
 // One timeline for all cameras, a lane each: what is held, gaps, events, what goes next, and now. It shows a span of time that follows the clock, or stands.
-import { byId, clock, colour, length, make, penOf, zone } from "/static/words.js";
+import { causeAt, causeWords } from "/static/search.js";
+import { byId, clock, colour, length, make, mark, penOf, say, zone } from "/static/words.js";
 
 const SECOND = 1e6;
 const DRAG = 5;
 const LEAST = 10 * SECOND;
 const STEPS = [1, 2, 5, 10, 15, 30, 60, 120, 300, 600, 900, 1800, 3600, 7200, 10800, 21600, 43200, 86400];
 const ZOOM = 1.4;
+// The part of a lane that its name may take beside its track; a longer one stands above it.
+const NAME_PART = 1 / 3;
+const NAME_GAP = 8;
+// The height of the times above the lanes; half of the size of a cause's mark below them, and how near to it the pointer has to be; the shape of each kind.
+const TIMES = 18;
+const MARK = 5;
+const NEAR_MARK = 9;
+const SHAPES = {
+  press: (pen, x, y) => pen.arc(x, y, MARK, 0, 2 * Math.PI),
+  mqtt: (pen, x, y) => pen.rect(x - MARK, y - MARK, 2 * MARK, 2 * MARK),
+  trigger: (pen, x, y) => corners(pen, [x, y - MARK - 1], [x + MARK + 1, y], [x, y + MARK + 1], [x - MARK - 1, y]),
+  http: (pen, x, y) => corners(pen, [x, y - MARK], [x + MARK, y + MARK], [x - MARK, y + MARK]),
+};
+const CALLED = { press: "\u25cf press", trigger: "\u25c6 trigger", mqtt: "\u25a0 MQTT", http: "\u25b2 HTTP" };
+
+/** A path through corners. */
+function corners(pen, ...points) {
+  points.forEach(([x, y], place) => (place ? pen.lineTo(x, y) : pen.moveTo(x, y)));
+  pen.closePath();
+}
 
 export class Timeline {
   /** `told` has what the page does: scrub(time or null), pin(time), choose(range), step(by), live(). */
@@ -14,6 +35,7 @@ export class Timeline {
     this.canvas = byId("tracks");
     this.scale = byId("scale");
     this.cameras = [];
+    this.events = [];
     this.span = 600 * SECOND;
     this.isAll = false;
     this.end = null;
@@ -30,9 +52,13 @@ export class Timeline {
     canvas.onpointerup = (event) => this.up(event);
     canvas.onpointercancel = (event) => this.cancel(event);
     canvas.onpointerleave = () => this.leave();
+    this.scale.onpointermove = (event) => { this.scale.title = this.causeAt(event)?.words || ""; };
+    this.scale.onclick = (event) => this.causeAt(event) && this.told.pin(this.causeAt(event).at);
     canvas.addEventListener("wheel", (event) => this.wheel(event), { passive: false });
     for (const button of document.querySelectorAll(".zooms button")) button.onclick = () => this.zoomTo(button.dataset.span);
+    this.above = 0;
     new ResizeObserver(() => this.draw()).observe(canvas);
+    new ResizeObserver(() => this.fitNames()).observe(byId("line"));
     setInterval(() => this.draw(), 250);
     this.telling();
   }
@@ -49,11 +75,54 @@ export class Timeline {
     if (!this.names) this.isAll = Math.min(...cameras.filter((camera) => camera.oldest).map((camera) => camera.oldest[1])) > now * SECOND - this.span;
     if (names !== this.names) {
       this.names = names;
-      byId("names").replaceChildren(...cameras.map((camera) => make("li", { title: camera.name }, camera.name)));
+      byId("names").replaceChildren(...cameras.map((camera) => make("li", {}, make("span", {}, camera.name))));
       this.canvas.style.height = `calc(${cameras.length} * var(--lane))`;
+      this.fitNames();
       this.telling();
     }
     this.cameras = cameras;
+    this.draw();
+  }
+
+  /** The events whose causes are marked above the lanes. */
+  caused(events) {
+    this.events = events;
+    const kinds = Object.keys(CALLED).filter((kind) => events.some((event) => event.cause?.kind === kind));
+    byId("causes-key").hidden = !kinds.length;
+    say(byId("causes-key"), kinds.map((kind) => CALLED[kind]).join("  "));
+    this.draw();
+  }
+
+  /** The causes of what is shown, each with its place, its moment and its words. */
+  causes() {
+    const names = new Set(this.cameras.map((camera) => camera.name)), [begin, end] = this.window(), width = this.scale.clientWidth;
+    return this.events.filter((event) => event.cause && event.cameras.some((name) => names.has(name))).map((event) => ({
+      x: (causeAt(event) - begin) / (end - begin) * width, at: causeAt(event), kind: event.cause.kind, words: `${clock(causeAt(event), 1)} ${causeWords(event)}`,
+    }));
+  }
+
+  /** The cause under the pointer. */
+  causeAt(event) {
+    const x = event.clientX - this.scale.getBoundingClientRect().left, apart = (it) => Math.abs(it.x - x);
+    return this.causes().filter((it) => apart(it) <= NEAR_MARK).sort((one, other) => apart(one) - apart(other))[0];
+  }
+
+  /** The moment of the next event's cause after a time, or of the one before it; nothing where there is none. */
+  beside(time, by) {
+    const times = this.events.map(causeAt).filter((it) => (by > 0 ? it > time + 1000 : it < time - 1000));
+    return times.length ? (by > 0 ? Math.min(...times) : Math.max(...times)) : null;
+  }
+
+  /** Gives the names the room that the longest one needs: beside the tracks, or above each where that would leave them too little. */
+  fitNames() {
+    const line = byId("line"), lanes = byId("lanes"), names = [...byId("names").querySelectorAll("span")], wide = lanes.clientWidth;
+    if (!names.length || !wide) return;
+    lanes.classList.remove("above");
+    const longest = Math.ceil(Math.max(...names.map((name) => name.getBoundingClientRect().width))) + NAME_GAP, isAbove = longest > wide * NAME_PART;
+    lanes.classList.toggle("above", isAbove);
+    line.style.setProperty("--names", `${isAbove ? 0 : longest}px`);
+    this.above = isAbove ? Math.ceil(Math.max(...names.map((name) => name.getBoundingClientRect().height))) : 0;
+    line.style.setProperty("--above", `${this.above}px`);
     this.draw();
   }
 
@@ -257,10 +326,14 @@ export class Timeline {
   name(text) {
     const [begin, end] = this.window();
     const canvas = this.canvas;
-    canvas.setAttribute("aria-valuemin", Math.floor(begin / 1000));
-    canvas.setAttribute("aria-valuemax", Math.floor(end / 1000));
-    canvas.setAttribute("aria-valuenow", Math.floor((this.at ?? end) / 1000));
-    canvas.setAttribute("aria-valuetext", text);
+    this.bounds(begin, end);
+    const cause = this.at === null ? null : this.events.find((event) => event.cause && Math.abs(causeAt(event) - this.at) < SECOND / 2);
+    canvas.setAttribute("aria-valuetext", cause ? `${text}, ${causeWords(cause)}` : text);
+  }
+
+  /** From when to when the timeline is, and where the pictures stand, as it is heard. */
+  bounds(begin, end) {
+    for (const [word, time] of [["min", begin], ["max", end], ["now", this.at ?? end]]) mark(this.canvas, `aria-value${word}`, String(Math.floor(time / 1000)));
   }
 
   // ---------------------------------------------------------------------------------------------- drawing
@@ -269,6 +342,7 @@ export class Timeline {
   draw() {
     if (!this.cameras.length) return;
     const [begin, end] = this.window();
+    this.bounds(begin, end);
     const { pen, width, height } = penOf(this.canvas);
     this.x = (time) => (time - begin) / (end - begin) * width;
     const high = height / this.cameras.length;
@@ -288,7 +362,7 @@ export class Timeline {
 
   /** A camera's lane: what is held, and above it its clips and what goes next. Where nothing is held, upright stripes. */
   drawLane(pen, camera, y, high, width) {
-    const top = y + high * 0.2, tall = high * 0.6;
+    const room = high - this.above, top = y + this.above + room * 0.2, tall = room * 0.6;
     const known = Math.min(this.known ?? Infinity, camera.known_us ?? Infinity), now = Math.min(width, this.x(this.now()));
     const until = Math.max(0, Math.min(now, known === Infinity ? now : this.x(known)));
     pen.fillStyle = striped(pen, colour("edge"), 0);
@@ -306,7 +380,7 @@ export class Timeline {
       fill(since, until + period, colour("panel"));
       fill(since, until + period, colour("held"));
     }
-    for (const [, , , since, until] of camera.clips || []) fill(since, until + period, colour("clip"), high * 0.1);
+    for (const [, , , since, until] of camera.clips || []) fill(since, until + period, colour("clip"), room * 0.1);
     const next = nextOf(camera);
     if (next) {
       fill(...next, colour("panel"));
@@ -349,17 +423,34 @@ export class Timeline {
     const nowAt = (this.now() - begin) / (end - begin) * width, isNow = nowAt <= width + 1;
     if (isNow) {
       pen.fillStyle = colour("ink");
-      pen.fillText("now", width - 24, height / 2);
+      pen.fillText("now", width - 24, TIMES / 2);
     }
     for (let time = Math.ceil((begin + shift) / step) * step - shift; time <= end; time += step) {
       const at = (time - begin) / (end - begin) * width, text = clock(time).slice(0, step < 60 * SECOND ? undefined : -3);
       const wide = pen.measureText(text).width;
       pen.fillStyle = colour("edge-strong");
-      pen.fillRect(at, height - 4, 1, 4);
+      pen.fillRect(at, TIMES - 4, 1, 4);
       if (at + 4 + wide > width - (isNow ? 32 : 0)) continue;
       pen.fillStyle = colour("faint");
-      pen.fillText(text, at + 3, height / 2);
+      pen.fillText(text, at + 3, TIMES / 2);
     }
+    this.drawCauses();
+  }
+
+  /** A mark where each event was asked for, by its kind's shape, between the times and the lanes. */
+  drawCauses() {
+    const pen = this.scale.getContext("2d"), { clientWidth: width, clientHeight: height } = this.scale;
+    const shown = this.causes().filter(({ x }) => x >= 0 && x <= width);
+    for (const { x, kind } of shown) {
+      pen.beginPath();
+      (SHAPES[kind] || SHAPES.http)(pen, Math.min(width - MARK, Math.max(MARK, x)), height - MARK - 2);
+      pen.fillStyle = colour(kind === "press" ? "press" : "clip");
+      pen.fill();
+      pen.lineWidth = 1.5;
+      pen.strokeStyle = colour("panel");
+      pen.stroke();
+    }
+    this.scale.dataset.causes = shown.map(({ kind }) => kind).join(" ");
   }
 }
 

@@ -73,6 +73,7 @@ export class View {
     this.stage.at(words);
     this.large.at(moment, words);
     this.timeline.cursor(this.moment);
+    this.levels?.show();
     say(byId("step-title"), this.moment === null ? "Live" : `${clock(this.moment, 3)} ${zone(this.moment)}`);
     this.timeline.name(moment === null ? "live" : `${clock(moment, 3)}, ${words}`);
     this.told?.();
@@ -204,9 +205,16 @@ export class View {
 
   /** Stretches a camera's pictures: `auto`, two points, or not. */
   setStretch(name, points) {
+    this.setStretches([name], points);
+  }
+
+  /** Stretches the pictures of several cameras alike. */
+  setStretches(names, points) {
     this.stretch = { ...this.stretch };
-    if (points) this.stretch[name] = points;
-    else delete this.stretch[name];
+    for (const name of names) {
+      if (points) this.stretch[name] = points;
+      else delete this.stretch[name];
+    }
     this.look();
   }
 }
