@@ -1,6 +1,6 @@
 -- What is decided for what a user asks for.
 use Rattle.std.proofs.Common.{◌≡◌, ℕ, ◌+◌, ◌-◌, ◌*◌, ◌^◌, ◌≤◌, ◌<◌, ◌&&◌, Bool, true, false, not, Option, Some, None, arith, refl}
-use Rattle.loop_station_core.specs.Keeps.{IsAsked, asked_time}
+use Rattle.loop_station_core.specs.Keeps.{IsAskedTime, asked_time}
 use Rattle.loop_station_core.specs.Sets.{clip_id}
 use Rattle.loop_station_core.specs.declared.keep.KeepPeriod.TheVariants.{Around, Between}
 
@@ -15,8 +15,8 @@ not-true false e = refl
 
 pub keeps-cover-their-seconds : (read seconds more before after t : ℕ) → t < 2 ^ 64
     → let asked = asked_time (Around (Some seconds) (Some more)) read before after in
-    (IsAsked asked t → (read ≤ t + seconds * 1000000) × (t ≤ read + more * 1000000))
-    × (read ≤ t + seconds * 1000000 → t ≤ read + more * 1000000 → IsAsked asked t)
+    (IsAskedTime asked t → (read ≤ t + seconds * 1000000) × (t ≤ read + more * 1000000))
+    × (read ≤ t + seconds * 1000000 → t ≤ read + more * 1000000 → IsAskedTime asked t)
 keeps-cover-their-seconds read seconds more before after t fits =
     (λ h. let from = h.0 in let to = h.1 in (omega arith, omega arith), λ from to. (omega arith, omega arith))
 
@@ -27,7 +27,7 @@ keeps-take-the-cameras-seconds seconds more read before after = (refl, refl)
 
 pub keeps-cover-both-ends : (since until read before after t : ℕ)
     → let asked = asked_time (Between since until) read before after in
-    (IsAsked asked t → (since ≤ t) × (t ≤ until)) × (since ≤ t → t ≤ until → IsAsked asked t)
+    (IsAskedTime asked t → (since ≤ t) × (t ≤ until)) × (since ≤ t → t ≤ until → IsAskedTime asked t)
 keeps-cover-both-ends since until read before after t = (λ h. h, λ from to. (from, to))
 
 pub clips-have-their-own-ids : (store id other there : ℕ) → id < 64 → there < 64

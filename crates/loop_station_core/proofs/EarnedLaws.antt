@@ -5,7 +5,7 @@ use Rattle.std.proofs.lemmas.Grind.{common_steps}
 use Rattle.loop_station_core.proofs.ItselfLaws.{found}
 use Rattle.loop_station_core.proofs.ReaderLaws.{append-counts, found-there, holds_one, left-free, remove-counts, set-counts, set-there, update-counts}
 use Rattle.loop_station_core.proofs.ReleaseLaws.{bears, first-at}
-use Rattle.loop_station_core.specs.Releases.{EarnedClipsAreReleased, NeverStops, SaveStep, asks, cancels, clip_released_by, clip_released_in, counted, ends, lets, lets_in, no_saves, one_if, saves_after, saves_after_all, stops}
+use Rattle.loop_station_core.specs.Releases.{EarnedClipsAreReleased, NeverStops, SaveStep, asks, cancels, clip_released_by, clip_released_in, how_many, ends, lets, lets_in, no_saves, one_if, saves_after, saves_after_all, stops}
 use Rattle.loop_station_core.specs.Saving.{Places, after_end_of, asked, begun, earns, ended_at, freed, has_such, held_at, is_of_clip, is_same, is_saving, left_to_others, new_save, place_of, place_with, turn_of_clip, turn_with, update, update_held, wanted, with_cancel, with_release, with_wish}
 use Rattle.loop_station_core.specs.declared.save_end.SaveEnd.{SaveEnd}
 use Rattle.loop_station_core.specs.declared.saves.SaveKey.{SaveKey}
@@ -13,7 +13,7 @@ use Rattle.loop_station_core.specs.declared.saves.Save.{Save}
 
 module _ {X : Type 0} where
   -- what is there and passes counts
-  get-counts : (f : X → Bool) (xs : List X) (i : ℕ) (x : X) → slice_get xs i ≡ Some x → f x ≡ true → 1 ≤ counted f xs
+  get-counts : (f : X → Bool) (xs : List X) (i : ℕ) (x : X) → slice_get xs i ≡ Some x → f x ≡ true → 1 ≤ how_many f xs
   get-counts f [] i x e h = grind (arith, common_steps)
   get-counts f (y ∷ ys) zero x e h = grind (arith, common_steps)
   get-counts f (y ∷ ys) (suc i) x e h =
@@ -23,9 +23,9 @@ module _ {X : Type 0} where
 
   -- a change that leaves what passes so leaves as many
   update-more : (f : X → Bool) (g : X → X) (xs : List X) (i : ℕ) → ((x : X) → f x ≡ true → f (g x) ≡ true)
-      → counted f xs ≤ counted f (update g i xs)
+      → how_many f xs ≤ how_many f (update g i xs)
   update-more f g xs i k = at (slice_get xs i) refl where
-    by : (x : X) (b : Bool) → slice_get xs i ≡ Some x → f x ≡ b → counted f xs ≤ counted f (update g i xs)
+    by : (x : X) (b : Bool) → slice_get xs i ≡ Some x → f x ≡ b → how_many f xs ≤ how_many f (update g i xs)
     by x true e h =
         let same : f (g x) ≡ true = k x h in
         let rest = set-counts f xs i x (g x) e in
@@ -34,17 +34,17 @@ module _ {X : Type 0} where
         let rest = set-counts f xs i x (g x) e in
         grind (arith, common_steps)
 
-    at : (o : Option X) → slice_get xs i ≡ o → counted f xs ≤ counted f (update g i xs)
+    at : (o : Option X) → slice_get xs i ≡ o → how_many f xs ≤ how_many f (update g i xs)
     at None e = grind (arith, common_steps)
     at (Some x) e = by x (f x) e refl
 
   -- where none is found, none counts that would be
   none-counts : (f g : X → Bool) (xs : List X) → ((x : X) → f x ≡ true → g x ≡ true)
-      → nat_lt (position_or_len g xs) (length xs) ≡ false → counted f xs ≡ 0
+      → nat_lt (position_or_len g xs) (length xs) ≡ false → how_many f xs ≡ 0
   none-counts f g [] k h = refl
   none-counts f g (x ∷ xs) k h = at (f x) (g x) refl refl (λ more. none-counts f g xs k more) where
-    at : (a b : Bool) → f x ≡ a → g x ≡ b → (nat_lt (position_or_len g xs) (length xs) ≡ false → counted f xs ≡ 0)
-        → counted f (x ∷ xs) ≡ 0
+    at : (a b : Bool) → f x ≡ a → g x ≡ b → (nat_lt (position_or_len g xs) (length xs) ≡ false → how_many f xs ≡ 0)
+        → how_many f (x ∷ xs) ≡ 0
     at true false d e more = absurd (let is = k x d in cc)
     at a true d e more = grind (arith, common_steps)
     at false false d e more =
@@ -58,7 +58,7 @@ module _ {X : Type 0} where
 
 -- how many saves release a clip at their end
 abbrev bearers : SaveKey → Places → ℕ
-bearers key p = counted (has_such (bears key)) p.running + counted (bears key) p.waiting
+bearers key p = how_many (has_such (bears key)) p.running + how_many (bears key) p.waiting
 
 -- two saves of one clip
 of-one : (key k other : SaveKey) → is_same key k ≡ true → is_same k other ≡ true → is_same key other ≡ true

@@ -5,7 +5,7 @@ use Rattle.std.proofs.lemmas.Grind.{common_steps}
 use Rattle.loop_station_core.proofs.ReleaseLaws.{first-at}
 use Rattle.loop_station_core.specs.Clips.{may_release, may_release_saved, RefusedReleasesAreSo}
 use Rattle.loop_station_core.specs.Laws.{OrdersSpareReadClips, SavedClipsAreReleased, clip_key, OrdersReleaseUnreadClips, UnreadSavedClipsAreReleased}
-use Rattle.loop_station_core.specs.Releases.{SaveStep, asks, cancels, ends, no_saves, one_if, saves_after, saves_after_all, saves_ended_by, saves_ended_in, saves_taken_by, saves_taken_in, stops, SavesAddUp, counted, readers}
+use Rattle.loop_station_core.specs.Releases.{SaveStep, asks, cancels, ends, no_saves, one_if, saves_after, saves_after_all, saves_ended_by, saves_ended_in, saves_taken_by, saves_taken_in, stops, SavesAddUp, how_many, readers}
 use Rattle.loop_station_core.specs.Saving.{Places, after_end_of, begun, covers, earns, ended_at, freed, has_key, has_such, held_at, is_read, is_same, left_to_others, new_save, place_of, place_with, turn_of_clip, turn_with, update, update_held, wanted, with_cancel, with_release, with_wish}
 use Rattle.loop_station_core.specs.declared.clips.MayRelease.TheVariants.{Now, Saving, Other}
 use Rattle.loop_station_core.specs.declared.save_end.SaveEnd.{SaveEnd}
@@ -19,7 +19,7 @@ passes f (Some x) = f x
 
 module _ {X : Type 0} where
   pub set-counts : (f : X → Bool) (xs : List X) (i : ℕ) (x y : X) → slice_get xs i ≡ Some x
-      → counted f (slice_set xs i y) + one_if (f x) ≡ counted f xs + one_if (f y)
+      → how_many f (slice_set xs i y) + one_if (f x) ≡ how_many f xs + one_if (f y)
   set-counts f [] i x y e = grind (arith, common_steps)
   set-counts f (z ∷ zs) zero x y e = grind (arith, common_steps)
   set-counts f (z ∷ zs) (suc i) x y e =
@@ -28,9 +28,9 @@ module _ {X : Type 0} where
       grind (arith, common_steps)
 
   pub update-counts : (f : X → Bool) (g : X → X) (xs : List X) (i : ℕ) → ((x : X) → f (g x) ≡ f x)
-      → counted f (update g i xs) ≡ counted f xs
+      → how_many f (update g i xs) ≡ how_many f xs
   update-counts f g xs i k = at (slice_get xs i) refl where
-    at : (o : Option X) → slice_get xs i ≡ o → counted f (update g i xs) ≡ counted f xs
+    at : (o : Option X) → slice_get xs i ≡ o → how_many f (update g i xs) ≡ how_many f xs
     at None e = grind (arith, common_steps)
     at (Some x) e =
         let same : f (g x) ≡ f x = k x in
@@ -66,12 +66,12 @@ module _ {X : Type 0} where
       let rest = set-there zs i x y at in
       grind (arith, common_steps)
 
-  pub append-counts : (f : X → Bool) (xs : List X) (y : X) → counted f (xs ++ y ∷ []) ≡ counted f xs + one_if (f y)
+  pub append-counts : (f : X → Bool) (xs : List X) (y : X) → how_many f (xs ++ y ∷ []) ≡ how_many f xs + one_if (f y)
   append-counts f [] y = grind (arith, common_steps)
   append-counts f (x ∷ xs) y = let rest = append-counts f xs y in grind (arith, common_steps)
 
   pub remove-counts : (f : X → Bool) (xs : List X) (i : ℕ) (x : X) → slice_get xs i ≡ Some x
-      → counted f (remove xs i) + one_if (f x) ≡ counted f xs
+      → how_many f (remove xs i) + one_if (f x) ≡ how_many f xs
   remove-counts f [] i x e = grind (arith, common_steps)
   remove-counts f (z ∷ zs) zero x e = grind (arith, common_steps)
   remove-counts f (z ∷ zs) (suc i) x e =
@@ -80,7 +80,7 @@ module _ {X : Type 0} where
       grind (arith, common_steps)
 
   -- where none passes, none counts
-  none-any : (f : X → Bool) (xs : List X) → list_any f xs ≡ false → counted f xs ≡ 0
+  none-any : (f : X → Bool) (xs : List X) → list_any f xs ≡ false → how_many f xs ≡ 0
   none-any f [] h = refl
   none-any f (x ∷ xs) h =
       let here : f x ≡ false = grind (arith, common_steps) in
@@ -89,10 +89,10 @@ module _ {X : Type 0} where
       grind (arith, common_steps)
 
   -- where none counts, none passes
-  any-none : (f : X → Bool) (xs : List X) → counted f xs ≡ 0 → list_any f xs ≡ false
+  any-none : (f : X → Bool) (xs : List X) → how_many f xs ≡ 0 → list_any f xs ≡ false
   any-none f [] h = refl
   any-none f (x ∷ xs) h = at (f x) refl (λ e. any-none f xs e) where
-    at : (b : Bool) → f x ≡ b → (counted f xs ≡ 0 → list_any f xs ≡ false) → list_any f (x ∷ xs) ≡ false
+    at : (b : Bool) → f x ≡ b → (how_many f xs ≡ 0 → list_any f xs ≡ false) → list_any f (x ∷ xs) ≡ false
     at true e more = grind (arith, common_steps)
     at false e more = let rest = more (grind (arith, common_steps)) in grind (arith, common_steps)
 
@@ -334,7 +334,7 @@ all-add f p (s ∷ ss) =
     ≡ readers f (saves_after p s) + saves_taken_in f (saves_after p s) ss = all-add f (saves_after p s) ss in
     omega (arith, one, rest)
 
-none-reads : (f : SaveKey → Bool) (places : ℕ) → counted (has_such (has_key f)) (replicate places None) ≡ 0
+none-reads : (f : SaveKey → Bool) (places : ℕ) → how_many (has_such (has_key f)) (replicate places None) ≡ 0
 none-reads f zero = refl
 none-reads f (suc n) = let rest = none-reads f n in omega (arith, rest)
 

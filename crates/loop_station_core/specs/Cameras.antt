@@ -144,5 +144,6 @@ LockedBlocksAreKnown = (c : Camera) (frames : ℕ) → ((step_camera c (Filming 
 abbrev pub SourcesAreSeen : Type 0
 SourcesAreSeen = (c : Camera) → let closed = step_camera c (Source its.Close) in
     (c.source ≡ On → closed.0.source ≡ Missing) × (c.source ≢ On → closed.0.source ≡ c.source)
-    × ((step_camera c (Source (its.Offer true))).0.source ≡ On) × ((step_camera c (Source its.Missing)).0.source ≡ Missing)
+    × ((step_camera c (Source (its.Offer true))).0.source ≡ On)
+    × ((step_camera c (Source its.Missing)).0.source ≡ Missing)
     × ((step_camera c (Source its.Unusable)).0.source ≡ Unusable)

@@ -39,5 +39,6 @@ KeepsHaveRoom = (blocks frames slots begins : ℕ) → 1 ≤ slots → frames < 
 -- A clip isn't released by an order where a save reads it, or where another one has its id; and it is told which.
 abbrev pub RefusedReleasesAreSo : Type 0
 RefusedReleasesAreSo = (is_read : Bool) (asked first : Option ℕ) (number : ℕ)
-    → (may_release is_read asked first ≡ Saving → is_read ≡ true) × (is_read ≡ true → may_release is_read asked first ≡ Saving)
+    → (may_release is_read asked first ≡ Saving → is_read ≡ true)
+    × (is_read ≡ true → may_release is_read asked first ≡ Saving)
     × (may_release is_read asked first ≡ Other number → (asked ≡ Some number) × (first ≢ asked))

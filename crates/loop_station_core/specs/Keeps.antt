@@ -112,16 +112,16 @@ KeepsHaveAll = (k : Keep) (l : Look) → (step_keep k l).1 ≡ Whole
     → IsClear (unwrap_or k.all (max l.come k.come)) (step_keep k l).0 l
 
 -- a time is one of those that are asked for
-abbrev pub IsAsked : ℕ × ℕ → ℕ → Type 0
-IsAsked times t = (times.0 ≤ t) × (t ≤ times.1)
+abbrev pub IsAskedTime : ℕ × ℕ → ℕ → Type 0
+IsAskedTime times t = (times.0 ≤ t) × (t ≤ times.1)
 
 -- `keep CAMERA N +M`: of the times that a clock can tell, exactly those are asked for that lie no more than N seconds
 -- before its line was read, and no more than M seconds after.
 abbrev pub KeepsCoverTheirSeconds : Type 0
 KeepsCoverTheirSeconds = (read seconds more before after t : ℕ) → t < 2 ^ 64
     → let asked = asked_time (Around (Some seconds) (Some more)) read before after in
-    (IsAsked asked t → (read ≤ t + seconds * 1000000) × (t ≤ read + more * 1000000))
-    × (read ≤ t + seconds * 1000000 → t ≤ read + more * 1000000 → IsAsked asked t)
+    (IsAskedTime asked t → (read ≤ t + seconds * 1000000) × (t ≤ read + more * 1000000))
+    × (read ≤ t + seconds * 1000000 → t ≤ read + more * 1000000 → IsAskedTime asked t)
 
 -- What a line doesn't say is as if it had said its camera's own seconds. So a keep without any has the time of the
 -- camera's seconds, and what is said of one side leaves the other side alone.
@@ -135,7 +135,7 @@ KeepsTakeTheCamerasSeconds = (seconds more : Option ℕ) (read before after : �
 abbrev pub KeepsCoverBothEnds : Type 0
 KeepsCoverBothEnds = (since until read before after t : ℕ)
     → let asked = asked_time (Between since until) read before after in
-    (IsAsked asked t → (since ≤ t) × (t ≤ until)) × (since ≤ t → t ≤ until → IsAsked asked t)
+    (IsAskedTime asked t → (since ≤ t) × (t ≤ until)) × (since ≤ t → t ≤ until → IsAskedTime asked t)
 
 -- A keep waits only for frames that had come before its line, or for a block after the one that it has locked.
 abbrev pub KeepsLockEachBlock : Type 0

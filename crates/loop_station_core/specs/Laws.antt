@@ -97,7 +97,8 @@ abbrev pub UnreadSavedClipsAreReleased : Type 0
 UnreadSavedClipsAreReleased = (places : ℕ) (saved there : SaveKey) (steps : List SaveStep)
     → let p = no_saves places in let reads = covers saved.camera saved.id (Some saved.tag) in
     saves_taken_in reads p steps ≡ saves_ended_in reads p steps → clip_key there ≡ clip_key saved
-    → may_release_saved (is_read (saves_after_all p steps) saved.camera saved.id (Some saved.tag)) saved (Some there) ≡ Now
+    → may_release_saved (is_read (saves_after_all p steps) saved.camera saved.id (Some saved.tag)) saved (Some there)
+    ≡ Now
 
 -- A save that is withdrawn once it was told to wait leaves all as if it hadn't been asked for.
 abbrev pub WithdrawnSavesLeaveNothing : Type 0
@@ -296,8 +297,8 @@ GapsAreLookedFor = (time : ℕ → ℕ) (period a b n : ℕ) → ((k : ℕ) → 
     → a ≤ n → n < b → time n + period + most period < time (suc n)
     → has_gap period (mark_at time a) (mark_at time b) ≡ true
 
--- A text is told to be saved once its three steps came; where a new name can't be kept, it is taken away again, and where
--- it replaced another, it stays.
+-- A text is told to be saved once its three steps came; where a new name can't be kept, it is taken away again, and
+-- where it replaced another, it stays.
 abbrev pub TextsAreSaved : Type 0
 TextsAreSaved = (replaces : Bool) (rest : List Bool)
     → (after_steps SyncText replaces (true ∷ true ∷ true ∷ rest) ≡ Saved)

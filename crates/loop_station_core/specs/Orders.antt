@@ -84,7 +84,8 @@ orders_handed_in o (s ∷ ss) = orders_handed_by o s + orders_handed_in (orders_
 -- is being done.
 abbrev pub IdleCamerasAreDone : Type 0
 IdleCamerasAreDone = (steps : List OrderStep) → let orders = orders_after_all no_orders steps in
-    (are_done orders ≡ true → (orders_handed_in no_orders steps ≡ orders_taken_in no_orders steps) × (orders.busy ≡ false))
+    (are_done orders ≡ true → (orders_handed_in no_orders steps ≡ orders_taken_in no_orders steps)
+    × (orders.busy ≡ false))
     × (are_done orders ≡ false → (1 ≤ orders.waiting) ⊎ (orders.busy ≡ true))
 
 -- An order is taken in exactly where somebody does orders, or is still to come, and fewer than 256 wait; and where one

@@ -116,13 +116,13 @@ SavesWaitForPlaces = (places : ℕ) (steps : List SaveStep) → let p = saves_af
     (p.stopped ≡ true) ⊎ ((p.waiting ≡ []) ⊎ NoneIsFree p)
 
 -- how many elements of a list pass
-abbrev pub counted : {X : Type 0} → (X → Bool) → List X → ℕ
-counted f [] = 0
-counted f (x ∷ xs) = one_if (f x) + counted f xs
+abbrev pub how_many : {X : Type 0} → (X → Bool) → List X → ℕ
+how_many f [] = 0
+how_many f (x ∷ xs) = one_if (f x) + how_many f xs
 
 -- how many saves that run or wait have a key that passes
 abbrev pub readers : (SaveKey → Bool) → Places → ℕ
-readers f p = counted (has_such (has_key f)) p.running + counted (has_key f) p.waiting
+readers f p = how_many (has_such (has_key f)) p.running + how_many (has_key f) p.waiting
 
 -- Each save that was taken in runs, waits or has ended, whichever of them are looked at.
 abbrev pub SavesAddUp : Type 0

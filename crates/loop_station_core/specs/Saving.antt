@@ -220,7 +220,8 @@ IsByItself key s = (s.automatic ≡ true) × (s.cancelled ≡ false) × (is_same
 -- was cancelled, or that a user asked for, or that is of another clip, holds none back.
 abbrev pub ClipsAreSavedOnce : Type 0
 ClipsAreSavedOnce = (p : Places) (key : SaveKey)
-    → ((place : ℕ) (s : Save) → slice_get p.running place ≡ Some (Some s) → IsByItself key s → has_automatic p key ≡ true)
+    → ((place : ℕ) (s : Save) → slice_get p.running place ≡ Some (Some s)
+    → IsByItself key s → has_automatic p key ≡ true)
     × ((turn : ℕ) (s : Save) → slice_get p.waiting turn ≡ Some s → IsByItself key s → has_automatic p key ≡ true)
     × (((place : ℕ) (s : Save) → slice_get p.running place ≡ Some (Some s) → IsByItself key s → ⊥)
     → ((turn : ℕ) (s : Save) → slice_get p.waiting turn ≡ Some s → IsByItself key s → ⊥)

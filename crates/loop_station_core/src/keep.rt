@@ -210,8 +210,8 @@ impl Keep {
     }
 }
 
-/// What a keep does once it was looked at. It locks only once each frame that had come before its line is at the desk or
-/// lost, or each block is locked, or no frame has made progress for a minute.
+/// What a keep does once it was looked at. It locks only once each frame that had come before its line is at the desk
+/// or lost, or each block is locked, or no frame has made progress for a minute.
 pub fn next_turn(keep: Keep, look: &Look) -> (Keep, KeepTurn)
     ensures { result ≡ step_keep keep look.now }
 {

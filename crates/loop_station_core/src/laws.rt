@@ -151,7 +151,8 @@ pub fn orders_are_answered_once()
     ensures { OrdersAreAnsweredOnce }
 {}
 
-/// A keep whose end has passed is done at the first look at which each frame that had come by then is at the desk or lost.
+/// A keep whose end has passed is done at the first look at which each frame that had come by then is at the desk or
+/// lost.
 pub fn keeps_end()
     ensures { KeepsEnd }
 {}
@@ -323,8 +324,8 @@ pub fn locked_lines_tell_all()
     ensures { LockedLinesTellAll }
 {}
 
-/// A clip is released once the text of a save that began by itself is there, where clips of its camera are released then:
-/// as soon as no other save of it runs or waits, unless the program ends.
+/// A clip is released once the text of a save that began by itself is there, where clips of its camera are released
+/// then: as soon as no other save of it runs or waits, unless the program ends.
 pub fn earned_clips_are_released()
     ensures { EarnedClipsAreReleased }
 {}
