@@ -7,7 +7,7 @@ CORE = "crates/loop_station_core"
 
 
 def changed_core(file, old, new):
-    """A folder that has the core alone, in which a file is changed: what makes it, from a folder."""
+    """A folder with the core alone, in which a file is changed: what makes it, from a folder."""
 
     def make(folder):
         for part in ("src", "specs"):

@@ -3,8 +3,8 @@
 lines `old: TEXT` and `new: TEXT`. Each old text stands in that file exactly once.
 
 A wrong decision is a body together with its definition: both are wrong in the same way, so that
-the body meets its contract. It has a line `law: NAME`, of the law that is false of it, and a further
-line `file: specs/NAME.antt`, with pairs of its own."""
+the body meets its contract. It has a line `law: NAME`, of the law that is false of it, and a
+further line `file: specs/NAME.antt`, with pairs of its own."""
 import sys
 from pathlib import Path
 from typing import NamedTuple
