@@ -202,6 +202,11 @@ pub(crate) fn store_and_keep_more<R: Wait, D: Disk + Drop>(
         if growing.is_settled(number, next) {
             continue;
         }
+        let since = growing.since_in(number).max(times.since);
+        if since > times.until {
+            continue;
+        }
+        let times = Times { since, ..times };
         let kept = keep_at(alloc, desks, place, times, growing.keep.tag);
         let is_past = is_before(desks, place, next, times.until);
         if kept.fault.is_none() && is_past {

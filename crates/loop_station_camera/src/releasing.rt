@@ -2,15 +2,15 @@
 
 ghost use Rattle.std.specs.Prelude.{◌≡◌};
 
-use crate::reading::{find, place_in};
+use crate::reading::{find, head_at, place_in};
 use crate::replies::tell_released;
 use crate::state::CameraState;
 use loop_disk::Disk;
 use loop_pipeline::Desks;
 use loop_station_core::{MayRelease, SaveKey, id_parts, may_release, may_release_saved};
-use loop_station_shared::{FoundClip, store_of};
+use loop_station_shared::FoundClip;
 use loop_station_words::Lines;
-use loop_store::StoreFault;
+use loop_store::{Clip, StoreFault};
 use std::alloc::Global;
 use std::io;
 use std::sync::Wait;
@@ -94,10 +94,49 @@ fn unlock_and_tell<R: Wait, D: Disk + Drop>(
 )
     ensures { desks.new.lent ≡ desks.old.lent }
 {
-    let released = unlock(rt, state, desks, id);
-    state.desk.unsettle(rt, store_of(id));
+    let released = unlock_part(rt, state, desks, id);
     // Where memory for the line is refused, it isn't printed.
     let _ = tell_released(state, id, released, lines);
+}
+
+// Unlocks a clip. Where it is a part of an event that goes on, that part ends; where the time of its last frame can't
+// be read, it stays locked.
+fn unlock_part<R: Wait, D: Disk + Drop>(
+    rt: &R,
+    state: &CameraState,
+    desks: &mut Desks<D, CameraState>,
+    id: u32,
+) -> Result<(), StoreFault>
+    ensures { desks.new.lent ≡ desks.old.lent }
+{
+    let part = match state.stored.clip_of(rt, id) {
+        Some(clip) if state.desk.owns(rt, &clip) => Some(clip),
+        _ => None,
+    };
+    let Some(clip) = part else {
+        return unlock(rt, state, desks, id);
+    };
+    let last = time_of_last(rt, state, desks, &clip)?;
+    let released = unlock(rt, state, desks, id);
+    if released.is_ok() {
+        state.desk.end_part(rt, &clip, last);
+    }
+    released
+}
+
+// When the last frame of a clip came.
+fn time_of_last<R: Wait, D: Disk + Drop>(
+    rt: &R,
+    state: &CameraState,
+    desks: &mut Desks<D, CameraState>,
+    clip: &Clip,
+) -> Result<u64, StoreFault>
+    ensures { desks.new.lent ≡ desks.old.lent }
+{
+    match place_in(rt, state, desks, clip.id) {
+        Some(place) => Ok(head_at(desks, place, clip.to)?.timestamp),
+        None => Err(StoreFault::NoSuchClip),
+    }
 }
 
 /// Unlocks a clip that is saved, if it is still there. Where a save that an order has begun since reads it, that waits
@@ -150,8 +189,23 @@ pub(crate) fn release_later<R: Wait, D: Disk + Drop>(
     }
 }
 
-/// Unlocks a clip in the store that has it.
-pub(crate) fn unlock<R: Wait, D: Disk + Drop>(
+/// Unlocks a clip in the store that has it, unless its id is another clip's by now.
+pub(crate) fn unlock_same<R: Wait, D: Disk + Drop>(
+    rt: &R,
+    state: &CameraState,
+    desks: &mut Desks<D, CameraState>,
+    clip: &Clip,
+) -> Result<(), StoreFault>
+    ensures { desks.new.lent ≡ desks.old.lent }
+{
+    match state.stored.clip_of(rt, clip.id) {
+        Some(there) if there.from == clip.from => unlock(rt, state, desks, clip.id),
+        _ => Err(StoreFault::NoSuchClip),
+    }
+}
+
+// Unlocks a clip in the store that has it.
+fn unlock<R: Wait, D: Disk + Drop>(
     rt: &R,
     state: &CameraState,
     desks: &mut Desks<D, CameraState>,
