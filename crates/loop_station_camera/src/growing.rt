@@ -109,9 +109,7 @@ impl Growing {
         if let Some(at) = self.clips.iter().position(|known| is_same(known, clip)) {
             self.clips.remove(at);
             // Where memory is refused, what the order has released is locked once more.
-            let _again = self
-                .ended
-                .push((store_of(clip.id), last.saturating_add(1)));
+            let _again = self.ended.push((store_of(clip.id), last.saturating_add(1)));
         }
     }
 

@@ -9,7 +9,7 @@ use crate::releasing::unlock_same;
 use crate::replies::{tell_clips, tell_shortfall};
 use crate::state::CameraState;
 use loop_disk::Disk;
-use loop_pipeline::Back;
+use loop_pipeline::Desks;
 use loop_record::Times;
 use loop_station_core::{EventEnd, GrowthTurn, Keep, OpenEvent, Run, event_end, next_growth};
 use loop_station_shared::{Announcement, FoundClip, Note};
@@ -44,13 +44,7 @@ impl CameraState {
     }
 
     /// The same of an event that was open when the program ended last. It isn't told.
-    pub fn put_event<R: Wait>(
-        &self,
-        rt: &R,
-        alloc: Global,
-        keep: Keep,
-        clips: Vec<Clip>,
-    ) -> bool {
+    pub fn put_event<R: Wait>(&self, rt: &R, alloc: Global, keep: Keep, clips: Vec<Clip>) -> bool {
         self.desk
             .put_growing(rt, Growing::new(alloc, keep, clips))
             .is_none()
@@ -144,10 +138,10 @@ pub(crate) fn grow<R: Wait + Clock, D: Disk + Drop>(
     rt: &R,
     alloc: Global,
     state: &CameraState,
-    back: &mut Back<D, CameraState>,
+    desks: &mut Desks<D, CameraState>,
     growing: Growing,
 )
-    ensures { back.new ≡ record back.old { desks = back.new.desks } }
+    ensures { desks.new.lent ≡ desks.old.lent }
 {
     let (now, stopping) = (state.timeline.now(rt), state.is_stopped(rt));
     match next_growth(
@@ -157,16 +151,16 @@ pub(crate) fn grow<R: Wait + Clock, D: Disk + Drop>(
         now,
         growing.keep.until,
     ) {
-        GrowthTurn::Release => release_covered(rt, state, back, growing),
+        GrowthTurn::Release => release_covered(rt, state, desks, growing),
         GrowthTurn::End => {
-            let found = times_of(rt, alloc, state, back, growing.clips());
-            let runs = runs_of(rt, alloc, state, back, &found);
+            let found = times_of(rt, alloc, state, desks, growing.clips());
+            let runs = runs_of(rt, alloc, state, desks, &found);
             state.end_growing(rt, alloc, growing, &found, &runs);
         }
         GrowthTurn::Leave => {
             state.desk.put_growing(rt, growing);
         }
-        GrowthTurn::Keep => lengthen(rt, alloc, state, back, growing),
+        GrowthTurn::Keep => lengthen(rt, alloc, state, desks, growing),
     }
 }
 
@@ -174,15 +168,15 @@ pub(crate) fn grow<R: Wait + Clock, D: Disk + Drop>(
 fn release_covered<R: Wait, D: Disk + Drop>(
     rt: &R,
     state: &CameraState,
-    back: &mut Back<D, CameraState>,
+    desks: &mut Desks<D, CameraState>,
     growing: Growing,
 )
-    ensures { back.new ≡ record back.old { desks = back.new.desks } }
+    ensures { desks.new.lent ≡ desks.old.lent }
 {
     let mut growing = growing;
     if let Some(clip) = growing.next_covered() {
         // Where that is refused, it stays locked.
-        let _stays = unlock_same(rt, state, back, &clip);
+        let _stays = unlock_same(rt, state, desks, &clip);
     }
     state.desk.put_growing(rt, growing);
 }
@@ -192,10 +186,10 @@ fn lengthen<R: Wait + Clock, D: Disk + Drop>(
     rt: &R,
     alloc: Global,
     state: &CameraState,
-    back: &mut Back<D, CameraState>,
+    desks: &mut Desks<D, CameraState>,
     growing: Growing,
 )
-    ensures { back.new ≡ record back.old { desks = back.new.desks } }
+    ensures { desks.new.lent ≡ desks.old.lent }
 {
     let mut growing = growing;
     let (keep, turn) = turn_of(rt, state, growing.keep);
@@ -208,7 +202,7 @@ fn lengthen<R: Wait + Clock, D: Disk + Drop>(
         since: keep.since,
         until: part.until,
     };
-    let (kept, refused) = store_and_keep_more(rt, alloc, state, back, times, &mut growing);
+    let (kept, refused) = store_and_keep_more(rt, alloc, state, desks, times, &mut growing);
     let refused = refused.or(state.locked_fault(rt));
     growing.lengthen(alloc, kept, refused, part.is_whole);
     state.desk.put_growing(rt, growing);

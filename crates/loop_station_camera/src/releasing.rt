@@ -1,12 +1,12 @@
 //! Which clips may be released, and how they are unlocked.
 
-ghost use Rattle.std.specs.Prelude.{◌≡◌, ◌<◌, length};
+ghost use Rattle.std.specs.Prelude.{◌≡◌};
 
 use crate::reading::{find, head_at, place_in};
 use crate::replies::tell_released;
 use crate::state::CameraState;
 use loop_disk::Disk;
-use loop_pipeline::Back;
+use loop_pipeline::Desks;
 use loop_station_core::{MayRelease, SaveKey, id_parts, may_release, may_release_saved};
 use loop_station_shared::FoundClip;
 use loop_station_words::Lines;
@@ -67,16 +67,16 @@ impl CameraState {
 pub(crate) fn release<R: Wait, D: Disk + Drop>(
     rt: &R,
     state: &CameraState,
-    back: &mut Back<D, CameraState>,
+    desks: &mut Desks<D, CameraState>,
     id: u32,
     first: Option<u64>,
     lines: &mut Lines,
 )
-    ensures { back.new ≡ record back.old { desks = back.new.desks } }
+    ensures { desks.new.lent ≡ desks.old.lent }
 {
     let may = state.may_release(rt, id, first);
     match may {
-        Ok(()) => unlock_and_tell(rt, state, back, id, lines),
+        Ok(()) => unlock_and_tell(rt, state, desks, id, lines),
         Err(why) => {
             // Where memory for the line is refused, it isn't printed.
             let _ = why.tell(state, id, lines);
@@ -88,13 +88,13 @@ pub(crate) fn release<R: Wait, D: Disk + Drop>(
 fn unlock_and_tell<R: Wait, D: Disk + Drop>(
     rt: &R,
     state: &CameraState,
-    back: &mut Back<D, CameraState>,
+    desks: &mut Desks<D, CameraState>,
     id: u32,
     lines: &mut Lines,
 )
-    ensures { back.new ≡ record back.old { desks = back.new.desks } }
+    ensures { desks.new.lent ≡ desks.old.lent }
 {
-    let released = unlock_part(rt, state, back, id);
+    let released = unlock_part(rt, state, desks, id);
     // Where memory for the line is refused, it isn't printed.
     let _ = tell_released(state, id, released, lines);
 }
@@ -104,20 +104,20 @@ fn unlock_and_tell<R: Wait, D: Disk + Drop>(
 fn unlock_part<R: Wait, D: Disk + Drop>(
     rt: &R,
     state: &CameraState,
-    back: &mut Back<D, CameraState>,
+    desks: &mut Desks<D, CameraState>,
     id: u32,
 ) -> Result<(), StoreFault>
-    ensures { back.new ≡ record back.old { desks = back.new.desks } }
+    ensures { desks.new.lent ≡ desks.old.lent }
 {
     let part = match state.stored.clip_of(rt, id) {
         Some(clip) if state.desk.owns(rt, &clip) => Some(clip),
         _ => None,
     };
     let Some(clip) = part else {
-        return unlock(rt, state, back, id);
+        return unlock(rt, state, desks, id);
     };
-    let last = time_of_last(rt, state, back, &clip)?;
-    let released = unlock(rt, state, back, id);
+    let last = time_of_last(rt, state, desks, &clip)?;
+    let released = unlock(rt, state, desks, id);
     if released.is_ok() {
         state.desk.end_part(rt, &clip, last);
     }
@@ -128,13 +128,13 @@ fn unlock_part<R: Wait, D: Disk + Drop>(
 fn time_of_last<R: Wait, D: Disk + Drop>(
     rt: &R,
     state: &CameraState,
-    back: &mut Back<D, CameraState>,
+    desks: &mut Desks<D, CameraState>,
     clip: &Clip,
 ) -> Result<u64, StoreFault>
-    ensures { back.new ≡ record back.old { desks = back.new.desks } }
+    ensures { desks.new.lent ≡ desks.old.lent }
 {
-    match place_in(rt, state, back, clip.id) {
-        Some(place) => Ok(head_at(back, place, clip.to)?.timestamp),
+    match place_in(rt, state, desks, clip.id) {
+        Some(place) => Ok(head_at(desks, place, clip.to)?.timestamp),
         None => Err(StoreFault::NoSuchClip),
     }
 }
@@ -146,13 +146,13 @@ pub(crate) fn release_saved<R: Wait, D: Disk + Drop>(
     rt: &R,
     alloc: Global,
     state: &CameraState,
-    back: &mut Back<D, CameraState>,
+    desks: &mut Desks<D, CameraState>,
     saved: SaveKey,
     lines: &mut Lines,
 )
-    ensures { back.new ≡ record back.old { desks = back.new.desks } }
+    ensures { desks.new.lent ≡ desks.old.lent }
 {
-    let there = match find(rt, alloc, state, back, saved.id) {
+    let there = match find(rt, alloc, state, desks, saved.id) {
         Ok(there) => there,
         Err(fault) => {
             // Where memory for the line is refused, it isn't printed.
@@ -161,7 +161,7 @@ pub(crate) fn release_saved<R: Wait, D: Disk + Drop>(
         }
     };
     match state.may_release_saved(rt, saved, there) {
-        MayRelease::Now => unlock_and_tell(rt, state, back, saved.id, lines),
+        MayRelease::Now => unlock_and_tell(rt, state, desks, saved.id, lines),
         MayRelease::Saving => state.desk.put_saved(rt, saved),
         MayRelease::Other(_) => {}
     }
@@ -172,10 +172,10 @@ pub(crate) fn release_later<R: Wait, D: Disk + Drop>(
     rt: &R,
     alloc: Global,
     state: &CameraState,
-    back: &mut Back<D, CameraState>,
+    desks: &mut Desks<D, CameraState>,
     saved: SaveKey,
 )
-    ensures { back.new ≡ record back.old { desks = back.new.desks } }
+    ensures { desks.new.lent ≡ desks.old.lent }
 {
     // The store isn't looked at as long as it has to wait.
     if state.is_read(rt, saved.id, Some(saved.tag)) {
@@ -183,7 +183,7 @@ pub(crate) fn release_later<R: Wait, D: Disk + Drop>(
         return;
     }
     let mut lines = state.lines(alloc);
-    release_saved(rt, alloc, state, back, saved, &mut lines);
+    release_saved(rt, alloc, state, desks, saved, &mut lines);
     if !lines.is_empty() {
         state.tell(rt, lines, None);
     }
@@ -193,13 +193,13 @@ pub(crate) fn release_later<R: Wait, D: Disk + Drop>(
 pub(crate) fn unlock_same<R: Wait, D: Disk + Drop>(
     rt: &R,
     state: &CameraState,
-    back: &mut Back<D, CameraState>,
+    desks: &mut Desks<D, CameraState>,
     clip: &Clip,
 ) -> Result<(), StoreFault>
-    ensures { back.new ≡ record back.old { desks = back.new.desks } }
+    ensures { desks.new.lent ≡ desks.old.lent }
 {
     match state.stored.clip_of(rt, clip.id) {
-        Some(there) if there.from == clip.from => unlock(rt, state, back, clip.id),
+        Some(there) if there.from == clip.from => unlock(rt, state, desks, clip.id),
         _ => Err(StoreFault::NoSuchClip),
     }
 }
@@ -208,29 +208,17 @@ pub(crate) fn unlock_same<R: Wait, D: Disk + Drop>(
 fn unlock<R: Wait, D: Disk + Drop>(
     rt: &R,
     state: &CameraState,
-    back: &mut Back<D, CameraState>,
+    desks: &mut Desks<D, CameraState>,
     id: u32,
 ) -> Result<(), StoreFault>
-    ensures { back.new ≡ record back.old { desks = back.new.desks } }
+    ensures { desks.new.lent ≡ desks.old.lent }
 {
-    let Some(place) = place_in(rt, state, back, id) else {
+    let Some(place) = place_in(rt, state, desks, id) else {
         return Err(StoreFault::NoSuchClip);
     };
-    let released = unlock_at(back, place, id_parts(id).1);
+    let released = desks.unlock_clip(place, id_parts(id).1);
     if released.is_ok() {
         state.remove_clip(rt, id);
     }
     released
-}
-
-// Unlocks the clip that has an id in the store at a place.
-fn unlock_at<D: Disk + Drop>(
-    back: &mut Back<D, CameraState>,
-    place: usize,
-    id: u32,
-) -> Result<(), StoreFault>
-    requires { place < length back.old.desks }
-    ensures { back.new ≡ record back.old { desks = back.new.desks } }
-{
-    back.unlock_clip(place, id)
 }

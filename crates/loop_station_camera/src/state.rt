@@ -4,6 +4,7 @@ ghost use Rattle.std.specs.Prelude.{false};
 
 use crate::growing::Ongoing;
 use crate::saves::Saves;
+use loop_desk::Flushed;
 use loop_pipeline::{Link, Noting, Visits};
 use loop_station_core::{FilmingEvent, SaveKey, Tally};
 use loop_station_outside::{Absent, Maker, Timeline};
@@ -365,6 +366,12 @@ impl CameraState {
         let (come, taken) = self.feed.counts(rt);
         let ready = u64::from(self.feed.is_ready(rt));
         self.life.lose(rt, come, taken.saturating_sub(ready));
+    }
+
+    /// A flush of the desk at a place stored frames.
+    pub(crate) fn count_stored<R: Wait>(&self, rt: &R, place: usize, done: Flushed) {
+        self.life.store_frames(rt, done.stored);
+        self.stored.grow(rt, place, done.stored);
     }
 
     /// The duration in microseconds of the frames that have come from the source and are neither stored nor given up.

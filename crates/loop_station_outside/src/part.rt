@@ -1,8 +1,8 @@
 //! The file, pipe or device that the text of a clip is written to.
 //!
 //! A file is written as OUT.part, in the same folder, and gets its name once its bytes are on the disk: so whatever has
-//! the name OUT is whole. OUT.part is made anew by each save: what a stop or a loss of power has left of one is removed,
-//! and no other file.
+//! the name OUT is whole. OUT.part is made anew by each save: what a stop or a loss of power has left of one is
+//! removed, and no other file.
 
 use crate::not_saved::NotSaved;
 use crate::path_kind::PathKind;

@@ -104,8 +104,8 @@ pub trait Places {
         geometry: Geometry,
     ) -> Result<Store<FileDisk>, Absent>;
 
-    /// Opens the named pipe of orders to be read, also while it has no writer: then it is at its end, until the next one
-    /// comes. A file is opened to be read.
+    /// Opens the named pipe of orders to be read, also while it has no writer: then it is at its end, until the next
+    /// one comes. A file is opened to be read.
     fn open_orders(&self, path: &str) -> io::Result<File>;
 
     /// The numbers of the files beside a path that have it with a number, in no order.

@@ -136,7 +136,9 @@ const BLOCK_SYNCS: u64 = 3;
 // block costs more.
 fn frames_of_flush(slots: u32, group: u32) -> u32 {
     let flushes = u64::from(slots.div_ceil(group.max(1)));
-    let syncs = flushes.saturating_mul(FLUSH_SYNCS).saturating_add(BLOCK_SYNCS);
+    let syncs = flushes
+        .saturating_mul(FLUSH_SYNCS)
+        .saturating_add(BLOCK_SYNCS);
     let stored = u64::from(slots).saturating_mul(FLUSH_SYNCS);
     let frames = stored.saturating_add(syncs / 2) / syncs.max(1);
     u32::try_from(frames.max(1)).unwrap_or(u32::MAX)

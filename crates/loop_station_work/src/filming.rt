@@ -1,5 +1,5 @@
-//! A camera's thread: it films the camera into its stores, again and again. `opening` has how they are opened and made, and
-//! `stores` what they are.
+//! A camera's thread: it films the camera into its stores, again and again. `opening` has how they are opened and made,
+//! and `stores` what they are.
 
 use crate::notes::read_events;
 use crate::opening::{
@@ -10,7 +10,7 @@ use loop_capture::Device;
 use loop_desk::Desk;
 use loop_file::{FileDisk, FileFault};
 use loop_pipeline::{
-    Camera, CameraEnd, Door, Unfilmed, film_desks, heap_start, new_queue, start_queue,
+    Camera, CameraEnd, Door, GuidedCamera, Unfilmed, film_desks, heap_start, new_queue, start_queue,
 };
 use loop_plane::HeapPlane;
 use loop_station_camera::CameraState;
@@ -283,7 +283,11 @@ fn leave_alone<R: AllocGlobal + Wait + Clock, W: Write + Drop>(
     let mut lines = state.lines(rt.alloc());
     let why = Absent::Store(StoreFault::MustReopen);
     // Where memory for the line is refused, it isn't printed.
-    if is_new && lines.one_absent(state.config.name.as_str(), path.as_str(), &why).is_ok() {
+    if is_new
+        && lines
+            .one_absent(state.config.name.as_str(), path.as_str(), &why)
+            .is_ok()
+    {
         outlet.put(rt, &lines);
     }
 }
@@ -342,7 +346,12 @@ fn film<R: AllocGlobal + Places + Threads + Wait + Clock + Sync, W: Write + Drop
             // Where a thread is refused, the camera is filmed into the one store that is open.
             let _alone = scope.spawn(move || open_others(rt, state, outlet, door, rest));
         }
-        let filmed = film_desks(rt, rt.alloc(), scope, &state.threads, state, door, camera);
+        let guided = GuidedCamera {
+            link: &state.threads,
+            guide: state,
+            camera,
+        };
+        let filmed = film_desks(rt, rt.alloc(), scope, guided, door);
         state.stored.close(rt);
         filmed
     })

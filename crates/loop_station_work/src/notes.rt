@@ -1,7 +1,7 @@
 //! The files of open events. While an event's end lies ahead, STORE.events beside the camera's store has a line for it,
-//! `EVENT SINCE UNTIL TAG`, so that the next start goes on with it after a stop or a loss of power. An event is answered
-//! once its line is on the disk, and told as over once the file without it is. A file that can't be written is told
-//! once, and tried again each second: stores have their room, but a disk may have none for this file.
+//! `EVENT SINCE UNTIL TAG`, so that the next start goes on with it after a stop or a loss of power. An event is
+//! answered once its line is on the disk, and told as over once the file without it is. A file that can't be written is
+//! told once, and tried again each second: stores have their room, but a disk may have none for this file.
 
 use crate::orders::Station;
 use loop_script::number::number;
@@ -65,7 +65,9 @@ fn run_notes<R: AllocGlobal + Places + Wait + Clock>(rt: &R, state: &CameraState
         let note = if unwritten.is_none() {
             state.notes.take(rt)
         } else {
-            state.notes.take_within(rt, Duration::from_millis(TRY_AGAIN))
+            state
+                .notes
+                .take_within(rt, Duration::from_millis(TRY_AGAIN))
         };
         match note {
             Some(Note::Open(events, told)) => {

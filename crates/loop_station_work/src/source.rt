@@ -31,8 +31,8 @@ use std::{io, thread};
 // How many milliseconds pass before a source that ended, broke or isn't there is opened again.
 const OPEN_AGAIN: u64 = 200;
 
-// A pipe that was closed so that its writer ends is opened again after twice as many milliseconds each time, and so many
-// at most: a writer of few frames has to meet it closed.
+// A pipe that was closed so that its writer ends is opened again after twice as many milliseconds each time, and so
+// many at most: a writer of few frames has to meet it closed.
 const CLOSED_MOST: u64 = 60_000;
 
 // How many milliseconds pass before it is looked again whether the store is open, whose frames a source may go on with.
@@ -211,8 +211,8 @@ fn offer<R: AllocGlobal + Wait + Clock, W: Write + Drop>(
     }
 }
 
-// Gives the frames of a file or pipe: those of a file each when it is due, those of a pipe as they come. Returns whether
-// it is closed so that its writer ends.
+// Gives the frames of a file or pipe: those of a file each when it is due, those of a pipe as they come. Returns
+// whether it is closed so that its writer ends.
 fn play_file<R: AllocGlobal + Places + Wait + Clock, W: Write + Drop>(
     rt: &R,
     state: &CameraState,
@@ -356,7 +356,11 @@ fn goes_on<R: AllocGlobal + Wait + Clock, I: Read + Drop>(
     begin_read(rt, state);
     let found = input.seek_header();
     state.life.on_source(rt, SourceEvent::Read);
-    if found.is_ok() { Next::Stream } else { Next::End }
+    if found.is_ok() {
+        Next::Stream
+    } else {
+        Next::End
+    }
 }
 
 // A writer goes on that gave its header before the program began: its frames are as the store has them, from the next

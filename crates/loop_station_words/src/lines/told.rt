@@ -278,7 +278,9 @@ impl Lines {
                 Text("camera", camera),
                 Words(" "),
                 Text("path", path),
-                Words(" has an old layout: its keeps are refused; end the station, and run loop_cli upgrade "),
+                Words(
+                    " has an old layout: its keeps are refused; end the station, and run loop_cli upgrade ",
+                ),
                 Words(path),
             ],
         )
