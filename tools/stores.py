@@ -41,10 +41,10 @@ def built(name):
         sys.exit(
             f"{name} isn't built, or is older than its sources. {name.upper()}=PATH names another;"
             f" tools/check KIND --trial compiles it without a proof, in a minute; with --prove, or"
-            f" LAPYREI_PROVE=1, it is proved and built, in up to an hour"
+            f" LAPYREI_PROVE=1, it is proved and built, in an hour or more"
         )
     print(
-        f"proving and building {name} where something has changed: up to an hour, silently",
+        f"proving and building {name} where something has changed: an hour or more, silently",
         file=sys.stderr,
         flush=True,
     )

@@ -73,7 +73,7 @@ def test_where_there_is_none_nothing_is_proved_unasked(crates, proved, monkeypat
     assert not proved
     monkeypatch.setenv("LAPYREI_PROVE", "1")
     assert stores.built("loop_cli").endswith("out/loop_cli") and proved == [["rt", "run"]]
-    assert "up to an hour" in capsys.readouterr().err
+    assert "an hour or more" in capsys.readouterr().err
 
 
 def test_the_word_that_lets_a_check_prove_is_its_own(tool, monkeypatch):
