@@ -124,7 +124,9 @@ def planned(size: str, form: str, bits: str, rate: str, room: str) -> Plan:
     """What the station makes of so much room for such frames."""
     geometry = geometry_in(size, form, bits, rate)
     count, seconds = room_in(room)
-    return within(geometry, count) if count is not None else lasting(geometry, seconds or Fraction(0))
+    if count is not None:
+        return within(geometry, count)
+    return lasting(geometry, seconds or Fraction(0))
 
 
 def duration(seconds: float) -> str:
