@@ -92,6 +92,11 @@ def cut_amid(run, log, tries=400):
             break
         os.killpg(run.pid, signal.SIGCONT)
         time.sleep(0.005)
+    kill(run)
+
+
+def kill(run):
+    """Ends a program, with all that it began."""
     os.killpg(run.pid, signal.SIGKILL)
     run.wait()
 
@@ -155,7 +160,7 @@ def compared(cut, kept, stored):
 
 
 def make_store(demo, programs, program, folder):
-    """Lets a station make the store, and ends it: what it writes then isn't looked at."""
+    """Lets a station make the store, and kills it: the file as it is then is the disk's."""
     demo.start_station(programs, program)
     demo.start_camera(programs, CAMERA)
     end = time.monotonic() + 120
@@ -163,9 +168,8 @@ def make_store(demo, programs, program, folder):
         if time.monotonic() > end:
             raise TimeoutError("the station makes no store")
         time.sleep(0.1)
-    order(folder, "stop")
-    programs.runs.pop("station").wait(60)
-    programs.runs.pop(CAMERA).wait(60)
+    for name in ("station", CAMERA):
+        kill(programs.runs.pop(name))
 
 
 def keep_and_cut(demo, programs, program, folder, port):
@@ -187,9 +191,7 @@ def keep_and_cut(demo, programs, program, folder, port):
     stored = stored_by(told.wait(f"status {CAMERA} stored", 0, programs.look))
     demo.say("\ncutting the power\n")
     cut_amid(programs.runs.pop("station"), log)
-    camera = programs.runs.pop(CAMERA)
-    os.killpg(camera.pid, signal.SIGKILL)
-    camera.wait()
+    kill(programs.runs.pop(CAMERA))
     cut = Cut(path, base, log)
     cut.apply()
     log.unlink()
