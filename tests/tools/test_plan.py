@@ -10,16 +10,23 @@ from lapyrei import plan
 INFO = os.path.join(os.path.dirname(__file__), "../../tools/store_info")
 # Frames and room, and the stores, segments and slots that a station made of them.
 MADE = [
-    ("640x480 YM12 8 25 5min", 1, 64, 120),
-    ("640x480 YM12 8 25 12h", 66, 64, 256),
-    ("640x480 YM12 8 25 10s", 1, 5, 64),
     ("64x48 GREY 8 25 4min", 1, 25, 256),
     ("64x48 GREY 8 25 1min", 1, 25, 64),
     ("200x200 GREY 8 25 90s", 1, 19, 128),
-    ("640x480 YM12 8 25 1GB", 1, 33, 64),
-    ("640x480 YM12 8 25 100MB", 1, 3, 64),
-    ("640x480 YM12 8 25 40MB", 1, 2, 43),
     ("64x48 GREY 8 25 20MB", 1, 25, 256),
+    ("640x480 YM12 8 25 40MB", 1, 2, 43),
+    ("640x480 YM12 8 25 100MB", 1, 3, 64),
+    ("640x480 YM12 8 25 10s", 1, 5, 64),
+    ("64x48 YM24 8 30 30min", 4, 64, 212),
+    ("64x48 GREY 8 25 100MB", 2, 64, 251),
+    ("32x16 GREY 8 100 10min", 4, 64, 236),
+    ("8x8 GREY 8 25 3000kB", 2, 64, 238),
+]
+# The same of what is too large to be made here, worked out by the rule.
+MADE += [
+    ("640x480 YM12 8 25 5min", 1, 64, 120),
+    ("640x480 YM12 8 25 12h", 66, 64, 256),
+    ("640x480 YM12 8 25 1GB", 1, 33, 64),
     ("640x480 YM12 8 25 7000MB", 1, 64, 237),
     ("640x480 YM12 8 25 20GB", 3, 64, 226),
     ("1920x1080 GREY 16 100 2TB", 30, 64, 251),
