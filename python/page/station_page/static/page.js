@@ -176,13 +176,9 @@ function troubles() {
   const [level, text] = standing.station;
   if (level !== "good") list.push({ level, text, advice: level === "bad" ? "Start the station: systemctl start loop_station. Until then nothing is recorded." : "docs/page.md, \u201cBegin\u201d, says how the station's file names its pipes.", answer: "station" });
   for (const camera of standing.cameras) {
-<<<<<<< HEAD
     if (camera.level !== "good") {
-      list.push({ level: camera.level, camera: camera.name, kind: camera.kind, short: camera.short || camera.level, text: camera.state, advice: more[camera.name]?.advice || "" });
+      list.push({ level: camera.level, camera: camera.name, kind: camera.kind, short: camera.short || camera.level, text: camera.state, advice: more[camera.name]?.advice || "", answer: (camera.kind || "").replace(" ", "-") });
     }
-=======
-    if (camera.level !== "good") list.push({ level: camera.level, camera: camera.name, text: camera.state, advice: more[camera.name]?.advice || "", answer: (camera.kind || "").replace(" ", "-") });
->>>>>>> main
   }
   for (const station of standing.stations || []) {
     if (station.level !== "good") list.push({ level: station.level, text: station.text, advice: `docs/several.md says more. Its own page is ${station.url}/`, answer: "others" });
