@@ -65,7 +65,7 @@ def search(browser, lab, shots):
     released(lab)
     names = lab.names()
     lab.post("/api/keep", {"seconds": 2, "note": "run 7: discharge"})
-    lab.post("/api/keep", {"seconds": 1, "note": "pump spike", "camera": "pump"})
+    lab.post("/api/keep", {"seconds": 1, "note": "run 8: pump spike", "camera": "pump"})
     lab.order_done("keep pendulum 1 7")
     browser.until(lambda: len(rows(browser)) == 3, "three events")
     browser.keys("/", "discharge RUN")
@@ -200,7 +200,7 @@ def causes(browser, lab, shots):
     expect("trigger" in browser.run(KEY), f"the marks aren't explained: {browser.run(KEY)!r}")
     events = lab.ask("/api/events").json()["events"]
     moments = sorted(it["cause"]["at_us"] for it in events)
-    for key, place in (("[", 3), ("[", 2), ("]", 3), ("[", 2), ("[", 1)):
+    for key, place in (("[", 3), ("[", 2), ("[", 1), ("]", 2), ("[", 1)):
         browser.keys(key)
         time.sleep(0.3)
         found = int(browser.one("#tracks").get_attribute("aria-valuenow"))
