@@ -111,16 +111,19 @@ def test_an_event_is_near_through_any_one_of_a_group():
 
 @pytest.mark.parametrize("apart, most", [(60 * SECOND, 2), (0, limits.NEAR_TRIES)])
 def test_few_pairs_are_looked_at_however_many_events_there_are(monkeypatch, apart, most):
-    """Each event beside its nearest ones alone: also where all are of one time."""
+    """Each event beside its nearest ones alone: also where all begin at one time, and none is of
+    the span of another."""
     count, plain = itertools.count(), together.are_near
     monkeypatch.setattr(
         together, "are_near", lambda one, other: next(count) < 0 or plain(one, other)
     )
-    events = [
-        (f"s{place}", named(f"s{place}", number, number * apart, number * apart + SECOND * number))
-        for place in range(8)
-        for number in range(200)
-    ]
+    events = []
+    for place in range(8):
+        for number in range(200):
+            since = number * apart
+            lasts = SECOND * (number + 1) if apart else 10 * SECOND * (number * 8 + place + 1)
+            one = named(f"s{place}", number, since, since + lasts, frames=10_001)
+            events.append((f"s{place}", one))
     Joined(Presses(9)).join(said_of(events))
     assert next(count) <= most * len(events)
 

@@ -27,8 +27,8 @@ def laboratory_in(folder, *names):
 
 def write(folder, *names):
     """Writes the station's file."""
-    cameras = [f'[[camera]]\nname = "{it}"\nsource = "pattern"\nstore = "{it}.loop"' for it in names]
-    (folder / "station.toml").write_text("\n".join(cameras) + "\n")
+    words = '[[camera]]\nname = "{0}"\nsource = "pattern"\nstore = "{0}.loop"\n'
+    (folder / "station.toml").write_text("".join(words.format(it) for it in names))
 
 
 def test_a_camera_that_was_taken_out_goes_with_all_that_was_said_of_it(tmp_path):
@@ -134,7 +134,7 @@ def test_a_ring_without_room_is_no_camera_that_is_silent():
     assert "Release" in advice and "camera is well" in advice and advice != ADVICE["silent"]
 
 
-def test_of_a_station_that_is_away_no_rate_is_shown_and_it_is_said_until_when_it_is_known(monkeypatch):
+def test_of_a_station_that_is_away_no_rate_is_shown_and_until_when_it_is_known():
     other = other_one()
     camera = {"name": "left", "level": "good", "rate": 24.9}
     other.hear("state", {"cameras": [camera], "alerts": []})
@@ -147,8 +147,10 @@ def test_of_a_station_that_is_away_no_rate_is_shown_and_it_is_said_until_when_it
     answers.CAMERA_STANDING(json.loads(json.dumps(found | {"name": "left"})))
 
 
-@pytest.mark.parametrize("kind", sorted({*OF_STATION, *(it for ends in ENDS.values() for it in ends),
-                                         "silent", "hangs", "lost", "station", "one absent"}))
+KINDS = {*OF_STATION, *(it for ends in ENDS.values() for it in ends)}
+
+
+@pytest.mark.parametrize("kind", sorted(KINDS | {"silent", "hangs", "lost", "station", "one absent"}))
 def test_what_is_over_is_said_in_words_of_its_own(tmp_path, kind):
     lab = laboratory_in(tmp_path, "left")
     camera = None if kind == "station" else "left"

@@ -99,7 +99,7 @@ def test_the_rights_are_those_three():
     assert OWNER.rights == ("see", "keep", "release")
 
 
-# ------------------------------------------------------------------------------------------ the gate
+# ----------------------------------------------------------------------------------------- the gate
 
 
 def gate_of(path, token=None):
@@ -157,7 +157,7 @@ def test_without_token_and_users_everybody_may_all():
     gate.refuse_without_right(request_of("/api/release"))
 
 
-# ------------------------------------------------------------------------------------------ the page
+# ----------------------------------------------------------------------------------------- the page
 
 
 def test_a_page_with_users_lets_each_do_what_the_file_says(make):
@@ -193,9 +193,9 @@ def test_a_user_is_added_by_the_program_and_the_token_is_shown_once(tmp_path):
         return done.returncode, done.stdout + done.stderr
 
     status, said = run("--add-user", "users", "ann", "see,keep")
-    assert status == 0 and users_in(str(tmp_path / "users"))[hash_of(said.splitlines()[-1])] == User(
-        "ann", ("see", "keep")
-    )
+    found = users_in(str(tmp_path / "users"))
+    assert status == 0
+    assert found[hash_of(said.splitlines()[-1])] == User("ann", ("see", "keep"))
     status, said = run("--add-user", "users", "bob", "look")
     assert status == 1 and "rights of see, keep, release" in said
     assert run("--add-user", "users", "ann", "see", "--make-token", "t")[0] == 2

@@ -7,7 +7,7 @@ import json
 import os
 import signal
 import time
-from dataclasses import asdict, dataclass
+from dataclasses import asdict, dataclass, replace
 
 import aiohttp
 
@@ -31,13 +31,27 @@ class Alert:
     text: str
     times: int = 1
 
+    def told(self) -> "Alert":
+        """What is told of it now: it may change before that is done."""
+        return replace(self)
+
 
 class Alerts:
     """The warnings that nobody has seen yet, newest last. One that comes again counts up: thousands
     of lines of one kind are one alert. One whose cause is over leaves."""
 
-    def __init__(self, on_alert: list[str], webhook: str | None, journal: Journal) -> None:
+    def __init__(
+        self,
+        on_alert: list[str],
+        webhook: str | None,
+        journal: Journal,
+        reports: list | None = None,
+        remind: float = 0.0,
+    ) -> None:
+        """`reports` are other ways to tell a warning, and after `remind` seconds one that nobody
+        has seen is told again."""
         self.command, self.webhook, self.journal = on_alert, webhook, journal
+        self.reports, self.remind = reports or [], remind
         self.alerts: list[Alert] = []
         # What is wrong now, whether somebody has seen it or not.
         self.standing: set[Cause] = set()
@@ -45,7 +59,7 @@ class Alerts:
         # The numbers of those that somebody has seen, the last ones: a page that rings knows by
         # them that it need not any more.
         self.noticed: collections.deque[int] = collections.deque(maxlen=limits.ALERTS)
-        self.queue: asyncio.Queue[Alert] = asyncio.Queue(limits.DELIVERIES)
+        self.queue: asyncio.Queue[tuple[Alert, str]] = asyncio.Queue(limits.DELIVERIES)
 
     def add(self, event: Event) -> None:
         """A warning has come."""
@@ -57,11 +71,16 @@ class Alerts:
         self.count += 1
         alert = Alert(self.count, time.time(), event.kind, event.camera, event.text)
         self.alerts = [*self.alerts, alert][-limits.ALERTS :]
-        if self.command or self.webhook:
-            try:
-                self.queue.put_nowait(alert)
-            except asyncio.QueueFull:
-                self.not_told += 1
+        self.report(alert)
+
+    def report(self, alert: Alert, what: str = "began") -> None:
+        """Has a warning told: that it began, stands still unseen, or was seen."""
+        if not self.ways(what):
+            return
+        try:
+            self.queue.put_nowait((alert.told(), what))
+        except asyncio.QueueFull:
+            self.not_told += 1
 
     def stands(self, *kinds: str, camera: str | None) -> bool:
         """Whether something of these kinds is wrong now."""
@@ -91,6 +110,9 @@ class Alerts:
     def seen(self, id_: int) -> bool:
         """Somebody has seen an alert."""
         before = len(self.alerts)
+        for alert in self.alerts:
+            if alert.id == id_:
+                self.report(alert, "seen")
         self.alerts = [alert for alert in self.alerts if alert.id != id_]
         is_seen = len(self.alerts) < before
         if is_seen:
@@ -101,16 +123,32 @@ class Alerts:
         """The alerts, for JSON."""
         return [asdict(alert) for alert in self.alerts]
 
-    async def deliver(self) -> None:
-        """Tells the command and the webhook, one after the other, without end. What can't be told
-        is written down."""
+    async def again(self) -> None:
+        """Tells again, without end, what nobody has taken notice of."""
+        told: dict[int, float] = {}
         while True:
-            alert = await self.queue.get()
-            for name, tell in [("on_alert", self.run_command)] * bool(self.command) + [
-                ("webhook", self.post)
-            ] * bool(self.webhook):
+            await asyncio.sleep(min(limits.REMIND_SECONDS, self.remind or limits.REMIND_SECONDS))
+            now = time.monotonic()
+            told = {it.id: told.get(it.id, now) for it in self.alerts}
+            for alert in self.alerts if self.remind else []:
+                if now - told[alert.id] >= self.remind:
+                    told[alert.id] = now
+                    self.report(alert, "stands")
+
+    def ways(self, what: str) -> list[tuple]:
+        """How something is told: a command and a webhook are told of warnings alone."""
+        plain = [("on_alert", lambda alert, _: self.run_command(alert))] * bool(self.command)
+        plain += [("webhook", lambda alert, _: self.post(alert))] * bool(self.webhook)
+        return plain * (what != "seen") + [(it.name, it.tell) for it in self.reports]
+
+    async def deliver(self) -> None:
+        """Tells warnings in each way, one after the other, without end. What can't be told is
+        written down."""
+        while True:
+            alert, what = await self.queue.get()
+            for name, tell in self.ways(what):
                 try:
-                    await tell(alert)
+                    await tell(alert, what)
                     self.told += 1
                 except Exception as fault:
                     self.not_told += 1

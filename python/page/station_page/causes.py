@@ -1,5 +1,5 @@
-"""Why events were kept: who pressed, or what gave the order, and when, by the event's number. It is
-in a file beside the notes, so that it is known after a restart. Where that can't be read or written,
+"""Why events were kept: who pressed, or what gave the order, and when, by the event's number. It
+is in a file beside the notes, so that it is known after a restart. Where that can't be read or written,
 it is known until then."""
 import collections
 import logging

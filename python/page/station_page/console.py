@@ -12,14 +12,15 @@ from . import limits, pictures
 from .advice import advice_for
 from .asked import FRAME, frame_in, headers_of, number_in
 from .bundle import Bundle, Progress, parts_in
-from .eye import Look
 from .disks import figures_of, unlocked_blocks
+from .eye import Look
 from .events import events_of
 from .films import FilmFault
 from .orders import NoStation
 from .push import Push, stretch_in, view_of, whole
 from .reader import Reading, store_in
 from .rings import Ring
+from .search import search_in
 from .words import Unfit
 from .workers import DRAWING
 
@@ -53,6 +54,7 @@ class Console:
         post("/api/took", self.took)
         post("/api/step", self.step)
         get("/api/events", self.events)
+        get("/api/disks", self.disks)
         get("/api/event.zip", self.zip, allow_head=False)
         post("/api/event/note", self.note)
         post("/api/event/release", self.release)
@@ -204,9 +206,17 @@ class Console:
     # --------------------------------------------------------------------------------- events
 
     async def events(self, request: web.Request) -> web.Response:
-        """All events."""
+        """All events, or those that are looked for."""
+        search = search_in(request.query)
         await self.laboratory.fresh()
-        return web.json_response({"events": self.events_of(self.laboratory.held.clips())})
+        found = self.events_of(self.laboratory.held.clips())
+        return web.json_response({"events": search.found(found)})
+
+    async def disks(self, request: web.Request) -> web.Response:
+        """How much room each camera's disk has, and for how long its ring holds what comes."""
+        await self.laboratory.fresh()
+        found = {name: it.get("disk") for name, it in self.more()["cameras"].items()}
+        return web.json_response({"disks": found})
 
     def clips_in(self, found: object) -> list[tuple[str, int, int]]:
         """The clips that a request names, each by camera, id and first number."""

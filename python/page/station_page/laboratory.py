@@ -18,6 +18,7 @@ from .notes import Notes
 from .noting import Noting
 from .orders import NoStation, Orders
 from .reader import Reading, Source
+from .reports import remind_in, reports_in
 from .rings import Ring, Sources, Stores
 from .settings import BadSettings, Camera, Settings, cameras_of, toml_of
 from .standing import Standing
@@ -60,7 +61,12 @@ class Laboratory:
         self.settings = settings
         self.cameras = {camera.name: watched_of(camera) for camera in settings.cameras}
         self.journal = Journal()
-        self.alerts = Alerts(settings.on_alert, settings.webhook, self.journal)
+        own = settings.own
+        # The reports' words are judged here, where the station's name is known.
+        reports = reports_in(own, settings.station_name(), "page.toml")
+        self.alerts = Alerts(
+            settings.on_alert, settings.webhook, self.journal, reports, remind_in(own, "page.toml")
+        )
         self.orders, self.heard = Orders(settings.orders, settings.answers, self), Heard()
         self.notes, self.films = Notes(settings.notes), Films()
         self.noting, self.warned, self.shown = Noting(self), Warned(self), Standing(self)

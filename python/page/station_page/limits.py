@@ -79,6 +79,9 @@ FIND_SECONDS = 3.0
 ALERTS = 100
 DELIVERIES = 100
 DELIVERY_SECONDS = 30.0
+# How often it is looked at whether a warning is to be told again; the letters of a mail's subject.
+REMIND_SECONDS = 5.0
+SUBJECT_LETTERS = 200
 # The lines of who changed what that are remembered, and those that each open page is sent.
 JOURNAL = 200
 JOURNAL_SENT = 30

@@ -358,6 +358,7 @@ class Push:
         """Round after round, as long as the page's session lasts, and it reads."""
         told: dict[str, object] = {}
         while is_open(request) and self.is_known(request):
+            begun = time.monotonic()
             stream.turned.clear()
             stream.line.look(waiting(request.transport))
             if stream.line.is_dead():
@@ -369,8 +370,11 @@ class Push:
                     await self.write(stream, response, message(kind, body))
             is_late = await self.round(stream, response)
             stream.pace.round(is_late, stream.most())
+            # One that took longer than its time waits for no other page.
+            is_long = time.monotonic() - begun >= 1 / stream.most()
             with contextlib.suppress(asyncio.TimeoutError):
-                await asyncio.wait_for(stream.turned.wait(), max(0.01, stream.pause()))
+                pause = 0.01 if is_long else max(0.01, stream.pause())
+                await asyncio.wait_for(stream.turned.wait(), pause)
 
     async def round(self, stream: Stream, response: web.StreamResponse) -> bool:
         """A round of pictures, and the moment of what is played. Answers whether the line has no

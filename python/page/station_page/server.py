@@ -731,6 +731,7 @@ async def serve(settings: Settings) -> None:
             page.laboratory.watch(),
             page.laboratory.ask(),
             page.laboratory.alerts.deliver(),
+            page.laboratory.alerts.again(),
             page.gate.watch(),
             ended.wait(),
             *page.stations.works(port),

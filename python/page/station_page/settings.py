@@ -3,6 +3,7 @@ settings."""
 import argparse
 import ipaddress
 import os
+import platform
 import re
 import secrets
 import stat
@@ -78,6 +79,12 @@ class Settings:
     folder: str = "."
     # The file of users, each with rights of their own.
     users: str | None = None
+    # What the page's own file says beside.
+    own: dict = field(default_factory=dict)
+
+    def station_name(self) -> str:
+        """By what reports name the station."""
+        return getattr(self, "name", "") or platform.node() or "station"
 
     def is_loopback(self) -> bool:
         """Whether this machine alone can reach the page."""
@@ -375,4 +382,5 @@ def read_settings(given: argparse.Namespace) -> Settings:
         config=given.config,
         folder=folder,
         users=users,
+        own={word: own[word] for word in ("mail", "mqtt", "remind") if word in own},
     )

@@ -25,6 +25,7 @@ from .orders import NoStation
 from .others import UNUSABLE, Other, parsed, within
 from .push import LEVELS, Stream, View, message, view_of, whole
 from .redrawn import Redrawn
+from .search import search_in
 from .settings import OtherStation
 from .standing import for_programs
 from .together import (
@@ -344,9 +345,10 @@ class Stations:
         """All events."""
         if is_of_this(request):
             return await self.console.events(request)
+        search = search_in(request.query)
         await self.laboratory.fresh()
         self.console.state()
-        return web.json_response({"events": await self.joined()})
+        return web.json_response({"events": search.found(await self.joined())})
 
     # -------------------------------------------------------------------------------- open pages
 

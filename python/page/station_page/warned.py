@@ -86,7 +86,8 @@ class Warned:
 
     def pass_by(self, kind: str, camera: str | None) -> None:
         """What might have become a warning has passed."""
-        self.passing.pop((kind, camera), asyncio.Future()).cancel()
+        if task := self.passing.pop((kind, camera), None):
+            task.cancel()
 
     def over(self, kind: str, camera: str | None, is_told: bool = True) -> None:
         """What was wrong isn't any more. Its warning leaves, and the news say so."""
