@@ -165,13 +165,12 @@ def then(browser, lab, shots):
     browser.until(lambda: "and on until" in browser.text("#answer"), "word that it goes on")
     browser.until(lambda: any("Goes on until" in it for it in rows(browser)), "event that goes on")
 
-    def lasting():
-        """The seconds of the event, once it is whole."""
+    def is_whole():
+        """Whether the event is over, and has 3 seconds and the next 4 of the slowest camera too."""
         (event,) = lab.ask("/api/events").json()["events"]
-        return event["until_us"] is None and event["seconds"]
+        return event["until_us"] is None and 6.3 < event["seconds"] < 8.2
 
-    found = lab.until(lasting, "end of the event")
-    expect(6.3 < found < 8.2, f"3 s and the next 4 last {found:.1f} s")
+    lab.until(is_whole, "event of 3 s and the next 4")
     typed(browser, "#then", "x")
     browser.keys("k")
     browser.until(lambda: "whole number" in browser.text("#answer"), "word of what isn't a number")
