@@ -37,6 +37,18 @@ def laboratory():
         shutil.rmtree(folder)
 
 
+def begin(browser, lab):
+    """Opens the page anew, with nothing that an earlier step left: warnings, and what the browser
+    remembers."""
+    browser.driver.get("about:blank")
+    origin = {"origin": browser.address.rstrip("/"), "storageTypes": "local_storage"}
+    browser.cdp("Storage.clearDataForOrigin", origin)
+    if alerts := lab.status()["alerts"]:
+        lab.post("/api/seen", {"ids": [it["id"] for it in alerts]})
+    browser.dress("1440x900", "dark")
+    browser.open()
+
+
 def console_part(is_quick, shots, names=()):
     """The steps of these names, or all, each from a page that is opened anew."""
     took = []
@@ -46,8 +58,7 @@ def console_part(is_quick, shots, names=()):
         try:
             for step in [it for it in STEPS if not names or it.__name__ in names]:
                 start = time.monotonic()
-                browser.dress("1440x900", "dark")
-                browser.open()
+                begin(browser, lab)
                 try:
                     step(browser, lab, shots)
                 except WebDriverException as fault:

@@ -65,7 +65,7 @@ def search(browser, lab, shots):
     released(lab)
     names = lab.names()
     lab.post("/api/keep", {"seconds": 2, "note": "run 7: discharge"})
-    lab.post("/api/keep", {"seconds": 1, "note": "pump spike", "camera": "pump"})
+    lab.post("/api/keep", {"seconds": 1, "note": "run 8: pump spike", "camera": "pump"})
     lab.order_done("keep pendulum 1 7")
     browser.until(lambda: len(rows(browser)) == 3, "three events")
     browser.keys("/", "discharge RUN")
@@ -165,13 +165,12 @@ def then(browser, lab, shots):
     browser.until(lambda: "and on until" in browser.text("#answer"), "word that it goes on")
     browser.until(lambda: any("Goes on until" in it for it in rows(browser)), "event that goes on")
 
-    def lasting():
-        """The seconds of the event, once it is whole."""
+    def is_whole():
+        """Whether the event is over, and has 3 seconds and the next 4 of the slowest camera too."""
         (event,) = lab.ask("/api/events").json()["events"]
-        return event["until_us"] is None and event["seconds"]
+        return event["until_us"] is None and 6.3 < event["seconds"] < 8.2
 
-    found = lab.until(lasting, "end of the event")
-    expect(6.3 < found < 8.2, f"3 s and the next 4 last {found:.1f} s")
+    lab.until(is_whole, "event of 3 s and the next 4")
     typed(browser, "#then", "x")
     browser.keys("k")
     browser.until(lambda: "whole number" in browser.text("#answer"), "word of what isn't a number")
@@ -193,12 +192,14 @@ def causes(browser, lab, shots):
     for at, text in enumerate(("Pressed: 127.0.0.1", "By HTTP: ", "By MQTT: run-7")):
         browser.until(lambda at=at, text=text: browser.run(said)[at].startswith(text), text)
     expect(browser.run(said)[3] == "By a trigger: door", f"the causes are {browser.run(said)}")
+    broken = browser.run(BROKEN)
+    expect(not broken, f"events are laid out wrongly: {broken}")
     marks = "return document.querySelector('#scale').dataset.causes.split(' ').sort().join(' ')"
     browser.until(lambda: browser.run(marks) == "http mqtt press trigger", "marks of four causes")
     expect("trigger" in browser.run(KEY), f"the marks aren't explained: {browser.run(KEY)!r}")
     events = lab.ask("/api/events").json()["events"]
     moments = sorted(it["cause"]["at_us"] for it in events)
-    for key, place in (("[", 3), ("[", 2), ("]", 3), ("[", 2), ("[", 1)):
+    for key, place in (("[", 3), ("[", 2), ("[", 1), ("]", 2), ("[", 1)):
         browser.keys(key)
         time.sleep(0.3)
         found = int(browser.one("#tracks").get_attribute("aria-valuenow"))
@@ -219,6 +220,11 @@ def causes(browser, lab, shots):
     browser.named("Show all").click()
 
 
+# Events whose cause isn't a line below their time, or whose pictures aren't as wide as they.
+BROKEN = """return [...document.querySelectorAll('#events .event')].filter((it) => {
+const box = (selector) => it.querySelector(selector).getBoundingClientRect();
+return box('.cause').height > 45 || box('.cause').top < box('time').bottom - 2
+    || box('.thumbs').width < 0.8 * it.clientWidth; }).map((it) => it.textContent)"""
 KEY = "return document.querySelector('#causes-key').textContent"
 
 

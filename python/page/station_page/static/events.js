@@ -196,7 +196,7 @@ class Row {
     say(this.size, size(event.bytes));
     say(this.cause, causeWords(event));
     this.cause.hidden = !event.cause;
-    this.cause.className = `cause ${event.cause?.kind || ""}`;
+    this.cause.className = `cause by-${event.cause?.kind || ""}`;
     say(this.lack, lackOf(event));
     this.lack.hidden = !this.lack.textContent;
     if (this.clips !== event.key) {

@@ -177,7 +177,8 @@ function troubles() {
   if (level !== "good") list.push({ level, text, advice: level === "bad" ? "Start the station: systemctl start loop_station. Until then nothing is recorded." : "docs/page.md, \u201cBegin\u201d, says how the station's file names its pipes.", answer: "station" });
   for (const camera of standing.cameras) {
     if (camera.level !== "good") {
-      list.push({ level: camera.level, camera: camera.name, kind: camera.kind, short: camera.short || camera.level, text: camera.state, advice: more[camera.name]?.advice || "", answer: (camera.kind || "").replace(" ", "-") });
+      list.push({ level: camera.level, camera: camera.name, kind: camera.kind, short: camera.short || camera.level, text: camera.state, advice: more[camera.name]?.advice || "",
+        answer: (camera.kind || "").replace(" ", "-") });
     }
   }
   for (const station of standing.stations || []) {
