@@ -59,6 +59,7 @@ BODIES = [
     ("an_address_of_ipv4_is_another_by_ipv6", f"{LINKS}/sources.py", 'getattr(address, "ipv4_mapped", None) or address', "address", TRIGGER, "ipv4"),
     ("a_regular_expression_is_a_pattern", f"{LINKS}/sources.py", "if any(REGULAR.fullmatch(it) for it in texts):", "if False:", TRIGGER, "words"),
     ("a_pattern_is_found_anywhere", f"{LINKS}/sources.py", "any(form.match(text)", "any(form.match(text[at:]) for at in range(len(text))", TRIGGER, "pattern"),
+    ("a_plain_word_is_taken_without_a_word", f"{LINKS}/triggers.py", "        self.say_what_is_whole()\n", "", TRIGGER, "plain_word"),
     ("a_line_end_counts", f"{LINKS}/sources.py", '.rstrip(" \\t\\r\\n\\0")', "", TRIGGER, "pattern"),
     ("a_line_for_each_packet", f"{LINKS}/journal.py", "(now < self.next and not is_last)", "False", TRIGGER, "line_a_second"),
     ("dropped_packets_are_not_told", f"{LINKS}/triggers.py", "trigger.source.lost().items()", "[]", ORDERS, "dropped"),
