@@ -17,7 +17,7 @@ from aiohttp import HttpVersion11, http_exceptions, web, web_urldispatcher
 from . import limits, metrics, pictures, words
 from .asked import FRAME, frame_in, headers_of, moment_in, number_in, problem, range_of
 from .console import Console
-from .films import FilmFault, Text, csv_of, zip_stream
+from .films import FilmFault, Sums, Text, csv_of, zip_stream
 from .guard import COOKIE, HEADERS, OPEN, Connection, Gate, bearer_of, session_word
 from .journal import Expected, PlainFormatter
 from .laboratory import Laboratory
@@ -49,6 +49,7 @@ KINDS = {
     "zip": "application/zip",
     "csv": "text/csv",
     "jpg": "image/jpeg",
+    "sums": "text/plain",
 }
 
 
@@ -133,7 +134,7 @@ class Page:
         get(f"/api/cameras/{camera}/newest.jpg", self.newest)
         get(f"/api/cameras/{camera}/frame", self.frame)
         get(rf"/api/cameras/{camera}/frames/{{number:{FRAME}}}.jpg", self.frame_picture)
-        get(rf"/api/clips/{camera}/{{id:\d{{1,5}}}}.{{kind:mp4|y4m|zip|csv|jpg}}", self.fetch)
+        get(rf"/api/clips/{camera}/{{id:\d{{1,5}}}}.{{kind:mp4|y4m|zip|csv|jpg|sums}}", self.fetch)
         post("/api/keep", self.keep)
         post("/api/release", self.release)
         post("/api/note", self.note)
@@ -642,6 +643,11 @@ class Page:
             yield data[start:end]
 
         return await self.send_known(request, fetch, "csv", len(data), pieces)
+
+    async def fetch_sums(self, request: web.Request, fetch) -> web.StreamResponse:
+        """A checksum of each frame, for whoever reads a film back."""
+        found = Sums(fetch)
+        return await self.send_known(request, fetch, "sums", found.length, found.pieces)
 
     async def fetch_zip(self, request: web.Request, fetch) -> web.StreamResponse:
         """PNGs. How long the zip is isn't known before it ends."""
