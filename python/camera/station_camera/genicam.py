@@ -295,9 +295,8 @@ class Camera:
     def form(self, _picture: Picture | None = None) -> Form:
         """What its frames become."""
         format, wanted = self.format, self.wanted
-        bits = 8 if wanted.bits else format.bits
-        plain = "gray" if bits == 8 else f"gray{bits}le"
-        colour = wanted.store_format or (plain if format.is_samples() else "yuv420p")
+        plain = "gray" if wanted.bits and format.is_samples() else format.planes()
+        colour = wanted.store_format or plain
         form = Form(self.width, self.height, colour, self.rate)
         if format.is_samples() and not self.ffmpeg(form) and colour != plain:
             raise BadFrames(

@@ -478,7 +478,7 @@ def expected(wanted: words.Wanted) -> Form:
         from . import samples
 
         format = samples.format_of(wanted.format or "")
-        plain, bits = planes.grey(format.bits) if format.is_samples() else "yuv420p", format.bits
+        plain, bits = format.planes(), format.bits
     if wanted.bits and bits > 8:
         plain = "gray"
     return Form(size.width, size.height, wanted.store_format or plain, wanted.rate)
