@@ -16,6 +16,7 @@ them, with a description in GenICam's XML, and faults at will. It shares no code
 Frames are filled by the frame's count: `picture` says with what. Pixel formats are Mono8, Mono10p,
 Mono12p, Mono12Packed, RGB8; triggers come by software. Chunks are ExposureTime and LineStatusAll.
 It ends with SIGTERM."""
+import re
 import signal
 import socket
 import struct
@@ -31,7 +32,7 @@ READREG, WRITEREG, READMEM, WRITEMEM = 0x80, 0x82, 0x84, 0x86
 DISCOVERY, RESEND = 0x02, 0x40
 # Registers of the standard: what is written there is looked at.
 VERSION, MODE, IP, MAC, VENDOR, MODEL, SERIAL = 0x0, 0x4, 0x24, 0x8, 0x48, 0x68, 0xD8
-URL, STREAMS, HEARTBEAT, TICKS, LATCH, LATCHED = 0x200, 0x904, 0x938, 0x93C, 0x944, 0x948
+URL, STREAMS, HEARTBEAT, TICKS = 0x200, 0x904, 0x938, 0x93C
 PRIVILEGE, STREAM_PORT, PACKET, DELAY, ADDRESS = 0xA00, 0xD00, 0xD04, 0xD08, 0xD18
 IMAGE, CHUNKS = 0x0001, 0x4001
 # By their numbers (PFNC): the bits of a pixel, and the name.
@@ -85,9 +86,8 @@ class Words:
     @staticmethod
     def pair(word):
         """AT+N, or AT-N."""
-        at, sign, by = word.replace("-", "+-").partition("+")
-        assert sign
-        return int(at), int(by)
+        found = re.fullmatch(r"(\d+)([+-]\d+)", word)
+        return int(found[1]), int(found[2])
 
 
 class Memory:
@@ -202,10 +202,10 @@ class Camera:
             # One place for each chunk that is selected.
             at = gige_xml.CHUNKS_ON + 4 * memory.get(gige_xml.CHUNK_SELECTOR)
         memory.set(at, value)
-        if at == LATCH and value & 2:
+        if at == gige_xml.LATCH and value & 2:
             stamp = self.now()
-            memory.set(LATCHED, stamp >> 32)
-            memory.set(LATCHED + 4, stamp & 0xFFFFFFFF)
+            memory.set(gige_xml.LATCHED, stamp >> 32)
+            memory.set(gige_xml.LATCHED + 4, stamp & 0xFFFFFFFF)
         elif at == gige_xml.ACQUISITION:
             (self.streams.set if value else self.streams.clear)()
         elif at == gige_xml.TRIGGER_SOFTWARE:

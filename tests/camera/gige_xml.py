@@ -1,6 +1,8 @@
 """The description of the camera of gige.py, in GenICam's XML, and where its registers lie."""
 
 XML_AT, END = 0x10000, 0x20000
+# Those of the standard: where the clock is latched, and read.
+LATCH, LATCHED = 0x944, 0x948
 WIDTH, HEIGHT, OFFSET_X, OFFSET_Y, PIXEL_FORMAT = 0x4000, 0x4004, 0x4008, 0x400C, 0x4010
 PAYLOAD_SIZE, ACQUISITION, RATE, EXPOSURE, GAIN = 0x4014, 0x4018, 0x401C, 0x4020, 0x4024
 TRIGGER_MODE, TRIGGER_SOURCE, TRIGGER_SOFTWARE, MODE = 0x4028, 0x402C, 0x4030, 0x4034
@@ -25,21 +27,21 @@ HEAD = """<?xml version="1.0" encoding="utf-8"?>
 """
 
 
-def register(name, at, mode="RW"):
-    """A register of four bytes."""
+def register(name, at, mode="RW", length=4):
+    """A register, of four bytes mostly."""
     return (
-        f'<IntReg Name="{name}" NameSpace="Custom"><Address>0x{at:x}</Address><Length>4</Length>'
-        f"<AccessMode>{mode}</AccessMode><pPort>Device</pPort><Cachable>NoCache</Cachable>"
-        "<Sign>Unsigned</Sign><Endianess>BigEndian</Endianess></IntReg>\n"
+        f'<IntReg Name="{name}" NameSpace="Custom"><Address>0x{at:x}</Address>'
+        f"<Length>{length}</Length><AccessMode>{mode}</AccessMode><pPort>Device</pPort>"
+        "<Cachable>NoCache</Cachable><Sign>Unsigned</Sign><Endianess>BigEndian</Endianess>"
+        "</IntReg>\n"
     )
 
 
-def integer(name, at, least=0, most=0xFFFFFFFF, mode="RW"):
+def integer(name, at, least=0, most=0xFFFFFFFF, mode="RW", length=4):
     """A whole number."""
-    return (
-        f'<Integer Name="{name}" NameSpace="Standard"><pValue>{name}Reg</pValue>'
-        f"<Min>{least}</Min><Max>{most}</Max></Integer>\n" + register(f"{name}Reg", at, mode)
-    )
+    head = f'<Integer Name="{name}" NameSpace="Standard"><pValue>{name}Reg</pValue>'
+    bounds = f"<Min>{least}</Min><Max>{most}</Max></Integer>\n"
+    return head + bounds + register(f"{name}Reg", at, mode, length)
 
 
 def real(name, at, least, most):
@@ -111,6 +113,8 @@ def text():
         choice("TriggerMode", TRIGGER_MODE, {"Off": 0, "On": 1}),
         choice("TriggerSource", TRIGGER_SOURCE, {"Software": 0, "Line1": 1}),
         command("TriggerSoftware", TRIGGER_SOFTWARE, 1),
+        command("TimestampLatch", LATCH, 2),
+        integer("TimestampLatchValue", LATCHED, most=(1 << 63) - 1, mode="RO", length=8),
         yes("ChunkModeActive", CHUNK_MODE),
         choice("ChunkSelector", CHUNK_SELECTOR,
                {"Image": 0, "ExposureTime": 1, "LineStatusAll": 2}),
@@ -121,7 +125,8 @@ def text():
     names = ("Width Height OffsetX OffsetY SensorWidth SensorHeight WidthMax HeightMax PixelFormat "
              "PayloadSize AcquisitionMode AcquisitionStart AcquisitionStop AcquisitionFrameRate "
              "ExposureTime Gain TriggerSelector TriggerMode TriggerSource TriggerSoftware "
-             "ChunkModeActive ChunkSelector ChunkEnable ChunkExposureTime ChunkLineStatusAll")
+             "TimestampLatch TimestampLatchValue ChunkModeActive ChunkSelector ChunkEnable "
+             "ChunkExposureTime ChunkLineStatusAll")
     features = "".join(f"<pFeature>{it}</pFeature>" for it in names.split())
     return (HEAD + f'<Category Name="All" NameSpace="Standard">{features}</Category>\n'
             + "".join(nodes) + "</RegisterDescription>\n")

@@ -149,7 +149,7 @@ def test_packets_that_are_lost_for_good_leave_incomplete_frames_out(camera, own)
 @pytest.mark.parametrize("by", [5_000_000_000, -2_000_000_000])
 def test_times_are_the_cameras_also_where_its_clock_jumps(camera, own, by):
     """Tied once, each frame has what the camera says."""
-    own.start(f"clock=15+{by}")
+    own.start(f"clock=15{by:+}")
     it = camera(file_of(own, head=HEAD.replace("CLOCK=ptp\n", "")), "--frames", "60")
     _, frames, log = given_on(it, own)
     plus = int(it.says(r"tied to the system's clock: plus (-?\d+) us, read from the camera")[1])
@@ -183,10 +183,10 @@ def test_a_trigger_by_software_makes_a_frame(camera, own):
 def test_chunks_are_those_of_each_frame_by_its_number(camera, own, tmp_path, format):
     own.start("drop=5", "lose=40")
     more = "CHUNKS=ExposureTime,LineStatusAll\nEXPOSURE=5000\n"
-    it = camera(file_of(own, format, more), "--frames", "30", "--chunks", "said")
+    it = camera(file_of(own, format, more), "--frames", "30", "--chunks", "lines")
     head, frames, log = given_on(it, own)
     sent = own.sent()
-    (path,) = (tmp_path / "said").iterdir()
+    (path,) = (tmp_path / "lines").iterdir()
     words, *rows = csv.reader(path.read_text().splitlines())
     assert words == ["number", "time_us", "ExposureTime", "LineStatusAll"]
     assert [(int(row[0]), int(row[1])) for row in rows] == [
@@ -206,7 +206,7 @@ def test_a_camera_without_a_chunk_is_refused_by_its_name(camera, own):
 
 def test_chunks_that_can_not_be_written_are_told_once_and_frames_go_on(camera, own, tmp_path):
     own.start()
-    (tmp_path / "said").write_text("a file")
-    it = camera(file_of(own, more="CHUNKS=ExposureTime\n"), "--frames", "10", "--chunks", "said")
+    (tmp_path / "lines").write_text("a file")
+    it = camera(file_of(own, more="CHUNKS=ExposureTime\n"), "--frames", "10", "--chunks", "lines")
     given_on(it, own)
-    assert it.told().count("chunks can't be written into said: ") == 1
+    assert it.told().count("chunks can't be written into lines: ") == 1
