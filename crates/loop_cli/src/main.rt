@@ -5,8 +5,9 @@
 //! stored run (`stdin`) is the script of the first look.
 #![tactic(auto)]
 
-use loop_commands::{run_words, words_refused};
+use loop_commands::{run_words, say_what_is_read, words_refused};
 use std::env;
+use std::io::IsTerminal;
 use std::process::ExitCode;
 
 fn main(rt: HostRuntime) -> ExitCode {
@@ -16,13 +17,12 @@ fn main(rt: HostRuntime) -> ExitCode {
             // The first word is the program's own name.
             let _program = words.next();
             match words.collect::<Vec<String>>(rt.alloc()) {
-                Ok(words) => run_words(
-                    &rt,
-                    &words,
-                    rt.reader(),
-                    &mut rt.stdout(),
-                    &mut rt.stderr(),
-                ),
+                Ok(words) => {
+                    if words.is_empty() && rt.stdin().is_terminal() {
+                        say_what_is_read(&mut rt.stderr());
+                    }
+                    run_words(&rt, &words, rt.reader(), &mut rt.stdout(), &mut rt.stderr())
+                }
                 Err(refused) => words_refused(&refused.into(), &mut rt.stderr()),
             }
         }

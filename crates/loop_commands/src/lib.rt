@@ -27,5 +27,5 @@ pub use on_store::{
     Beneath, ExportTarget, NotExported, Reported, export_along, export_apart, export_text, list,
     lock, unlock, upgrade,
 };
-pub use program::{run_words, words_refused};
+pub use program::{run_words, say_what_is_read, words_refused};
 pub use simulation::simulate;

@@ -67,6 +67,15 @@ fn do_task<
     }
 }
 
+/// Prints on `err` what a program without words waits for, where a terminal is its input.
+pub fn say_what_is_read<E: Write>(err: &mut E) {
+    // Dropped: the program reads on also where standard error is closed.
+    let _ = writeln!(
+        err,
+        "loop_cli reads a script from this terminal, a call a line, up to Ctrl-D. `man loop_cli` has its commands."
+    );
+}
+
 /// Prints on `err` why the words couldn't be had, and returns the program's status.
 pub fn words_refused<E: Write>(error: &io::Error, err: &mut E) -> u8 {
     if error.kind() == io::ErrorKind::OutOfMemory {

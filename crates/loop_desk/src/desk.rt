@@ -6,7 +6,6 @@ ghost use Rattle.loop_record.specs.Geometry.{frame_bytes};
 ghost use Rattle.loop_record.specs.Plain.{pictures};
 ghost use Rattle.loop_record.specs.Recording.{Recording, last_number, picture, ring_of};
 ghost use Rattle.loop_desk.specs.Desk.{DeskState, clip_locked, clip_unlocked, flushed, frame_read, layout_upgraded, runs_told, submit_answer, submitted};
-ghost use Rattle.loop_desk.specs.Keeps.{HaveTime, KeepsTime};
 ghost use Rattle.loop_desk.specs.Space.{TellsOldest, TellsSpace};
 ghost use Rattle.loop_desk.specs.Seen.{DeskGoes, IsDesk, Opens, OutlineRefuses, SeenDesk, TellsDesk, TellsOutline, TellsStatus, answer_of, rules_of};
 ghost use Rattle.loop_store.specs.Calls.{read_with};
@@ -15,8 +14,7 @@ ghost use Rattle.loop_store.specs.Runs.{read_of};
 ghost use Rattle.loop_store.specs.Seen.{Refused, StandsFor, ring_in};
 
 use crate::group::append_first;
-use crate::keep::keep_at;
-use crate::{DeskLimits, Flushed, Kept, Outline, Space, Status};
+use crate::{DeskLimits, Flushed, Outline, Space, Status};
 use circular_buffer::HeapCircularBuffer;
 use loop_disk::Disk;
 use loop_record::{Frame, FrameHead, Geometry, Span, Times};
@@ -345,18 +343,6 @@ impl<D: Disk + Drop, A: Allocator + Copy> Desk<D, A> {
         ensures refused { IfErr result (λ fault. OutlineRefuses self.now fault) }
     {
         self.store.sought(alloc, times)
-    }
-
-    /// Locks the held frames of a time with a tag: a clip for each run of their numbers, in order, until one is
-    /// refused. The clips before it stay locked. A frame that waits isn't held yet.
-    ///
-    /// `MustReopen` if a call that writes has failed; then `NoMemory`; both before anything is locked. A lock is
-    /// refused as by `lock_clip`.
-    pub fn keep_time(&mut self, alloc: A, times: Times, tag: u64) -> Kept<A>
-        ensures goes { KeepsTime D.medium times tag self.old self.new result }
-        ensures whole { result.fault ≡ None → HaveTime times self.old result.clips.items }
-    {
-        keep_at(alloc, self, times, tag)
     }
 
     /// What the desk holds: the version of the layout, how many of the newest blocks are never removed, the next

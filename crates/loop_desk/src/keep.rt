@@ -1,11 +1,11 @@
 //! The held frames of a time, locked at a desk: each run of their numbers becomes a clip.
 
-ghost use Rattle.std.specs.Prelude.{◌≡◌, ◌≤◌, List, Some, [], length, vec_len};
+ghost use Rattle.std.specs.Prelude.{◌≡◌, ◌≤◌, List, None, Some, [], length, vec_len};
 ghost use Rattle.std.specs.Result.{result_err};
 ghost use Rattle.std.specs.Vec.{vec_capacity};
 ghost use Rattle.loop_desk.specs.Desk.{DeskCall};
 ghost use Rattle.loop_desk.specs.Seen.{DeskGoes};
-ghost use Rattle.loop_desk.specs.Keeps.{AreLocks, KeepsTime};
+ghost use Rattle.loop_desk.specs.Keeps.{AreLocks, HaveTime, KeepsTime};
 
 use crate::Desk;
 use loop_disk::Disk;
@@ -53,8 +53,8 @@ fn refused<A: Allocator>(clips: Vec<Clip, A>, fault: StoreFault) -> Kept<A>
     }
 }
 
-/// Locks the held frames of a time at a desk: a clip for each run of their numbers.
-pub(crate) fn keep_at<D: Disk + Drop, A: Allocator + Copy>(
+// Locks the held frames of a time at a desk: a clip for each run of their numbers.
+fn keep_at<D: Disk + Drop, A: Allocator + Copy>(
     alloc: A,
     desk: &mut Desk<D, A>,
     times: Times,
@@ -73,5 +73,19 @@ pub(crate) fn keep_at<D: Disk + Drop, A: Allocator + Copy>(
     match lock_runs(desk, tag, runs.as_slice(), &mut clips) {
         Ok(()) => Kept { clips, fault: None },
         Err(fault) => refused(clips, fault),
+    }
+}
+
+impl<D: Disk + Drop, A: Allocator + Copy> Desk<D, A> {
+    /// Locks the held frames of a time with a tag: a clip for each run of their numbers, in order, until one is
+    /// refused. The clips before it stay locked. A frame that waits isn't held yet.
+    ///
+    /// `MustReopen` if a call that writes has failed; then `NoMemory`; both before anything is locked. A lock is
+    /// refused as by `lock_clip`.
+    pub fn keep_time(&mut self, alloc: A, times: Times, tag: u64) -> Kept<A>
+        ensures goes { KeepsTime D.medium times tag self.old self.new result }
+        ensures whole { result.fault ≡ None → HaveTime times self.old result.clips.items }
+    {
+        keep_at(alloc, self, times, tag)
     }
 }

@@ -11,8 +11,7 @@ ghost use Rattle.loop_disk.specs.Sound.{sound_of};
 ghost use Rattle.loop_disk.specs.Crashing.{Tape, call_of, after_call, moment_after, moments_from, medium_after, IsWithin, IsSpoiled, spoiled_byte};
 ghost use Rattle.loop_disk.specs.Replay.{IsReplayed, PutsSpoiled};
 
-use crate::memory::put;
-use crate::rows::join_rows;
+use crate::rows::{join_rows, put};
 use crate::{Disk, DiskFault, Failures, MemDisk};
 use std::alloc::{AllocError, Allocator, Global};
 use std::marker::Model;

@@ -123,13 +123,3 @@ impl<A: Allocator> Disk for MemDisk<A> {
         Ok(())
     }
 }
-
-/// Puts bytes in their place.
-pub(crate) fn put<A: Allocator>(image: &mut Vec<u8, A>, at: u64, bytes: &[u8])
-    requires { at + length bytes.now ≤ length image.old.items }
-    ensures { image.new.items ≡ with_bytes_at at bytes.now image.old.items }
-{
-    let start = at as usize;
-    let end = start + bytes.len();
-    image[start..end].copy_from_slice(bytes);
-}

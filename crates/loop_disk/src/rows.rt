@@ -3,7 +3,6 @@ ghost use Rattle.std.specs.Prelude.{◌≡◌, ◌+◌, ◌<◌, ◌≤◌, ◌^
 ghost use Rattle.loop_disk.specs.Medium.{with_bytes_at};
 ghost use Rattle.loop_disk.specs.Rows.{joined};
 
-use crate::memory::put;
 use std::alloc::{AllocError, Allocator};
 
 /// How many bytes rows have together.
@@ -37,4 +36,14 @@ pub(crate) fn put_rows<A: Allocator>(image: &mut Vec<u8, A>, at: u64, rows: &[&[
         put(image, at, first);
         put_rows(image, at + first.len() as u64, others);
     }
+}
+
+/// Puts bytes in their place.
+pub(crate) fn put<A: Allocator>(image: &mut Vec<u8, A>, at: u64, bytes: &[u8])
+    requires { at + length bytes.now ≤ length image.old.items }
+    ensures { image.new.items ≡ with_bytes_at at bytes.now image.old.items }
+{
+    let start = at as usize;
+    let end = start + bytes.len();
+    image[start..end].copy_from_slice(bytes);
 }

@@ -9,11 +9,10 @@ ghost use Rattle.loop_file.specs.Outcomes.{IsUnused, failing_as};
 
 use crate::fault::FileFault;
 use crate::fresh::make_fresh;
+use crate::lock::take;
 use crate::opened::open_file;
-use crate::place::{FilePlace, take};
 use crate::rows::write_rows;
 use loop_disk::{Disk, DiskEvent, DiskFault, Failures, Past};
-use std::alloc::AllocGlobal;
 use std::fs::{File, OpenFile, OpenOptions};
 use std::io;
 use std::io::ErrorKind;
@@ -35,19 +34,6 @@ pub struct FileDisk<F = File> {
 }
 
 impl FileDisk {
-    /// Makes the file anew, with so many bytes of zero, or makes an old one so, as `FilePlace::create` does.
-    pub fn create<R: AllocGlobal + Files<File = File>>(
-        rt: &R,
-        path: &str,
-        size: u64,
-    ) -> Result<Self, FileFault>
-        ensures size { IfOk result (λ disk. (⟦<FileDisk<File> as Disk>⟧.medium disk).size ≡ size) }
-        ensures unused { IfOk result (λ disk. IsUnused (⟦<FileDisk<File> as Disk>⟧.medium disk)) }
-    {
-        let mut place = FilePlace::of(rt, path)?;
-        place.create(rt, size)
-    }
-
     /// Opens an existing file, for reading and writing. Its length is the disk's size.
     pub fn open<R: Files<File = File>, P: AsPath>(rt: &R, path: P) -> Result<Self, FileFault>
         ensures { IfOk result (λ disk. IsUnused (⟦<FileDisk<File> as Disk>⟧.medium disk)) }

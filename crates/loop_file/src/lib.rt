@@ -7,8 +7,8 @@
 //!
 //! `file` has the disk; `rows` how rows become writes of whole pages; `place` where a path's file is, and how it is
 //! made there or given up; `fresh` the order in which an old file is made anew; `text` a file or pipe that a text is
-//! written to; `opened` how each of them is opened, never with the number of a standard stream; `fault` why a file
-//! can't be opened. `specs/Outcomes` says how a file's answer becomes the disk's. `ahead` has the disk that reads
+//! written to; `opened` how each of them is opened, never with the number of a standard stream; `lock` how its lock is
+//! taken; `fault` why a file can't be opened. `specs/Outcomes` says how a file's answer becomes the disk's. `ahead` has the disk that reads
 //! ahead; `window` the bytes that were read ahead (`specs/Windows`).
 //!
 //! docs/store.md says why it is so.
@@ -18,6 +18,7 @@ mod ahead;
 mod fault;
 mod file;
 mod fresh;
+mod lock;
 mod opened;
 mod place;
 mod rows;

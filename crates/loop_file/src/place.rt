@@ -5,10 +5,11 @@ ghost use Rattle.loop_file.specs.Outcomes.{IsUnused};
 use crate::fault::FileFault;
 use crate::file::FileDisk;
 use crate::fresh::{close, make_fresh};
+use crate::lock::take;
 use crate::opened::{open_file, open_to_read};
 use loop_disk::Disk;
 use std::alloc::AllocGlobal;
-use std::fs::{File, OpenOptions, TryLockError};
+use std::fs::{File, OpenOptions};
 use std::io::ErrorKind;
 use std::os::unix::fs::MetadataExt;
 use std::path::{Path, PathBuf};
@@ -147,24 +148,18 @@ impl FilePlace {
     }
 }
 
-/// Takes the lock of a regular file, and never waits for it.
-pub(crate) fn take(file: &File) -> Result<(), FileFault> {
-    let data = file.metadata()?;
-    if data.is_dir() {
-        return Err(FileFault::Folder);
-    }
-    if !data.is_file() {
-        return Err(FileFault::NotRegular);
-    }
-    lock(file)
-}
-
-/// Takes the lock of an open file, and never waits for it.
-pub(crate) fn lock(file: &File) -> Result<(), FileFault> {
-    match file.try_lock() {
-        Ok(()) => Ok(()),
-        Err(TryLockError::WouldBlock) => Err(FileFault::Busy),
-        Err(TryLockError::Error(error)) => Err(FileFault::from(error)),
+impl FileDisk {
+    /// Makes the file anew, with so many bytes of zero, or makes an old one so, as `FilePlace::create` does.
+    pub fn create<R: AllocGlobal + Files<File = File>>(
+        rt: &R,
+        path: &str,
+        size: u64,
+    ) -> Result<Self, FileFault>
+        ensures size { IfOk result (λ disk. (⟦<FileDisk<File> as Disk>⟧.medium disk).size ≡ size) }
+        ensures unused { IfOk result (λ disk. IsUnused (⟦<FileDisk<File> as Disk>⟧.medium disk)) }
+    {
+        let mut place = FilePlace::of(rt, path)?;
+        place.create(rt, size)
     }
 }
 

@@ -2,8 +2,9 @@
 
 use crate::fault::FileFault;
 use crate::file::sync_through;
+use crate::lock::lock;
 use crate::opened::{open_file, open_to_read};
-use crate::place::{folder_of, lock};
+use crate::place::folder_of;
 use std::alloc::AllocGlobal;
 use std::fs::{File, OpenOptions};
 use std::io::{ErrorKind, Write};

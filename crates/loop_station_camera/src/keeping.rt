@@ -11,7 +11,7 @@ use loop_desk::Kept;
 use loop_disk::Disk;
 use loop_pipeline::{Back, Guide};
 use loop_record::Times;
-use loop_station_core::{Keep, KeepTurn, clip_id, next_turn};
+use loop_station_core::{Keep, KeepTurn, Look, clip_id, next_turn};
 use loop_store::{Clip, StoreFault};
 use std::alloc::Global;
 use std::sync::Wait;
@@ -32,15 +32,15 @@ pub(crate) fn turn_of<R: Wait + Clock>(
 ) -> (Keep, KeepTurn) {
     let now = state.timeline.now(rt);
     let come = state.feed.come(rt, now.min(keep.until));
-    next_turn(
-        keep,
-        &state.tally(rt),
-        now,
+    let look = Look {
+        tally: state.tally(rt),
+        time: now,
         come,
-        state.newest_block(rt),
-        state.is_locked(rt),
-        state.is_stopped(rt),
-    )
+        block: state.newest_block(rt),
+        locked: state.is_locked(rt),
+        stopping: state.is_stopped(rt),
+    };
+    next_turn(keep, &look)
 }
 
 /// What a keep locks now; None where it waits.

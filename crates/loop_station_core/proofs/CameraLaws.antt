@@ -1,13 +1,16 @@
 -- What holds of a camera whatever happens.
-use Rattle.std.proofs.Common.{◌≡◌, true, false, List, [], ◌∷◌, is_some, arith, refl}
+use Rattle.std.proofs.Common.{◌≡◌, true, false, List, [], ◌∷◌, is_some, arith, refl, ◌≢◌, ◌⊎◌, inl, inr, ◌+◌, ◌*◌, ◌<◌}
 use Rattle.std.proofs.lemmas.Grind.{common_steps}
-use Rattle.loop_station_core.specs.Cameras.{lived, step_camera}
+use Rattle.loop_station_core.specs.Cameras.{lived, step_camera, CamerasEndWithTheProgram, EndedFilmingsGoOn, LockedFilmingsWait, OffersAreAnswered, SilenceIsSeen, source_seen, stops_in}
 use Rattle.loop_station_core.specs.Laws.{NoneBegins, NothingBreaks}
-use Rattle.loop_station_core.specs.declared.camera.Act.TheVariants.{GiveUp}
+use Rattle.loop_station_core.specs.declared.camera.Act.TheVariants.{GiveUp, Finish, Refuse}
 use Rattle.loop_station_core.specs.declared.camera.Camera.{Camera}
 use Rattle.loop_station_core.specs.declared.camera.Event.{Event}
 use Rattle.loop_station_core.specs.declared.camera.Event.TheVariants.{Filming, Source}
 use Rattle.loop_station_core.specs.declared.camera.FilmingEvent.TheVariants.{Stop, Begin, Store, AllLocked, Break, Move, End, Leave}
+use Rattle.loop_station_core.specs.declared.changes.SourceSeen.{SourceSeen}
+use Rattle.loop_station_core.specs.declared.changes.SourceSeen.TheVariants.{Missing, Silent, Other, Unusable, On}
+use Rattle.loop_station_core.specs.declared.camera.SourceEvent.TheVariants as its
 
 stays : (c : Camera) (e : Event) → c.stopping ≡ true → (step_camera c e).0.stopping ≡ true
 stays c e h = grind (arith, common_steps)
@@ -73,3 +76,75 @@ waits-after c (e ∷ es) h = waits-after (step_camera c e).0 es (waits-on c e h)
 pub silent-wait : (c : Camera) (es : List Event) → c.silent ≡ false
     → (lived c es).silent ≡ true → is_some (lived c es).waits ≡ true
 silent-wait c es h = waits-after c es (λ s. grind (arith, common_steps))
+
+-- a camera is stopping once the program ends, and not before
+stops-with : (c : Camera) (es : List Event) → c.stopping ≡ false → (lived c es).stopping ≡ stops_in es
+stops-with c [] h = h
+stops-with c (Filming Stop ∷ es) h = stays-after (step_camera c (Filming Stop)).0 es refl
+stops-with c (Filming Begin ∷ es) h = stops-with (step_camera c (Filming Begin)).0 es h
+stops-with c (Filming (Store n) ∷ es) h = stops-with (step_camera c (Filming (Store n))).0 es h
+stops-with c (Filming AllLocked ∷ es) h = stops-with (step_camera c (Filming AllLocked)).0 es h
+stops-with c (Filming Break ∷ es) h = stops-with (step_camera c (Filming Break)).0 es h
+stops-with c (Filming Move ∷ es) h = stops-with (step_camera c (Filming Move)).0 es h
+stops-with c (Filming (End b) ∷ es) h = stops-with (step_camera c (Filming (End b))).0 es h
+stops-with c (Filming Leave ∷ es) h =
+    stops-with (step_camera c (Filming Leave)).0 es (grind (arith, common_steps))
+stops-with c (Source s ∷ es) h = stops-with (step_camera c (Source s)).0 es (grind (arith, common_steps))
+
+-- what follows, by whether it is stopping
+finishes : (c : Camera) → c.stopping ≡ true
+    → ((step_camera c (Filming (End false))).1 ≡ Finish) × ((step_camera c (Filming Leave)).1 ≡ Finish)
+finishes c h = (grind (arith, common_steps), grind (arith, common_steps))
+
+goes-on-with : (c : Camera) (e : Event) → c.stopping ≡ false → (step_camera c e).1 ≢ Finish
+goes-on-with c (Filming Stop) h e = absurd (cc)
+goes-on-with c (Filming Begin) h e = absurd (cc)
+goes-on-with c (Filming (Store n)) h e = absurd (cc)
+goes-on-with c (Filming AllLocked) h e = grind (arith, common_steps)
+goes-on-with c (Filming Break) h e = absurd (cc)
+goes-on-with c (Filming Move) h e = absurd (cc)
+goes-on-with c (Filming (End b)) h e = grind (arith, common_steps)
+goes-on-with c (Filming Leave) h e = grind (arith, common_steps)
+goes-on-with c (Source s) h e = grind (arith, common_steps)
+
+pub cameras-end : CamerasEndWithTheProgram
+cameras-end c es h = let is = stops-with c es h in (
+  (λ e. finishes (lived c es) (grind (arith, common_steps))),
+  (λ e next. goes-on-with (lived c es) next (grind (arith, common_steps))),
+)
+
+pub filmings-follow : EndedFilmingsGoOn
+filmings-follow c must_reopen h = (grind (arith, common_steps), grind (arith, common_steps))
+
+pub locked-wait : LockedFilmingsWait
+locked-wait c = ((λ o s. grind (arith, common_steps)), after)
+  where
+    after : (c.over ≡ true) ⊎ (c.stopping ≡ true) → (step_camera c (Filming AllLocked)).1 ≡ GiveUp
+    after (inl o) = grind (arith, common_steps)
+    after (inr s) = grind (arith, common_steps)
+
+pub offers-answered : OffersAreAnswered
+offers-answered c = (refl, refuses c.source refl, refl)
+  where
+    refuses : (x : SourceSeen) → c.source ≡ x → c.source ≢ Other → (step_camera c (Source (its.Offer false))).1 ≡ Refuse
+    refuses Missing e n = grind (arith, common_steps)
+    refuses Silent e n = grind (arith, common_steps)
+    refuses Other e n = absurd (n e)
+    refuses Unusable e n = grind (arith, common_steps)
+    refuses On e n = grind (arith, common_steps)
+
+pub silence-seen : SilenceIsSeen
+silence-seen c since now frame w (inl on) fits =
+    ((λ a b. grind (arith, common_steps)), (λ either. early either), grind (arith, common_steps))
+  where
+    early : (now < since + 2000000) ⊎ (now < since + frame * 3)
+        → source_seen (step_camera c (Source (its.Look now frame))).0 ≡ c.source
+    early (inl a) = grind (arith, common_steps)
+    early (inr b) = grind (arith, common_steps)
+silence-seen c since now frame w (inr gone) fits =
+    ((λ a b. grind (arith, common_steps)), (λ either. early either), grind (arith, common_steps))
+  where
+    early : (now < since + 2000000) ⊎ (now < since + frame * 3)
+        → source_seen (step_camera c (Source (its.Look now frame))).0 ≡ c.source
+    early (inl a) = grind (arith, common_steps)
+    early (inr b) = grind (arith, common_steps)

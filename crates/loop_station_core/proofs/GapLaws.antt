@@ -1,9 +1,10 @@
 -- What is held of a time and its gaps are all of it.
-use Rattle.std.proofs.Common.{◌≡◌, ℕ, ◌+◌, ◌-◌, ◌≤◌, Bool, true, false, List, [], ◌∷◌, arith, filter, if◌then◌else◌}
+use Rattle.std.proofs.Common.{◌≡◌, ℕ, ◌+◌, ◌-◌, ◌≤◌, Bool, true, false, List, [], ◌∷◌, arith, filter, if◌then◌else◌, refl}
 use Rattle.std.proofs.lemmas.List.Sums.{sum_by-cons}
-use Rattle.loop_station_core.specs.Gaps.{AreWithin, between, gaps, is_long_gap, micros_missing}
+use Rattle.loop_station_core.specs.Gaps.{AreWithin, between, gaps, is_long_gap, micros_missing, TimesAddUp, micros_held}
 use Rattle.loop_station_core.specs.declared.runs.Gap.{Gap}
 use Rattle.loop_station_core.specs.declared.runs.Run.{Run}
+use Rattle.std.proofs.lemmas.Grind.{common_steps}
 
 -- how long a gap and others are
 missing-cons : (g : Gap) (gs : List Gap) → micros_missing (g ∷ gs) ≡ g.micros + micros_missing gs
@@ -20,6 +21,12 @@ long-fits : (period : ℕ) (gs : List Gap) → micros_missing (filter (is_long_g
 long-fits period [] = omega arith
 long-fits period (g ∷ gs) = one-more (is_long_gap period g) g (filter (is_long_gap period) gs) gs (long-fits period gs)
 
+-- a time that runs lie within ends no earlier than it begins
+within-ends : (since : ℕ) (runs : List Run) (until : ℕ) → AreWithin since runs until → since ≤ until
+within-ends since [] until h = h
+within-ends since (r ∷ rs) until h = let rest : r.last ≤ until = within-ends r.last rs until h.2 in
+    let first : since ≤ r.first = h.0 in let last : r.first ≤ r.last = h.1 in omega arith
+
 -- which is no longer than the time
 between-fits : (since until : ℕ) (runs : List Run) → AreWithin since runs until → micros_missing (between since runs until) ≤ until - since
 between-fits since until [] h = let one = missing-cons (record { micros = until - since; at = since }) [] in omega arith
@@ -27,14 +34,9 @@ between-fits since until (r ∷ rs) h =
     let first : since ≤ r.first = h.0 in
     let last : r.first ≤ r.last = h.1 in
     let rest : micros_missing (between r.last rs until) ≤ until - r.last = between-fits r.last until rs h.2 in
-    let within : r.last ≤ until = ends r.last rs until h.2 in
+    let within : r.last ≤ until = within-ends r.last rs until h.2 in
     let more = missing-cons (record { micros = r.first - since; at = since }) (between r.last rs until) in
     omega arith
-  where
-    ends : (since : ℕ) (runs : List Run) (until : ℕ) → AreWithin since runs until → since ≤ until
-    ends since [] until h = h
-    ends since (r ∷ rs) until h = let rest : r.last ≤ until = ends r.last rs until h.2 in
-        let first : since ≤ r.first = h.0 in let last : r.first ≤ r.last = h.1 in omega arith
 
 pub gaps-add-up : (period since until : ℕ) (runs : List Run) → AreWithin since runs until
     → until - since - micros_missing (gaps period since runs until) + micros_missing (gaps period since runs until) ≡ until - since
@@ -42,3 +44,31 @@ gaps-add-up period since until runs h =
     let long : micros_missing (gaps period since runs until) ≤ micros_missing (between since runs until) = long-fits period (between since runs until) in
     let all : micros_missing (between since runs until) ≤ until - since = between-fits since until runs h in
     omega arith
+
+-- with a period of nothing, each gap is long that is one
+zero-more : (b : Bool) (g : Gap) (xs ys : List Gap) → is_long_gap 0 g ≡ b → micros_missing xs ≡ micros_missing ys
+    → micros_missing (if b then g ∷ xs else xs) ≡ micros_missing (g ∷ ys)
+zero-more true g xs ys e h = omega (arith, missing-cons g xs, missing-cons g ys)
+zero-more false g xs ys e h =
+    let none : g.micros ≡ 0 = grind (arith, common_steps) in omega (arith, missing-cons g ys)
+
+zero-all : (gs : List Gap) → micros_missing (filter (is_long_gap 0) gs) ≡ micros_missing gs
+zero-all [] = refl
+zero-all (g ∷ gs) = zero-more (is_long_gap 0 g) g (filter (is_long_gap 0) gs) gs refl (zero-all gs)
+
+-- what lies between runs within a time, and they
+all-between : (since until : ℕ) (runs : List Run) → AreWithin since runs until
+    → micros_missing (between since runs until) + micros_held runs ≡ until - since
+all-between since until [] h = let one = missing-cons (record { micros = until - since; at = since }) [] in omega arith
+all-between since until (r ∷ rs) h =
+    let first : since ≤ r.first = h.0 in
+    let last : r.first ≤ r.last = h.1 in
+    let rest : micros_missing (between r.last rs until) + micros_held rs ≡ until - r.last = all-between r.last until rs h.2 in
+    let within : r.last ≤ until = within-ends r.last rs until h.2 in
+    let more = missing-cons (record { micros = r.first - since; at = since }) (between r.last rs until) in
+    let held : micros_held (r ∷ rs) ≡ r.last - r.first + micros_held rs = sum_by-cons (λ x. x.last - x.first) r rs in
+    omega arith
+
+pub times-add-up : TimesAddUp
+times-add-up since until runs h =
+    let same = zero-all (between since runs until) in let all = all-between since until runs h in omega arith

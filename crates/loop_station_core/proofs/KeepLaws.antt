@@ -1,7 +1,7 @@
 -- What a keep does is right by its line.
-use Rattle.std.proofs.Common.{◌≡◌, ℕ, ◌≤◌, ◌⊎◌, ◌||◌, ◌&&◌, ◌==◌, Bool, true, false, not, List, [], ◌∷◌, Option, Some, None, arith, refl, inl, inr, is_some, unwrap_or, max, nat_le, if◌then◌else◌}
+use Rattle.std.proofs.Common.{◌≡◌, ◌∙◌, ap, subst, sym, ℕ, ◌≤◌, ◌⊎◌, ◌||◌, ◌&&◌, ◌==◌, Bool, true, false, not, List, [], ◌∷◌, Option, Some, None, arith, refl, inl, inr, is_some, unwrap_or, max, nat_le, if◌then◌else◌}
 use Rattle.std.proofs.lemmas.Grind.{common_steps}
-use Rattle.loop_station_core.specs.Keeps.{AreInOrder, EachTurn, HasTimesOf, IsClear, IsRight, IsTimely, acts, end_seen, is_clear, is_done, looked, part_is_due, part_locked, progress_seen, step_keep, steps_taken}
+use Rattle.loop_station_core.specs.Keeps.{AreInOrder, EachTurn, HasTimesOf, IsClear, IsRight, IsTimely, acts, end_seen, is_clear, is_done, looked, needed, part_is_due, part_locked, progress_seen, step_keep, steps_taken}
 use Rattle.loop_station_core.specs.declared.keep.Keep.{Keep}
 use Rattle.loop_station_core.specs.declared.keep.Look.{Look}
 use Rattle.loop_station_core.specs.declared.keep.KeepTurn.{KeepTurn}
@@ -130,3 +130,42 @@ all-right first k now (l ∷ ls) h s o =
 pub keeps-right : (k : Keep) (now : ℕ) (looks : List Look) → IsTimely now k → AreInOrder now looks
     → EachTurn (λ look after turn. IsRight k look after turn × HasTimesOf k after) k looks
 keeps-right k now looks s o = all-right k k now looks (refl, refl, refl, refl, refl) s o
+
+-- how many frames it needs, by what was known before it looked
+needed-is : (k : Keep) (l : Look) → needed (looked k l) l ≡ unwrap_or k.all (max l.come k.come)
+needed-is k l =
+    let m = progress_seen k (steps_taken l.tally) l.time in
+    at m k.all (moved-all k (steps_taken l.tally) l.time) (moved-times k (steps_taken l.tally) l.time).4
+  where
+    none : (b : Bool) → b && false ≡ false
+    none true = refl
+    none false = refl
+
+    by : (m : Keep) → m.all ≡ None → m.come ≡ k.come → (b : Bool) → nat_le m.until l.time ≡ b
+        → needed (end_seen m l.time l.come) l ≡ max l.come k.come
+    by m is come true h = subst (λ b. needed (if b then record m { all = Some (max l.come m.come) } else m) l ≡ max l.come k.come)
+        (sym (ap (λ o. nat_le m.until l.time && not (is_some o)) is ∙ ap (λ x. x && true) h)) (ap (λ c. max l.come c) come)
+    by m is come false h = subst (λ b. needed (if b then record m { all = Some (max l.come m.come) } else m) l ≡ max l.come k.come)
+        (sym (ap (λ o. nat_le m.until l.time && not (is_some o)) is ∙ ap (λ x. x && true) h))
+        (ap (λ o. unwrap_or o (max l.come m.come)) is ∙ ap (λ c. max l.come c) come)
+
+    at : (m : Keep) (o : Option ℕ) → m.all ≡ o → m.come ≡ k.come
+        → needed (end_seen m l.time l.come) l ≡ unwrap_or o (max l.come k.come)
+    at m (Some n) is come = subst (λ b. needed (if b then record m { all = Some (max l.come m.come) } else m) l ≡ n)
+        (sym (ap (λ o. nat_le m.until l.time && not (is_some o)) is ∙ none (nat_le m.until l.time)))
+        (ap (λ o. unwrap_or o (max l.come m.come)) is)
+    at m None is come = by m is come (nat_le m.until l.time) refl
+
+-- where it is done, that many are clear
+clear-at : (k : Keep) (l : Look) (b c : Bool) → is_done k l ≡ b → part_is_due k l ≡ c
+    → (let r : Keep × KeepTurn = if b then (k, Whole) else (if c then part_locked k l else (k, Wait)) in r.1 ≡ Whole
+    → IsClear (needed k l) r.0 l)
+clear-at k l true c h i e = free-means (needed k l) k l (grind (arith, common_steps))
+clear-at k l false true h i e = absurd (cc)
+clear-at k l false false h i e = absurd (cc)
+
+pub keeps-have-all : (k : Keep) (l : Look) → (step_keep k l).1 ≡ Whole
+    → IsClear (unwrap_or k.all (max l.come k.come)) (step_keep k l).0 l
+keeps-have-all k l e =
+    subst (λ n. IsClear n (step_keep k l).0 l) (needed-is k l)
+    (clear-at (looked k l) l (is_done (looked k l) l) (part_is_due (looked k l) l) refl refl e)

@@ -1,8 +1,8 @@
 -- Lines say what is so, once.
-use Rattle.std.proofs.Common.{◌≡◌, ℕ, ◌+◌, ◌/◌, ◌≤◌, ◌==◌, ◌||◌, ◌&&◌, Bool, true, false, List, [], ◌∷◌, Option, Some, None, IfSome, arith, refl, nat_lt, if◌then◌else◌}
+use Rattle.std.proofs.Common.{◌≡◌, ℕ, ◌+◌, ◌/◌, ◌≤◌, ◌==◌, ◌||◌, ◌&&◌, Bool, true, false, List, [], ◌∷◌, Option, Some, None, IfSome, arith, refl, nat_lt, if◌then◌else◌, subst, sym, suc, zero}
 use Rattle.std.proofs.lemmas.Grind.{common_steps}
-use Rattle.loop_station_core.specs.Laws.{Alternate, IsSo, StaysLost, is_measured, locked_lines, lost_in_line, lost_told_in, syncs_in}
-use Rattle.loop_station_core.specs.Telling.{is_missing, known_after, lines_of, same_source, source_line, told_behind, told_locked, told_lost, told_making, told_nearly, told_slow, told_source, told_store, told_syncs, told_unusable, told_waited}
+use Rattle.loop_station_core.specs.Laws.{Alternate, IsSo, StaysLost, is_measured, locked_lines, lost_in_line, lost_told_in, syncs_in, LinesAreSo, LockedLinesTellAll}
+use Rattle.loop_station_core.specs.Telling.{is_missing, known_after, lines_of, same_source, source_line, told_behind, told_locked, told_lost, told_making, told_nearly, told_slow, told_source, told_store, told_syncs, told_unusable, told_waited, FirstLooksTellAll, LinesTellAll, heard_behind, heard_store}
 use Rattle.loop_station_core.specs.declared.changes.SourceSeen.{SourceSeen}
 use Rattle.loop_station_core.specs.declared.changes.SourceSeen.TheVariants.{Missing, Silent, Other, Unusable, On}
 use Rattle.loop_station_core.specs.declared.changes.StoreSeen.{StoreSeen}
@@ -117,24 +117,23 @@ syncs-so s known = grind (arith, common_steps)
 slow-so : (s : Seen) (known : Bool) → IfSome (told_slow known s.disk) (IsSo s)
 slow-so s known = grind (arith, common_steps)
 
-pub lines-so : (r : Reported) (s : Seen) → let lines = lines_of r s in
-    IfSome lines.source (IsSo s) × IfSome lines.store (IsSo s) × IfSome lines.given_up (IsSo s)
-    × IfSome lines.locked (IsSo s) × IfSome lines.nearly (IsSo s) × IfSome lines.behind (IsSo s)
-    × IfSome lines.waited (IsSo s) × IfSome lines.unusable (IsSo s) × IfSome lines.making (IsSo s)
-    × IfSome lines.syncs (IsSo s) × IfSome lines.slow (IsSo s)
-lines-so r s = (
-  source-so s r.source (nat_lt s.now r.soon),
-  store-at s s.store r.store (nat_lt s.now r.soon) refl,
-  lost-so s r.lost,
-  locked-so s r.locked s.locked refl,
-  nearly-so s r.nearly,
-  behind-so s r.behind,
-  waited-so s r.waited s.waited,
-  unusable-at s s.source r.unusable refl,
-  making-at s s.store r.making refl,
-  syncs-so s r.disk,
-  slow-so s r.disk,
-)
+-- a line that is one of those that say what is so
+as-so : (s : Seen) (line other : Option Change) → line ≡ other → IfSome other (IsSo s) → IfSome line (IsSo s)
+as-so s line other e h = subst (λ l. IfSome l (IsSo s)) (sym e) h
+
+pub lines-so : LinesAreSo
+lines-so r s zero line h is = as-so s line _ (is.0 refl) (source-so s r.source (nat_lt s.now r.soon))
+lines-so r s (suc zero) line h is = as-so s line _ (is.1 refl) (store-at s s.store r.store (nat_lt s.now r.soon) refl)
+lines-so r s (suc (suc zero)) line h is = as-so s line _ (is.2 refl) (lost-so s r.lost)
+lines-so r s (suc (suc (suc zero))) line h is = as-so s line _ (is.3 refl) (locked-so s r.locked s.locked refl)
+lines-so r s (suc (suc (suc (suc zero)))) line h is = as-so s line _ (is.4 refl) (nearly-so s r.nearly)
+lines-so r s (suc (suc (suc (suc (suc zero))))) line h is = as-so s line _ (is.5 refl) (behind-so s r.behind)
+lines-so r s (suc (suc (suc (suc (suc (suc zero)))))) line h is = as-so s line _ (is.6 refl) (waited-so s r.waited s.waited)
+lines-so r s (suc (suc (suc (suc (suc (suc (suc zero))))))) line h is = as-so s line _ (is.7 refl) (unusable-at s s.source r.unusable refl)
+lines-so r s (suc (suc (suc (suc (suc (suc (suc (suc zero)))))))) line h is = as-so s line _ (is.8 refl) (making-at s s.store r.making refl)
+lines-so r s (suc (suc (suc (suc (suc (suc (suc (suc (suc zero))))))))) line h is = as-so s line _ (is.9 refl) (syncs-so s r.disk)
+lines-so r s (suc (suc (suc (suc (suc (suc (suc (suc (suc (suc zero)))))))))) line h is = as-so s line _ (is.10 refl) (slow-so s r.disk)
+lines-so r s (suc (suc (suc (suc (suc (suc (suc (suc (suc (suc (suc kind))))))))))) line h is = absurd (omega (arith, h))
 
 -- once the disk is told, it isn't told again
 told-never : (r : Reported) (seen : List Seen) → r.disk ≡ true → syncs_in r seen ≡ 0
@@ -199,3 +198,41 @@ lines-alternate false (false ∷ bs) = lines-alternate false bs
 lines-alternate false (true ∷ bs) = lines-alternate true bs
 lines-alternate true (true ∷ bs) = lines-alternate true bs
 lines-alternate true (false ∷ bs) = lines-alternate false bs
+
+pub locked-tell : LockedLinesTellAll
+locked-tell false false [] = refl
+locked-tell false true [] = refl
+locked-tell true false [] = refl
+locked-tell true true [] = refl
+locked-tell false last (false ∷ bs) = locked-tell false last bs
+locked-tell false last (true ∷ bs) = locked-tell true last bs
+locked-tell true last (true ∷ bs) = locked-tell true last bs
+locked-tell true last (false ∷ bs) = locked-tell false last bs
+
+-- what is known of a store is what is heard, and what is so
+store-heard : (known seen : StoreSeen) (early : Bool)
+    → (told_store known seen early).0 ≡ heard_store known (told_store known seen early).1
+store-heard known seen early = grind (arith, common_steps)
+
+behind-heard : (known behind : ℕ) → (told_behind known behind).0 ≡ heard_behind known (told_behind known behind).1
+behind-heard known behind = grind (arith, common_steps)
+
+pub first-tell : FirstLooksTellAll
+first-tell now s fits = (
+  (λ e. grind (arith, common_steps)),
+  (λ e. grind (arith, common_steps)),
+  (λ e. grind (arith, common_steps)),
+  (λ e. grind (arith, common_steps)),
+  (λ e late. grind (arith, common_steps)),
+  (λ e early. grind (arith, common_steps)),
+)
+
+pub lines-tell : LinesTellAll
+lines-tell r s = (
+  store-heard r.store s.store (nat_lt s.now r.soon),
+  (λ e. grind (arith, common_steps)),
+  (λ cause e late. grind (arith, common_steps)),
+  behind-heard r.behind s.behind,
+  (λ e. grind (arith, common_steps)),
+  (λ some. (grind (arith, common_steps), grind (arith, common_steps))),
+)

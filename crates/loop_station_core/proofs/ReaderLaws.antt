@@ -4,21 +4,16 @@ use Rattle.std.specs.List.{list_any, position, position_or_len}
 use Rattle.std.proofs.lemmas.Grind.{common_steps}
 use Rattle.loop_station_core.proofs.ReleaseLaws.{first-at}
 use Rattle.loop_station_core.specs.Clips.{may_release, may_release_saved}
-use Rattle.loop_station_core.specs.Laws.{OrdersSpareReadClips, SavedClipsAreReleased, clip_key}
-use Rattle.loop_station_core.specs.Releases.{SaveStep, asks, cancels, ends, no_saves, one_if, saves_after, saves_after_all, saves_ended_by, saves_ended_in, saves_taken_by, saves_taken_in, stops}
+use Rattle.loop_station_core.specs.Laws.{OrdersSpareReadClips, SavedClipsAreReleased, clip_key, OrdersReleaseUnreadClips}
+use Rattle.loop_station_core.specs.Releases.{SaveStep, asks, cancels, ends, no_saves, one_if, saves_after, saves_after_all, saves_ended_by, saves_ended_in, saves_taken_by, saves_taken_in, stops, SavesAddUp, counted, readers}
 use Rattle.loop_station_core.specs.Saving.{Places, after_end_of, begun, covers, earns, ended_at, freed, has_key, has_such, held_at, is_read, is_same, left_to_others, new_save, place_of, place_with, turn_of_clip, turn_with, update, update_held, wanted, with_cancel, with_release, with_wish}
 use Rattle.loop_station_core.specs.declared.clips.MayRelease.TheVariants.{Now}
 use Rattle.loop_station_core.specs.declared.save_end.SaveEnd.{SaveEnd}
 use Rattle.loop_station_core.specs.declared.saves.SaveKey.{SaveKey}
 use Rattle.loop_station_core.specs.declared.saves.Save.{Save}
 
--- how many elements of a list pass
-abbrev counted : {X : Type 0} → (X → Bool) → List X → ℕ
-counted f [] = 0
-counted f (x ∷ xs) = one_if (f x) + counted f xs
-
 -- what there is passes
-abbrev passes : {X : Type 0} → (X → Bool) → Option X → Bool
+abbrev pub passes : {X : Type 0} → (X → Bool) → Option X → Bool
 passes f None = false
 passes f (Some x) = f x
 
@@ -53,7 +48,7 @@ module _ {X : Type 0} where
       let rest = set-gets f zs j i x y at s in
       grind (arith, common_steps)
 
-  update-gets : (f : X → Bool) (g : X → X) (xs : List X) (j i : ℕ) → ((x : X) → f (g x) ≡ f x)
+  pub update-gets : (f : X → Bool) (g : X → X) (xs : List X) (j i : ℕ) → ((x : X) → f (g x) ≡ f x)
       → passes f (slice_get (update g j xs) i) ≡ passes f (slice_get xs i)
   update-gets f g xs j i k = at (slice_get xs j) refl where
     at : (o : Option X) → slice_get xs j ≡ o → passes f (slice_get (update g j xs) i) ≡ passes f (slice_get xs i)
@@ -93,6 +88,14 @@ module _ {X : Type 0} where
       let rest = none-any f xs more in
       grind (arith, common_steps)
 
+  -- where none counts, none passes
+  any-none : (f : X → Bool) (xs : List X) → counted f xs ≡ 0 → list_any f xs ≡ false
+  any-none f [] h = refl
+  any-none f (x ∷ xs) h = at (f x) refl (λ e. any-none f xs e) where
+    at : (b : Bool) → f x ≡ b → (counted f xs ≡ 0 → list_any f xs ≡ false) → list_any f (x ∷ xs) ≡ false
+    at true e more = grind (arith, common_steps)
+    at false e more = let rest = more (grind (arith, common_steps)) in grind (arith, common_steps)
+
   -- where one is found, it is there
   found-passes : (f : X → Bool) (xs : List X) → nat_lt (position_or_len f xs) (length xs) ≡ true
       → is_some (slice_get xs (position_or_len f xs)) ≡ true
@@ -113,10 +116,6 @@ module _ {X : Type 0} where
       let same : position_or_len f xs ≡ i = grind (arith, common_steps) in
       let there = found-passes f xs within in
       grind (arith, common_steps)
-
--- how many saves have a key that passes
-abbrev readers : (SaveKey → Bool) → Places → ℕ
-readers f p = counted (has_such (has_key f)) p.running + counted (has_key f) p.waiting
 
 release-reads : (f : SaveKey → Bool) (o : Option Save)
     → has_such (has_key f) (update_held with_release o) ≡ has_such (has_key f) o
@@ -370,6 +369,44 @@ orders-spare places camera id tag steps said first h =
     ≡ readers f (no_saves places) + saves_taken_in f (no_saves places) steps = all-add f (no_saves places) steps in
     let begin : readers f (no_saves places) ≡ 0 = let e = none-reads f places in omega (arith, e) in
     (omega (arith, none, all, begin), both.1)
+
+pub saves-add-up : SavesAddUp
+saves-add-up places f steps =
+    let all : readers f (saves_after_all (no_saves places) steps) + saves_ended_in f (no_saves places) steps
+    ≡ readers f (no_saves places) + saves_taken_in f (no_saves places) steps = all-add f (no_saves places) steps in
+    let begin : readers f (no_saves places) ≡ 0 = let e = none-reads f places in omega (arith, e) in
+    omega (arith, all, begin)
+
+read-none : (camera id : ℕ) (tag : Option ℕ) (p : Places) → readers (covers camera id tag) p ≡ 0
+    → is_read p camera id tag ≡ false
+read-none camera id tag p h =
+    let f : SaveKey → Bool = covers camera id tag in
+    let running = any-none (has_such (has_key f)) p.running (omega (arith, h)) in
+    let waiting = any-none (has_key f) p.waiting (omega (arith, h)) in
+    grind (arith, common_steps)
+
+-- an unread clip is released, where the order says none or that one
+frees : (read : Bool) (said first : Option ℕ) → read ≡ false → (said ≡ None) ⊎ (said ≡ first)
+    → may_release read said first ≡ Now
+frees true said first h m = grind (arith, common_steps)
+frees false None first h m = refl
+frees false (Some n) None h (inl e) = absurd (cc)
+frees false (Some n) None h (inr e) = absurd (cc)
+frees false (Some n) (Some f) h (inl e) = absurd (cc)
+frees false (Some n) (Some f) h (inr e) =
+    let same : n ≡ f = grind (arith, common_steps) in
+    let is : (n == f) ≡ true = grind (arith, common_steps) in
+    grind (arith, common_steps)
+
+pub orders-release : OrdersReleaseUnreadClips
+orders-release places camera id tag steps said first e m =
+    let f : SaveKey → Bool = covers camera id tag in
+    let all : saves_taken_in f (no_saves places) steps
+    ≡ saves_ended_in f (no_saves places) steps + readers f (saves_after_all (no_saves places) steps) =
+    saves-add-up places f steps in
+    let none : readers f (saves_after_all (no_saves places) steps) ≡ 0 = omega (arith, all, e) in
+    frees (is_read (saves_after_all (no_saves places) steps) camera id tag) said first
+    (read-none camera id tag (saves_after_all (no_saves places) steps) none) m
 
 -- saves that are the same are of one clip
 same-keys : (a b : SaveKey) → is_same a b ≡ true → clip_key b ≡ clip_key a

@@ -2,7 +2,7 @@
 use Rattle.std.proofs.Common.{◌≡◌, ◌++◌, ◌-◌, ℕ, Bool, true, false, not, List, [], ◌∷◌, Option, Some, None, is_some, length, take, refl, ap, length-append, arith}
 use Rattle.std.specs.List.{position}
 use Rattle.std.proofs.lemmas.Grind.{common_steps}
-use Rattle.loop_station_core.specs.Saving.{Places, asked, is_saving, left_to_others, new_save, wanted, withdrawn}
+use Rattle.loop_station_core.specs.Saving.{Places, asked, is_saving, left_to_others, new_save, wanted, withdrawn, PlacesTellAll}
 use Rattle.loop_station_core.specs.declared.saves.Asked.TheVariants.{Waits}
 use Rattle.loop_station_core.specs.declared.saves.Save.{Save}
 use Rattle.loop_station_core.specs.declared.saves.SaveKey.{SaveKey}
@@ -37,3 +37,6 @@ withdrawn_nothing p key automatic h =
       at false None true s f a =
           let last = without-last p.waiting (new_save key automatic) in
           grind (arith, common_steps)
+
+pub places-tell-all : PlacesTellAll
+places-tell-all s t e = (ap (λ p. p.running) e, ap (λ p. p.waiting) e, ap (λ p. p.stopped) e)

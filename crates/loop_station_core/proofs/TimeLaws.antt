@@ -2,9 +2,10 @@
 use Rattle.std.proofs.Common.{◌≡◌, ℕ, ◌+◌, ◌-◌, ◌^◌, ◌<◌, ◌≤◌, Bool, true, false, List, [], ◌∷◌, Option, Some, None, is_some, min, arith, refl}
 use Rattle.std.specs.Prelude.{IfSome, if◌then◌else◌, nat_le}
 use Rattle.std.proofs.lemmas.Bool.{leb-false, leb-true}
-use Rattle.loop_station_core.specs.Timing.{EachLater, later, said_or_now, step_timing, tells}
+use Rattle.loop_station_core.specs.Timing.{EachLater, later, said_or_now, step_timing, tells, LongGapsAreTold, TimesAreTheSources}
 use Rattle.loop_station_core.specs.declared.timing.Arrival.{Arrival}
 use Rattle.loop_station_core.specs.declared.timing.Timing.{Timing}
+use Rattle.std.proofs.lemmas.Grind.{common_steps}
 
 later_by : (early : Bool) (last time : ℕ) → nat_le time last ≡ early → last < 2 ^ 64 - 1
     → last < (if early then min (last + 1) (2 ^ 64 - 1) else time)
@@ -33,3 +34,12 @@ apart_by last gap told now is some =
 pub apart : (t : Timing) (a : Arrival) (told : ℕ) → t.told ≡ Some told → is_some (step_timing t a).1.gap ≡ true
     → 1000000 ≤ a.now - told
 apart t a told is some = apart_by t.told _ told a.now is some
+
+pub times-sources : TimesAreTheSources
+times-sources t a last = (λ e. grind (arith, common_steps), λ e less. grind (arith, common_steps))
+
+pub gaps-told : LongGapsAreTold
+gaps-told t a last is fits = (
+  (λ some. (grind (arith, common_steps), grind (arith, common_steps))),
+  (λ streams some long. ((λ more. grind (arith, common_steps)), (λ untold. grind (arith, common_steps)))),
+)

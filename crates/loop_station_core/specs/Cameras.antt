@@ -1,5 +1,5 @@
 -- A camera's life: its filming and its source.
-use Rattle.std.specs.Prelude.{ℕ, ◌+◌, ◌-◌, ◌*◌, ◌^◌, ◌==◌, ◌&&◌, ◌||◌, Bool, true, false, not, List, [], ◌∷◌, Some, None, max, min, nat_le, if◌then◌else◌}
+use Rattle.std.specs.Prelude.{◌≡◌, ◌≢◌, ◌⊎◌, ℕ, ◌+◌, ◌-◌, ◌*◌, ◌^◌, ◌==◌, ◌&&◌, ◌||◌, Bool, true, false, not, List, [], ◌∷◌, Some, None, max, min, nat_le, if◌then◌else◌, ◌<◌, ◌≤◌}
 use Rattle.loop_station_core.specs.declared.changes.SourceSeen.{SourceSeen}
 use Rattle.loop_station_core.specs.declared.changes.SourceSeen.TheVariants.{Missing, Silent, Other, Unusable, On}
 use Rattle.loop_station_core.specs.declared.camera.Camera.{Camera}
@@ -86,3 +86,49 @@ films c come taken = not c.over && (not c.stopping || not (come == taken))
 abbrev pub lived : Camera → List Event → Camera
 lived c [] = c
 lived c (e ∷ es) = lived (step_camera c e).0 es
+
+-- A camera is filmed as long as nothing is broken, and the program doesn't end or frames that came wait for the device.
+abbrev pub FilmsWhileFramesWait : Type 0
+FilmsWhileFramesWait = (c : Camera) (come taken : ℕ) → c.over ≡ false → (c.stopping ≡ false) ⊎ (come ≢ taken)
+    → films c come taken ≡ true
+
+-- the program ends
+abbrev pub stops_in : List Event → Bool
+stops_in [] = false
+stops_in (Filming Stop ∷ events) = true
+stops_in (e ∷ events) = stops_in events
+
+-- A camera ends at the end of its filming, or where its store isn't there, once the program ends, whatever happened
+-- before; and it never ends while the program goes on.
+abbrev pub CamerasEndWithTheProgram : Type 0
+CamerasEndWithTheProgram = (c : Camera) (events : List Event) → c.stopping ≡ false → let d = lived c events in
+    (stops_in events ≡ true → ((step_camera d (Filming (End false))).1 ≡ Finish) × ((step_camera d (Filming Leave)).1 ≡ Finish))
+    × (stops_in events ≡ false → (e : Event) → (step_camera d e).1 ≢ Finish)
+
+-- While the program goes on, a filming whose store was moved away is followed by a store that is made anew. Where it
+-- wasn't since the filming began, the store is opened again.
+abbrev pub EndedFilmingsGoOn : Type 0
+EndedFilmingsGoOn = (c : Camera) (must_reopen : Bool) → c.stopping ≡ false
+    → ((step_camera (step_camera c (Filming Move)).0 (Filming (End must_reopen))).1 ≡ MakeAnew)
+    × ((step_camera (step_camera c (Filming Begin)).0 (Filming (End must_reopen))).1 ≡ OpenAgain)
+
+-- Where each block is locked, a flush is tried again, exactly as long as the filming and the program go on.
+abbrev pub LockedFilmingsWait : Type 0
+LockedFilmingsWait = (c : Camera) → let act = (step_camera c (Filming AllLocked)).1 in
+    (c.over ≡ false → c.stopping ≡ false → act ≡ FlushAgain) × ((c.over ≡ true) ⊎ (c.stopping ≡ true) → act ≡ GiveUp)
+
+-- Frames that the store can have are taken, and others are refused; that is told where they weren't so before, and not
+-- again for as long as nothing else happens to the source.
+abbrev pub OffersAreAnswered : Type 0
+OffersAreAnswered = (c : Camera) → let refused = step_camera c (Source (its.Offer false)) in
+    ((step_camera c (Source (its.Offer true))).1 ≡ Take) × (c.source ≢ Other → refused.1 ≡ Refuse)
+    × ((step_camera refused.0 (Source (its.Offer false))).1 ≡ RefuseAgain)
+
+-- A source that is open, or wasn't there, and has been waited for is seen as silent exactly from two seconds on, and
+-- from three of its frames on. Once a byte comes, it is seen as what it was.
+abbrev pub SilenceIsSeen : Type 0
+SilenceIsSeen = (c : Camera) (since now frame : ℕ) → c.waits ≡ Some since → (c.source ≡ On) ⊎ (c.source ≡ Missing)
+    → frame * 3 < 2 ^ 64 → let d = (step_camera c (Source (its.Look now frame))).0 in
+    (since + 2000000 ≤ now → since + frame * 3 ≤ now → source_seen d ≡ Silent)
+    × ((now < since + 2000000) ⊎ (now < since + frame * 3) → source_seen d ≡ c.source)
+    × (source_seen (step_camera d (Source its.Read)).0 ≡ c.source)

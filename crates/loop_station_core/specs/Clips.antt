@@ -1,6 +1,6 @@
 -- Which clips may be released, and how many keeps have room.
 use Rattle.std.specs.Int.{div_ceil}
-use Rattle.std.specs.Prelude.{ℕ, ◌+◌, ◌-◌, ◌/◌, ◌^◌, ◌==◌, Bool, Option, Some, None, max, min, if◌then◌else◌}
+use Rattle.std.specs.Prelude.{◌≤◌, ◌<◌, ◌*◌, ℕ, ◌+◌, ◌-◌, ◌/◌, ◌^◌, ◌==◌, Bool, Option, Some, None, max, min, if◌then◌else◌}
 use Rattle.loop_station_core.specs.Saving.{is_same}
 use Rattle.loop_station_core.specs.declared.clips.MayRelease.{MayRelease}
 use Rattle.loop_station_core.specs.declared.clips.MayRelease.TheVariants.{Now, Saving, Other}
@@ -28,3 +28,10 @@ may_release_saved is_read saved (Some clip) = if is_same saved clip
 -- how many keeps of so many frames have room, each with a block more than it fills
 abbrev pub keeps_in : ℕ → ℕ → ℕ → ℕ
 keeps_in blocks frames slots = blocks / min (div_ceil frames (max slots 1) + 1) (2 ^ 64 - 1)
+
+-- So many keeps as are told to have room have it, wherever within a block each of them begins. And with two blocks more
+-- for each than it fills wholly, no room is held back.
+abbrev pub KeepsHaveRoom : Type 0
+KeepsHaveRoom = (blocks frames slots begins : ℕ) → 1 ≤ slots → frames < 2 ^ 64 - 1 → begins < slots
+    → let keeps = keeps_in blocks frames slots in
+    (keeps * ((begins + frames + (slots - 1)) / slots) ≤ blocks) × (blocks < (keeps + 1) * (frames / slots + 2))

@@ -1,5 +1,5 @@
 -- Where a camera's frames are.
-use Rattle.std.specs.Prelude.{ℕ, ◌+◌, ◌-◌, ◌^◌, List, [], ◌∷◌, min, nat_lt, if◌then◌else◌}
+use Rattle.std.specs.Prelude.{ℕ, ◌+◌, ◌-◌, ◌^◌, List, [], ◌∷◌, min, nat_lt, if◌then◌else◌, ◌≡◌, ◌≤◌}
 use Rattle.loop_station_core.specs.declared.tally.Tally.{Tally}
 
 -- how many of the frames that have come are on their way to the desk, wait at the desk, are stored, and are lost
@@ -57,3 +57,20 @@ come_by _ = 0
 abbrev pub come_in : List FlowStep → ℕ
 come_in [] = 0
 come_in (s ∷ ss) = come_by s + come_in ss
+
+-- A tally's frames are all that came, and those that it has brought are no longer on their way.
+abbrev pub TalliesAddUp : Type 0
+TalliesAddUp = (t : Tally) → (all_of (frames t) ≡ t.come) × (brought_of (frames t) ≡ t.brought)
+
+-- no frame is given up, and no desk
+abbrev pub NoneIsGivenUp : List FlowStep → Type 0
+NoneIsGivenUp [] = Unit {0}
+NoneIsGivenUp (gives_up ∷ steps) = ⊥
+NoneIsGivenUp (loses taken ∷ steps) = ⊥
+NoneIsGivenUp (s ∷ steps) = NoneIsGivenUp steps
+
+-- A frame is lost only where one is given up, or a desk is; and what was given up or stored stays so. So is what was
+-- brought.
+abbrev pub LostFramesWereGivenUp : Type 0
+LostFramesWereGivenUp = (f : Flow) (steps : List FlowStep) → let g = after f steps in
+    (NoneIsGivenUp steps → g.lost ≡ f.lost) × (f.lost ≤ g.lost) × (f.stored ≤ g.stored) × (brought_of f ≤ brought_of g)

@@ -1,5 +1,5 @@
 -- What of a time is held, and where one clip lies within others.
-use Rattle.std.specs.Prelude.{ℕ, ◌+◌, ◌-◌, ◌/◌, ◌≤◌, ◌&&◌, Bool, List, [], ◌∷◌, filter, sum_by, nat_lt, nat_le}
+use Rattle.std.specs.Prelude.{◌≡◌, true, ℕ, ◌+◌, ◌-◌, ◌/◌, ◌≤◌, ◌&&◌, Bool, List, [], ◌∷◌, filter, sum_by, nat_lt, nat_le}
 use Rattle.loop_station_core.specs.declared.runs.Run.{Run}
 use Rattle.loop_station_core.specs.declared.runs.Gap.{Gap}
 use Rattle.loop_station_core.specs.declared.runs.ClipSpan.{ClipSpan}
@@ -29,3 +29,17 @@ AreWithin since (r ∷ rs) until = (since ≤ r.first) × (r.first ≤ r.last) �
 -- a clip lies wholly within another
 abbrev pub lies_within : ClipSpan → ClipSpan → Bool
 lies_within old new = nat_le new.from old.from && nat_le old.to new.to
+
+-- What is released as a part that a longer clip covers has no number that this one hasn't.
+abbrev pub CoveredPartsAreWithin : Type 0
+CoveredPartsAreWithin = (old new : ClipSpan) (n : ℕ) → lies_within old new ≡ true → old.from ≤ n → n ≤ old.to
+    → (new.from ≤ n) × (n ≤ new.to)
+
+-- how long runs are together
+abbrev pub micros_held : List Run → ℕ
+micros_held runs = sum_by (λ r. r.last - r.first) runs
+
+-- Where each gap counts, what is held of a time and what is missing are all of it.
+abbrev pub TimesAddUp : Type 0
+TimesAddUp = (since until : ℕ) (runs : List Run) → AreWithin since runs until
+    → micros_missing (gaps 0 since runs until) + micros_held runs ≡ until - since

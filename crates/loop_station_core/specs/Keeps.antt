@@ -1,5 +1,5 @@
 -- When a keep of a camera locks, and what.
-use Rattle.std.specs.Prelude.{ℕ, ◌+◌, ◌-◌, ◌*◌, ◌%◌, ◌^◌, ◌≡◌, ◌≤◌, ◌<◌, ◌⊎◌, ◌==◌, ◌&&◌, ◌||◌, Bool, true, not, List, [], ◌∷◌, Option, Some, None, is_some, unwrap_or, min, max, nat_lt, nat_le, if◌then◌else◌}
+use Rattle.std.specs.Prelude.{ℕ, ◌+◌, ◌-◌, ◌*◌, ◌%◌, ◌^◌, ◌≡◌, ◌≢◌, ◌≤◌, ◌<◌, ◌⊎◌, ◌==◌, ◌&&◌, ◌||◌, Bool, true, not, List, [], ◌∷◌, Option, Some, None, is_some, unwrap_or, min, max, nat_lt, nat_le, if◌then◌else◌}
 use Rattle.loop_station_core.specs.declared.tally.Tally.{Tally}
 use Rattle.loop_station_core.specs.declared.keep.Keep.{Keep}
 use Rattle.loop_station_core.specs.declared.keep.Look.{Look}
@@ -104,3 +104,52 @@ HasTimesOf k k' = (k'.event ≡ k.event) × (k'.since ≡ k.since) × (k'.until 
 -- once it is known how many frames had come by its end, that end has passed, and those before its line are among them
 abbrev pub IsTimely : ℕ → Keep → Type 0
 IsTimely now k = (n : ℕ) → k.all ≡ Some n → (k.until ≤ now) × (k.come ≤ n)
+
+-- A keep whose end has passed is done at the first look at which as many frames are at the desk or lost as had come by
+-- its end.
+abbrev pub KeepsEnd : Type 0
+KeepsEnd = (k : Keep) (l : Look) → k.until ≤ l.time → unwrap_or k.all (max l.come k.come) ≤ l.tally.brought
+    → (step_keep k l).1 ≡ Whole
+
+-- And it isn't done before, unless each block is locked, or no frame has made progress for a minute.
+abbrev pub KeepsHaveAll : Type 0
+KeepsHaveAll = (k : Keep) (l : Look) → (step_keep k l).1 ≡ Whole
+    → IsClear (unwrap_or k.all (max l.come k.come)) (step_keep k l).0 l
+
+-- a time is one of those that are asked for
+abbrev pub IsAsked : ℕ × ℕ → ℕ → Type 0
+IsAsked times t = (times.0 ≤ t) × (t ≤ times.1)
+
+-- `keep CAMERA N +M`: of the times that a clock can tell, exactly those are asked for that lie no more than N seconds
+-- before its line was read, and no more than M seconds after.
+abbrev pub KeepsCoverTheirSeconds : Type 0
+KeepsCoverTheirSeconds = (read seconds more before after t : ℕ) → t < 2 ^ 64
+    → let asked = asked_time (Around (Some seconds) (Some more)) read before after in
+    (IsAsked asked t → (read ≤ t + seconds * 1000000) × (t ≤ read + more * 1000000))
+    × (read ≤ t + seconds * 1000000 → t ≤ read + more * 1000000 → IsAsked asked t)
+
+-- What a line doesn't say is as if it had said its camera's own seconds. So a keep without any has the time of the
+-- camera's seconds, and what is said of one side leaves the other side alone.
+abbrev pub KeepsTakeTheCamerasSeconds : Type 0
+KeepsTakeTheCamerasSeconds = (seconds more : Option ℕ) (read before after : ℕ)
+    → (asked_time (Around None more) read before after ≡ asked_time (Around (Some before) more) read before after)
+    × (asked_time (Around seconds None) read before after ≡ asked_time (Around seconds (Some after)) read before after)
+
+-- `keep CAMERA from T to T`: exactly the times from the one to the other are asked for, both included, whatever the
+-- camera's own seconds are and whenever the line was read.
+abbrev pub KeepsCoverBothEnds : Type 0
+KeepsCoverBothEnds = (since until read before after t : ℕ)
+    → let asked = asked_time (Between since until) read before after in
+    (IsAsked asked t → (since ≤ t) × (t ≤ until)) × (since ≤ t → t ≤ until → IsAsked asked t)
+
+-- Whom a clip's tag is from: a tag that a line says is that of its clips, at each camera. Without one, clips have their
+-- camera's own, whatever the event is, if it has one. Else those of two events have two tags, and each the number of
+-- its event.
+abbrev pub TagsAreTheUsers : Type 0
+TagsAreTheUsers = (tag own event : ℕ)
+    → (tag_of (Some tag) own event ≡ tag) × (own ≢ 0 → tag_of None own event ≡ own) × (tag_of None 0 event ≡ event)
+
+-- A keep waits only for frames that had come before its line, or for a block after the one that it has locked.
+abbrev pub KeepsLockEachBlock : Type 0
+KeepsLockEachBlock = (k : Keep) (l : Look) → k.come ≤ l.tally.brought → (k.part ≡ None) ⊎ (k.block ≢ l.block)
+    → (step_keep k l).1 ≢ Wait

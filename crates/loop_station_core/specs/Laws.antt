@@ -1,5 +1,5 @@
 -- What holds over any list of events.
-use Rattle.std.specs.Prelude.{ℕ, ◌+◌, ◌-◌, ◌*◌, ◌^◌, ◌≡◌, ◌≤◌, ◌<◌, ◌⊎◌, Bool, true, false, List, [], ◌∷◌, zero, suc, Option, Some, None, IfSome, is_some, option_map, if◌then◌else◌}
+use Rattle.std.specs.Prelude.{ℕ, ◌+◌, ◌++◌, ◌-◌, ◌*◌, ◌^◌, ◌≡◌, ◌≤◌, ◌<◌, ◌⊎◌, Bool, true, false, List, [], ◌∷◌, zero, suc, Option, Some, None, IfSome, is_some, option_map, if◌then◌else◌}
 use Rattle.std.specs.List.{list_any}
 use Rattle.loop_station_core.specs.Answers.{all_answered, answers_of, given_by}
 use Rattle.loop_station_core.specs.Cameras.{lived, step_camera}
@@ -17,7 +17,7 @@ use Rattle.loop_station_core.specs.Saving.{Places, asked, covers, is_read, is_sa
 use Rattle.loop_station_core.specs.declared.clips.MayRelease.TheVariants.{Now}
 use Rattle.loop_station_core.specs.declared.saves.Asked.TheVariants.{Waits}
 use Rattle.loop_station_core.specs.declared.saves.SaveKey.{SaveKey}
-use Rattle.loop_station_core.specs.Telling.{known_after, lines_of, told_locked}
+use Rattle.loop_station_core.specs.Telling.{IsLineOfKind, known_after, lines_of, told_locked}
 use Rattle.loop_station_core.specs.declared.camera.Camera.{Camera}
 use Rattle.loop_station_core.specs.declared.camera.Event.{Event}
 use Rattle.loop_station_core.specs.declared.camera.Event.TheVariants.{Filming}
@@ -64,6 +64,14 @@ OrdersSpareReadClips = (places camera id : ℕ) (tag : Option ℕ) (steps : List
     may_release (is_read (saves_after_all p steps) camera id tag) said first ≡ Now
     → (saves_taken_in (covers camera id tag) p steps ≡ saves_ended_in (covers camera id tag) p steps)
     × ((said ≡ None) ⊎ (said ≡ first))
+
+-- And it releases the clip where each of these saves has ended, and the order says no clip or that one.
+abbrev pub OrdersReleaseUnreadClips : Type 0
+OrdersReleaseUnreadClips = (places camera id : ℕ) (tag : Option ℕ) (steps : List SaveStep) (said first : Option ℕ)
+    → let p = no_saves places in
+    saves_taken_in (covers camera id tag) p steps ≡ saves_ended_in (covers camera id tag) p steps
+    → (said ≡ None) ⊎ (said ≡ first)
+    → may_release (is_read (saves_after_all p steps) camera id tag) said first ≡ Now
 
 -- Saves release a clip only where a save of it that began by itself has come to an end with its text whole, or saved
 -- already, and clips of its camera are released then. So it is of each list of what happens to saves.
@@ -118,13 +126,10 @@ IsSo s (Syncs micros) = option_map (λ d. d.sync) s.disk ≡ Some micros
 IsSo s (TooSlow micros frames) = (option_map (λ d. d.sync) s.disk ≡ Some micros)
     × IfSome s.disk (λ d. frames * d.rate_den < d.rate_num)
 
--- Each line says what was so when it was seen.
+-- Each line says what was so when it was seen, of whichever kind it is.
 abbrev pub LinesAreSo : Type 0
-LinesAreSo = (r : Reported) (s : Seen) → let lines = lines_of r s in
-    IfSome lines.source (IsSo s) × IfSome lines.store (IsSo s) × IfSome lines.given_up (IsSo s)
-    × IfSome lines.locked (IsSo s) × IfSome lines.nearly (IsSo s) × IfSome lines.behind (IsSo s)
-    × IfSome lines.waited (IsSo s) × IfSome lines.unusable (IsSo s) × IfSome lines.making (IsSo s)
-    × IfSome lines.syncs (IsSo s) × IfSome lines.slow (IsSo s)
+LinesAreSo = (r : Reported) (s : Seen) (kind : ℕ) (line : Option Change) → kind < 11
+    → IsLineOfKind (lines_of r s) kind line → IfSome line (IsSo s)
 
 -- how many lines of some looks say how fast the disk is
 abbrev pub syncs_in : Reported → List Seen → ℕ
@@ -179,6 +184,18 @@ Alternate _ _ = ⊥
 -- After 'all locked' comes 'room again', and the other way round.
 abbrev pub LockedLinesAlternate : Type 0
 LockedLinesAlternate = (known : Bool) (locked : List Bool) → Alternate known (locked_lines known locked)
+
+-- each block is locked, by the lines that are read
+abbrev pub heard_locked : Bool → List Change → Bool
+heard_locked known [] = known
+heard_locked known (AllLocked ∷ lines) = heard_locked true lines
+heard_locked known (RoomAgain ∷ lines) = heard_locked false lines
+heard_locked known (_ ∷ lines) = heard_locked known lines
+
+-- Whoever reads the lines knows whether each block was locked at the last look.
+abbrev pub LockedLinesTellAll : Type 0
+LockedLinesTellAll = (known last : Bool) (locked : List Bool)
+    → heard_locked known (locked_lines known (locked ++ last ∷ [])) ≡ last
 
 -- Once the program ends, it ends for each camera, whatever happens.
 abbrev pub StopsAreForGood : Type 0

@@ -1,5 +1,5 @@
 -- The mark of a frame: bits 24 to 29 of its flags.
-use Rattle.std.specs.Prelude.{◌≡◌, ◌<◌, ◌≤◌, ℕ, ◌+◌, ◌-◌, ◌*◌, ◌/◌, ◌%◌, ◌==◌, ◌||◌, Bool, false, Option, Some, None, nat_le, nat_lt, if◌then◌else◌}
+use Rattle.std.specs.Prelude.{◌≡◌, ◌<◌, ◌≤◌, ℕ, ◌+◌, ◌-◌, ◌*◌, ◌/◌, ◌%◌, ◌==◌, ◌||◌, Bool, true, false, Option, Some, None, nat_le, nat_lt, if◌then◌else◌}
 
 -- bits 24 to 28 are the bits of a sample, 0 for 8, and bit 29 is set where the frame came late
 abbrev pub mark : ℕ → Bool → ℕ
@@ -26,3 +26,12 @@ came_late now seen still = nat_lt 1100000 (now - seen) || is_after now still
 abbrev pub MarksAreRead : Type 0
 MarksAreRead = (bits : ℕ) (late : Bool) → 8 ≤ bits → bits < 32
     → (bits_of (mark bits late) ≡ bits) × (is_late (mark bits late) ≡ late)
+
+-- A frame is told to have come late exactly where the program wasn't seen to run for more than 1.1 seconds before, or
+-- was seen to have stood still, up to a tenth of a second before.
+abbrev pub LateFramesAreMarked : Type 0
+LateFramesAreMarked = (now seen until : ℕ) (still : Option ℕ)
+    → (seen + 1100000 < now → came_late now seen still ≡ true)
+    × (now ≤ until + 100000 → came_late now seen (Some until) ≡ true)
+    × (now ≤ seen + 1100000 → came_late now seen None ≡ false)
+    × (now ≤ seen + 1100000 → until + 100000 < now → came_late now seen (Some until) ≡ false)

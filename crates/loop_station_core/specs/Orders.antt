@@ -1,5 +1,5 @@
 -- Which orders of a camera are taken in, and which are handed out.
-use Rattle.std.specs.Prelude.{ℕ, ◌+◌, ◌-◌, ◌==◌, ◌&&◌, Bool, true, false, not, List, [], ◌∷◌, nat_lt, if◌then◌else◌}
+use Rattle.std.specs.Prelude.{◌≡◌, ◌≤◌, ◌⊎◌, ℕ, ◌+◌, ◌-◌, ◌==◌, ◌&&◌, Bool, true, false, not, List, [], ◌∷◌, nat_lt, if◌then◌else◌}
 use Rattle.loop_station_core.specs.declared.orders.AddedOrder.{AddedOrder}
 use Rattle.loop_station_core.specs.declared.orders.AddedOrder.TheVariants.{Waits, Absent, TooMany}
 use Rattle.loop_station_core.specs.declared.orders.Attended.{Attended}
@@ -79,3 +79,10 @@ orders_taken_in o (s ∷ ss) = orders_taken_by o s + orders_taken_in (orders_aft
 abbrev pub orders_handed_in : Orders → List OrderStep → ℕ
 orders_handed_in o [] = 0
 orders_handed_in o (s ∷ ss) = orders_handed_by o s + orders_handed_in (orders_after o s) ss
+
+-- A camera with nothing to do has been handed each order that was taken in. One that isn't has an order that waits, or
+-- is being done.
+abbrev pub IdleCamerasAreDone : Type 0
+IdleCamerasAreDone = (steps : List OrderStep) → let orders = orders_after_all no_orders steps in
+    (are_done orders ≡ true → (orders_handed_in no_orders steps ≡ orders_taken_in no_orders steps) × (orders.busy ≡ false))
+    × (are_done orders ≡ false → (1 ≤ orders.waiting) ⊎ (orders.busy ≡ true))

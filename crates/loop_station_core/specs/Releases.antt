@@ -1,5 +1,5 @@
 -- Which clips are released, by what happens to saves one after the other.
-use Rattle.std.specs.Prelude.{ℕ, ◌+◌, ◌&&◌, ◌||◌, Bool, true, false, List, [], ◌∷◌, Option, Some, None, replicate, slice_get}
+use Rattle.std.specs.Prelude.{◌≡◌, ◌⊎◌, ℕ, ◌+◌, ◌&&◌, ◌||◌, Bool, true, false, List, [], ◌∷◌, Option, Some, None, replicate, slice_get}
 use Rattle.loop_station_core.specs.Saving.{Places, asked, cancelled, earns, finished, has_key, has_such, held_at, is_of_clip, stopped, turn_of_clip, with_wish}
 use Rattle.loop_station_core.specs.declared.save_end.SaveEnd.{SaveEnd}
 use Rattle.loop_station_core.specs.declared.saves.Save.{Save}
@@ -105,3 +105,26 @@ saves_ended_in f p (s ∷ ss) = saves_ended_by f p s + saves_ended_in f (saves_a
 -- no save, and so many places
 abbrev pub no_saves : ℕ → Places
 no_saves places = record { running = replicate places None; waiting = []; stopped = false }
+
+-- No place is free.
+abbrev pub NoneIsFree : Places → Type 0
+NoneIsFree p = (place : ℕ) → slice_get p.running place ≡ Some None → ⊥
+
+-- No save waits while a place is free, unless the program ends. So it is after each list of what happens to saves.
+abbrev pub SavesWaitForPlaces : Type 0
+SavesWaitForPlaces = (places : ℕ) (steps : List SaveStep) → let p = saves_after_all (no_saves places) steps in
+    (p.stopped ≡ true) ⊎ ((p.waiting ≡ []) ⊎ NoneIsFree p)
+
+-- how many elements of a list pass
+abbrev pub counted : {X : Type 0} → (X → Bool) → List X → ℕ
+counted f [] = 0
+counted f (x ∷ xs) = one_if (f x) + counted f xs
+
+-- how many saves that run or wait have a key that passes
+abbrev pub readers : (SaveKey → Bool) → Places → ℕ
+readers f p = counted (has_such (has_key f)) p.running + counted (has_key f) p.waiting
+
+-- Each save that was taken in runs, waits or has ended, whichever of them are looked at.
+abbrev pub SavesAddUp : Type 0
+SavesAddUp = (places : ℕ) (f : SaveKey → Bool) (steps : List SaveStep) → let p = no_saves places in
+    saves_taken_in f p steps ≡ saves_ended_in f p steps + readers f (saves_after_all p steps)

@@ -1,5 +1,5 @@
 -- What follows from the end of a save.
-use Rattle.std.specs.Prelude.{ℕ, ◌+◌, ◌-◌, ◌^◌, Bool, true, false, List, [], ◌∷◌, Option, Some, None, is_some, min, if◌then◌else◌}
+use Rattle.std.specs.Prelude.{ℕ, ◌+◌, ◌-◌, ◌^◌, Bool, true, false, List, [], ◌∷◌, Option, Some, None, is_some, min, if◌then◌else◌, ◌≡◌, ◌≢◌}
 use Rattle.loop_station_core.specs.declared.save_end.AfterSave.{AfterSave}
 use Rattle.loop_station_core.specs.declared.save_end.SaveEnd.{SaveEnd}
 use Rattle.loop_station_core.specs.declared.save_end.SaveEnd.TheVariants.{Whole, Already, MayPass, Final}
@@ -39,3 +39,18 @@ waits_in told [] = 0
 waits_in told (e ∷ es) =
     let after = after_save e.0 true told e.1 in
     says_waits after.line + (if is_some after.again then waits_in true es else 0)
+
+-- The end of a save is told to be that its text is there exactly where it has just been made whole. It is told that
+-- there is none exactly where there is none and it isn't tried again; and it is, a minute later, exactly where it may
+-- succeed and began by itself.
+abbrev pub EndsAreTold : Type 0
+EndsAreTold = (end : SaveEnd) (automatic told : Bool) (now : ℕ) → let after = after_save end automatic told now in
+    (after.line ≡ Some Saved → end ≡ Whole) × (end ≡ Whole → after.line ≡ Some Saved)
+    × (after.line ≡ Some NotSaved → (is_saved end ≡ false) × (after.again ≡ None))
+    × (is_saved end ≡ false → after.again ≡ None → after.line ≡ Some NotSaved)
+    × (end ≡ MayPass → automatic ≡ true → after.again ≡ Some (minute_later now))
+    × (after.again ≢ None → (end ≡ MayPass) × (automatic ≡ true))
+
+-- A save that is tried again is told as such: where it fails so at first, once in all, however it ends.
+abbrev pub RetriesAreTold : Type 0
+RetriesAreTold = (now : ℕ) (ends : List (SaveEnd × ℕ)) → waits_in false ((MayPass, now) ∷ ends) ≡ 1

@@ -1,5 +1,5 @@
 -- Which saves run, which wait, and what follows from what happens to them.
-use Rattle.std.specs.Prelude.{ℕ, ◌-◌, ◌==◌, ◌&&◌, ◌||◌, ◌++◌, Bool, true, false, not, List, [], ◌∷◌, Option, Some, None, is_some, length, remove, slice_get, slice_set, take, if◌then◌else◌}
+use Rattle.std.specs.Prelude.{ℕ, ◌-◌, ◌==◌, ◌&&◌, ◌||◌, ◌++◌, Bool, true, false, not, List, [], ◌∷◌, Option, Some, None, is_some, length, remove, slice_get, slice_set, take, if◌then◌else◌, ◌≡◌}
 use Rattle.std.specs.List.{list_any, position}
 use Rattle.loop_station_core.specs.SaveEnds.{is_saved}
 use Rattle.loop_station_core.specs.declared.save_end.SaveEnd.{SaveEnd}
@@ -211,3 +211,22 @@ stopped p = elim (position is_some p.running) [
     | s ∷ ss ↦ (record p { waiting = ss; stopped = true }, Some (record { key = s.key; place = None }))
   ]
 ]
+
+-- a save began by itself, is of this clip, and wasn't cancelled
+abbrev pub IsByItself : SaveKey → Save → Type 0
+IsByItself key s = (s.automatic ≡ true) × (s.cancelled ≡ false) × (is_same key s.key ≡ true)
+
+-- A clip isn't saved by itself a second time exactly while a save of it that began by itself runs or waits. One that
+-- was cancelled, or that a user asked for, or that is of another clip, holds none back.
+abbrev pub ClipsAreSavedOnce : Type 0
+ClipsAreSavedOnce = (p : Places) (key : SaveKey)
+    → ((place : ℕ) (s : Save) → slice_get p.running place ≡ Some (Some s) → IsByItself key s → has_automatic p key ≡ true)
+    × ((turn : ℕ) (s : Save) → slice_get p.waiting turn ≡ Some s → IsByItself key s → has_automatic p key ≡ true)
+    × (((place : ℕ) (s : Save) → slice_get p.running place ≡ Some (Some s) → IsByItself key s → ⊥)
+    → ((turn : ℕ) (s : Save) → slice_get p.waiting turn ≡ Some s → IsByItself key s → ⊥)
+    → has_automatic p key ≡ false)
+
+-- What saves are known by leaves nothing of them out.
+abbrev pub PlacesTellAll : Type 0
+PlacesTellAll = (s t : Saves) → places_of s ≡ places_of t
+    → (s.running.items ≡ t.running.items) × (s.waiting.items ≡ t.waiting.items) × (s.stopped ≡ t.stopped)

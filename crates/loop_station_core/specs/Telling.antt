@@ -1,5 +1,5 @@
 -- Which lines about a camera follow from what is seen of it.
-use Rattle.std.specs.Prelude.{◌≡◌, ℕ, ◌+◌, ◌-◌, ◌*◌, ◌/◌, ◌^◌, ◌==◌, ◌&&◌, ◌||◌, Bool, true, false, not, Option, Some, None, is_some, unwrap_or, max, min, nat_lt, nat_le, if◌then◌else◌}
+use Rattle.std.specs.Prelude.{◌≡◌, ℕ, ◌+◌, ◌-◌, ◌*◌, ◌/◌, ◌^◌, ◌==◌, ◌&&◌, ◌||◌, Bool, true, false, not, Option, Some, None, is_some, unwrap_or, max, min, nat_lt, nat_le, if◌then◌else◌, ◌≤◌, ◌<◌}
 use Rattle.loop_station_core.specs.declared.changes.SourceSeen.{SourceSeen}
 use Rattle.loop_station_core.specs.declared.changes.SourceSeen.TheVariants.{Missing, Silent, Other, Unusable, On}
 use Rattle.loop_station_core.specs.declared.changes.StoreSeen.{StoreSeen}
@@ -191,3 +191,33 @@ IsLineOfKind c kind line = (kind ≡ 0 → line ≡ c.source) × (kind ≡ 1 →
     × (kind ≡ 3 → line ≡ c.locked) × (kind ≡ 4 → line ≡ c.nearly) × (kind ≡ 5 → line ≡ c.behind)
     × (kind ≡ 6 → line ≡ c.waited) × (kind ≡ 7 → line ≡ c.unusable) × (kind ≡ 8 → line ≡ c.making)
     × (kind ≡ 9 → line ≡ c.syncs) × (kind ≡ 10 → line ≡ c.slow)
+
+-- What is known of a store to whoever reads the lines about it.
+abbrev pub heard_store : StoreSeen → Option Change → StoreSeen
+heard_store known (Some StoreOpen) = Open
+heard_store known (Some (StoreAbsent cause)) = Absent cause
+heard_store known _ = known
+
+-- the same of how far the disk is behind
+abbrev pub heard_behind : ℕ → Option Change → ℕ
+heard_behind known (Some (Behind micros)) = micros
+heard_behind known (Some CaughtUp) = 0
+heard_behind known _ = known
+
+-- Whoever reads the lines knows all that is told: whether a store is there, or why not, unless it may still come; and
+-- how far its disk is behind: by no more than a second where nothing is told, and by less than double of what is.
+abbrev pub LinesTellAll : Type 0
+LinesTellAll = (r : Reported) (s : Seen) → let lines = lines_of r s in let known = known_after r s in
+    (known.store ≡ heard_store r.store lines.store) × (s.store ≡ Open → known.store ≡ Open)
+    × ((cause : ℕ) → s.store ≡ Absent cause → r.soon ≤ s.now → known.store ≡ Absent cause)
+    × (known.behind ≡ heard_behind r.behind lines.behind) × (known.behind ≡ 0 → s.behind ≤ 1000000)
+    × (1 ≤ known.behind → (500000 ≤ s.behind) × (s.behind < known.behind * 2))
+
+-- At the first look all that is so is told, but for a source or a store that may still come, and then no line says that
+-- it isn't there.
+abbrev pub FirstLooksTellAll : Type 0
+FirstLooksTellAll = (now : ℕ) (s : Seen) → now + 1000000 < 2 ^ 64 → let lines = lines_of (nothing_known now) s in
+    (s.source ≡ On → lines.source ≡ Some SourceOn) × (s.store ≡ Open → lines.store ≡ Some StoreOpen)
+    × (s.locked ≡ true → lines.locked ≡ Some AllLocked) × (1 ≤ s.lost → lines.given_up ≡ Some (GivenUp s.lost now))
+    × (s.source ≡ Missing → now + 1000000 ≤ s.now → lines.source ≡ Some SourceMissing)
+    × (s.source ≡ Missing → s.now < now + 1000000 → lines.source ≡ None)

@@ -90,3 +90,17 @@ FrameTimesRise = (t : Timing) (frames : List Arrival) → EachLater t frames
 abbrev pub GapsAreToldApart : Type 0
 GapsAreToldApart = (t : Timing) (a : Arrival) (told : ℕ) → t.told ≡ Some told
     → is_some (step_timing t a).1.gap ≡ true → 1000000 ≤ a.now - told
+
+-- A frame has the time that its source says, or else that at which it came, wherever this is later than the last one.
+abbrev pub TimesAreTheSources : Type 0
+TimesAreTheSources = (t : Timing) (a : Arrival) (last : ℕ) → let time = (step_timing t a).1.time in
+    (t.last ≡ None → time ≡ said_or_now a) × (t.last ≡ Some last → last < said_or_now a → time ≡ said_or_now a)
+
+-- A gap is told only where more than one and a half of a frame's time passed since the last one; and where so much did
+-- in a stream, one is told unless that was so within a second. Each counts, told or not.
+abbrev pub LongGapsAreTold : Type 0
+LongGapsAreTold = (t : Timing) (a : Arrival) (last : ℕ) → t.last ≡ Some last → a.period + a.period / 2 < 2 ^ 64
+    → let now = step_timing t a in let gap = now.1.time - last in
+    (is_some now.1.gap ≡ true → (now.1.gap ≡ Some gap) × (a.period + a.period / 2 < gap))
+    × (t.streams ≡ true → 1 ≤ a.period → a.period + a.period / 2 < gap
+    → (t.gaps + 1 < 2 ^ 64 → now.0.gaps ≡ t.gaps + 1) × (t.told ≡ None → now.1.gap ≡ Some gap))

@@ -57,7 +57,7 @@ pub fn next_growth(covered: bool, is_done: bool, stopping: bool, now: u64, until
     GrowthTurn::Keep
 }
 
-/// An event whose end lies ahead, as its file has it.
+/// An event that isn't over, as the file of a camera's events has it.
 #[derive(Clone, Copy)]
 pub struct OpenEvent {
     /// Its number.

@@ -3,7 +3,7 @@
 ghost use Rattle.std.specs.Prelude.{◌≡◌, ◌+◌, ◌-◌, ◌^◌, ◌<◌, ◌↔◌, IsTrue, max, nat_le, if◌then◌else◌};
 ghost use Rattle.loop_station_core.specs.Keeps.{acts, asked_time, bounds, end_seen, is_clear, is_done, looked, needed, part_is_due, part_locked, progress_seen, step_keep, steps_taken, tag_of};
 
-use crate::Tally;
+use crate::{OpenEvent, Tally};
 
 // How many microseconds a keep waits at most while no frame makes progress.
 const STUCK: u64 = 60_000_000;
@@ -34,15 +34,21 @@ pub struct Keep {
     part: Option<u64>,
 }
 
-// What is seen when a keep is looked at.
+/// What is seen when a keep is looked at.
 #[derive(Clone, Copy)]
-struct Look {
-    tally: Tally,
-    time: u64,
-    come: u64,
-    block: u64,
-    locked: bool,
-    stopping: bool,
+pub struct Look {
+    /// Where its camera's frames are.
+    pub tally: Tally,
+    /// The microsecond since 1970 at which it is looked at.
+    pub time: u64,
+    /// How many frames have come up to the end of its time, or up to now where that lies ahead.
+    pub come: u64,
+    /// The number of the newest block.
+    pub block: u64,
+    /// Each block is locked.
+    pub locked: bool,
+    /// The program ends, so no further frame comes.
+    pub stopping: bool,
 }
 
 /// What a keep does now.
@@ -60,24 +66,16 @@ pub enum KeepTurn {
 }
 
 impl Keep {
-    /// A keep of an event, from `since` to `until`. Its line was read at the time `read`; `come` is how many frames had
-    /// come by then, and up to `until` where that was before.
-    pub fn new(
-        event: u64,
-        since: u64,
-        until: u64,
-        tag: u64,
-        read: u64,
-        come: u64,
-        tally: &Tally,
-    ) -> Keep
+    /// A keep of an event. Its line was read at the time `read`; `come` is how many frames had come by then, and up to
+    /// the event's end where that was before.
+    pub fn new(event: OpenEvent, read: u64, come: u64, tally: &Tally) -> Keep
         ensures { result ≡ record {
-          event = event;
-          since = since;
-          until = until;
-          tag = tag;
+          event = event.event;
+          since = event.since;
+          until = event.until;
+          tag = event.tag;
           come = come;
-          all = (if nat_le until read then Some come else None);
+          all = (if nat_le event.until read then Some come else None);
           steps = steps_taken tally.now;
           moved = read;
           block = 0;
@@ -85,12 +83,16 @@ impl Keep {
         } }
     {
         Keep {
-            event,
-            since,
-            until,
-            tag,
+            event: event.event,
+            since: event.since,
+            until: event.until,
+            tag: event.tag,
             come,
-            all: if until <= read { Some(come) } else { None },
+            all: if event.until <= read {
+                Some(come)
+            } else {
+                None
+            },
             steps: tally.steps(),
             moved: read,
             block: 0,
@@ -208,37 +210,12 @@ impl Keep {
     }
 }
 
-/// What a keep does at a time: `now`. `come` is how many frames have come up to the end of its time, or up to now where
-/// that lies ahead; `block` is the number of the newest block; `locked`: each block is locked; `stopping`: the program
-/// ends, so no further frame comes. A keep locks only once each frame that had come before its line is at the desk or
+/// What a keep does once it was looked at. It locks only once each frame that had come before its line is at the desk or
 /// lost, or each block is locked, or no frame has made progress for a minute.
-pub fn next_turn(
-    keep: Keep,
-    tally: &Tally,
-    now: u64,
-    come: u64,
-    block: u64,
-    locked: bool,
-    stopping: bool,
-) -> (Keep, KeepTurn)
-    ensures { result ≡ step_keep keep (record {
-      tally = tally.now;
-      time = now;
-      come = come;
-      block = block;
-      locked = locked;
-      stopping = stopping;
-    }) }
+pub fn next_turn(keep: Keep, look: &Look) -> (Keep, KeepTurn)
+    ensures { result ≡ step_keep keep look.now }
 {
-    let look = Look {
-        tally: *tally,
-        time: now,
-        come,
-        block,
-        locked,
-        stopping,
-    };
-    keep.looked(&look).acts(&look)
+    keep.looked(look).acts(look)
 }
 
 /// The time that the line of a keep asks for.

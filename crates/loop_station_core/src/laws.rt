@@ -1,9 +1,24 @@
 //! What holds over any list of events. Each function does nothing: its contract is the law.
 
-ghost use Rattle.loop_station_core.specs.Laws.{DisksAreToldOnce, FilmingsGoOn, FoundGapsAreSo, FramesAddUp, GapsAddUp, GapsAreLookedFor, KeepsAreRight, LinesAreSo, LockedLinesAlternate, LostAreToldOnce, MovedStoresAreLeft, OrdersAreAnsweredOnce, OrdersAreHandedOut, OrdersSpareReadClips, ReleasesAreEarned, ReleasesAreFree, SavedClipsAreReleased, SavedTextsAreThere, SavesWaitOnce, SilentSourcesWait, StopsAreForGood, WithdrawnSavesLeaveNothing};
-ghost use Rattle.loop_station_core.specs.Marks.{MarksAreRead};
-ghost use Rattle.loop_station_core.specs.Retries.{RetriesAreDue};
-ghost use Rattle.loop_station_core.specs.Timing.{FrameTimesRise, GapsAreToldApart};
+ghost use Rattle.loop_station_core.specs.Laws.{DisksAreToldOnce, FilmingsGoOn, FoundGapsAreSo, FramesAddUp, GapsAddUp, GapsAreLookedFor, KeepsAreRight, LinesAreSo, LockedLinesAlternate, LockedLinesTellAll, LostAreToldOnce, MovedStoresAreLeft, OrdersAreAnsweredOnce, OrdersAreHandedOut, OrdersReleaseUnreadClips, OrdersSpareReadClips, ReleasesAreEarned, ReleasesAreFree, SavedClipsAreReleased, SavedTextsAreThere, SavesWaitOnce, SilentSourcesWait, StopsAreForGood, WithdrawnSavesLeaveNothing};
+ghost use Rattle.loop_station_core.specs.Cameras.{CamerasEndWithTheProgram, EndedFilmingsGoOn, FilmsWhileFramesWait, LockedFilmingsWait, OffersAreAnswered, SilenceIsSeen};
+ghost use Rattle.loop_station_core.specs.Gaps.{CoveredPartsAreWithin, TimesAddUp};
+ghost use Rattle.loop_station_core.specs.Growth.{ClipsOfOpenEventsWait, EventsEndOnceDone, KeepsAreAnswered, WholeEventsAreWhole};
+ghost use Rattle.loop_station_core.specs.Keeps.{KeepsCoverBothEnds, KeepsCoverTheirSeconds, KeepsEnd, KeepsHaveAll, KeepsLockEachBlock, KeepsTakeTheCamerasSeconds, TagsAreTheUsers};
+ghost use Rattle.loop_station_core.specs.Marks.{LateFramesAreMarked, MarksAreRead};
+ghost use Rattle.loop_station_core.specs.Stores.{MovedStoresAreElsewhere, StoresWithFramesGoOn};
+ghost use Rattle.loop_station_core.specs.Releases.{SavesAddUp, SavesWaitForPlaces};
+ghost use Rattle.loop_station_core.specs.Retries.{CancelsMeanTheirClip, DueRetriesAreTaken, RetriesAreDue};
+ghost use Rattle.loop_station_core.specs.Timing.{FrameTimesRise, GapsAreToldApart, LongGapsAreTold, TimesAreTheSources};
+ghost use Rattle.loop_station_core.specs.Sets.{ClipsHaveTheirOwnIds, IdsAreThoseOfTheFile, LateFilesAreRead, StoresHoldWhatCame};
+ghost use Rattle.loop_station_core.specs.Still.{StandstillsAreTold};
+ghost use Rattle.loop_station_core.specs.Spools.{DroppedLinesAreTold, UnreadLinesAreKept};
+ghost use Rattle.loop_station_core.specs.Clips.{KeepsHaveRoom};
+ghost use Rattle.loop_station_core.specs.Orders.{IdleCamerasAreDone};
+ghost use Rattle.loop_station_core.specs.Saving.{ClipsAreSavedOnce, PlacesTellAll};
+ghost use Rattle.loop_station_core.specs.Frames.{LostFramesWereGivenUp, TalliesAddUp};
+ghost use Rattle.loop_station_core.specs.SaveEnds.{EndsAreTold, RetriesAreTold};
+ghost use Rattle.loop_station_core.specs.Telling.{FirstLooksTellAll, LinesTellAll};
 
 /// Each frame that came is stored, lost, at the desk, or on its way to it.
 pub fn frames_add_up()
@@ -138,4 +153,242 @@ pub fn silent_sources_wait()
 /// An order is answered once: when the last of the cameras that it means answers.
 pub fn orders_are_answered_once()
     ensures { OrdersAreAnsweredOnce }
+{}
+
+/// A keep whose end has passed is done at the first look at which each frame that had come by then is at the desk or lost.
+pub fn keeps_end()
+    ensures { KeepsEnd }
+{}
+
+/// A keep isn't done before each frame that had come by its end is at the desk or lost, unless each block is locked, or
+/// no frame has made progress for a minute.
+pub fn keeps_have_all()
+    ensures { KeepsHaveAll }
+{}
+
+/// A camera is filmed as long as nothing breaks and the program goes on, or frames that came wait for the device.
+pub fn films_while_frames_wait()
+    ensures { FilmsWhileFramesWait }
+{}
+
+/// A store that has a frame isn't made anew.
+pub fn stores_with_frames_go_on()
+    ensures { StoresWithFramesGoOn }
+{}
+
+/// A part is released as covered only where each of its frames is in the longer clip.
+pub fn covered_parts_are_within()
+    ensures { CoveredPartsAreWithin }
+{}
+
+/// An event is told as whole only where nothing of it was refused, and all of its time is held.
+pub fn whole_events_are_whole()
+    ensures { WholeEventsAreWhole }
+{}
+
+/// No save waits while a place is free, unless the program ends.
+pub fn saves_wait_for_places()
+    ensures { SavesWaitForPlaces }
+{}
+
+/// `keep CAMERA N +M` asks for exactly the times from N seconds before its line was read to M seconds after.
+pub fn keeps_cover_their_seconds()
+    ensures { KeepsCoverTheirSeconds }
+{}
+
+/// What a keep doesn't say is as its camera has it.
+pub fn keeps_take_the_cameras_seconds()
+    ensures { KeepsTakeTheCamerasSeconds }
+{}
+
+/// `keep CAMERA from T to T` asks for exactly the times from the one to the other, both included.
+pub fn keeps_cover_both_ends()
+    ensures { KeepsCoverBothEnds }
+{}
+
+/// A clip's tag is its line's, or else its camera's, or else its event's number.
+pub fn tags_are_the_users()
+    ensures { TagsAreTheUsers }
+{}
+
+/// No two clips of a camera have one id.
+pub fn clips_have_their_own_ids()
+    ensures { ClipsHaveTheirOwnIds }
+{}
+
+/// The clips of a first store have the ids of their file.
+pub fn ids_are_those_of_the_file()
+    ensures { IdsAreThoseOfTheFile }
+{}
+
+/// A store is moved away exactly where its path doesn't name its file.
+pub fn moved_stores_are_elsewhere()
+    ensures { MovedStoresAreElsewhere }
+{}
+
+/// At a start a clip is saved by itself exactly where it is of no event that goes on.
+pub fn clips_of_open_events_wait()
+    ensures { ClipsOfOpenEventsWait }
+{}
+
+/// A keep is told to go on, to be held already, or to have found nothing, each exactly where it is so.
+pub fn keeps_are_answered()
+    ensures { KeepsAreAnswered }
+{}
+
+/// An event is over exactly once its keep is done and covers no other clip. It is left to the next start exactly where
+/// the program ends before.
+pub fn events_end_once_done()
+    ensures { EventsEndOnceDone }
+{}
+
+/// A frame is marked as late exactly where it came while the program stood still, or just after.
+pub fn late_frames_are_marked()
+    ensures { LateFramesAreMarked }
+{}
+
+/// A standstill is told exactly where it was longer than a second, and for as long as it was.
+pub fn standstills_are_told()
+    ensures { StandstillsAreTold }
+{}
+
+/// A line is dropped only without room, or before it is said how many were.
+pub fn dropped_lines_are_told()
+    ensures { DroppedLinesAreTold }
+{}
+
+/// While nobody reads, the last 64 KiB of lines are kept.
+pub fn unread_lines_are_kept()
+    ensures { UnreadLinesAreKept }
+{}
+
+/// As many keeps of a length as are told to fit into a store do, wherever in a block each begins.
+pub fn keeps_have_room()
+    ensures { KeepsHaveRoom }
+{}
+
+/// A store holds no more frames than came and than have room, and all of them while they fit into all segments but one.
+pub fn stores_hold_what_came()
+    ensures { StoresHoldWhatCame }
+{}
+
+/// A file is looked into exactly where it may have frames as new as the newest that is known.
+pub fn late_files_are_read()
+    ensures { LateFilesAreRead }
+{}
+
+/// A camera has nothing to do exactly once each order that it took in was handed out, and none is being done.
+pub fn idle_cameras_are_done()
+    ensures { IdleCamerasAreDone }
+{}
+
+/// A cancel takes a save of the clip that it means out of those to be tried again, and none else.
+pub fn cancels_mean_their_clip()
+    ensures { CancelsMeanTheirClip }
+{}
+
+/// A clip is saved by itself a second time only once the first such save has ended, or was cancelled.
+pub fn clips_are_saved_once()
+    ensures { ClipsAreSavedOnce }
+{}
+
+/// A camera ends once the program does, whatever happened before, and never while it goes on.
+pub fn cameras_end_with_the_program()
+    ensures { CamerasEndWithTheProgram }
+{}
+
+/// While the program goes on, a filming that ends is followed by one: in a store made anew where its own was moved
+/// away.
+pub fn ended_filmings_go_on()
+    ensures { EndedFilmingsGoOn }
+{}
+
+/// Where each block is locked a flush is tried again, exactly as long as the filming and the program go on.
+pub fn locked_filmings_wait()
+    ensures { LockedFilmingsWait }
+{}
+
+/// Frames that the store can have are taken; others are refused, and told as such once.
+pub fn offers_are_answered()
+    ensures { OffersAreAnswered }
+{}
+
+/// A source is seen as silent exactly from two seconds and three of its frames on, and no longer once a byte comes.
+pub fn silence_is_seen()
+    ensures { SilenceIsSeen }
+{}
+
+/// The frames that a tally counts are all that came, wherever they are.
+pub fn tallies_add_up()
+    ensures { TalliesAddUp }
+{}
+
+/// No frame is lost but one that is given up; what is stored, lost or brought stays so.
+pub fn lost_frames_were_given_up()
+    ensures { LostFramesWereGivenUp }
+{}
+
+/// A keep waits only for frames that had come before its line, or for a block after the one that it has locked.
+pub fn keeps_lock_each_block()
+    ensures { KeepsLockEachBlock }
+{}
+
+/// Where each gap counts, what is held of a time and what is missing are all of it.
+pub fn times_add_up()
+    ensures { TimesAddUp }
+{}
+
+/// Once the time of a save that failed has come, it is tried again, or another one is, and each no more than once.
+pub fn due_retries_are_taken()
+    ensures { DueRetriesAreTaken }
+{}
+
+/// The end of a save is told as what it is, or it is tried again a minute later.
+pub fn ends_are_told()
+    ensures { EndsAreTold }
+{}
+
+/// A save that is tried again is told as such.
+pub fn retries_are_told()
+    ensures { RetriesAreTold }
+{}
+
+/// What saves are known by leaves nothing of them out.
+pub fn places_tell_all()
+    ensures { PlacesTellAll }
+{}
+
+/// Each save that was taken in runs, waits or has ended.
+pub fn saves_add_up()
+    ensures { SavesAddUp }
+{}
+
+/// An order releases the clip that it means, once each save that was taken in and reads it has ended.
+pub fn orders_release_unread_clips()
+    ensures { OrdersReleaseUnreadClips }
+{}
+
+/// A frame has the time that its source says, or else that at which it came, wherever this is later than the last one.
+pub fn times_are_the_sources()
+    ensures { TimesAreTheSources }
+{}
+
+/// A gap is told only where it is long; and a long one is told, unless one was within a second.
+pub fn long_gaps_are_told()
+    ensures { LongGapsAreTold }
+{}
+
+/// Whoever reads the lines about a camera knows whether its store is there, and how far its disk is behind.
+pub fn lines_tell_all()
+    ensures { LinesTellAll }
+{}
+
+/// At the first look all that is so is told, but for what may still come.
+pub fn first_looks_tell_all()
+    ensures { FirstLooksTellAll }
+{}
+
+/// Whoever reads the lines about locked blocks knows whether each was locked at the last look.
+pub fn locked_lines_tell_all()
+    ensures { LockedLinesTellAll }
 {}

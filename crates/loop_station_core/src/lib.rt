@@ -63,7 +63,7 @@ pub use growth::{
     next_growth,
 };
 pub use keep::{
-    Keep, KeepPeriod, KeepTurn, Numbers, asked_time, bounds, is_too_far, next_turn, tag_of,
+    Keep, KeepPeriod, KeepTurn, Look, Numbers, asked_time, bounds, is_too_far, next_turn, tag_of,
 };
 pub use marks::{bits_of, came_late, mark};
 pub use orders::{AddedOrder, Attended, MOST_ORDERS, Orders};

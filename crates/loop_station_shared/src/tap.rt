@@ -2,12 +2,15 @@
 //!
 //! A thread of its own writes there, because a pipe may keep it waiting: until a reader opens it, or for a reader that
 //! doesn't read. No other thread ever waits. The newest lines for a pipe that nobody reads are kept for its next
-//! reader. A file that takes no more is cut back to its last whole line, and tried again.
+//! reader. A file that takes no more is cut back to its last whole line, and tried again. Where its path names another
+//! file by then, or none, as after a rotation of logs, that one is opened, and made where there is none.
 
 use crate::spool::{LineForm, Spool, first_line, whole_lines, write_most};
+use loop_station_outside::Places;
 use std::alloc::{AllocError, AllocGlobal, Global};
 use std::fs::File;
 use std::io::Write;
+use std::os::unix::fs::MetadataExt;
 use std::sync::Wait;
 use std::sync::atomic::{AtomicBool, Ordering};
 use std::time::Clock;
@@ -89,15 +92,35 @@ fn pass_lines<R: Wait>(rt: &R, tap: &Tap, file: &mut File, lines: &[u8]) -> bool
     true
 }
 
-/// Writes lines into a file until it takes no more.
-pub(crate) fn write_to_file<R: AllocGlobal + Wait + Clock>(rt: &R, tap: &Tap, file: File) {
+/// Writes lines into a file until it takes no more, or its path names another file, or none. Returns whether the path
+/// does; the lines that aren't written wait for the next file.
+pub(crate) fn write_to_file<R: AllocGlobal + Places + Wait + Clock>(
+    rt: &R,
+    tap: &Tap,
+    file: File,
+) -> bool {
     let (mut file, mut lines) = (file, Vec::new(rt.alloc()));
     for _ in rt.forever() {
         let _no_status = tap.spool.next(rt, &mut lines);
+        if has_moved(rt, tap, &file) {
+            return true;
+        }
         if !append_lines(rt, tap, &mut file, &lines) {
             break;
         }
         let _first = tap.set_failing(false);
+    }
+    false
+}
+
+// Whether the path of a tap is seen to name another file than this one, or none.
+fn has_moved<R: Places>(rt: &R, tap: &Tap, file: &File) -> bool {
+    let Ok(here) = file.metadata() else {
+        return false;
+    };
+    match rt.place_of(tap.path.as_str()) {
+        Ok(there) => there != Some((here.dev(), here.ino())),
+        Err(_) => false,
     }
 }
 

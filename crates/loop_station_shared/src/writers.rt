@@ -43,7 +43,9 @@ pub fn run_tap<R: AllocGlobal + Places + Wait + Clock, W: Write + Drop>(
                 tap.spool.set_unread(rt, true);
                 continue;
             }
-            write_to_file(rt, tap, file);
+            if write_to_file(rt, tap, file) {
+                continue;
+            }
         }
         if tap.set_failing(true) {
             tell_lost(rt, tap, outlet);

@@ -6,14 +6,14 @@ use Rattle.std.specs.Int.{w64}
 use Rattle.std.specs.Str.{bytes_eq}
 use Rattle.toml.specs.Data.{Data, string, integer, float, boolean}
 use Rattle.loop_script.specs.Script.{number}
-use Rattle.loop_station_words.specs.declared.config.AnswersForm.{AnswersForm}
-use Rattle.loop_station_words.specs.declared.config.AnswersForm.TheVariants.{Json, Text}
-use Rattle.loop_station_words.specs.declared.config.MemoryLimit.{MemoryLimit}
-use Rattle.loop_station_words.specs.declared.config.MemoryLimit.TheVariants.{Bytes, Seconds}
-use Rattle.loop_station_words.specs.declared.config.StoreSize.{StoreSize}
-use Rattle.loop_station_words.specs.declared.config.StoreSize.TheVariants.{Bytes as RoomBytes, Seconds as RoomSeconds}
-use Rattle.loop_station_words.specs.declared.config.TimesFrom.{TimesFrom}
-use Rattle.loop_station_words.specs.declared.config.TimesFrom.TheVariants.{Arrival, Source as FromSource}
+use Rattle.loop_station_words.specs.declared.choices.AnswersForm.{AnswersForm}
+use Rattle.loop_station_words.specs.declared.choices.AnswersForm.TheVariants.{Json, Text}
+use Rattle.loop_station_words.specs.declared.choices.MemoryLimit.{MemoryLimit}
+use Rattle.loop_station_words.specs.declared.choices.MemoryLimit.TheVariants.{Bytes, Seconds}
+use Rattle.loop_station_words.specs.declared.choices.StoreSize.{StoreSize}
+use Rattle.loop_station_words.specs.declared.choices.StoreSize.TheVariants.{Bytes as RoomBytes, Seconds as RoomSeconds}
+use Rattle.loop_station_words.specs.declared.choices.TimesFrom.{TimesFrom}
+use Rattle.loop_station_words.specs.declared.choices.TimesFrom.TheVariants.{Arrival, Source as FromSource}
 use Rattle.loop_station_words.specs.declared.shape.FrameShape.{FrameShape}
 use Rattle.loop_station_words.specs.Cuts.{cut}
 use Rattle.loop_station_words.specs.Shapes.{shape_said}

@@ -6,10 +6,10 @@ use Rattle.loop_record.specs.Geometry.{divided_up, frame_bytes, is_good}
 use Rattle.loop_record.specs.declared.geometry.Geometry.{Geometry}
 use Rattle.loop_station_words.specs.Rings.{file_size}
 use Rattle.loop_station_words.specs.Sets.{IsLeastCount, IsLeastSetFor, IsSetWithin, IsStoreCount, held_by}
-use Rattle.loop_station_words.specs.declared.config.MemoryLimit.{MemoryLimit}
-use Rattle.loop_station_words.specs.declared.config.MemoryLimit.TheVariants.{Bytes as MemoryBytes, Seconds as MemorySeconds}
-use Rattle.loop_station_words.specs.declared.config.StoreSize.{StoreSize}
-use Rattle.loop_station_words.specs.declared.config.StoreSize.TheVariants.{Bytes, Seconds}
+use Rattle.loop_station_words.specs.declared.choices.MemoryLimit.{MemoryLimit}
+use Rattle.loop_station_words.specs.declared.choices.MemoryLimit.TheVariants.{Bytes as MemoryBytes, Seconds as MemorySeconds}
+use Rattle.loop_station_words.specs.declared.choices.StoreSize.{StoreSize}
+use Rattle.loop_station_words.specs.declared.choices.StoreSize.TheVariants.{Bytes, Seconds}
 use Rattle.loop_station_words.specs.declared.ring.RingSize.{RingSize}
 use Rattle.loop_station_words.specs.declared.room.NoRing.{NoRing}
 use Rattle.loop_station_words.specs.declared.room.NoRing.TheVariants.{TooManyFrames, TooFewBytes, BadFrames}

@@ -39,7 +39,11 @@ pub struct StoresStatus {
 }
 
 /// What each line begins with: the time of day, in UTC with milliseconds, and a label, if there are any.
-pub fn print_head<W: Write>(out: &mut W, time: Option<u64>, label: Option<&str>) -> io::Result<()> {
+pub(crate) fn print_head<W: Write>(
+    out: &mut W,
+    time: Option<u64>,
+    label: Option<&str>,
+) -> io::Result<()> {
     if let Some(micros) = time {
         print_time(out, micros)?;
         write!(out, " ")?;

@@ -8,12 +8,14 @@ ghost use Rattle.loop_station_words.specs.Config.{AreCameras, HasBuffers, IsConf
 ghost use Rattle.loop_station_words.specs.Files.{share_file};
 ghost use Rattle.loop_station_words.specs.Names.{is_name};
 
+use crate::choices::{AnswersForm, MemoryLimit, StoreSize, TimesFrom};
 use crate::fault::{CameraFault, ConfigFault};
 use crate::fields::{
     after_at, buffers_at, check_keys, form_at, memory_at, number_at, path_at, room_at, shape_at,
     small_at, text_at, times_at, truth_at, value_at,
 };
 use crate::files::share_file;
+use crate::key::unknown_key;
 use crate::name::is_name;
 use crate::shape::FrameShape;
 use std::alloc::{AllocError, Global};
@@ -52,15 +54,6 @@ pub struct Config {
     pub cameras: Vec<CameraConfig>,
 }
 
-/// The form of lines.
-#[derive(Clone, Copy, Debug, PartialEq, Eq)]
-pub enum AnswersForm {
-    /// As they are printed.
-    Text,
-    /// A JSON object each.
-    Json,
-}
-
 /// What the file says of a camera.
 #[derive(Drop)]
 pub struct CameraConfig {
@@ -90,15 +83,6 @@ pub struct CameraConfig {
     pub times_from: TimesFrom,
 }
 
-/// Where the times of a camera's frames come from.
-#[derive(Clone, Copy, Debug, PartialEq, Eq)]
-pub enum TimesFrom {
-    /// A frame has the time at which it came.
-    Arrival,
-    /// It has the time that its source says.
-    Source,
-}
-
 /// Where a camera's frames come from.
 #[derive(Drop)]
 pub enum Source {
@@ -106,24 +90,6 @@ pub enum Source {
     Pattern(FrameShape),
     /// The YUV4MPEG2 file or pipe of this path.
     Path(String),
-}
-
-/// How large the stores of a camera are.
-#[derive(Clone, Copy, Debug, PartialEq, Eq)]
-pub enum StoreSize {
-    /// Enough for this many seconds.
-    Seconds(u64),
-    /// At most this many bytes.
-    Bytes(u64),
-}
-
-/// How much memory frames may take.
-#[derive(Clone, Copy, Debug, PartialEq, Eq)]
-pub enum MemoryLimit {
-    /// Enough for this many seconds, at the rate of the source.
-    Seconds(u64),
-    /// This many bytes.
-    Bytes(u64),
 }
 
 /// Reads the text of a configuration file, which is TOML. Returns the first fault alone where there is one.
@@ -156,10 +122,8 @@ fn config_of(alloc: Global, table: &Table) -> Result<Config, ConfigFault>
     ensures good { IfOk result IsConfig }
     ensures says { IfOk result (SaysConfig (table_view table.now)) }
 {
-    for key in table.keys() {
-        if !KEYS.contains(&key.as_str()) {
-            return Err(ConfigFault::UnknownKey);
-        }
+    if let Some(key) = unknown_key(alloc, table, &KEYS)? {
+        return Err(ConfigFault::UnknownKey(key));
     }
     let cameras = cameras_of(alloc, camera_tables(table)?)?;
     let orders = path_at(table, "orders").ok_or(ConfigFault::BadOrders)?;
@@ -274,7 +238,7 @@ fn camera_of(alloc: Global, table: &Value) -> Result<CameraConfig, CameraFault>
         Value::Table(table) => table,
         _ => return Err(CameraFault::NoTable),
     };
-    check_keys(table)?;
+    check_keys(alloc, table)?;
     let name = match text_at(table, "name") {
         Some(name) if is_name(name) => name,
         _ => return Err(CameraFault::BadName),

@@ -1,5 +1,6 @@
 // What is wrong with a configuration file.
 
+use crate::key::UnknownKey;
 use std::alloc::{AllocError, AllocFailed};
 use thiserror::Error;
 
@@ -12,9 +13,9 @@ pub enum ConfigFault {
     /// The text isn't TOML, on the line of this number, from 1.
     #[error("line {0} can't be read as TOML")]
     BadToml(u64),
-    /// A key other than `orders`, `answers`, `answers_form`, `saves`, `times`, `events` and `camera`.
-    #[error("there is a key other than orders, answers, answers_form, saves, times, events and [[camera]]")]
-    UnknownKey,
+    /// A key that no file has: this one.
+    #[error("there is no key {0}")]
+    UnknownKey(UnknownKey),
     /// `orders` isn't a text, or is empty.
     #[error("orders is a path")]
     BadOrders,
@@ -59,9 +60,9 @@ pub enum CameraFault {
     /// It isn't a table.
     #[error("it is no table")]
     NoTable,
-    /// A key that cameras don't have.
-    #[error("there is a key that cameras don't have")]
-    UnknownKey,
+    /// A key that cameras don't have: this one.
+    #[error("cameras have no key {0}")]
+    UnknownKey(UnknownKey),
     /// No name, or one that isn't 1 to 32 letters, digits, `-` and `_`, or all digits.
     #[error("a name is 1 to 32 letters, digits, - and _, and not digits alone")]
     BadName,

@@ -6,11 +6,13 @@ ghost use Rattle.loop_station_words.specs.Config.{HasBuffers};
 ghost use Rattle.loop_station_words.specs.Cuts.{cut};
 ghost use Rattle.loop_station_words.specs.Fields.{SaysShape, bytes_of, duration_cut, form_of, memory_of, number_or, part_seconds, path_of, positive, room_of, seconds_of, shape_text, whole_float, text_of, times_of, truth_of};
 
-use crate::config::{AnswersForm, MemoryLimit, StoreSize, TimesFrom};
+use crate::choices::{AnswersForm, MemoryLimit, StoreSize, TimesFrom};
 use crate::cut::cut;
 use crate::fault::CameraFault;
+use crate::key::unknown_key;
 use crate::shape::{FrameShape, read_shape};
 use loop_script::number::number;
+use std::alloc::Global;
 use std::num::saturating_f64_to_u64;
 use toml::{Table, Value};
 
@@ -57,13 +59,11 @@ const MOST: f64 = 1e15;
 const SHAPE: &str = "640x480 YM12 25:1";
 
 /// Refuses a table with a key that cameras don't have.
-pub(crate) fn check_keys(table: &Table) -> Result<(), CameraFault> {
-    for key in table.keys() {
-        if !KEYS.contains(&key.as_str()) {
-            return Err(CameraFault::UnknownKey);
-        }
+pub(crate) fn check_keys(alloc: Global, table: &Table) -> Result<(), CameraFault> {
+    match unknown_key(alloc, table, &KEYS)? {
+        None => Ok(()),
+        Some(key) => Err(CameraFault::UnknownKey(key)),
     }
-    Ok(())
 }
 
 /// The value at a key, if there is one.

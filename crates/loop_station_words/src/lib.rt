@@ -7,7 +7,8 @@
 //!   how many stores a camera has where one isn't enough; `room` for what the configuration asks, how much of a store
 //!   is free, and how many frames may wait before it;
 //! - `config` reads the configuration file, which says which cameras there are. `fields` reads the value at a key
-//!   there, `shape` reads what the pattern's frames look like, and `fault` says what is wrong with that file;
+//!   there, `choices` has what such a value chooses, `shape` reads what the pattern's frames look like, `key` names the known
+//!   key that is nearest to an unknown one, and `fault` says what is wrong with that file;
 //! - `lines` has the lines of the program's output, as text and as JSON, each of parts (`part`); `answers` has the
 //!   status of a camera, what a line begins with, and what the file of a clip is called.
 //!
@@ -20,11 +21,13 @@
 
 mod answers;
 mod calendar;
+mod choices;
 mod config;
 mod cut;
 mod fault;
 mod fields;
 mod files;
+mod key;
 pub mod laws;
 mod lines;
 mod name;
@@ -36,14 +39,13 @@ mod sets;
 mod shape;
 mod time;
 
-pub use answers::{CameraStatus, StoresStatus, print_clip_path, print_head};
+pub use answers::{CameraStatus, StoresStatus, print_clip_path};
 pub use calendar::{CivilTime, civil_time_of};
-pub use config::{
-    AnswersForm, CameraConfig, Config, MAX_CAMERAS, MemoryLimit, Source, StoreSize, TimesFrom,
-    read_config,
-};
+pub use choices::{AnswersForm, MemoryLimit, StoreSize, TimesFrom};
+pub use config::{CameraConfig, Config, MAX_CAMERAS, Source, read_config};
 pub use fault::{CameraFault, ConfigFault};
 pub use files::{number_of, numbered};
+pub use key::UnknownKey;
 pub use lines::Lines;
 pub use name::{Name, is_name};
 pub use order::{Order, label_of, read_order};

@@ -4,7 +4,7 @@ ghost use Rattle.std.specs.Prelude.{◌≡◌, ◌≤◌, ◌<◌, ◌+◌, ◌*
 ghost use Rattle.loop_record.specs.Geometry.{frame_bytes, is_good};
 ghost use Rattle.loop_station_words.specs.Rooms.{AreAsked, HoldsLess, IsAskedCount, IsAskedSet, duration_of, frames_before, frames_in_seconds, free_blocks, held_frames, locked_below, lowest_in, lowest_met, most_tenths, nearer, newest_block, ring_size_of, size_in};
 
-use crate::config::{MemoryLimit, StoreSize};
+use crate::choices::{MemoryLimit, StoreSize};
 use crate::ring::{RingSize, frames_in};
 use crate::sets::{MAX_STORES, SetSize, set_for, set_within, stores_for, stores_within};
 use loop_record::Geometry;

@@ -182,15 +182,7 @@ fn go_on_with<R: AllocGlobal + Wait + Clock>(rt: &R, state: &CameraState, events
         state.tell(rt, lines, None);
         let now = state.timeline.now(rt);
         let come = state.feed.come(rt, now.min(event.until));
-        let keep = Keep::new(
-            event.event,
-            event.since,
-            event.until,
-            event.tag,
-            now,
-            come,
-            &state.tally(rt),
-        );
+        let keep = Keep::new(*event, now, come, &state.tally(rt));
         let clips = state.clips_tagged(rt, alloc, 0, event.event);
         // Its clips are among those that `tell_clips` leaves out, so the next start saves them where too many go on.
         let _goes_on = state.begin_growing(rt, alloc, keep, clips);

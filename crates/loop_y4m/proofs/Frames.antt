@@ -9,7 +9,7 @@ use Rattle.loop_y4m.specs.declared.fault.Y4mFault.TheVariants.{NotY4m, BadHeader
 use Rattle.loop_y4m.specs.declared.header.Header.{Header}
 use Rattle.loop_y4m.specs.Header.{and_then, size_of_frame}
 use Rattle.loop_y4m.specs.declared.frame.FrameLine.{FrameLine}
-use Rattle.loop_y4m.specs.Reader.{Gives, GivesNext, has_frame, opened_with}
+use Rattle.loop_y4m.specs.Reader.{Gives, GivesNext, gave_frame, opened_with}
 use Rattle.loop_y4m.specs.Steps.{FrameIs, TimedIs}
 use Rattle.loop_y4m.specs.Stream.{Frames, before, ends, ends_after, frames_by, frames_within_input, frames_within, is_frame_line, is_newline, line, next_frame, pixels}
 
@@ -113,7 +113,7 @@ gives_next header None new result out full is = tt
 gives_next header (Some bytes) new result out full is = next_known header (size_of_frame header) bytes new result out full is
 
 frame_of : (old new : Option (List ℕ)) (result : Result (Option FrameLine) Y4mFault) (out : List ℕ)
-    → IfSome old (λ bytes. TimedIs bytes result out new) → IfSome old (λ bytes. FrameIs bytes (has_frame result) out new)
+    → IfSome old (λ bytes. TimedIs bytes result out new) → IfSome old (λ bytes. FrameIs bytes (gave_frame result) out new)
 frame_of None new result out is = tt
 frame_of (Some bytes) new result out is = is.0
 
@@ -121,7 +121,7 @@ frame_of (Some bytes) new result out is = is.0
 pub gives_timed : (header : Header) (old new : Option (List ℕ)) (result : Result (Option FrameLine) Y4mFault)
     (out : List ℕ) → length out ≡ size_of_frame header → IfSome old (λ bytes. TimedIs bytes result out new)
     → IfSome (option_map (frames_within_input (size_of_frame header)) old)
-    (λ frames. GivesNext frames (has_frame result) out (opened_with header (result_err result) new).rest)
+    (λ frames. GivesNext frames (gave_frame result) out (opened_with header (result_err result) new).rest)
 gives_timed header old new (Err fault) out full is =
     gives_next header old new (Err fault) out full (frame_of old new (Err fault) out is)
 gives_timed header old new (Ok None) out full is =

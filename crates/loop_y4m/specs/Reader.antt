@@ -41,10 +41,10 @@ OpensDeepAs bytes (Ok r) =
     (rest : Frames) × (parse_deep bytes ≡ Ok ((r.0.header, r.1), rest)) × (r.0.rest ≡ Some rest)
 
 -- whether a call with its line gave a frame
-abbrev pub has_frame : Result (Option FrameLine) Y4mFault → Result Bool Y4mFault
-has_frame (Err fault) = Err fault
-has_frame (Ok None) = Ok false
-has_frame (Ok (Some line)) = Ok true
+abbrev pub gave_frame : Result (Option FrameLine) Y4mFault → Result Bool Y4mFault
+gave_frame (Err fault) = Err fault
+gave_frame (Ok None) = Ok false
+gave_frame (Ok (Some line)) = Ok true
 
 -- where a frame came, its time is what the first line of these bytes says
 abbrev pub SaysTime : List ℕ → Result (Option FrameLine) Y4mFault → Type 0

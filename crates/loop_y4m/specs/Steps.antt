@@ -12,7 +12,7 @@ use Rattle.loop_y4m.specs.Header.{size_of_frame}
 use Rattle.loop_y4m.specs.declared.depth.Colours.{Colours}
 use Rattle.loop_y4m.specs.declared.depth.Depth.{Depth}
 use Rattle.loop_y4m.specs.declared.frame.FrameLine.{FrameLine}
-use Rattle.loop_y4m.specs.Reader.{SaysTime, has_frame}
+use Rattle.loop_y4m.specs.Reader.{SaysTime, gave_frame}
 use Rattle.loop_y4m.specs.Stream.{frame_start, frame_time, header_and_rest, next_frame}
 use Rattle.loop_y4m.specs.Text.{frame}
 
@@ -55,7 +55,7 @@ StartIs bytes (Ok (Some said)) left = (first : List ℕ) × (rest : List ℕ)
 
 -- the answer is the next frame, with the time that its line says
 abbrev pub TimedIs : List ℕ → Result (Option FrameLine) Y4mFault → List ℕ → Option (List ℕ) → Type 0
-TimedIs bytes result out left = FrameIs bytes (has_frame result) out left × SaysTime bytes result
+TimedIs bytes result out left = FrameIs bytes (gave_frame result) out left × SaysTime bytes result
 
 -- the answer is the header, where these colours are read
 abbrev pub HeaderIs : Colours → List ℕ → Result (Header × Depth) Y4mFault → Option (List ℕ) → Type 0

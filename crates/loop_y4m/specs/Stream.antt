@@ -45,13 +45,13 @@ abbrev pub or_else : Option ℕ → Option ℕ → Option ℕ
 or_else (Some n) other = Some n
 or_else None other = other
 
-abbrev pub time_in : List (List ℕ) → Option ℕ
-time_in [] = None
-time_in (w ∷ ws) = or_else (word_time w) (time_in ws)
+abbrev pub words_time : List (List ℕ) → Option ℕ
+words_time [] = None
+words_time (w ∷ ws) = or_else (word_time w) (words_time ws)
 
 -- the time that a frame's line says: its first word that is one
 abbrev pub frame_time : List ℕ → Option ℕ
-frame_time text = time_in (header_words text)
+frame_time text = words_time (header_words text)
 
 -- the line of the next frame, and what follows it; None at the end
 abbrev pub frame_start : List ℕ → Result (Option (List ℕ × List ℕ)) Y4mFault

@@ -1,0 +1,127 @@
+-- When a keep is done, and what else is decided for good.
+use Rattle.std.proofs.Common.{◌≡◌, ◌≢◌, ℕ, ◌==◌, ◌≤◌, ◌⊎◌, ◌||◌, ◌&&◌, Bool, true, false, not, Option, Some, None, arith, refl, sym, ap, subst, inl, inr, is_some, unwrap_or, max, nat_le, nat_lt, if◌then◌else◌, ◌∙◌}
+use Rattle.std.proofs.lemmas.Grind.{common_steps}
+use Rattle.loop_station_core.specs.Cameras.{films}
+use Rattle.loop_station_core.specs.Gaps.{lies_within}
+use Rattle.loop_station_core.specs.Growth.{how_event_ends}
+use Rattle.loop_station_core.specs.Stores.{goes_on}
+use Rattle.loop_station_core.specs.Keeps.{acts, end_seen, is_clear, is_done, is_over, looked, needed, part_is_due, part_locked, progress_seen, step_keep, steps_taken, KeepsLockEachBlock, has_newest}
+use Rattle.loop_station_core.specs.declared.camera.Camera.{Camera}
+use Rattle.loop_station_core.specs.declared.growth.EventEnd.TheVariants.{Whole as WholeEvent}
+use Rattle.loop_station_core.specs.declared.keep.Keep.{Keep}
+use Rattle.loop_station_core.specs.declared.keep.Look.{Look}
+use Rattle.loop_station_core.specs.declared.keep.KeepTurn.TheVariants.{Wait, Whole}
+use Rattle.loop_station_core.specs.declared.runs.ClipSpan.{ClipSpan}
+use Rattle.std.proofs.lemmas.Bool.{ne_eqb}
+
+both : (a b : Bool) → a ≡ true → b ≡ true → a && b ≡ true
+both true true d e = refl
+both true false d e = e
+both false b d e = d
+
+le-true : (a b : ℕ) → a ≤ b → nat_le a b ≡ true
+le-true a b less = grind (arith, common_steps)
+
+-- how many frames had come by its end, once that has passed
+known : (m : Keep) (t c : ℕ) (o : Option ℕ) → m.all ≡ o → m.until ≤ t → (end_seen m t c).all ≡ Some (unwrap_or o (max c m.come))
+known m t c (Some n) is over =
+    subst (λ b. (if b then record m { all = Some (max c m.come) } else m).all ≡ Some n)
+    (sym (ap (λ o. nat_le m.until t && not (is_some o)) is ∙ none (nat_le m.until t))) is
+  where
+    none : (b : Bool) → b && false ≡ false
+    none true = refl
+    none false = refl
+known m t c None is over =
+    subst (λ b. (if b then record m { all = Some (max c m.come) } else m).all ≡ Some (max c m.come))
+    (sym (ap (λ o. nat_le m.until t && not (is_some o)) is ∙ both (nat_le m.until t) true (le-true m.until t over) refl)) refl
+
+acts-whole : (k : Keep) (l : Look) → is_done k l ≡ true → (acts k l).1 ≡ Whole
+acts-whole k l h = subst (λ b. (if b then (k, Whole) else (if part_is_due k l then part_locked k l else (k, Wait))).1 ≡ Whole) (sym h) refl
+
+or-true : (a b : Bool) → a ≡ true → a || b ≡ true
+or-true true b e = refl
+or-true false b e = absurd (cc)
+
+done-with : (k : Keep) (l : Look) (n : ℕ) → k.all ≡ Some n → n ≤ l.tally.brought → is_done k l ≡ true
+done-with k l n is enough =
+    both (is_over k l) (is_clear (needed k l) k l)
+    (ap (λ o. is_some o || l.stopping) is)
+    (ap (λ o. is_clear (unwrap_or o (max l.come k.come)) k l) is
+    ∙ or-true (nat_le n l.tally.brought) _ (le-true n l.tally.brought enough))
+
+moved-same : (k : Keep) (steps now : ℕ) → ((progress_seen k steps now).all ≡ k.all) × ((progress_seen k steps now).until ≡ k.until) × ((progress_seen k steps now).come ≡ k.come)
+moved-same k steps now = elim (steps == k.steps) as (λ b. let r : Keep = if b then k else record k { steps = steps; moved = now } in
+    (r.all ≡ k.all) × (r.until ≡ k.until) × (r.come ≡ k.come))
+    [ true ↦ (refl, refl, refl) | false ↦ (refl, refl, refl) ]
+
+-- what is known of its end when it has looked
+looked-all : (k : Keep) (l : Look) → k.until ≤ l.time → (looked k l).all ≡ Some (unwrap_or k.all (max l.come k.come))
+looked-all k l over =
+    let m = progress_seen k (steps_taken l.tally) l.time in
+    let same = moved-same k (steps_taken l.tally) l.time in
+    known m l.time l.come k.all same.0 (subst (λ u. u ≤ l.time) (sym same.1) over)
+    ∙ ap (λ c. Some (unwrap_or k.all (max l.come c))) same.2
+
+pub keeps-end : (k : Keep) (l : Look) → k.until ≤ l.time → unwrap_or k.all (max l.come k.come) ≤ l.tally.brought
+    → (step_keep k l).1 ≡ Whole
+keeps-end k l over enough = acts-whole (looked k l) l (done-with (looked k l) l _ (looked-all k l over) enough)
+
+pub films-on : (c : Camera) (come taken : ℕ) → c.over ≡ false → (c.stopping ≡ false) ⊎ (come ≢ taken) → films c come taken ≡ true
+films-on c come taken goes (inl on) = ap (λ b. not b && (not c.stopping || not (come == taken))) goes ∙ ap (λ b. not b || not (come == taken)) on
+films-on c come taken goes (inr apart) = ap (λ b. not b && (not c.stopping || not (come == taken))) goes ∙ grind (arith, common_steps)
+
+pub frames-go-on : (frames : ℕ) (alike : Bool) → 1 ≤ frames → goes_on frames alike ≡ true
+frames-go-on frames alike some = or-true (nat_lt 0 frames) alike (grind (arith, common_steps))
+
+pub within : (old new : ClipSpan) (n : ℕ) → lies_within old new ≡ true → old.from ≤ n → n ≤ old.to → (new.from ≤ n) × (n ≤ new.to)
+within old new n is from to =
+    let ends : (new.from ≤ old.from) × (old.to ≤ new.to) = grind (arith, common_steps) in (omega arith, omega arith)
+
+pub whole-events : (refused held : Bool) → how_event_ends refused held ≡ WholeEvent → (refused ≡ false) × (held ≡ true)
+whole-events true held e = absurd (cc)
+whole-events false true e = (refl, refl)
+whole-events false false e = absurd (cc)
+
+-- one that is due locks a part
+acts-now : (k : Keep) (l : Look) → part_is_due k l ≡ true → (acts k l).1 ≢ Wait
+acts-now k l h e = at (is_done k l) refl
+  where
+    at : (b : Bool) → is_done k l ≡ b → ⊥
+    at true d = grind (arith, common_steps)
+    at false d = grind (arith, common_steps)
+
+ended-same : (k : Keep) (t c : ℕ) → ((end_seen k t c).part ≡ k.part) × ((end_seen k t c).block ≡ k.block)
+    × ((end_seen k t c).come ≡ k.come)
+ended-same k t c = elim (nat_le k.until t && not (is_some k.all)) as (λ b. let r : Keep = if b then record k { all = Some (max c k.come) } else k in
+    (r.part ≡ k.part) × (r.block ≡ k.block) × (r.come ≡ k.come))
+    [ true ↦ (refl, refl, refl) | false ↦ (refl, refl, refl) ]
+
+moved-part : (k : Keep) (steps now : ℕ) → ((progress_seen k steps now).part ≡ k.part) × ((progress_seen k steps now).block ≡ k.block)
+moved-part k steps now = elim (steps == k.steps) as (λ b. let r : Keep = if b then k else record k { steps = steps; moved = now } in
+    (r.part ≡ k.part) × (r.block ≡ k.block))
+    [ true ↦ (refl, refl) | false ↦ (refl, refl) ]
+
+looked-part : (k : Keep) (l : Look) → ((looked k l).part ≡ k.part) × ((looked k l).block ≡ k.block) × ((looked k l).come ≡ k.come)
+looked-part k l =
+    let m = progress_seen k (steps_taken l.tally) l.time in
+    let a = ended-same m l.time l.come in let b = moved-part k (steps_taken l.tally) l.time in
+    let c = moved-same k (steps_taken l.tally) l.time in
+    (a.0 ∙ b.0, a.1 ∙ b.1, a.2 ∙ c.2)
+
+is-due : (k : Keep) (l : Look) → k.come ≤ l.tally.brought → (k.part ≡ None) ⊎ (k.block ≢ l.block) → part_is_due k l ≡ true
+is-due k l here (inl none) =
+    both (is_clear k.come k l) (not (has_newest k l)) (or-true (nat_le k.come l.tally.brought) _ (le-true k.come l.tally.brought here))
+    (grind (arith, common_steps))
+is-due k l here (inr other) =
+    let differs : (k.block == l.block) ≡ false = ne_eqb k.block l.block other in
+    both (is_clear k.come k l) (not (has_newest k l)) (or-true (nat_le k.come l.tally.brought) _ (le-true k.come l.tally.brought here))
+    (grind (arith, common_steps))
+
+pub keeps-lock : KeepsLockEachBlock
+keeps-lock k l here either =
+    let same = looked-part k l in
+    acts-now (looked k l) l (is-due (looked k l) l (subst (λ n. n ≤ l.tally.brought) (sym same.2) here) (at either))
+  where
+    at : (k.part ≡ None) ⊎ (k.block ≢ l.block) → ((looked k l).part ≡ None) ⊎ ((looked k l).block ≢ l.block)
+    at (inl none) = inl ((looked-part k l).0 ∙ none)
+    at (inr other) = inr (λ e. other (sym (looked-part k l).1 ∙ e))
