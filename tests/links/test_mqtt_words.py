@@ -167,6 +167,22 @@ def test_the_examples_are_read_with_the_token_of_the_packages_page(tmp_path, mon
     assert len(triggers.read_words("a.trigger").triggers) == 3
 
 
+def test_the_page_is_told_of_the_archive_also_where_it_shows_other_stations(tmp_path):
+    """As docs/several.md has it, one after the other: a word after [[station]] would be that
+    station's."""
+    lines = (TOP / "docs/several.md").read_text().splitlines()
+    (command,) = [it.strip() for it in lines if "archive.json" in it and "sudo" in it]
+    text = (TOP / "packaging/page.toml").read_text()
+    start = lines.index("    [[station]]")
+    path = tmp_path / "page.toml"
+    path.write_text(text + "".join(f"{it.strip()}\n" for it in lines[start : start + 4]))
+    command = command.replace("sudo ", "").replace("/etc/lapyrei/page.toml", str(path))
+    subprocess.run(["sh", "-c", command], check=True)
+    table = tomllib.loads(path.read_text())
+    assert table["archive"] == "/var/lib/loop_archive/archive.json"
+    assert set(table["station"][0]) == {"name", "url", "token"}
+
+
 def test_two_events_of_the_same_frames_are_two():
     def keys(number, *clips):
         return bridge.keys_of({"number": number, "tag": 0, "clips": clips})
