@@ -111,12 +111,6 @@ def store_bytes(form: Form, minutes: float) -> int | None:
     return None if found is None else bytes_of(form, *found)
 
 
-def proposals(form: Form, disk: Disk) -> list[tuple[int, int]]:
-    """Minutes, each with what its store takes, that fit the disk and a store."""
-    found = [(minutes, store_bytes(form, minutes)) for minutes in PROPOSED]
-    return [(minutes, size) for minutes, size in found if size and size < disk.free * (1 - SPARE)]
-
-
 def needs(form: Form) -> float:
     """The bytes a second that a camera brings."""
     return float(form.bytes_of_frame() * form.rate)
