@@ -1,4 +1,9 @@
 """The files of chunk data: they have a bound, and the oldest go."""
+import signal
+import subprocess
+import sys
+from pathlib import Path
+
 import pytest
 
 from station_camera import chunks, words
@@ -7,9 +12,9 @@ from station_camera import chunks, words
 def test_files_have_a_bound_by_lines_and_by_bytes(tmp_path, monkeypatch):
     monkeypatch.setattr(chunks, "LINES", 10)
     monkeypatch.setattr(chunks, "MOST", 1000)
-    it = chunks.Chunks(tmp_path / "left", ["Gain"], print)
+    it = chunks.Files(tmp_path / "left", ["Gain"])
     for number in range(1000):
-        it.write(number, 1_000_000 + number, [number % 7])
+        it.write(1_000_000 + number, f"{number},{1_000_000 + number},{number % 7}\r\n")
     it.close()
     files = sorted((tmp_path / "left").iterdir())
     assert 3 < len(files) < 12 and sum(path.stat().st_size for path in files) < 1500
@@ -28,8 +33,42 @@ def test_a_clock_that_was_set_back_writes_over_no_file(tmp_path):
 
 
 def test_without_the_word_nothing_is_written(tmp_path):
-    chunks.Chunks(tmp_path / "left", [], print).write(1, 5, [])
+    it = chunks.Chunks(tmp_path / "left", [], print)
+    it.write(1, 5, [])
+    it.close()
     assert not list(tmp_path.iterdir())
+
+
+def test_a_process_writes_that_may_where_its_own_program_may_not(tmp_path):
+    """As the service has it: no file may have a byte, but for these."""
+    code = (
+        "import resource, sys; sys.path.insert(1, sys.argv[1])\n"
+        "from pathlib import Path\nfrom station_camera import chunks\n"
+        "resource.setrlimit(resource.RLIMIT_FSIZE, (0, 64_000_000))\n"
+        "it = chunks.Chunks(Path('lines'), ['Gain', 'Text'], print)\n"
+        "it.write(7, 5, [1.5, 'a,b'])\nit.close()\n"
+        "try:\n    open('own', 'w').write('x')\nexcept OSError:\n    print('may not')\n"
+    )
+    place = str(Path(chunks.__file__).resolve().parents[1])
+    words_ = [sys.executable, "-B", "-c", code, place]
+    done = subprocess.run(words_, cwd=tmp_path, capture_output=True, text=True)
+    assert done.stdout == "may not\n", done.stderr
+    (path,) = (tmp_path / "lines").iterdir()
+    assert path.read_bytes() == b'number,time_us,Gain,Text\r\n7,5,1.5,"a,b"\r\n'
+
+
+def test_a_disk_that_is_slow_holds_no_frame_up_and_is_told_once(tmp_path, monkeypatch):
+    told = []
+    it = chunks.Chunks(tmp_path / "left", ["Gain"], told.append)
+    it.run.send_signal(signal.SIGSTOP)
+    for number in range(20_000):
+        it.write(number, number, [1.0])
+    assert told == ["chunks aren't written for now: the disk is slow"]
+    it.run.send_signal(signal.SIGCONT)
+    it.close()
+    (path,) = (tmp_path / "left").iterdir()
+    rows = path.read_text().splitlines()[1:]
+    assert rows == [f"{at},{at},1.0" for at in range(len(rows))] and len(rows) > 1000
 
 
 def test_what_is_read_of_the_file(tmp_path):

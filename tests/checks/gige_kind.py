@@ -56,8 +56,8 @@ KIND = Kind(
               "self.film.chunks.write(it.number + 1, micros,", "chunks_are",
               "test_chunks_are_those"),
         wrong("that writes the chunks of the first frame alone", "chunks.py",
-              "            self.lines += 1\n",
-              "            self.lines += 1\n            self.names = ()\n", "chunks_are",
+              "            self.file.write(line)\n",
+              "            self.file.write(line) if not self.lines else None\n", "chunks_are",
               "test_chunks_are_those"),
     ],
 )
