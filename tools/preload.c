@@ -32,6 +32,8 @@
  *               one beside it (NAME.loop.sync) that comes within HOLD ends only after that, and
  *               each other one takes EACH more; all in milliseconds, FROM of CLOCK_MONOTONIC
  *   LOOP_STALLED   NAME   LOOP_STALL stalls the files whose path has this name, and no others
+ *   LOOP_BAD    NAME   each sync of a file whose path has this name fails (EIO), while there is a
+ *               file `bad`
  *   LOOP_CLOSE  MILLIS   a named pipe is closed only so much later
  *   LOOP_THREADS   COUNT   the thread of that number, from 0, can't be started (EAGAIN)
  *   LOOP_CLIP   COUNT, or COUNT:on   the call of that number, from 0, that writes LOOP_FILE's clip
@@ -394,7 +396,22 @@ static int sync_beside(int fd, long number, char kind, int swallows, int refuses
     return answer;
 }
 
+/* Whether the path of a file has the name of a bad one. */
+static int is_bad(int fd) {
+    const char *bad = getenv("LOOP_BAD");
+    if (!bad || access("bad", F_OK)) return 0;
+    char name[4096], link[64];
+    snprintf(link, sizeof link, "/proc/self/fd/%d", fd);
+    ssize_t length = syscall(SYS_readlink, link, name, sizeof name - 1);
+    if (length < 0) return 0;
+    name[length] = 0;
+    if (!strstr(name, bad)) return 0;
+    errno = EIO;
+    return 1;
+}
+
 static int sync_of(int fd, long number) {
+    if (is_bad(fd)) return -1;
     if (fails() || clip_fails(fd, -1, 0)) return -1;
     stall(fd);
     const char *text = getenv("LOOP_TEXT"), *file = getenv("LOOP_FILE");

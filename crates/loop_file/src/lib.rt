@@ -8,8 +8,8 @@
 //! `file` has the disk; `rows` how rows become writes of whole pages; `place` where a path's file is, and how it is
 //! made there or given up; `fresh` the order in which an old file is made anew; `text` a file or pipe that a text is
 //! written to; `opened` how each of them is opened, never with the number of a standard stream; `lock` how its lock is
-//! taken; `fault` why a file can't be opened. `specs/Outcomes` says how a file's answer becomes the disk's. `ahead` has the disk that reads
-//! ahead; `window` the bytes that were read ahead (`specs/Windows`).
+//! taken; `fault` why a file can't be opened. `specs/Outcomes` says how a file's answer becomes the disk's. `ahead` has
+//! the disk that reads ahead; `window` the bytes that were read ahead (`specs/Windows`).
 //!
 //! docs/store.md says why it is so.
 #![tactic(auto)]

@@ -8,7 +8,7 @@ ghost use Rattle.loop_lane.specs.Filmed.{AnswersFilmed};
 use crate::TextFault;
 use loop_capture::FrameSource;
 use loop_disk::Disk;
-use loop_pipeline::{Camera, Guide, Link, film_camera};
+use loop_pipeline::{Guide, GuidedCamera, film_camera};
 use loop_plane::PlaneMemory;
 use loop_store::{OpenRefused, Store, StoreFault};
 use loop_y4m::export;
@@ -31,8 +31,17 @@ pub struct LostFrames {
     pub failed: u64,
 }
 
+/// Which frames of a store are written.
+#[derive(Clone, Copy, Debug, PartialEq, Eq)]
+pub struct Numbers {
+    /// The first number.
+    pub from: u64,
+    /// The last number.
+    pub to: u64,
+}
+
 /// Films a camera until its guide or its source ends it, opens the store on its disk again, and writes the held frames
-/// whose numbers are from `from` to `to`. At Ok the text is that of the plain recorder's frames, after steps that store
+/// of these numbers. At Ok the text is that of the plain recorder's frames, after steps that store
 /// what waited at the desk and what it accepted, in order; what still waits at the end isn't in it.
 ///
 /// `Run`: `NoMemory` where memory or a thread was refused; `MustReopen` where the camera was filmed, and a call of its
@@ -51,18 +60,21 @@ pub fn film_and_export<
     rt: &'s R,
     alloc: Global,
     scope: &Scope<'s, E>,
-    link: &'s Link,
-    guide: &'s G,
-    camera: Camera<S, D, P, G>,
-    from: u64,
-    to: u64,
+    guided: GuidedCamera<'s, S, D, P, G>,
+    numbers: Numbers,
     out: &mut W,
 ) -> Result<LostFrames, TextFault>
-    ensures { (s : StoreState) → Stands D.medium camera.desk.store s → (D.medium camera.desk.store.disk).honest
-        → IsRegular P.plane camera.queue
-        → AnswersFilmed D.medium S.next_gives P.plane G.asks G.gives_up (G.due guide.now) (G.ends guide.now)
-        camera from to (W.contents out.old) (W.contents out.new) s result }
+    ensures { (s : StoreState) → Stands D.medium guided.entry.camera.desk.store s
+        → (D.medium guided.entry.camera.desk.store.disk).honest → IsRegular P.plane guided.entry.camera.queue
+        → AnswersFilmed D.medium S.next_gives P.plane G.asks G.gives_up (G.due guided.entry.guide.now)
+        (G.ends guided.entry.guide.now) guided.entry.camera numbers.from numbers.to
+        (W.contents out.old) (W.contents out.new) s result }
 {
+    let GuidedCamera {
+        link,
+        guide,
+        camera,
+    } = guided;
     let ended = match film_camera(rt, alloc, scope, link, guide, camera) {
         Ok(ended) => ended,
         Err(_) => return Err(TextFault::Run(StoreFault::NoMemory)),
@@ -80,7 +92,7 @@ pub fn film_and_export<
         Ok(store) => store,
         Err(OpenRefused { fault, disk: _ }) => return Err(TextFault::Open(fault)),
     };
-    match export(alloc, &mut store, from, to, out) {
+    match export(alloc, &mut store, numbers.from, numbers.to, out) {
         Ok(_) => Ok(lost),
         Err(fault) => Err(TextFault::Export(fault)),
     }

@@ -22,6 +22,6 @@ pub mod laws;
 mod text;
 
 pub use event::{LaneEvent, LaneReply};
-pub use filmed::{LostFrames, film_and_export};
+pub use filmed::{LostFrames, Numbers, film_and_export};
 pub use lane::{Lane, lane_run};
 pub use text::{TextFault, record_and_export, run_and_reopen};

@@ -1,5 +1,5 @@
 -- What a back has done, and a call, a frame or a desk more.
-use Rattle.std.proofs.Common.{◌≡◌, ◌==◌, ◌++◌, ◌<◌, ◌⊎◌, inl, inr, ne_eqb, ℕ, ◌+◌, Bool, true, false, cond, zero, suc, List, [], ◌∷◌, All, length, map, slice_get, slice_index_or, slice_set, IfSome, None, Option, Some, Result, Ok, Err, refl, sym, ap, ◌∙◌, subst, arith}
+use Rattle.std.proofs.Common.{◌≡◌, ◌==◌, ◌++◌, ◌<◌, ◌⊎◌, inl, inr, ne_eqb, ℕ, ◌+◌, Bool, true, false, cond, zero, suc, List, [], ◌∷◌, All, length, map, slice_get, slice_index_or, slice_set, Some, Result, Ok, Err, refl, sym, ap, ◌∙◌, subst, arith}
 use Rattle.std.proofs.lemmas.Bool.{eqb-true, eqb-false, eq-eqb}
 use Rattle.std.proofs.lemmas.Grind.{flat_map-append}
 use Rattle.std.proofs.lemmas.List.{append-nil, length-append, length-set, map-append}
@@ -11,18 +11,15 @@ use Rattle.rtrb.specs.declared.consumer.Consumer.{Consumer}
 use Rattle.rtrb.specs.Ring.{SameConsumer, received}
 use Rattle.loop_disk.specs.Medium.{IsSound, Medium}
 use Rattle.loop_record.specs.declared.frame.Frame.{Frame}
-use Rattle.loop_record.specs.declared.frame.FrameHead.{FrameHead}
 use Rattle.loop_record.specs.Recording.{Picture, picture}
-use Rattle.loop_store.specs.declared.command.ReadFrame.{ReadFrame}
 use Rattle.loop_store.specs.declared.fault.StoreFault.{StoreFault}
-use Rattle.loop_store.specs.Runs.{read_of}
 use Rattle.loop_store.specs.Reopen.{TellsOne}
 use Rattle.loop_desk.specs.declared.limits.Flushed.{Flushed}
-use Rattle.loop_desk.specs.Desk.{DeskCall, flushed, frame_read, submitted}
+use Rattle.loop_desk.specs.Desk.{DeskCall, flushed, submitted}
 use Rattle.loop_desk.specs.Seen.{DeskGoes, SeenDesk}
 use Rattle.loop_desk.proofs.CallRuns.{desk-joined, desk-none}
-use Rattle.loop_pipeline.specs.Backs.{BackKeeps, Came, EachServed, GoesBy, IsFed, IsLast, IsRightful, MayGiveUp, MayGiveUpAt, Part, Served, WasRefused, asked, calls_at, calls_by, calls_of, is_placed_submit, is_submit, lost_by, own, part_for, parts_at, picture_of, placed_calls, unasked, unasked_by, visited}
-use Rattle.loop_pipeline.proofs.Places.{get-joined, get-set-other, get-set-same, set-same, some-same, some-there}
+use Rattle.loop_pipeline.specs.Backs.{BackKeeps, Came, EachServed, GoesBy, IsFed, IsLast, IsRightful, MayGiveUp, MayGiveUpAt, Part, Served, WasRefused, asked, calls_at, calls_by, calls_of, is_placed_submit, is_submit, lost_by, own, part_for, parts_at, picture_of, placed_calls, unasked, unasked_by}
+use Rattle.loop_pipeline.proofs.Places.{get-joined, get-set-other, get-set-same, some-same, some-there}
 
 plus-none : (n : ℕ) → n + 0 ≡ n
 plus-none n = omega arith
@@ -43,7 +40,7 @@ fed-more got calls given_up came x more fed is = record {
 }
 
 -- calls that submit nothing
-fed-beside : (got : List Picture) (calls : List (ℕ × DeskCall)) (given_up : ℕ) (came : List Came)
+pub fed-beside : (got : List Picture) (calls : List (ℕ × DeskCall)) (given_up : ℕ) (came : List Came)
     (more : List (ℕ × DeskCall)) → IsFed got calls given_up came → filter is_placed_submit more ≡ []
     → IsFed got (calls ++ more) given_up came
 fed-beside got calls given_up came more fed none = record {
@@ -56,12 +53,12 @@ fed-beside got calls given_up came more fed none = record {
 -- ---- parts
 
 -- a part more, with each of its calls
-all-more : {X : Type 0} (f : ℕ × Part → List X) (parts : List (ℕ × Part)) (part : ℕ × Part)
+pub all-more : {X : Type 0} (f : ℕ × Part → List X) (parts : List (ℕ × Part)) (part : ℕ × Part)
     → flat_map f (parts ++ part ∷ []) ≡ flat_map f parts ++ f part
 all-more f parts part = flat_map-append f parts (part ∷ []) ∙ ap (λ l. flat_map f parts ++ l) (append-nil (f part))
 
 -- a call that submits nothing
-placed-none : (place : ℕ) (calls : List DeskCall) → filter is_submit calls ≡ []
+pub placed-none : (place : ℕ) (calls : List DeskCall) → filter is_submit calls ≡ []
     → filter is_placed_submit (map (λ call. (place, call)) calls) ≡ []
 placed-none place [] none = refl
 placed-none place (call ∷ calls) none = go (is_submit call) none (placed-none place calls)
@@ -73,7 +70,7 @@ placed-none place (call ∷ calls) none = go (is_submit call) none (placed-none 
     go true e more = absurd (cc)
     go false e more = more e
 
-by-more : {D : Type 0} (medium : D → Medium) (old mid new : SeenDesk D) (parts : List Part) (part : Part)
+pub by-more : {D : Type 0} (medium : D → Medium) (old mid new : SeenDesk D) (parts : List Part) (part : Part)
     → GoesBy medium old parts mid → DeskGoes medium mid new (calls_of part)
     → GoesBy medium old (parts ++ part ∷ []) new
 by-more medium old mid new [] part went goes =
@@ -82,7 +79,7 @@ by-more medium old mid new (first ∷ parts) part went goes =
     (went.0, went.1, by-more medium went.0 mid new parts part went.2 goes)
 
 -- one desk, a part more
-served-more : {D : Type 0} (medium : D → Medium) (old mid new : SeenDesk D) (parts : List Part) (part : Part)
+pub served-more : {D : Type 0} (medium : D → Medium) (old mid new : SeenDesk D) (parts : List Part) (part : Part)
     → Served medium old mid parts → DeskGoes medium mid new (calls_of part) → Served medium old new (parts ++ part ∷ [])
 served-more medium old mid new parts part served goes = record {
   goes = subst (λ l. DeskGoes medium old new l)
@@ -92,13 +89,13 @@ served-more medium old mid new parts part served goes = record {
 }
 
 -- the parts of a place, and one more
-parts-here : (place : ℕ) (parts : List (ℕ × Part)) (part : Part)
+pub parts-here : (place : ℕ) (parts : List (ℕ × Part)) (part : Part)
     → parts_at place (parts ++ (place, part) ∷ []) ≡ parts_at place parts ++ part ∷ []
 parts-here place parts part =
     all-more (part_for place) parts (place, part)
     ∙ ap (λ b. parts_at place parts ++ cond b (part ∷ []) []) (eq-eqb place place refl)
 
-parts-elsewhere : (place other : ℕ) (parts : List (ℕ × Part)) (part : Part) → (other == place) ≡ false
+pub parts-elsewhere : (place other : ℕ) (parts : List (ℕ × Part)) (part : Part) → (other == place) ≡ false
     → parts_at place (parts ++ (other, part) ∷ []) ≡ parts_at place parts
 parts-elsewhere place other parts part apart =
     all-more (part_for place) parts (other, part)
@@ -262,39 +259,6 @@ module _ {D A : Type 0} (medium : D → Medium) (asks : DeskCall → Type 0) (gi
             (record { began = began; from = before; desks = slice_set desks place new; active = active }) from given_up refused
         flushed-on answer goes = called (own (flushed answer)) refl refl goes
 
-        -- calls of a visitor
-        pub visits : (more : List DeskCall) → All asks more → filter is_submit more ≡ [] → DeskGoes medium old new more
-            → BackKeeps medium asks gives_up
-            (record { began = began; from = before; desks = slice_set desks place new; active = active }) from given_up refused
-        visits more all none goes = called (visited more) all none goes
-
-        -- one call of a visitor
-        pub visits-once : (call : DeskCall) → asks call → filter is_submit (call ∷ []) ≡ []
-            → DeskGoes medium old new (call ∷ [])
-            → BackKeeps medium asks gives_up
-            (record { began = began; from = before; desks = slice_set desks place new; active = active }) from given_up refused
-        visits-once call is none goes = visits (call ∷ []) (All-cons asks call [] is (All-nil asks)) none goes
-
-        -- a read of a visitor, unless the desk wasn't asked
-        pub read-on : {B : Type 0} → old ≡ slice_index_or desks place old → (number : ℕ)
-            → ((answer : Result (FrameHead × List ℕ) StoreFault) → asks (frame_read number answer))
-            → (result : Option (Result (ReadFrame B) StoreFault))
-            → IfSome result (λ answer. DeskGoes medium old new (frame_read number (read_of answer) ∷ []))
-            → (result ≡ None → new ≡ old)
-            → BackKeeps medium asks gives_up
-            (record { began = began; from = before; desks = slice_set desks place new; active = active }) from given_up refused
-        read-on {B} is number may result goes still = go result goes still
-          where
-            go : (told : Option (Result (ReadFrame B) StoreFault))
-                → IfSome told (λ answer. DeskGoes medium old new (frame_read number (read_of answer) ∷ []))
-                → (told ≡ None → new ≡ old)
-                → BackKeeps medium asks gives_up
-                (record { began = began; from = before; desks = slice_set desks place new; active = active }) from given_up refused
-            go (Some answer) goes still = visits-once (frame_read number (read_of answer)) (may (read_of answer)) refl goes
-            go None goes still =
-                subst (λ l. BackKeeps medium asks gives_up (record { began = began; from = before; desks = l; active = active })
-                from given_up refused) (sym (set-same desks place old new is (still refl))) keeps
-
         -- a flush that was refused, and isn't tried again
         pub refused-flush : (fault : StoreFault) → gives_up fault → DeskGoes medium old new (flushed (Err fault) ∷ [])
             → BackKeeps medium asks gives_up
@@ -370,7 +334,7 @@ module _ {D A : Type 0} (medium : D → Medium) (asks : DeskCall → Type 0) (gi
       -- the call that the active desk answered last
       pub last : (old new : SeenDesk D) (call : DeskCall) → slice_get desks active ≡ Some old
           → DeskGoes medium old new (call ∷ [])
-          → IsLast medium (record { began = began; from = before; desks = slice_set desks active new; active = active }) call
+          → IsLast medium began (slice_set desks active new) active call
       last old new call at goes =
           let was = some-there began active (subst (λ n. active < n) keeps.all keeps.inside) in record {
             began = was.0;

@@ -29,6 +29,7 @@ use Rattle.loop_pipeline.specs.contracts.ending.CameraEnd as CameraEnd
 use Rattle.loop_pipeline.specs.contracts.film.Unfilmed as Unfilmed
 use Rattle.loop_pipeline.specs.declared.visits.Visits as visits
 use Rattle.loop_pipeline.specs.contracts.start_barrier.StartBarrier as StartBarrier
+use Rattle.loop_pipeline.specs.contracts.film.Inlet as Inlet
 use Rattle.loop_pipeline.specs.contracts.film.Left as Left
 use Rattle.loop_pipeline.specs.contracts.film.Link as Link
 
@@ -96,6 +97,13 @@ module _ (P : RattleType) where
   hand_in_send s = let a = set_in_send s in let b = frame_in_send in search (sendable, crosses) depth 30
 
 module _ (S P W : RattleType) where
+  pub inlet_send : IsSend S → IsSend P → IsSend W → IsSend (Inlet.the_row S P W)
+  inlet_send s sp sw =
+      let a = device_send S s in
+      let b = queue_send P sp in
+      let c = table_send P sp in
+      search (sendable, crosses) depth 30
+
   pub left_send : IsSend S → IsSend P → IsSend W → IsSend (Left.the_row S P W)
   left_send s sp sw =
       let a = device_send S s in

@@ -1,4 +1,4 @@
--- The desk at a place of a back goes on, and all else stays.
+-- The desk at a place goes on, and all else stays.
 use Rattle.std.proofs.Common.{◌≡◌, ◌<◌, ◌≤◌, ◌-◌, ◌%◌, ◌++◌, ℕ, List, [], ◌∷◌, length, slice_get, slice_set, IfErr, IfOk, IfSome, None, Option, Some, Result, Ok, Err, refl, sym, ap, ◌∙◌, subst, arith}
 use Rattle.std.proofs.lemmas.List.{length-append, length-set}
 use Rattle.loop_disk.specs.Medium.{Medium}
@@ -9,6 +9,7 @@ use Rattle.loop_desk.specs.Desk.{flushed, submitted}
 use Rattle.loop_desk.specs.Seen.{DeskGoes, SeenDesk}
 use Rattle.loop_desk.proofs.CallRuns.{told-then}
 use Rattle.loop_pipeline.specs.Backs.{FitsBlock, GoesAt, HasRoom, IsChangedAt, SeenBack}
+use Rattle.loop_pipeline.specs.Desks.{SeenDesks}
 use Rattle.loop_pipeline.proofs.Places.{set-twice, some-same, some-there, get-set-same}
 
 -- what is said of the desk at a place
@@ -40,19 +41,66 @@ pub flush-answered : {D : Type 0} (medium : D → Medium) (old new : SeenDesk D)
     → answer ≡ is → DeskGoes medium old new (flushed answer ∷ []) → DeskGoes medium old new (flushed is ∷ [])
 flush-answered medium old new answer is same goes = subst (λ r. DeskGoes medium old new (flushed r ∷ [])) same goes
 
-module _ {D A : Type 0} where
-  -- the desk at a place goes on
-  pub goes-at : (inside old : SeenBack D A) (place : ℕ) (before after : SeenDesk D) (P : SeenDesk D → SeenDesk D → Type 0)
+module _ {D : Type 0} where
+  pub goes-at : (inside old : SeenDesks D) (place : ℕ) (before after : SeenDesk D) (P : SeenDesk D → SeenDesk D → Type 0)
       → inside ≡ old → slice_get inside.desks place ≡ Some before → P before after
-      → GoesAt place old (record inside { desks = slice_set inside.desks place after }) P
+      → GoesAt place old.desks (slice_set inside.desks place after) P
   goes-at inside old place before after P is at goes =
-      subst (λ b. GoesAt place b (record inside { desks = slice_set inside.desks place after }) P) is
+      subst (λ (b : SeenDesks D). GoesAt place b.desks (slice_set inside.desks place after) P) is
+      (record { before = before; after = after; at = at; goes = goes; same = refl })
+
+  -- and so the active one
+  pub goes-active : (inside old : SeenDesks D) (before after : SeenDesk D) (P : SeenDesk D → SeenDesk D → Type 0)
+      → inside ≡ old → slice_get inside.desks inside.lent.active ≡ Some before → P before after
+      → GoesAt old.lent.active old.desks (slice_set inside.desks inside.lent.active after) P
+  goes-active inside old before after P is at goes =
+      subst (λ (b : SeenDesks D). GoesAt b.lent.active b.desks (slice_set inside.desks inside.lent.active after) P) is
       (record { before = before; after = after; at = at; goes = goes; same = refl })
 
   -- a place of the desks as its callers see them
-  pub within : {inside old : SeenBack D A} {place : ℕ} → inside ≡ old → place < length old.desks → place < length inside.desks
+  pub within : {inside old : SeenDesks D} {place : ℕ} → inside ≡ old → place < length old.desks → place < length inside.desks
   within {inside} {old} {place} is less = subst (λ b. place < length b.desks) (sym is) less
 
+  -- what is at its place then
+  pub there-now : (old new : List (SeenDesk D)) (place : ℕ) (P : SeenDesk D → SeenDesk D → Type 0) (went : GoesAt place old new P)
+      → slice_get new place ≡ Some went.after
+  there-now old new place P went =
+      ap (λ (l : List (SeenDesk D)). slice_get l place) went.same ∙ get-set-same old place went.before went.after went.at
+
+  -- there are as many desks as before
+  pub as-many : (old new : List (SeenDesk D)) (place : ℕ) (P : SeenDesk D → SeenDesk D → Type 0) → GoesAt place old new P
+      → length new ≡ length old
+  as-many old new place P went = ap length went.same ∙ length-set old place went.after
+
+  pub still-within : (old new : List (SeenDesk D)) (place i : ℕ) (P : SeenDesk D → SeenDesk D → Type 0) → GoesAt place old new P
+      → i < length old → i < length new
+  still-within old new place i P went less = subst (λ n. i < n) (sym (as-many old new place P went)) less
+
+  -- it stays
+  pub goes-still : (desks : List (SeenDesk D)) (place : ℕ) (P : SeenDesk D → SeenDesk D → Type 0) → place < length desks
+      → ((d : SeenDesk D) → P d d) → GoesAt place desks desks P
+  goes-still desks place P less so =
+      let there = some-there desks place less in
+      record { before = there.0; after = there.0; at = there.1; goes = so there.0; same = sym there.2 }
+
+  -- it goes on once more
+  pub goes-then : (old mid new : List (SeenDesk D)) (place : ℕ) (P Q R : SeenDesk D → SeenDesk D → Type 0)
+      → GoesAt place old mid P → GoesAt place mid new Q
+      → ((d e f : SeenDesk D) → P d e → Q e f → R d f) → GoesAt place old new R
+  goes-then old mid new place P Q R first second both =
+      let here : slice_get mid place ≡ Some first.after = there-now old mid place P first in
+      let is : second.before ≡ first.after = some-same second.before first.after (sym second.at ∙ here) in
+      record {
+        before = first.before;
+        after = second.after;
+        at = first.at;
+        goes = both first.before first.after second.after first.goes (subst (λ d. Q d second.after) is second.goes);
+        same = second.same
+            ∙ (ap (λ (l : List (SeenDesk D)). slice_set l place second.after) first.same
+            ∙ set-twice old place first.after second.after);
+      }
+
+module _ {D A : Type 0} where
   -- nothing changed
   pub unchanged : (inside old : SeenBack D A) → inside ≡ old → inside.active < length inside.desks → IsChangedAt old.active old old
   unchanged inside old is less =
@@ -65,71 +113,14 @@ module _ {D A : Type 0} where
       let same = unchanged inside old is less in (same.0, is ∙ same.1)
 
   -- only the active desk did
-  pub changed : (inside old : SeenBack D A) (desk : SeenDesk D) → inside ≡ old
-      → IsChangedAt old.active old (record inside { desks = slice_set inside.desks inside.active desk })
-  changed inside old desk is = (desk, ap (λ (b : SeenBack D A). record b { desks = slice_set b.desks b.active desk }) is)
-
-  -- and so the active one
-  pub goes-active : (inside old : SeenBack D A) (before after : SeenDesk D) (P : SeenDesk D → SeenDesk D → Type 0)
-      → inside ≡ old → slice_get inside.desks inside.active ≡ Some before → P before after
-      → GoesAt old.active old (record inside { desks = slice_set inside.desks inside.active after }) P
-  goes-active inside old before after P is at goes =
-      subst (λ b. GoesAt b.active old (record inside { desks = slice_set inside.desks inside.active after }) P) is
-      (goes-at inside old inside.active before after P is at goes)
-
-  -- what is at its place then
-  pub there-now : (old new : SeenBack D A) (place : ℕ) (P : SeenDesk D → SeenDesk D → Type 0) (went : GoesAt place old new P)
-      → slice_get new.desks place ≡ Some went.after
-  there-now old new place P went =
-      ap (λ (b : SeenBack D A). slice_get b.desks place) went.same
-      ∙ get-set-same old.desks place went.before went.after went.at
-
-  -- there are as many desks as before
-  pub still-within : (old new : SeenBack D A) (place i : ℕ) (P : SeenDesk D → SeenDesk D → Type 0) → GoesAt place old new P
-      → i < length old.desks → i < length new.desks
-  still-within old new place i P went less =
-      subst (λ (b : SeenBack D A). i < length b.desks) (sym went.same)
-      (subst (λ n. i < n) (sym (length-set old.desks place went.after)) less)
-
-  -- a back is as it was, but for its desks
-  pub but-desks : (old new : SeenBack D A) (place : ℕ) (P : SeenDesk D → SeenDesk D → Type 0) → GoesAt place old new P
-      → new ≡ record old { desks = new.desks }
-  but-desks old new place P went =
-      went.same ∙ ap (λ (l : List (SeenDesk D)). record old { desks = l }) (sym (ap (λ (b : SeenBack D A). b.desks) went.same))
-
-  pub same-but-desks : (began now next : SeenBack D A) → next ≡ record now { desks = next.desks }
-      → now ≡ record began { desks = now.desks } → next ≡ record began { desks = next.desks }
-  same-but-desks began now next so is = so ∙ ap (λ (b : SeenBack D A). record b { desks = next.desks }) is
-
-  -- it stays
-  pub goes-still : (back : SeenBack D A) (place : ℕ) (P : SeenDesk D → SeenDesk D → Type 0) → place < length back.desks
-      → ((d : SeenDesk D) → P d d) → GoesAt place back back P
-  goes-still back place P less so =
-      let there = some-there back.desks place less in record {
-        before = there.0;
-        after = there.0;
-        at = there.1;
-        goes = so there.0;
-        same = ap (λ (l : List (SeenDesk D)). record back { desks = l }) (sym there.2);
-      }
-
-  -- it goes on once more
-  pub goes-then : (old mid new : SeenBack D A) (place : ℕ) (P Q R : SeenDesk D → SeenDesk D → Type 0)
-      → GoesAt place old mid P → GoesAt place mid new Q
-      → ((d e f : SeenDesk D) → P d e → Q e f → R d f) → GoesAt place old new R
-  goes-then old mid new place P Q R first second both =
-      let here : slice_get mid.desks place ≡ Some first.after =
-      ap (λ (b : SeenBack D A). slice_get b.desks place) first.same ∙ get-set-same old.desks place first.before first.after first.at in
-      let is : second.before ≡ first.after = some-same second.before first.after (sym second.at ∙ here) in
-      record {
-        before = first.before;
-        after = second.after;
-        at = first.at;
-        goes = both first.before first.after second.after first.goes (subst (λ d. Q d second.after) is second.goes);
-        same = second.same
-            ∙ (ap (λ (b : SeenBack D A). record b { desks = slice_set b.desks place second.after }) first.same
-            ∙ ap (λ (l : List (SeenDesk D)). record old { desks = l }) (set-twice old.desks place first.after second.after));
-      }
+  pub changed : (inside old : SeenBack D A) (desk : SeenDesk D) (desks : List (SeenDesk D)) (active : ℕ) → inside ≡ old
+      → desks ≡ slice_set inside.desks inside.active desk → active ≡ inside.active
+      → IsChangedAt old.active old (record inside { desks = desks; active = active })
+  changed inside old desk desks active is so same = (
+    desk,
+    (λ i. record inside { desks = so i; active = same i })
+        ∙ ap (λ (b : SeenBack D A). record b { desks = slice_set b.desks b.active desk }) is,
+  )
 
 module _ {D : Type 0} (medium : D → Medium) where
   -- what waits at a desk after a frame was accepted

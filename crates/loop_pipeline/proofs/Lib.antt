@@ -15,6 +15,7 @@ mod SeveralStarts
 mod SeveralSteps
 mod TickSteps
 mod Turning
+mod Visiting
 pub mod Places
 pub mod DeskPlaces
 pub mod OneDesk

@@ -45,6 +45,11 @@ set-twice (z ∷ xs) (suc i) x y = ap (λ l. z ∷ l) (set-twice xs i x y)
 pub set-same : {X : Type 0} (xs : List X) (i : ℕ) (x y : X) → x ≡ slice_index_or xs i x → y ≡ x → slice_set xs i y ≡ xs
 set-same xs i x y is same = ap (λ z. slice_set xs i z) (same ∙ is) ∙ set-get_or xs i x
 
+pub set-got : {X : Type 0} (xs : List X) (i : ℕ) (x y : X) → slice_get xs i ≡ Some x → y ≡ x → slice_set xs i y ≡ xs
+set-got xs i x y is same =
+    let there = some-there xs i (slice_get_within xs i x is) in
+    ap (λ z. slice_set xs i z) (same ∙ some-same x there.0 (sym is ∙ there.1)) ∙ there.2
+
 -- what is at a place of a list with one more at its end
 pub get-joined : {X : Type 0} (xs : List X) (x y : X) (i : ℕ) → slice_get (xs ++ x ∷ []) i ≡ Some y
     → ((i < length xs) × (slice_get xs i ≡ Some y)) ⊎ ((i ≡ length xs) × (y ≡ x))

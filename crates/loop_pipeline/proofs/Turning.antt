@@ -1,4 +1,4 @@
--- A back that looks for the desk that takes the next block, and turns to it.
+-- The search for the desk that takes the next block, and the turn to it.
 use Rattle.std.proofs.Common.{◌≡◌, ◌==◌, ◌++◌, ◌<◌, ◌≤◌, ◌-◌, ◌%◌, ◌⊎◌, ◌↔◌, inl, inr, ℕ, ◌+◌, Bool, true, false, not, Option, Some, None, List, [], ◌∷◌, length, slice_get, refl, sym, ap, ◌∙◌, subst}
 use Rattle.std.proofs.lemmas.Bool.{eqb-true, eq-eqb}
 use Rattle.std.proofs.lemmas.List.{length-append, nil_from_length}
@@ -6,28 +6,32 @@ use Rattle.loop_disk.specs.Medium.{Medium}
 use Rattle.loop_desk.specs.declared.limits.Space.{Space}
 use Rattle.loop_desk.specs.Seen.{SeenDesk}
 use Rattle.loop_pipeline.specs.declared.next.Search.{Search}
-use Rattle.loop_pipeline.specs.Backs.{IsSoAt, SeenBack, turned}
+use Rattle.loop_pipeline.specs.Backs.{IsSoAt}
+use Rattle.loop_pipeline.specs.Desks.{SeenDesks, turned}
 use Rattle.loop_pipeline.specs.Nexts.{IsFull, TakesNext, IsSearch}
 use Rattle.loop_pipeline.specs.Turns.{AllLocked, Chooses, IsBetween, MayBegin, MayTurn, Searches, TellsRoom}
 use Rattle.loop_pipeline.proofs.DeskPlaces.{same-desk}
 use Rattle.loop_pipeline.proofs.Places.{get-joined, some-same}
 use Rattle.loop_pipeline.proofs.Searching.{all-full}
 
-module _ {D A : Type 0} (medium : D → Medium) where
+module _ {D : Type 0} (medium : D → Medium) where
   -- no store has told anything
-  pub search-begins : (back : SeenBack D A) (search : Search) → IsSearch back.active [] search → Searches medium back 0 search
-  search-begins back search is = record { spaces = []; count = refl; tell = λ place d s at there. absurd (cc); is = is }
+  pub search-begins : (seen : SeenDesks D) (search : Search) → IsSearch seen.lent.active [] search
+      → Searches medium seen.desks seen.lent.active 0 search
+  search-begins seen search is = record { spaces = []; count = refl; tell = λ place d s at there. absurd (cc); is = is }
 
   -- one store more
-  pub search-on : (inside now : SeenBack D A) (n : ℕ) (search next : Search) (desk : SeenDesk D) (space : Space)
+  pub search-on : (inside now : SeenDesks D) (n : ℕ) (search next : Search) (desk : SeenDesk D) (space : Space)
       → inside ≡ now → slice_get inside.desks n ≡ Some desk → TellsRoom medium desk space
-      → ((spaces : List Space) → n ≡ length spaces → IsSearch inside.active spaces search
-      → IsSearch inside.active (spaces ++ space ∷ []) next)
-      → Searches medium now n search → Searches medium now (n + 1) next
+      → ((spaces : List Space) → n ≡ length spaces → IsSearch inside.lent.active spaces search
+      → IsSearch inside.lent.active (spaces ++ space ∷ []) next)
+      → Searches medium now.desks now.lent.active n search → Searches medium now.desks now.lent.active (n + 1) next
   search-on inside now n search next desk space view at tells step told =
-      subst (λ b. Searches medium b (n + 1) next) view (more (subst (λ b. Searches medium b n search) (sym view) told))
+      subst (λ (b : SeenDesks D). Searches medium b.desks b.lent.active (n + 1) next) view
+      (more (subst (λ (b : SeenDesks D). Searches medium b.desks b.lent.active n search) (sym view) told))
     where
-      more : Searches medium inside n search → Searches medium inside (n + 1) next
+      more : Searches medium inside.desks inside.lent.active n search
+          → Searches medium inside.desks inside.lent.active (n + 1) next
       more t = record {
         spaces = t.spaces ++ space ∷ [];
         count = length-append t.spaces (space ∷ []) ∙ ap (λ k. k + 1) t.count;
@@ -45,14 +49,15 @@ module _ {D A : Type 0} (medium : D → Medium) where
               subst (λ x. TellsRoom medium x s) same (subst (λ x. TellsRoom medium desk x) (sym both.1) tells)
 
   -- all have told
-  pub search-ends : (inside now : SeenBack D A) (n : ℕ) (search : Search) (next : Option ℕ) → inside ≡ now
-      → n ≡ length inside.desks → Searches medium now n search
-      → ((spaces : List Space) → IsSearch inside.active spaces search → TakesNext inside.active spaces next)
-      → Chooses medium now next
+  pub search-ends : (inside now : SeenDesks D) (n : ℕ) (search : Search) (next : Option ℕ) → inside ≡ now
+      → n ≡ length inside.desks → Searches medium now.desks now.lent.active n search
+      → ((spaces : List Space) → IsSearch inside.lent.active spaces search → TakesNext inside.lent.active spaces next)
+      → Chooses medium now.desks now.lent.active next
   search-ends inside now n search next view all told then =
-      subst (λ b. Chooses medium b next) view (ends (subst (λ b. Searches medium b n search) (sym view) told))
+      subst (λ (b : SeenDesks D). Chooses medium b.desks b.lent.active next) view
+      (ends (subst (λ (b : SeenDesks D). Searches medium b.desks b.lent.active n search) (sym view) told))
     where
-      ends : Searches medium inside n search → Chooses medium inside next
+      ends : Searches medium inside.desks inside.lent.active n search → Chooses medium inside.desks inside.lent.active next
       ends t = record {
         spaces = t.spaces;
         tell = record { all = t.count ∙ all; tells = t.tell };
@@ -60,30 +65,30 @@ module _ {D A : Type 0} (medium : D → Medium) where
       }
 
   -- nothing but the place of the active desk changes
-  pub turned-same : (old new : SeenBack D A) (place : ℕ) → new ≡ turned place old → new ≡ record old { active = new.active }
+  pub turned-same : (old new : SeenDesks D) (place : ℕ) → new ≡ turned place old → new ≡ turned new.lent.active old
   turned-same old new place is =
-      is ∙ ap (λ (a : ℕ). record old { active = a }) (sym (ap (λ (b : SeenBack D A). b.active) is))
+      is ∙ ap (λ (a : ℕ). turned a old) (sym (ap (λ (b : SeenDesks D). b.lent.active) is))
 
-  pub locked-all : (old new : SeenBack D A) (next : Option ℕ) → next ≡ None → Chooses medium old next → new ≡ old
-      → MayTurn old → AllLocked medium new
-  locked-all old new next is chosen same may =
-      let none = subst (Chooses medium old) is chosen in
-      subst (AllLocked medium) (sym same)
-      (record { may = may; spaces = none.spaces; tell = none.tell; full = all-full old.active none.spaces none.is })
+  pub locked-all : (desks : List (SeenDesk D)) (active : ℕ) (next : Option ℕ) → next ≡ None → Chooses medium desks active next
+      → MayTurn desks active → AllLocked medium desks active
+  locked-all desks active next is chosen may =
+      let none = subst (Chooses medium desks active) is chosen in
+      record { may = may; spaces = none.spaces; tell = none.tell; full = all-full active none.spaces none.is }
 
   -- the active desk isn't between two blocks
-  pub begins-not : (back : SeenBack D A) (b : Bool) → IsSoAt back.active back (λ d. (b ≡ true) ↔ IsBetween d) → b ≡ false
-      → IsSoAt back.active back (MayBegin medium)
-  begins-not back b said is =
-      let both = same-desk (λ d. (b ≡ true) ↔ IsBetween d) back.desks back.active said.0 said.1 said in
+  pub begins-not : (seen : SeenDesks D) (b : Bool)
+      → IsSoAt seen.lent.active seen.desks (λ d. (b ≡ true) ↔ IsBetween d) → b ≡ false
+      → IsSoAt seen.lent.active seen.desks (MayBegin medium)
+  begins-not seen b said is =
+      let both = same-desk (λ d. (b ≡ true) ↔ IsBetween d) seen.desks seen.lent.active said.0 said.1 said in
       (said.0, said.1, λ between. absurd (let e : true ≡ false = sym (both.1 between) ∙ is in cc))
 
   -- or its store has room
-  pub begins-with : (inside now : SeenBack D A) (desk : SeenDesk D) (space : Space) (full : Bool) → inside ≡ now
-      → slice_get inside.desks inside.active ≡ Some desk → TellsRoom medium desk space → ((full ≡ true) ↔ IsFull space)
-      → full ≡ false → IsSoAt now.active now (MayBegin medium)
+  pub begins-with : (inside now : SeenDesks D) (desk : SeenDesk D) (space : Space) (full : Bool) → inside ≡ now
+      → slice_get inside.desks inside.lent.active ≡ Some desk → TellsRoom medium desk space → ((full ≡ true) ↔ IsFull space)
+      → full ≡ false → IsSoAt now.lent.active now.desks (MayBegin medium)
   begins-with inside now desk space full view at tells said is =
-      subst (λ (b : SeenBack D A). IsSoAt b.active b (MayBegin medium)) view
+      subst (λ (b : SeenDesks D). IsSoAt b.lent.active b.desks (MayBegin medium)) view
       (desk, at, λ between. (space, tells, λ f. absurd (let e : true ≡ false = sym (said.1 f) ∙ is in cc)))
 
 module _ {D : Type 0} (d : SeenDesk D) (pending room slots : ℕ) (waits : pending ≡ length d.pending)
@@ -104,8 +109,9 @@ pub not-true : (b : Bool) → not b ≡ true → b ≡ false
 not-true true e = absurd (cc)
 not-true false e = refl
 
-module _ {D A : Type 0} (back : SeenBack D A) (b : Bool) (said : IsSoAt back.active back (λ d. (b ≡ true) ↔ IsBetween d)) where
-  pub may-turn : 2 ≤ length back.desks → b ≡ true → MayTurn back
+module _ {D : Type 0} (desks : List (SeenDesk D)) (active : ℕ) (b : Bool)
+    (said : IsSoAt active desks (λ d. (b ≡ true) ↔ IsBetween d)) where
+  pub may-turn : 2 ≤ length desks → b ≡ true → MayTurn desks active
   may-turn several is =
-      let both = same-desk (λ d. (b ≡ true) ↔ IsBetween d) back.desks back.active said.0 said.1 said in
+      let both = same-desk (λ d. (b ≡ true) ↔ IsBetween d) desks active said.0 said.1 said in
       record { several = several; between = (said.0, said.1, both.0 is) }

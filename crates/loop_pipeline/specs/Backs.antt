@@ -142,18 +142,18 @@ pub record SeenBack (D A : Type 0) : Type 0 where
   pub desks : List (SeenDesk D)
   pub active : ℕ
 
--- the desk at a place goes on so, and all else stays
-pub record GoesAt {D A : Type 0} (place : ℕ) (old new : SeenBack D A) (P : SeenDesk D → SeenDesk D → Type 0)
+-- of several desks the one at a place goes on so, and the others stay
+pub record GoesAt {D : Type 0} (place : ℕ) (old new : List (SeenDesk D)) (P : SeenDesk D → SeenDesk D → Type 0)
     : Type 0 where
   pub before : SeenDesk D
   pub after : SeenDesk D
-  pub at : slice_get old.desks place ≡ Some before
+  pub at : slice_get old place ≡ Some before
   pub goes : P before after
-  pub same : new ≡ record old { desks = slice_set old.desks place after }
+  pub same : new ≡ slice_set old place after
 
 -- there is a desk at a place, and this is true of it
-abbrev pub IsSoAt : {D A : Type 0} → ℕ → SeenBack D A → (SeenDesk D → Type 0) → Type 0
-IsSoAt {D} place back P = (desk : SeenDesk D) × (slice_get back.desks place ≡ Some desk) × P desk
+abbrev pub IsSoAt : {D : Type 0} → ℕ → List (SeenDesk D) → (SeenDesk D → Type 0) → Type 0
+IsSoAt {D} place desks P = (desk : SeenDesk D) × (slice_get desks place ≡ Some desk) × P desk
 
 -- nothing changed but the desk at a place
 abbrev pub IsChangedAt : {D A : Type 0} → ℕ → SeenBack D A → SeenBack D A → Type 0
@@ -165,10 +165,6 @@ FitsBlock d = length d.pending ≤ d.store.geometry.slots - d.store.next % d.sto
 
 abbrev pub HasRoom : {D : Type 0} → SeenDesk D → Type 0
 HasRoom d = length d.pending < d.store.geometry.slots - d.store.next % d.store.geometry.slots
-
--- another desk is active
-abbrev pub turned : {D A : Type 0} → ℕ → SeenBack D A → SeenBack D A
-turned place back = record back { active = place }
 
 -- a desk joins the others
 abbrev pub with_joined : {D A : Type 0} → SeenDesk D → SeenBack D A → SeenBack D A
@@ -184,20 +180,25 @@ pub record Joins {D A : Type 0} (shut : Type 0) (old new : SeenBack D A) : Type 
 
 -- ---- what was answered last
 
--- The last call of a back's active desk is this one: parts led to the desk before it.
-pub record IsLast {D A : Type 0} (medium : D → Medium) (seen : SeenBack D A) (call : DeskCall) : Type 0 where
+-- The last call of the active one of several desks is this one: parts led to the desk before it.
+pub record IsLast {D : Type 0} (medium : D → Medium) (old new : List (SeenDesk D)) (active : ℕ) (call : DeskCall)
+    : Type 0 where
   pub began : SeenDesk D
   pub desk : SeenDesk D
-  pub was : slice_get seen.began seen.active ≡ Some began
-  pub is : slice_get seen.desks seen.active ≡ Some desk
+  pub was : slice_get old active ≡ Some began
+  pub is : slice_get new active ≡ Some desk
   pub before : SeenDesk D
   pub parts : List Part
   pub went : GoesBy medium began parts before
   pub goes : DeskGoes medium before desk (call ∷ [])
 
+-- so it is of a back's active desk
+abbrev pub IsLastOf : {D A : Type 0} → (D → Medium) → SeenBack D A → DeskCall → Type 0
+IsLastOf medium seen call = IsLast medium seen.began seen.desks seen.active call
+
 -- the active desk has just accepted a frame under this number
 abbrev pub IsAccepted : {D A : Type 0} → (D → Medium) → SeenBack D A → ℕ → Type 0
-IsAccepted medium seen number = (p : Picture) × IsLast medium seen (submitted p (length p.bytes) (Ok number))
+IsAccepted medium seen number = (p : Picture) × IsLastOf medium seen (submitted p (length p.bytes) (Ok number))
 
 -- a flush of one of the back's desks was refused, by a fault for which frames are given up
 pub record WasRefused {D A : Type 0} (medium : D → Medium) (gives_up : StoreFault → Type 0) (seen : SeenBack D A)
@@ -215,7 +216,7 @@ pub record WasRefused {D A : Type 0} (medium : D → Medium) (gives_up : StoreFa
 abbrev pub IsTurnedDown : {D A : Type 0} → (D → Medium) → SeenBack D A → LostFrame → Type 0
 IsTurnedDown medium seen lost =
     (p : Picture) × (fault : StoreFault) × (lost ≡ record { sequence = p.sequence; timestamp = p.timestamp })
-    × IsLast medium seen (submitted p (length p.bytes) (Err fault))
+    × IsLastOf medium seen (submitted p (length p.bytes) (Err fault))
 
 -- a frame was given up for a reason: the active desk has just refused it, or a flush was refused
 abbrev pub IsGivenUp : {D A : Type 0} → (D → Medium) → (StoreFault → Type 0) → SeenBack D A → LostFrame → Type 0

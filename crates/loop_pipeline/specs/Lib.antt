@@ -2,6 +2,7 @@ pub mod Notes
 pub mod Seats
 pub mod Backs
 pub mod Cameras
+pub mod Desks
 pub mod Fronts
 pub mod Legal
 pub mod Returns

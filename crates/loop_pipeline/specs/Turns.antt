@@ -7,7 +7,7 @@ use Rattle.loop_desk.specs.declared.limits.Space.{Space}
 use Rattle.loop_desk.specs.Seen.{SeenDesk}
 use Rattle.loop_desk.specs.Space.{TellsSpace}
 use Rattle.loop_pipeline.specs.declared.next.Search.{Search}
-use Rattle.loop_pipeline.specs.Backs.{IsSoAt, SeenBack, turned}
+use Rattle.loop_pipeline.specs.Backs.{IsSoAt}
 use Rattle.loop_pipeline.specs.Nexts.{IsFull, TakesNext, IsSearch}
 
 -- nothing waits at the desk, and its next number begins a block: that takes as many frames as there are slots
@@ -17,9 +17,9 @@ IsBetween d =
     × (d.store.geometry.slots - d.store.next % d.store.geometry.slots ≡ d.store.geometry.slots)
 
 -- there are several desks, and the active one is between two blocks
-pub record MayTurn {D A : Type 0} (back : SeenBack D A) : Type 0 where
-  pub several : 2 ≤ length back.desks
-  pub between : IsSoAt back.active back IsBetween
+pub record MayTurn {D : Type 0} (desks : List (SeenDesk D)) (active : ℕ) : Type 0 where
+  pub several : 2 ≤ length desks
+  pub between : IsSoAt active desks IsBetween
 
 -- a store tells the room that it has, of the recording that it stands for
 abbrev pub TellsRoom : {D : Type 0} → (D → Medium) → SeenDesk D → Space → Type 0
@@ -37,27 +37,29 @@ pub record TellEach {D : Type 0} (medium : D → Medium) (desks : List (SeenDesk
   pub tells : TellFirst medium desks spaces
 
 -- by what each store tells, this desk takes the next block, or none does
-pub record Chooses {D A : Type 0} (medium : D → Medium) (back : SeenBack D A) (next : Option ℕ) : Type 0 where
+pub record Chooses {D : Type 0} (medium : D → Medium) (desks : List (SeenDesk D)) (active : ℕ) (next : Option ℕ)
+    : Type 0 where
   pub spaces : List Space
-  pub tell : TellEach medium back.desks spaces
-  pub is : TakesNext back.active spaces next
+  pub tell : TellEach medium desks spaces
+  pub is : TakesNext active spaces next
 
-abbrev pub turned_by : {D A : Type 0} → Option ℕ → SeenBack D A → SeenBack D A
-turned_by None back = back
-turned_by (Some place) back = turned place back
+abbrev pub turned_by : Option ℕ → ℕ → ℕ
+turned_by None active = active
+turned_by (Some place) active = place
 
--- the desk that takes the next block becomes the active one; or all is locked, and nothing changes
-pub record TurnsTo {D A : Type 0} (medium : D → Medium) (old new : SeenBack D A) (locked : Bool) : Type 0 where
+-- the desk that takes the next block becomes the active one; or all is locked, and the active one stays
+pub record TurnsTo {D : Type 0} (medium : D → Medium) (desks : List (SeenDesk D)) (old new : ℕ) (locked : Bool)
+    : Type 0 where
   pub next : Option ℕ
-  pub chosen : Chooses medium old next
+  pub chosen : Chooses medium desks old next
   pub turns : new ≡ turned_by next old
   pub told : locked ≡ is_none next
 
 -- the active desk is between two blocks, and no store has room for a block
-pub record AllLocked {D A : Type 0} (medium : D → Medium) (back : SeenBack D A) : Type 0 where
-  pub may : MayTurn back
+pub record AllLocked {D : Type 0} (medium : D → Medium) (desks : List (SeenDesk D)) (active : ℕ) : Type 0 where
+  pub may : MayTurn desks active
   pub spaces : List Space
-  pub tell : TellEach medium back.desks spaces
+  pub tell : TellEach medium desks spaces
   pub full : All IsFull spaces
 
 -- where the desk is between two blocks, its store has room for a block
@@ -67,8 +69,9 @@ MayBegin medium d = IsBetween d → (s : Space) × TellsRoom medium d s × (IsFu
 -- ---- of the first places (private contracts alone)
 
 -- what the stores at the first n places have told
-pub record Searches {D A : Type 0} (medium : D → Medium) (back : SeenBack D A) (n : ℕ) (search : Search) : Type 0 where
+pub record Searches {D : Type 0} (medium : D → Medium) (desks : List (SeenDesk D)) (active n : ℕ) (search : Search)
+    : Type 0 where
   pub spaces : List Space
   pub count : length spaces ≡ n
-  pub tell : TellFirst medium back.desks spaces
-  pub is : IsSearch back.active spaces search
+  pub tell : TellFirst medium desks spaces
+  pub is : IsSearch active spaces search

@@ -9,6 +9,7 @@ ghost use Rattle.rtrb.specs.Ring.{IsPair, sent};
 ghost use Rattle.loop_pipeline.specs.Fronts.{HandIsSpent, IsRegular, Leaves, LeavesCarried, StaysOpen, made_of, StandsPort};
 
 use crate::bell::Bell;
+use crate::guided::visit;
 use crate::start_barrier::StartBarrier;
 use crate::{
     Back, Begun, Brought, Camera, CameraEnd, Door, Front, FrontParts, Guide, Seat, TakeOutcome,
@@ -217,7 +218,7 @@ fn bring_all<R: Wait, D: Disk + Drop, G: Guide>(
     ensures { back.new ≡ record back.old { desks = back.new.desks } }
 {
     let mut some = false;
-    let most = back.group();
+    let most = back.desks().group();
     'frames: for _ in 0..most {
         match back.bring(anyway) {
             Brought::Submitted(number) => guide.brought(rt, back, number),
@@ -242,7 +243,7 @@ fn bring_all<R: Wait, D: Disk + Drop, G: Guide>(
 fn give_memory<R: Wait, D: Disk + Drop, K: Visits>(rt: &R, link: &Link, back: &mut Back<D, K>)
     ensures { back.new ≡ back.old }
 {
-    let most = back.group();
+    let most = back.desks().group();
     'rows: for _ in 0..most {
         let Some(bytes) = back.spare_memory() else {
             break;
@@ -291,7 +292,7 @@ fn serve<R: Wait + Clock, D: Disk + Drop, G: Guide>(
     let anyway = turn_for(rt, guide, back);
     let some = bring_all(rt, link, guide, back, anyway);
     if G::VISITED {
-        guide.visit(rt, alloc, back);
+        visit(rt, alloc, guide, back);
     }
     give_memory(rt, link, back);
     some
@@ -306,7 +307,7 @@ fn flush_some<R: Wait, D: Disk + Drop, G: Guide>(
 ) -> Option<u64>
     ensures { back.new ≡ record back.old { desks = back.new.desks } }
 {
-    if back.is_refused() || back.status(back.active()).pending == 0 {
+    if back.is_refused() || back.desks().status(back.desks().active()).pending == 0 {
         return None;
     }
     guide.flushing(rt);
@@ -355,23 +356,39 @@ pub fn film_back<R: Wait + Clock, D: Disk + Drop, G: Guide>(
     back
 }
 
+/// What a front is made of.
+#[derive(Drop)]
+pub struct Inlet<S: FrameSource + Drop, P: PlaneMemory, T: Drop = Producer<Frame>> {
+    /// Its device.
+    pub device: Device<S>,
+    /// Its queue.
+    pub queue: Queue<P>,
+    /// What fds name.
+    pub table: FdTable<P>,
+    /// The end of its ring, or what carries it.
+    pub to: T,
+}
+
 /// The whole work of a front's thread: it makes a front, and ticks until its guide or its source ends it.
 pub fn film_front<R: Wait + Clock, S: FrameSource + Drop, P: PlaneMemory, G: Guide>(
     rt: &R,
     alloc: Global,
     link: &Link,
     guide: &G,
-    device: Device<S>,
-    queue: Queue<P>,
-    table: FdTable<P>,
-    to: Producer<Frame>,
+    inlet: Inlet<S, P>,
 ) -> FrontParts<S, P>
-    requires ready { StandsPort P.plane queue table }
-    requires ring { sent to ≡ [] }
+    requires ready { StandsPort P.plane inlet.queue inlet.table }
+    requires ring { sent inlet.to ≡ [] }
     ensures leaves { Leaves S.next_gives P.plane (G.due guide.now) (G.ends guide.now)
-        (record { queue = queue; device = device; to = to; guide = guide.now }) result }
+        (record { queue = inlet.queue; device = inlet.device; to = inlet.to; guide = guide.now }) result }
     ensures over { result.over ≡ true }
 {
+    let Inlet {
+        device,
+        queue,
+        table,
+        to,
+    } = inlet;
     let front = Front::new(device, queue, table, to, guide);
     let parts = run_front(rt, alloc, link, guide, front);
     link.end(rt);
@@ -443,16 +460,19 @@ fn film_carried<R: Wait + Clock, S: FrameSource + Drop, P: PlaneMemory, G: Guide
     alloc: Global,
     link: &Link,
     guide: &G,
-    device: Device<S>,
-    queue: Queue<P>,
-    table: FdTable<P>,
-    to: W,
+    inlet: Inlet<S, P, W>,
 ) -> Left<S, P, W>
-    requires ready { StandsPort P.plane queue table }
-    requires ring { sent (W.inside to) ≡ [] }
+    requires ready { StandsPort P.plane inlet.queue inlet.table }
+    requires ring { sent (W.inside inlet.to) ≡ [] }
     ensures { LeavesCarried W.inside S.next_gives P.plane (G.due guide.now) (G.ends guide.now)
-        (record { queue = queue; device = device; to = W.inside to; guide = guide.now }) result }
+        (record { queue = inlet.queue; device = inlet.device; to = W.inside inlet.to; guide = guide.now }) result }
 {
+    let Inlet {
+        device,
+        queue,
+        table,
+        to,
+    } = inlet;
     if !link.wait_for_others(rt) {
         link.end(rt);
         return Left {
@@ -466,6 +486,12 @@ fn film_carried<R: Wait + Clock, S: FrameSource + Drop, P: PlaneMemory, G: Guide
             over: false,
         };
     }
+    let inlet = Inlet {
+        device,
+        queue,
+        table,
+        to: to.open(),
+    };
     let FrontParts {
         device,
         queue,
@@ -475,7 +501,7 @@ fn film_carried<R: Wait + Clock, S: FrameSource + Drop, P: PlaneMemory, G: Guide
         missed,
         failed,
         over,
-    } = film_front(rt, alloc, link, guide, device, queue, table, to.open());
+    } = film_front(rt, alloc, link, guide, inlet);
     Left {
         device,
         queue,
@@ -486,6 +512,16 @@ fn film_carried<R: Wait + Clock, S: FrameSource + Drop, P: PlaneMemory, G: Guide
         failed,
         over,
     }
+}
+
+// What both threads begin with: what a front is made of, and a record of it; a back; and the door by which desks join
+// it.
+#[derive(Drop)]
+struct Halves<'d, S: FrameSource + Drop, D: Disk + Drop, P: PlaneMemory, G: Guide, W: Carrier> {
+    begun: Begun<S, P, G>,
+    inlet: Inlet<S, P, W>,
+    door: &'d Door<D>,
+    back: Back<D, G>,
 }
 
 // What both threads leave.
@@ -516,6 +552,7 @@ fn film_beside<R: Wait + Clock, D: Disk + Drop, G: Guide>(
 // no thread can be started, the front doesn't tick, and no desk is asked.
 fn run_in<
     's,
+    'd,
     E,
     R: Threads + Wait + Clock + Sync,
     S: FrameSource + Drop + Send + 's,
@@ -529,27 +566,32 @@ fn run_in<
     scope: &Scope<'s, E>,
     link: &'s Link,
     guide: &'s G,
-    begun: Begun<S, P, G>,
-    device: Device<S>,
-    queue: Queue<P>,
-    table: FdTable<P>,
-    to: W,
-    door: &Door<D>,
-    back: Back<D, G>,
+    halves: Halves<'d, S, D, P, G, W>,
 ) -> Both<S, D, P, G, W>
-    requires begun { made_of begun
-        ≡ record { queue = queue; device = device; to = W.inside to; guide = guide.now } }
-    requires ready { StandsPort P.plane queue table }
-    requires ring { sent (W.inside to) ≡ [] }
-    ensures front { LeavesCarried W.inside S.next_gives P.plane
-        (G.due begun.guide.value) (G.ends begun.guide.value) (made_of begun) result.front }
-    ensures back { Joins (door.now ≡ false) back result.back }
+    requires begun { made_of halves.begun ≡ record {
+      queue = halves.inlet.queue;
+      device = halves.inlet.device;
+      to = W.inside halves.inlet.to;
+      guide = guide.now;
+    } }
+    requires ready { StandsPort P.plane halves.inlet.queue halves.inlet.table }
+    requires ring { sent (W.inside halves.inlet.to) ≡ [] }
+    ensures front { LeavesCarried W.inside S.next_gives P.plane (G.due halves.entry.begun.guide.value)
+        (G.ends halves.entry.begun.guide.value) (made_of halves.entry.begun) result.front }
+    ensures back { Joins (halves.entry.door.now ≡ false) halves.entry.back result.back }
 {
+    let Halves {
+        begun,
+        inlet,
+        door,
+        back,
+    } = halves;
     let work = move || -> Left<S, P, W>
-        requires { StandsPort P.plane queue table × (sent (W.inside to) ≡ []) }
+        requires { StandsPort P.plane inlet.queue inlet.table × (sent (W.inside inlet.to) ≡ []) }
         ensures { LeavesCarried W.inside S.next_gives P.plane (G.due guide.entry.now) (G.ends guide.entry.now)
-            (record { queue = queue; device = device; to = W.inside to; guide = guide.entry.now }) result }
-    { film_carried(rt, alloc, link, guide, device, queue, table, to) };
+            (record { queue = inlet.queue; device = inlet.device; to = W.inside inlet.to; guide = guide.entry.now })
+            result }
+    { film_carried(rt, alloc, link, guide, inlet) };
     match scope.spawn_with(begun, work) {
         Ok(handle) => {
             let back = film_beside(rt, alloc, link, guide, door, back);
@@ -621,9 +663,20 @@ pub enum Unfilmed<S: FrameSource + Drop, D: Disk + Drop, P: PlaneMemory, G: Visi
     NoThread(CameraEnd<S, D, P, G>),
 }
 
+/// A camera that is to be filmed, with its guide, and with what its two threads share.
+#[derive(Drop)]
+pub struct GuidedCamera<'s, S: FrameSource + Drop, D: Disk + Drop, P: PlaneMemory, G: Visits> {
+    /// What its threads share. It may serve no other camera meanwhile.
+    pub link: &'s Link,
+    /// Its guide.
+    pub guide: &'s G,
+    /// The camera.
+    pub camera: Camera<S, D, P, G>,
+}
+
 /// Films a camera until its guide or its source ends it and nothing is left to flush. The front runs in a new thread of
 /// this scope, the back in the caller's thread. Desks that are put at the door meanwhile join the camera's own, which
-/// has 256 at most. The link may serve no other camera meanwhile.
+/// has 256 at most.
 pub fn film_desks<
     's,
     E,
@@ -636,22 +689,25 @@ pub fn film_desks<
     rt: &'s R,
     alloc: Global,
     scope: &Scope<'s, E>,
-    link: &'s Link,
-    guide: &'s G,
+    guided: GuidedCamera<'s, S, D, P, G>,
     door: &Door<D>,
-    camera: Camera<S, D, P, G>,
 ) -> Result<CameraEnd<S, D, P, G>, Unfilmed<S, D, P, G>>
-    ensures keeps { IfOk result (λ e. IsRegular P.plane camera.queue
-        → KeepsJoined D.medium S.next_gives P.plane G.asks G.gives_up
-        (G.due guide.now) (G.ends guide.now) (door.now ≡ false) camera
+    ensures keeps { IfOk result (λ e. IsRegular P.plane guided.entry.camera.queue
+        → KeepsJoined D.medium S.next_gives P.plane G.asks G.gives_up (G.due guided.entry.guide.now)
+        (G.ends guided.entry.guide.now) (door.now ≡ false) guided.entry.camera
         (record { device = e.device; queue = e.queue; desk = e.desk; joined = e.joined.items })
         e.given_up e.left e.missed e.failed e.over) }
     ensures ended { IfOk result (λ e. e.over ≡ true) }
-    ensures again { IfOk result (λ e. StaysOpen P.plane camera.queue e.queue e.table) }
+    ensures again { IfOk result (λ e. StaysOpen P.plane guided.entry.camera.queue e.queue e.table) }
     ensures held { IfOk result (λ e. HandIsSpent e.queue e.hand) }
     ensures refused { IfErr result (GivesJoined D.medium S.next_gives P.plane G.asks G.gives_up
-        (G.due guide.now) (G.ends guide.now) (door.now ≡ false) camera) }
+        (G.due guided.entry.guide.now) (G.ends guided.entry.guide.now) (door.now ≡ false) guided.entry.camera) }
 {
+    let GuidedCamera {
+        link,
+        guide,
+        camera,
+    } = guided;
     link.begin();
     // The ring takes as many frames as a flush stores at once: they come while the flush before it lasts.
     let most = camera.group() as usize;
@@ -680,10 +736,18 @@ pub fn film_desks<
     };
     let begun = Begun::of(&queue, &device, &to, guide);
     let again = Begun::of(&queue, &device, &to, guide);
-    let to = Carried { to };
-    let Both { front, back } = run_in(
-        rt, alloc, scope, link, guide, begun, device, queue, table, to, door, back,
-    );
+    let halves = Halves {
+        begun,
+        inlet: Inlet {
+            device,
+            queue,
+            table,
+            to: Carried { to },
+        },
+        door,
+        back,
+    };
+    let Both { front, back } = run_in(rt, alloc, scope, link, guide, halves);
     let ended = end_both(again, front, back);
     if ended.over {
         Ok(ended)
@@ -692,7 +756,8 @@ pub fn film_desks<
     }
 }
 
-/// Films a camera with its one desk, as `film_desks` at a door that is shut.
+/// Films a camera with its one desk, as `film_desks` at a door that is shut. The link may serve no other camera
+/// meanwhile.
 pub fn film_camera<
     's,
     E,
@@ -721,5 +786,10 @@ pub fn film_camera<
         (G.due guide.now) (G.ends guide.now) camera) }
 {
     let door = Door::shut(alloc);
-    film_desks(rt, alloc, scope, link, guide, &door, camera)
+    let guided = GuidedCamera {
+        link,
+        guide,
+        camera,
+    };
+    film_desks(rt, alloc, scope, guided, &door)
 }

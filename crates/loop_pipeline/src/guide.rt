@@ -2,10 +2,10 @@
 
 ghost use Rattle.std.specs.Prelude.{◌≡◌, IfSome, None, Ok, false};
 ghost use Rattle.loop_desk.specs.Desk.{flushed};
-ghost use Rattle.loop_pipeline.specs.Backs.{IsAccepted, IsGivenUp, IsLast};
+ghost use Rattle.loop_pipeline.specs.Backs.{IsAccepted, IsGivenUp, IsLastOf};
 ghost use Rattle.loop_pipeline.specs.Turns.{AllLocked};
 
-use crate::{Back, LostFrame, Visits};
+use crate::{Back, Desks, LostFrame, Visits};
 use loop_capture::Tick;
 use loop_desk::Flushed;
 use loop_disk::Disk;
@@ -54,7 +54,7 @@ pub trait Guide: Visits {
 
     /// A flush stored frames.
     fn stored<R: Wait, D: Disk + Drop>(&self, rt: &R, back: &Back<D, Self>, done: Flushed)
-        requires { IsLast D.medium back.now (flushed (Ok done)) }
+        requires { IsLastOf D.medium back.now (flushed (Ok done)) }
     {}
 
     /// Whether a flush that was refused with this fault is tried again, after a while or once the desk's thread is
@@ -67,18 +67,19 @@ pub trait Guide: Visits {
     /// meanwhile; if not, they are brought to the active desk, where a flush is refused. By default they wait if such a
     /// flush is tried again.
     fn all_locked<R: Wait, D: Disk + Drop>(&self, rt: &R, back: &Back<D, Self>) -> bool
-        requires { AllLocked D.medium back.now }
+        requires { AllLocked D.medium back.now.desks back.now.active }
     {
         self.flushes_again(rt, StoreFault::AllLocked)
     }
 
-    /// Serves what others ask of the desks. It is called between flushes, by the desks' own thread.
+    /// Serves what others ask of the desks, which are lent to it. It is called between flushes, by the desks' own
+    /// thread.
     fn visit<R: Wait + Clock, D: Disk + Drop>(
         &self,
         rt: &R,
         alloc: Global,
-        back: &mut Back<D, Self>,
+        desks: &mut Desks<D, Self>,
     )
-        ensures { back.new ≡ record back.old { desks = back.new.desks } }
+        ensures { desks.new.lent ≡ desks.old.lent }
     {}
 }

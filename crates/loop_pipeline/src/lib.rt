@@ -1,7 +1,8 @@
 //! The way of a camera's frames from its device to its disk, by two threads. Each owns its half.
 //!
 //! - `front`: a device, its queue with the buffers, and the end of the ring to which its frames go; `back`: the other
-//!   end of the ring, and desks before stores; `ending`: both halves, brought together; `camera`: what is filmed;
+//!   end of the ring, and the desks; `desks`: desks before stores, which are lent to visits; `guided`: what a back does
+//!   by its guide; `ending`: both halves, brought together; `camera`: what is filmed;
 //! - `film`: `film_camera` and `film_desks`, which run both, and what each does; `door`: where desks wait that join a
 //!   camera meanwhile; `guide`: what they ask and report; `visits`: what visitors of the desks may call; `bell`: where
 //!   one sleeps until the other has work for it; `laws`: what follows;
@@ -27,12 +28,14 @@ mod back;
 mod bell;
 mod buffers;
 mod camera;
+mod desks;
 mod door;
 mod ending;
 mod entry;
 mod film;
 mod front;
 mod guide;
+mod guided;
 pub mod laws;
 mod next;
 pub mod notes;
@@ -46,10 +49,13 @@ pub use back::{Back, BackParts, Brought, LostFrame};
 pub use bell::Bell;
 pub use buffers::{Start, heap_start, mapped_start};
 pub use camera::Camera;
+pub use desks::Desks;
 pub use door::Door;
 pub use ending::{CameraEnd, end};
 pub use entry::{Entry, FrameInfo, Noted, Pass, Receipt};
-pub use film::{Link, Unfilmed, film_back, film_camera, film_desks, film_front};
+pub use film::{
+    GuidedCamera, Inlet, Link, Unfilmed, film_back, film_camera, film_desks, film_front,
+};
 pub use front::{Begun, Front, FrontParts, TakeOutcome};
 pub use guide::Guide;
 pub use seat::{Notes, Noting, Seat, Taken};

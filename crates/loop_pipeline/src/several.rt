@@ -244,7 +244,14 @@ fn with_rest<S: FrameSource + Drop, D: Disk + Drop, P: PlaneMemory, G: Guide + D
     outcomes
 }
 
-// Films the cameras in a scope.
+// The memory for cameras that are filmed: for their threads, and for what comes of each.
+#[derive(Drop)]
+struct Rooms<S: FrameSource + Drop, D: Disk + Drop, P: PlaneMemory, G: Guide + Drop> {
+    threads: Vec<Running<S, D, P, G>>,
+    outcomes: Vec<Outcome<S, D, P, G>>,
+}
+
+// Films the cameras in a scope, in memory that is still empty.
 fn film_in<
     's,
     E,
@@ -259,14 +266,17 @@ fn film_in<
     scope: &Scope<'s, E>,
     barrier: &'s Arc<StartBarrier>,
     shots: Vec<Shot<S, D, P, G>>,
-    mut threads: Vec<Running<S, D, P, G>>,
-    outcomes: Vec<Outcome<S, D, P, G>>,
+    rooms: Rooms<S, D, P, G>,
 ) -> Vec<Outcome<S, D, P, G>>
-    requires threads { (threads.items ≡ []) × (vec_len shots ≤ vec_capacity threads) }
-    requires outcomes { (outcomes.items ≡ []) × (vec_len shots ≤ vec_capacity outcomes) }
+    requires threads { (rooms.threads.items ≡ []) × (vec_len shots ≤ vec_capacity rooms.threads) }
+    requires outcomes { (rooms.outcomes.items ≡ []) × (vec_len shots ≤ vec_capacity rooms.outcomes) }
     ensures shots { map shot_of result.items ≡ shots.items }
     ensures each { All (IsOutcome D.medium S.next_gives P.plane G.asks G.gives_up G.due G.ends) result.items }
 {
+    let Rooms {
+        mut threads,
+        outcomes,
+    } = rooms;
     let (one, rest) = start_all(rt, alloc, scope, barrier, shots, &mut threads);
     let outcomes = join_all(rt, threads, outcomes);
     with_rest(with_one(outcomes, one), rest)
@@ -301,15 +311,16 @@ pub fn film_all<
         return Err(shots);
     };
     let (rt, barrier) = (&*rt, &barrier);
+    let rooms = Rooms { threads, outcomes };
     let outcomes = thread::scope(
         thread::scope_env(),
         rt,
         move |scope| -> Vec<Outcome<S, D, P, G>>
-            requires { ((threads.items ≡ []) × (vec_len shots ≤ vec_capacity threads))
-                × ((outcomes.items ≡ []) × (vec_len shots ≤ vec_capacity outcomes)) }
+            requires { ((rooms.threads.items ≡ []) × (vec_len shots ≤ vec_capacity rooms.threads))
+                × ((rooms.outcomes.items ≡ []) × (vec_len shots ≤ vec_capacity rooms.outcomes)) }
             ensures { (map shot_of result.items ≡ shots.items)
                 × All (IsOutcome D.medium S.next_gives P.plane G.asks G.gives_up G.due G.ends) result.items }
-        { film_in(rt, alloc, scope, barrier, shots, threads, outcomes) },
+        { film_in(rt, alloc, scope, barrier, shots, rooms) },
     );
     Ok(outcomes)
 }

@@ -93,9 +93,18 @@ fn resume_all<S: FrameSource>(devices: &mut [Device<S>], rests: Vec<Rest>)
     }
 }
 
+/// Cameras that are out of their locks, with a pass for the calls of each.
+#[derive(Drop)]
+pub struct NotedCameras<D: Disk + Drop, P: PlaneMemory> {
+    /// The cameras.
+    pub cameras: Vec<OpenCamera<D, P>>,
+    /// Their passes, in the same order.
+    pub passes: Vec<Pass>,
+}
+
 /// Films cameras that are out of their locks, each with the device at its place, whose source is lent. Their calls are
-/// noted in the sessions' histories and in these passes, one for each camera. Returns what is left of each, in their
-/// order; or the cameras and the passes, if memory is refused before anything is lent.
+/// noted in the sessions' histories and in their passes. Returns what is left of each, in their order; or the cameras
+/// and the passes, if memory is refused before anything is lent.
 ///
 /// A camera is filmed by two threads: one ticks and takes its frames out of the queue, one brings them to the desk,
 /// flushes, and reads the newest frame that a flush stored. Each device makes `frames` ticks, or as many as its source
@@ -110,28 +119,28 @@ pub fn film_open<
 >(
     rt: &R,
     alloc: Global,
-    cameras: Vec<OpenCamera<D, P>>,
-    passes: Vec<Pass>,
+    noted: NotedCameras<D, P>,
     devices: &mut [Device<S>],
     frames: u32,
     pace: &Q,
-) -> Result<Vec<FilmedCamera<D, P>>, (Vec<OpenCamera<D, P>>, Vec<Pass>)>
+) -> Result<Vec<FilmedCamera<D, P>>, NotedCameras<D, P>>
     requires few { length devices.old < 2 ^ 31 }
-    requires cameras { vec_len cameras ≡ length devices.old }
-    requires passes { vec_len passes ≡ length devices.old }
-    ensures count { IfOk result (λ filmed. vec_len filmed ≡ vec_len cameras) }
+    requires cameras { vec_len noted.cameras ≡ length devices.old }
+    requires passes { vec_len noted.passes ≡ length devices.old }
+    ensures count { IfOk result (λ filmed. vec_len filmed ≡ vec_len noted.cameras) }
     ensures keeps { IfOk result (λ filmed. EachKept D.medium S.next_gives P.plane frames
-        devices.old devices.new cameras.items filmed.items) }
-    ensures refused { IfErr result (λ back. (back.0 ≡ cameras) × (back.1 ≡ passes)) }
+        devices.old devices.new noted.cameras.items filmed.items) }
+    ensures refused { IfErr result (λ back. back ≡ noted) }
     ensures unlent { IfErr result (λ _. devices.new ≡ devices.old) }
 {
     let count = devices.len();
     let Some(returned) = returned_for(alloc, count) else {
-        return Err((cameras, passes));
+        return Err(noted);
     };
     let Ok(shots) = Vec::with_capacity(alloc, count) else {
-        return Err((cameras, passes));
+        return Err(noted);
     };
+    let NotedCameras { cameras, passes } = noted;
     let shots = shots_of(pace, frames, cameras, passes, devices, shots);
     let Returned { rests, filmed } = film(rt, alloc, shots, returned);
     resume_all(devices, rests);

@@ -6,7 +6,7 @@ use crate::{Pace, Step};
 use loop_capture::Tick;
 use loop_desk::Flushed;
 use loop_disk::Disk;
-use loop_pipeline::{Back, Guide, Noting, Visits};
+use loop_pipeline::{Back, Desks, Guide, Noting, Visits};
 use loop_record::Geometry;
 use loop_store::StoreFault;
 use std::alloc::Global;
@@ -121,19 +121,19 @@ impl<W: Pace> Guide for Post<W> {
         &self,
         _rt: &R,
         alloc: Global,
-        back: &mut Back<D, Self>,
+        desks: &mut Desks<D, Self>,
     ) {
         let behind = self.unread.swap(0, Ordering::SeqCst);
         if behind == 0 {
             return;
         }
-        let place = back.active();
-        let Some(answer) = back.read_noted(alloc, place, behind - 1) else {
+        let place = desks.active();
+        let Some(answer) = desks.read_noted(alloc, place, behind - 1) else {
             return;
         };
         // The pass has the receipt of a refused read too; the next frame may be read.
         if let Ok(frame) = answer {
-            back.return_memory(frame.bytes);
+            desks.return_memory(frame.bytes);
         }
         self.pace.reached(self.camera, Step::Read);
     }

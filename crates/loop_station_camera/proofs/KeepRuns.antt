@@ -1,5 +1,5 @@
 -- Several desks whose frames of a time are locked, and one more.
-use Rattle.std.proofs.Common.{◌≡◌, ◌≢◌, ◌<◌, ◌≤◌, ◌⊎◌, inl, inr, ℕ, ◌+◌, Bool, true, false, if◌then◌else◌, List, [], ◌∷◌, ◌++◌, All, length, map, slice_get, slice_set, Option, None, Some, refl, sym, ap, ◌∙◌, subst, arith}
+use Rattle.std.proofs.Common.{◌≡◌, ◌≢◌, ◌<◌, ◌≤◌, ◌⊎◌, inl, inr, ℕ, ◌+◌, Bool, true, false, if◌then◌else◌, List, [], ◌∷◌, ◌++◌, All, length, map, slice_get, Option, None, Some, refl, sym, ap, ◌∙◌, subst, arith}
 use Rattle.std.specs.List.{flat_map}
 use Rattle.std.proofs.lemmas.Grind.{flat_map-append}
 use Rattle.std.proofs.lemmas.List.{append-nil, length-append, length-set}
@@ -12,26 +12,25 @@ use Rattle.loop_store.specs.declared.fault.StoreFault.TheVariants.{NoMemory}
 use Rattle.loop_desk.specs.declared.keep.Kept.{Kept}
 use Rattle.loop_desk.specs.Keeps.{KeepsTime}
 use Rattle.loop_desk.specs.Seen.{SeenDesk}
-use Rattle.loop_pipeline.specs.Backs.{GoesAt, SeenBack}
+use Rattle.loop_pipeline.specs.Backs.{GoesAt}
 use Rattle.loop_pipeline.proofs.DeskPlaces.{there-now}
 use Rattle.loop_pipeline.proofs.Places.{get-joined, get-set-other, some-same}
 use Rattle.loop_station_camera.specs.Keeping.{PlaceKept, StoresAll, StoresAndKeepsEach, TakesKept, first_fault, keep_fault, known, named_clips, or_fault}
 
 -- the first desks, so many, are done
-pub record KeepsFirst {D A : Type 0} (medium : D → Medium) (times : Times) (tag : ℕ) (count : ℕ) (between new : SeenBack D A)
+pub record KeepsFirst {D A : Type 0} (medium : D → Medium) (times : Times) (tag : ℕ) (count : ℕ) (between new : List (SeenDesk D))
     (kept : Kept A) : Type 0 where
   pub parts : List (PlaceKept A)
   pub all : length parts ≡ count
-  pub keeps : (place : ℕ) (d e : SeenDesk D) (part : PlaceKept A) → slice_get between.desks place ≡ Some d
-      → slice_get new.desks place ≡ Some e → slice_get parts place ≡ Some part → KeepsTime medium times tag d e part.kept
-  pub rest : (place : ℕ) (d : SeenDesk D) → count ≤ place → slice_get new.desks place ≡ Some d
-      → slice_get between.desks place ≡ Some d
+  pub keeps : (place : ℕ) (d e : SeenDesk D) (part : PlaceKept A) → slice_get between place ≡ Some d
+      → slice_get new place ≡ Some e → slice_get parts place ≡ Some part → KeepsTime medium times tag d e part.kept
+  pub rest : (place : ℕ) (d : SeenDesk D) → count ≤ place → slice_get new place ≡ Some d
+      → slice_get between place ≡ Some d
   pub numbers : All (λ part. part.number < 256) parts
   pub clips : kept.clips.items ≡ flat_map named_clips parts
   pub fault : kept.fault ≡ first_fault (map keep_fault parts)
   pub none : kept.clips.items ≡ [] → All (λ part. part.named ≡ true) parts
-  pub still : length new.desks ≡ length between.desks
-  pub same : new ≡ record between { desks = new.desks }
+  pub still : length new ≡ length between
 
 -- ---- lists
 
@@ -89,9 +88,9 @@ takes kept old new number false told inside is done refused why = record {
 
 module _ {D A : Type 0} (medium : D → Medium) (times : Times) (tag : ℕ) where
   -- none is done yet
-  pub none-kept : (back : SeenBack D A) (kept : Kept A) → kept.clips.items ≡ [] → kept.fault ≡ None
-      → KeepsFirst medium times tag 0 back back kept
-  none-kept back kept empty faultless = record {
+  pub none-kept : (desks : List (SeenDesk D)) (kept : Kept A) → kept.clips.items ≡ [] → kept.fault ≡ None
+      → KeepsFirst medium times tag 0 desks desks kept
+  none-kept desks kept empty faultless = record {
     parts = [];
     all = refl;
     keeps = λ place d e part was is there. absurd (nothing-there place part there);
@@ -101,22 +100,18 @@ module _ {D A : Type 0} (medium : D → Medium) (times : Times) (tag : ℕ) wher
     fault = faultless;
     none = λ e. All-nil (λ part. part.named ≡ true);
     still = refl;
-    same = refl;
   }
 
-  module _ (count : ℕ) (between mid new : SeenBack D A) (kept here next : Kept A)
+  module _ (count : ℕ) (between mid new : List (SeenDesk D)) (kept here next : Kept A)
       (so : KeepsFirst medium times tag count between mid kept)
       (goes : GoesAt count mid new (λ d e. KeepsTime medium times tag d e here)) (takes : TakesKept here kept next) where
-    desks : new.desks ≡ slice_set mid.desks count goes.after
-    desks = ap (λ (b : SeenBack D A). b.desks) goes.same
-
     -- at another place nothing changed
-    other : (place : ℕ) (e : SeenDesk D) → place ≢ count → slice_get new.desks place ≡ Some e → slice_get mid.desks place ≡ Some e
+    other : (place : ℕ) (e : SeenDesk D) → place ≢ count → slice_get new place ≡ Some e → slice_get mid place ≡ Some e
     other place e apart is =
-        get-set-other mid.desks count place goes.after e apart (subst (λ l. slice_get l place ≡ Some e) desks is)
+        get-set-other mid count place goes.after e apart (subst (λ l. slice_get l place ≡ Some e) goes.same is)
 
-    keeps-more : (place : ℕ) (d e : SeenDesk D) (part : PlaceKept A) → slice_get between.desks place ≡ Some d
-        → slice_get new.desks place ≡ Some e
+    keeps-more : (place : ℕ) (d e : SeenDesk D) (part : PlaceKept A) → slice_get between place ≡ Some d
+        → slice_get new place ≡ Some e
         → ((place < length so.parts) × (slice_get so.parts place ≡ Some part)) ⊎ ((place ≡ length so.parts) × (part ≡ takes.part))
         → KeepsTime medium times tag d e part.kept
     keeps-more place d e part was is (inl before) =
@@ -126,9 +121,9 @@ module _ {D A : Type 0} (medium : D → Medium) (times : Times) (tag : ℕ) wher
         let at : place ≡ count = last.0 ∙ so.all in
         let before : goes.before ≡ d =
         some-same goes.before d
-        (sym (so.rest count goes.before (omega arith) goes.at) ∙ subst (λ n. slice_get between.desks n ≡ Some d) at was) in
+        (sym (so.rest count goes.before (omega arith) goes.at) ∙ subst (λ n. slice_get between n ≡ Some d) at was) in
         let after : goes.after ≡ e =
-        some-same goes.after e (sym (there-now mid new count _ goes) ∙ subst (λ n. slice_get new.desks n ≡ Some e) at is) in
+        some-same goes.after e (sym (there-now mid new count _ goes) ∙ subst (λ n. slice_get new n ≡ Some e) at is) in
         subst (λ k. KeepsTime medium times tag d e k) (sym takes.of ∙ sym (ap (λ (p : PlaceKept A). p.kept) last.1))
         (subst (λ f. KeepsTime medium times tag d f here) after
         (subst (λ f. KeepsTime medium times tag f goes.after here) before goes.goes))
@@ -148,16 +143,14 @@ module _ {D A : Type 0} (medium : D → Medium) (times : Times) (tag : ℕ) wher
       none = λ empty.
           let nothing : kept.clips.items ≡ [] = nil-first kept.clips.items (named_clips takes.part) (sym takes.clips ∙ empty) in
           all-more (λ part. part.named ≡ true) so.parts takes.part (so.none nothing) (takes.first nothing);
-      still = ap length desks ∙ (length-set mid.desks count goes.after ∙ so.still);
-      same = goes.same ∙ (ap (λ (b : SeenBack D A). record b { desks = slice_set mid.desks count goes.after }) so.same
-          ∙ ap (λ (l : List (SeenDesk D)). record between { desks = l }) (sym desks));
+      still = ap length goes.same ∙ (length-set mid count goes.after ∙ so.still);
     }
 
   -- all are done, after the active desk stored what waited
-  pub each-kept : (old between new : SeenBack D A) (kept : Kept A) (refused : Option StoreFault) (count : ℕ)
-      → GoesAt old.active old between (λ d e. StoresAll medium d e refused) → count ≡ length between.desks
-      → KeepsFirst medium times tag count between new kept → StoresAndKeepsEach medium times tag old new kept refused
-  each-kept old between new kept refused count stores all so = record {
+  pub each-kept : (active : ℕ) (old between new : List (SeenDesk D)) (kept : Kept A) (refused : Option StoreFault) (count : ℕ)
+      → GoesAt active old between (λ d e. StoresAll medium d e refused) → count ≡ length between
+      → KeepsFirst medium times tag count between new kept → StoresAndKeepsEach medium times tag active old new kept refused
+  each-kept active old between new kept refused count stores all so = record {
     between = between;
     stores = stores;
     parts = so.parts;
@@ -168,5 +161,4 @@ module _ {D A : Type 0} (medium : D → Medium) (times : Times) (tag : ℕ) wher
     fault = so.fault;
     none = so.none;
     still = so.still;
-    same = so.same;
   }

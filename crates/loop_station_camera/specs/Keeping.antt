@@ -11,7 +11,7 @@ use Rattle.loop_desk.specs.declared.limits.Flushed.{Flushed}
 use Rattle.loop_desk.specs.Desk.{DeskCall, clip_locked, clip_unlocked, flushed, frame_read, run_told}
 use Rattle.loop_desk.specs.Keeps.{KeepsTime}
 use Rattle.loop_desk.specs.Seen.{DeskGoes, SeenDesk}
-use Rattle.loop_pipeline.specs.Backs.{GoesAt, SeenBack}
+use Rattle.loop_pipeline.specs.Backs.{GoesAt}
 use Rattle.loop_station_core.specs.Sets.{clip_id}
 
 -- what an order may call of a desk: it lists the runs of a time, locks, unlocks and reads
@@ -75,18 +75,17 @@ pub record TakesKept {A : Type 0} (kept old new : Kept A) : Type 0 where
 -- The active desk stored what waited, as far as no flush was refused, and then the held frames of a time were locked at
 -- each desk. What is returned are their clips, one desk after the other, and the first fault; the clips of a desk are
 -- left out only if memory was refused and those of another one are there.
-pub record StoresAndKeepsEach {D A : Type 0} (medium : D → Medium) (times : Times) (tag : ℕ) (old new : SeenBack D A)
-    (kept : Kept A) (refused : Option StoreFault) : Type 0 where
-  pub between : SeenBack D A
-  pub stores : GoesAt old.active old between (λ d e. StoresAll medium d e refused)
+pub record StoresAndKeepsEach {D A : Type 0} (medium : D → Medium) (times : Times) (tag active : ℕ)
+    (old new : List (SeenDesk D)) (kept : Kept A) (refused : Option StoreFault) : Type 0 where
+  pub between : List (SeenDesk D)
+  pub stores : GoesAt active old between (λ d e. StoresAll medium d e refused)
   pub parts : List (PlaceKept A)
-  pub all : length parts ≡ length between.desks
-  pub keeps : (place : ℕ) (d e : SeenDesk D) (part : PlaceKept A) → slice_get between.desks place ≡ Some d
-      → slice_get new.desks place ≡ Some e → slice_get parts place ≡ Some part
+  pub all : length parts ≡ length between
+  pub keeps : (place : ℕ) (d e : SeenDesk D) (part : PlaceKept A) → slice_get between place ≡ Some d
+      → slice_get new place ≡ Some e → slice_get parts place ≡ Some part
       → KeepsTime medium times tag d e part.kept
   pub numbers : All (λ part. part.number < 256) parts
   pub clips : kept.clips.items ≡ flat_map named_clips parts
   pub fault : kept.fault ≡ first_fault (map keep_fault parts)
   pub none : kept.clips.items ≡ [] → All (λ part. part.named ≡ true) parts
-  pub still : length new.desks ≡ length between.desks
-  pub same : new ≡ record between { desks = new.desks }
+  pub still : length new ≡ length between

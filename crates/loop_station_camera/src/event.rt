@@ -5,7 +5,7 @@ ghost use Rattle.std.specs.Prelude.{◌≡◌, ◌<◌, length};
 use crate::reading::found_of;
 use crate::state::CameraState;
 use loop_disk::Disk;
-use loop_pipeline::Back;
+use loop_pipeline::Desks;
 use loop_station_core::clip_id;
 use loop_station_shared::FoundClip;
 use loop_store::{Clip, StoreFault};
@@ -18,17 +18,17 @@ pub(crate) fn find_event<R: Wait, D: Disk + Drop>(
     rt: &R,
     alloc: Global,
     state: &CameraState,
-    back: &mut Back<D, CameraState>,
+    desks: &mut Desks<D, CameraState>,
     tag: u64,
 ) -> Result<Vec<FoundClip>, StoreFault>
-    ensures { back.new ≡ record back.old { desks = back.new.desks } }
+    ensures { desks.new.lent ≡ desks.old.lent }
 {
     let mut found = Vec::new(alloc);
-    let count = back.count();
+    let count = desks.count();
     'places: for place in 0..count {
         let number = state.stored.number_at(rt, place);
-        let clips = clips_tagged(alloc, back, place, tag)?;
-        add_clips(back, place, number, &clips, &mut found)?;
+        let clips = clips_tagged(alloc, desks, place, tag)?;
+        add_clips(desks, place, number, &clips, &mut found)?;
     }
     found.sort_unstable_by_key(|clip: &FoundClip| clip.first);
     Ok(found)
@@ -37,13 +37,13 @@ pub(crate) fn find_event<R: Wait, D: Disk + Drop>(
 // The clips of the store at a place that have a tag, by rising numbers.
 fn clips_tagged<D: Disk + Drop>(
     alloc: Global,
-    back: &Back<D, CameraState>,
+    desks: &Desks<D, CameraState>,
     place: usize,
     tag: u64,
 ) -> Result<Vec<Clip>, StoreFault>
-    requires { place < length back.now.desks }
+    requires { place < length desks.now.desks }
 {
-    let outline = back.outline(alloc, place)?;
+    let outline = desks.outline(alloc, place)?;
     let mut clips = Vec::new(alloc);
     for clip in outline.clips.as_slice() {
         if clip.tag == tag && clips.push(*clip).is_err() {
@@ -56,15 +56,15 @@ fn clips_tagged<D: Disk + Drop>(
 
 // Adds clips of the store at a place, which has a number: of each what those before it don't have.
 fn add_clips<D: Disk + Drop>(
-    back: &mut Back<D, CameraState>,
+    desks: &mut Desks<D, CameraState>,
     place: usize,
     number: u32,
     clips: &[Clip],
     found: &mut Vec<FoundClip>,
 ) -> Result<(), StoreFault>
-    requires { place < length back.old.desks }
-    ensures same { back.new ≡ record back.old { desks = back.new.desks } }
-    ensures still { length back.new.desks ≡ length back.old.desks }
+    requires { place < length desks.old.desks }
+    ensures lent { desks.new.lent ≡ desks.old.lent }
+    ensures still { length desks.new.desks ≡ length desks.old.desks }
 {
     // The first number that no clip before has.
     let mut next = 0u64;
@@ -78,7 +78,7 @@ fn add_clips<D: Disk + Drop>(
             ..*clip
         };
         next = clip.to.saturating_add(1);
-        let with_times = found_of(back, place, rest)?;
+        let with_times = found_of(desks, place, rest)?;
         if found.push(with_times).is_err() {
             return Err(StoreFault::NoMemory);
         }

@@ -18,7 +18,10 @@ pub(crate) struct Growing {
     // What is locked of it.
     clips: Vec<Clip>,
     // Clips that a longer one covers: they are released one after the other.
-    covered: Vec<u32>,
+    covered: Vec<Clip>,
+    // The numbers of the stores in which an order has released a part of it, each with the first microsecond of which
+    // frames are locked there since.
+    ended: Vec<(u32, u64)>,
     // Why not all that is there could be locked.
     fault: Option<StoreFault>,
     // Its end is over, and locked.
@@ -34,6 +37,7 @@ impl Growing {
             keep,
             clips,
             covered: Vec::new(alloc),
+            ended: Vec::new(alloc),
             fault: None,
             is_done: false,
             settled: Vec::new(alloc),
@@ -45,6 +49,7 @@ impl Growing {
         self.keep = self.keep.anew();
         self.clips.clear();
         self.covered.clear();
+        self.ended.clear();
         self.settled.clear();
     }
 
@@ -75,8 +80,37 @@ impl Growing {
     }
 
     /// A clip of it that a longer one covers, and that isn't released yet.
-    pub fn next_covered(&mut self) -> Option<u32> {
+    pub fn next_covered(&mut self) -> Option<Clip> {
         self.covered.pop()
+    }
+
+    /// The first microsecond of which frames are locked in the store of a number.
+    pub fn since_in(&self, store: u32) -> u64 {
+        let mut since = self.keep.since;
+        for (known, from) in self.ended.as_slice() {
+            if *known == store {
+                since = since.max(*from);
+            }
+        }
+        since
+    }
+
+    /// Whether a clip is locked as a part of it.
+    pub fn owns(&self, clip: &Clip) -> bool {
+        is_among(clip, self.clips.as_slice())
+    }
+
+    /// An order has released a clip, whose last frame came at this time. Where that was a part of the event, the part
+    /// ends: nothing of its store up to then is locked again. Its id may be another clip's from now on.
+    pub fn end_part(&mut self, clip: &Clip, last: u64) {
+        if let Some(at) = self.covered.iter().position(|known| is_same(known, clip)) {
+            self.covered.remove(at);
+        }
+        if let Some(at) = self.clips.iter().position(|known| is_same(known, clip)) {
+            self.clips.remove(at);
+            // Where memory is refused, what the order has released is locked once more.
+            let _again = self.ended.push((store_of(clip.id), last.saturating_add(1)));
+        }
     }
 
     /// Whether it is locked to its end.
@@ -93,16 +127,16 @@ impl Growing {
     /// released twice may be another one by then.
     pub fn adopt(&mut self, clips: &[Clip]) {
         for clip in clips {
-            if !self.knows(clip.id) {
+            if !self.knows(clip) {
                 // Where memory is refused, the clip stays locked, and isn't named at the end.
                 let _unnamed = self.clips.push(*clip);
             }
         }
     }
 
-    // Whether the clip of an id is one of it, or is to be released.
-    fn knows(&self, id: u32) -> bool {
-        self.clips.iter().any(|clip| clip.id == id) || self.covered.iter().any(|known| *known == id)
+    // Whether a clip is one of it, or is to be released.
+    fn knows(&self, clip: &Clip) -> bool {
+        is_among(clip, self.clips.as_slice()) || is_among(clip, self.covered.as_slice())
     }
 
     /// What is locked of it.
@@ -124,7 +158,7 @@ impl Growing {
         for clip in before {
             if is_covered_by(&clip, self.clips.as_slice()) {
                 // Where memory is refused, the clip stays locked.
-                let _stays = self.covered.push(clip.id);
+                let _stays = self.covered.push(clip);
             } else {
                 // Where memory is refused, the clip stays locked, and isn't named at the end.
                 let _unnamed = others.push(clip);
@@ -138,6 +172,16 @@ impl Growing {
         };
         self.is_done = is_whole;
     }
+}
+
+// Whether two clips are one: an id may be another clip's once it is free.
+fn is_same(clip: &Clip, other: &Clip) -> bool {
+    clip.id == other.id && clip.from == other.from
+}
+
+// Whether a clip is one of others.
+fn is_among(clip: &Clip, others: &[Clip]) -> bool {
+    others.iter().any(|other| is_same(clip, other))
 }
 
 // Whether a clip lies within one of others of its store.
@@ -177,6 +221,8 @@ struct Inner {
     growing: HeapCircularBuffer<Growing>,
     // Clips that are saved and are to be released, which had to wait.
     saved: Vec<SaveKey>,
+    // The events that were open when the program ended last go on, where there were some.
+    has_gone_on: bool,
 }
 
 /// What the thread of a camera's desk goes on with from one visit to the next.
@@ -193,6 +239,7 @@ impl Ongoing {
                 waiting: None,
                 growing: HeapCircularBuffer::with_capacity(alloc, MOST_OPEN)?,
                 saved: Vec::new(alloc),
+                has_gone_on: false,
             }),
         })
     }
@@ -238,14 +285,20 @@ impl Ongoing {
         }
     }
 
-    /// A clip of the store of a number was released, which may be one of an event that goes on.
-    pub fn unsettle<R: Wait>(&self, rt: &R, store: u32) {
+    /// Whether a clip is a part of an event that goes on.
+    pub fn owns<R: Wait>(&self, rt: &R, clip: &Clip) -> bool {
+        let inner = self.inner.lock(rt);
+        inner.growing.iter().any(|growing| growing.owns(clip))
+    }
+
+    /// An order has released a clip, whose last frame came at this time, and which may be a part of an event.
+    pub fn end_part<R: Wait>(&self, rt: &R, clip: &Clip, last: u64) {
         let mut inner = self.inner.lock(rt);
         for _ in 0..inner.growing.len() {
             let Some(mut growing) = inner.growing.pop_front() else {
                 break;
             };
-            growing.unsettle(store);
+            growing.end_part(clip, last);
             inner.growing.push_back(growing);
         }
     }
@@ -267,13 +320,14 @@ impl Ongoing {
         take_first(&mut self.inner.lock(rt).saved)
     }
 
-    /// Whether the event of a number goes on.
-    pub fn has_event<R: Wait>(&self, rt: &R, event: u64) -> bool {
-        self.inner
-            .lock(rt)
-            .growing
-            .iter()
-            .any(|growing| growing.keep.event == event)
+    /// Whether the events that were open when the program ended last go on.
+    pub fn has_gone_on<R: Wait>(&self, rt: &R) -> bool {
+        self.inner.lock(rt).has_gone_on
+    }
+
+    /// The same; from now on it is so.
+    pub fn go_on<R: Wait>(&self, rt: &R) -> bool {
+        std::mem::replace(&mut self.inner.lock(rt).has_gone_on, true)
     }
 
     /// Takes the clips of the store at a place, which was opened, into the events that they belong to.

@@ -5,14 +5,14 @@ ghost use Rattle.std.specs.Prelude.{◌≡◌};
 use crate::growing::Growing;
 use crate::keeping::{part_of, store_and_keep_more, turn_of};
 use crate::reading::{runs_of, times_of};
-use crate::releasing::unlock;
+use crate::releasing::unlock_same;
 use crate::replies::{tell_clips, tell_shortfall};
 use crate::state::CameraState;
 use loop_disk::Disk;
-use loop_pipeline::Back;
+use loop_pipeline::Desks;
 use loop_record::Times;
 use loop_station_core::{EventEnd, GrowthTurn, Keep, OpenEvent, Run, event_end, next_growth};
-use loop_station_shared::{FoundClip, Note};
+use loop_station_shared::{Announcement, FoundClip, Note};
 use loop_station_words::Lines;
 use loop_store::Clip;
 use std::alloc::Global;
@@ -21,29 +21,38 @@ use std::sync::Wait;
 use std::time::Clock;
 
 impl CameraState {
-    /// An event goes on: its end lies ahead, and these clips of it are locked. Returns whether it does: not where too
-    /// many do.
+    /// An event goes on: its end lies ahead, and these clips of it are locked. That is told once it is in the file of
+    /// events, on the disk. Returns whether it does: not where too many do.
     pub fn begin_growing<R: Wait>(
         &self,
         rt: &R,
         alloc: Global,
         keep: Keep,
         clips: Vec<Clip>,
+        told: Announcement,
     ) -> bool {
-        let event = keep.event;
-        let goes_on = self
-            .desk
-            .put_growing(rt, Growing::new(alloc, keep, clips))
-            .is_none();
-        if !goes_on {
-            let mut lines = self.lines(alloc);
-            let name = self.config.name.as_str();
-            // Where memory for the line is refused, it isn't printed.
-            let _ = lines.event_not_whole(event, name, &"TooManyEvents");
-            self.tell(rt, lines, None);
+        if self.put_event(rt, alloc, keep, clips) {
+            self.note_open(rt, alloc, told);
+            return true;
         }
-        self.note_open(rt, alloc);
-        goes_on
+        self.posts.announce(rt, told);
+        let mut lines = self.lines(alloc);
+        // Where memory for the line is refused, it isn't printed.
+        let _ = self.tell_too_many(keep.event, &mut lines);
+        self.tell(rt, lines, None);
+        false
+    }
+
+    /// The same of an event that was open when the program ended last. It isn't told.
+    pub fn put_event<R: Wait>(&self, rt: &R, alloc: Global, keep: Keep, clips: Vec<Clip>) -> bool {
+        self.desk
+            .put_growing(rt, Growing::new(alloc, keep, clips))
+            .is_none()
+    }
+
+    /// Tells of an event that too many go on.
+    pub fn tell_too_many(&self, event: u64, lines: &mut Lines) -> io::Result<()> {
+        lines.event_not_whole(event, self.config.name.as_str(), &"TooManyEvents")
     }
 
     /// Clips with which no event goes on are saved by themselves, where the camera has a folder for them.
@@ -51,7 +60,8 @@ impl CameraState {
         self.tell(rt, self.lines(alloc), self.kept_clips(alloc, found));
     }
 
-    // An event is over, and these are its clips. It is told whether all of it is held.
+    // An event is over, and these are its clips. Once that is in the file of events, it is told whether all of it is
+    // held.
     fn end_growing<R: Wait>(
         &self,
         rt: &R,
@@ -63,8 +73,11 @@ impl CameraState {
         let mut lines = self.lines(alloc);
         // Where memory for the lines is refused, they aren't printed.
         let _ = self.tell_event(&growing, found, runs, &mut lines);
-        self.tell(rt, lines, self.kept_clips(alloc, found));
-        self.note_open(rt, alloc);
+        let kept = match self.kept_clips(alloc, found) {
+            Some(kept) => kept,
+            None => Vec::new(alloc),
+        };
+        self.note_open(rt, alloc, Announcement::Told(lines, kept));
     }
 
     // Tells how an event ended.
@@ -92,11 +105,17 @@ impl CameraState {
         }
     }
 
-    // The events that are open now go into the camera's file of events.
-    fn note_open<R: Wait>(&self, rt: &R, alloc: Global) {
-        let Some(keeps) = self.desk.keeps(rt, alloc) else {
-            return;
-        };
+    /// The events that are open now go into the camera's file of events, and then this is told.
+    pub fn note_open<R: Wait>(&self, rt: &R, alloc: Global, told: Announcement) {
+        match self.open_events(rt, alloc) {
+            Some(open) => self.notes.put(rt, Note::Open(open, told)),
+            None => self.posts.announce(rt, told),
+        }
+    }
+
+    /// The events that are open now. None where memory is refused.
+    pub fn open_events<R: Wait>(&self, rt: &R, alloc: Global) -> Option<Vec<OpenEvent>> {
+        let keeps = self.desk.keeps(rt, alloc)?;
         let mut open = Vec::new(alloc);
         for keep in keeps.as_slice() {
             let event = OpenEvent {
@@ -106,10 +125,10 @@ impl CameraState {
                 tag: keep.tag,
             };
             if open.push(event).is_err() {
-                return;
+                return None;
             }
         }
-        self.posts.notes.put(rt, Note::Open(self.place, open));
+        Some(open)
     }
 }
 
@@ -119,10 +138,10 @@ pub(crate) fn grow<R: Wait + Clock, D: Disk + Drop>(
     rt: &R,
     alloc: Global,
     state: &CameraState,
-    back: &mut Back<D, CameraState>,
+    desks: &mut Desks<D, CameraState>,
     growing: Growing,
 )
-    ensures { back.new ≡ record back.old { desks = back.new.desks } }
+    ensures { desks.new.lent ≡ desks.old.lent }
 {
     let (now, stopping) = (state.timeline.now(rt), state.is_stopped(rt));
     match next_growth(
@@ -132,16 +151,16 @@ pub(crate) fn grow<R: Wait + Clock, D: Disk + Drop>(
         now,
         growing.keep.until,
     ) {
-        GrowthTurn::Release => release_covered(rt, state, back, growing),
+        GrowthTurn::Release => release_covered(rt, state, desks, growing),
         GrowthTurn::End => {
-            let found = times_of(rt, alloc, state, back, growing.clips());
-            let runs = runs_of(rt, alloc, state, back, &found);
+            let found = times_of(rt, alloc, state, desks, growing.clips());
+            let runs = runs_of(rt, alloc, state, desks, &found);
             state.end_growing(rt, alloc, growing, &found, &runs);
         }
         GrowthTurn::Leave => {
             state.desk.put_growing(rt, growing);
         }
-        GrowthTurn::Keep => lengthen(rt, alloc, state, back, growing),
+        GrowthTurn::Keep => lengthen(rt, alloc, state, desks, growing),
     }
 }
 
@@ -149,15 +168,15 @@ pub(crate) fn grow<R: Wait + Clock, D: Disk + Drop>(
 fn release_covered<R: Wait, D: Disk + Drop>(
     rt: &R,
     state: &CameraState,
-    back: &mut Back<D, CameraState>,
+    desks: &mut Desks<D, CameraState>,
     growing: Growing,
 )
-    ensures { back.new ≡ record back.old { desks = back.new.desks } }
+    ensures { desks.new.lent ≡ desks.old.lent }
 {
     let mut growing = growing;
-    if let Some(id) = growing.next_covered() {
+    if let Some(clip) = growing.next_covered() {
         // Where that is refused, it stays locked.
-        let _stays = unlock(rt, state, back, id);
+        let _stays = unlock_same(rt, state, desks, &clip);
     }
     state.desk.put_growing(rt, growing);
 }
@@ -167,10 +186,10 @@ fn lengthen<R: Wait + Clock, D: Disk + Drop>(
     rt: &R,
     alloc: Global,
     state: &CameraState,
-    back: &mut Back<D, CameraState>,
+    desks: &mut Desks<D, CameraState>,
     growing: Growing,
 )
-    ensures { back.new ≡ record back.old { desks = back.new.desks } }
+    ensures { desks.new.lent ≡ desks.old.lent }
 {
     let mut growing = growing;
     let (keep, turn) = turn_of(rt, state, growing.keep);
@@ -183,7 +202,8 @@ fn lengthen<R: Wait + Clock, D: Disk + Drop>(
         since: keep.since,
         until: part.until,
     };
-    let (kept, refused) = store_and_keep_more(rt, alloc, state, back, times, &mut growing);
+    let (kept, refused) = store_and_keep_more(rt, alloc, state, desks, times, &mut growing);
+    let refused = refused.or(state.locked_fault(rt));
     growing.lengthen(alloc, kept, refused, part.is_whole);
     state.desk.put_growing(rt, growing);
 }

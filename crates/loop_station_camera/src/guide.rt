@@ -5,7 +5,7 @@ use crate::state::CameraState;
 use loop_capture::Tick;
 use loop_desk::Flushed;
 use loop_disk::Disk;
-use loop_pipeline::{Back, Guide, LostFrame};
+use loop_pipeline::{Back, Desks, Guide, LostFrame};
 use loop_station_core::{Act, FilmingEvent};
 use loop_store::StoreFault;
 use std::alloc::Global;
@@ -58,8 +58,7 @@ impl Guide for CameraState {
     }
 
     fn stored<R: Wait, D: Disk + Drop>(&self, rt: &R, back: &Back<D, CameraState>, done: Flushed) {
-        self.life.store_frames(rt, done.stored);
-        self.stored.grow(rt, back.active(), done.stored);
+        self.count_stored(rt, back.desks().active(), done);
     }
 
     /// Where each block is locked, the frames wait until the program ends. Where the disk failed, the filming ends, and
@@ -77,14 +76,14 @@ impl Guide for CameraState {
         &self,
         rt: &R,
         alloc: Global,
-        back: &mut Back<D, CameraState>,
+        desks: &mut Desks<D, CameraState>,
     ) {
-        take_joined(rt, self, back.count());
+        take_joined(rt, self, desks.count());
         if !self.life.camera(rt).over {
-            attend(rt, alloc, self, back);
+            attend(rt, alloc, self, desks);
         }
         // A lock or an unlock may have failed on a disk while no frame waits, so no flush would report it.
-        if one_must_reopen(back) {
+        if one_must_reopen(desks) {
             self.life.on(rt, FilmingEvent::Break);
         }
     }

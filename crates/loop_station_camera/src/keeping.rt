@@ -1,15 +1,16 @@
 //! What a keep does now, and how it locks in each of a camera's stores.
 
-ghost use Rattle.std.specs.Prelude.{◌≡◌, ◌≢◌, ◌<◌, ◌++◌, None, [], false, length, map, true};
-ghost use Rattle.loop_pipeline.specs.Backs.{GoesAt};
+ghost use Rattle.std.specs.Prelude.{◌≡◌, ◌≢◌, ◌<◌, ◌++◌, None, Ok, [], false, length, map, true};
+ghost use Rattle.loop_desk.specs.Desk.{flushed};
+ghost use Rattle.loop_pipeline.specs.Backs.{GoesAt, IsLast};
 ghost use Rattle.loop_station_camera.specs.Keeping.{StoresAll, StoresAndKeepsEach, TakesKept, known, or_fault};
 
 use crate::growing::Growing;
 use crate::reading::head_at;
 use crate::state::CameraState;
-use loop_desk::Kept;
+use loop_desk::{Flushed, Kept};
 use loop_disk::Disk;
-use loop_pipeline::{Back, Guide};
+use loop_pipeline::Desks;
 use loop_record::Times;
 use loop_station_core::{Keep, KeepTurn, Look, clip_id, next_turn};
 use loop_store::{Clip, StoreFault};
@@ -64,18 +65,19 @@ pub(crate) fn store_and_keep<R: Wait, D: Disk + Drop>(
     rt: &R,
     alloc: Global,
     state: &CameraState,
-    back: &mut Back<D, CameraState>,
+    desks: &mut Desks<D, CameraState>,
     times: Times,
     tag: u64,
 ) -> (Kept, Option<StoreFault>)
-    ensures keeps { StoresAndKeepsEach D.medium times tag back.old back.new result.0 result.1 }
-    ensures same { back.new ≡ record back.old { desks = back.new.desks } }
+    ensures keeps { StoresAndKeepsEach D.medium times tag desks.old.lent.active desks.old.desks desks.new.desks
+        result.0 result.1 }
+    ensures lent { desks.new.lent ≡ desks.old.lent }
 {
-    let refused = store_all(rt, state, back);
+    let refused = store_all(rt, state, desks);
     let mut all = nothing_kept(alloc);
-    let count = back.count();
+    let count = desks.count();
     'places: for place in 0..count {
-        let kept = back.keep(alloc, place, times, tag);
+        let kept = desks.keep(alloc, place, times, tag);
         take_kept(rt, state, place, kept, &mut all);
     }
     (all, refused)
@@ -143,23 +145,36 @@ fn put_after(clips: Vec<Clip>, all: &mut Vec<Clip>) -> bool
     }
 }
 
+// Counts the frames that the active desk has just stored.
+fn count_flushed<R: Wait, D: Disk + Drop>(
+    rt: &R,
+    state: &CameraState,
+    desks: &Desks<D, CameraState>,
+    done: Flushed,
+)
+    requires { IsLast D.medium desks.now.lent.began desks.now.desks desks.now.lent.active (flushed (Ok done)) }
+{
+    state.count_stored(rt, desks.active(), done);
+}
+
 // Flushes until nothing waits. Returns the fault if it ended before that.
 fn store_all<R: Wait, D: Disk + Drop>(
     rt: &R,
     state: &CameraState,
-    back: &mut Back<D, CameraState>,
+    desks: &mut Desks<D, CameraState>,
 ) -> Option<StoreFault>
-    ensures goes { GoesAt back.old.active back.old back.new (λ d e. StoresAll D.medium d e result) }
-    ensures same { back.new ≡ record back.old { desks = back.new.desks } }
-    ensures still { length back.new.desks ≡ length back.old.desks }
+    ensures goes { GoesAt desks.old.lent.active desks.old.desks desks.new.desks
+        (λ d e. StoresAll D.medium d e result) }
+    ensures lent { desks.new.lent ≡ desks.old.lent }
+    ensures still { length desks.new.desks ≡ length desks.old.desks }
 {
-    let place = back.active();
+    let place = desks.active();
     'flushes: for _ in rt.forever() {
-        if back.status(place).pending == 0 {
+        if desks.status(place).pending == 0 {
             return None;
         }
-        match back.flush() {
-            Ok(flushed) => state.stored(rt, back, flushed),
+        match desks.flush() {
+            Ok(flushed) => count_flushed(rt, state, desks, flushed),
             Err(fault) => return Some(fault),
         }
     }
@@ -173,22 +188,27 @@ pub(crate) fn store_and_keep_more<R: Wait, D: Disk + Drop>(
     rt: &R,
     alloc: Global,
     state: &CameraState,
-    back: &mut Back<D, CameraState>,
+    desks: &mut Desks<D, CameraState>,
     times: Times,
     growing: &mut Growing,
 ) -> (Kept, Option<StoreFault>)
-    ensures { back.new ≡ record back.old { desks = back.new.desks } }
+    ensures { desks.new.lent ≡ desks.old.lent }
 {
-    let unstored = store_all(rt, state, back);
+    let unstored = store_all(rt, state, desks);
     let mut all = nothing_kept(alloc);
-    let count = back.count();
+    let count = desks.count();
     'places: for place in 0..count {
-        let (number, next) = (state.stored.number_at(rt, place), back.status(place).next);
+        let (number, next) = (state.stored.number_at(rt, place), desks.status(place).next);
         if growing.is_settled(number, next) {
             continue;
         }
-        let kept = keep_at(alloc, back, place, times, growing.keep.tag);
-        let is_past = is_before(back, place, next, times.until);
+        let since = growing.since_in(number).max(times.since);
+        if since > times.until {
+            continue;
+        }
+        let times = Times { since, ..times };
+        let kept = keep_at(alloc, desks, place, times, growing.keep.tag);
+        let is_past = is_before(desks, place, next, times.until);
         if kept.fault.is_none() && is_past {
             growing.settle(number, next);
         } else {
@@ -202,33 +222,33 @@ pub(crate) fn store_and_keep_more<R: Wait, D: Disk + Drop>(
 // Locks the held frames of a time in the store at a place.
 fn keep_at<D: Disk + Drop>(
     alloc: Global,
-    back: &mut Back<D, CameraState>,
+    desks: &mut Desks<D, CameraState>,
     place: usize,
     times: Times,
     tag: u64,
 ) -> Kept
-    requires { place < length back.old.desks }
-    ensures same { back.new ≡ record back.old { desks = back.new.desks } }
-    ensures still { length back.new.desks ≡ length back.old.desks }
+    requires { place < length desks.old.desks }
+    ensures lent { desks.new.lent ≡ desks.old.lent }
+    ensures still { length desks.new.desks ≡ length desks.old.desks }
 {
-    back.keep(alloc, place, times, tag)
+    desks.keep(alloc, place, times, tag)
 }
 
 // Whether the newest frame of the store at a place, whose next number is this one, came no later than a time.
 fn is_before<D: Disk + Drop>(
-    back: &mut Back<D, CameraState>,
+    desks: &mut Desks<D, CameraState>,
     place: usize,
     next: u64,
     until: u64,
 ) -> bool
-    requires { place < length back.old.desks }
-    ensures same { back.new ≡ record back.old { desks = back.new.desks } }
-    ensures still { length back.new.desks ≡ length back.old.desks }
+    requires { place < length desks.old.desks }
+    ensures lent { desks.new.lent ≡ desks.old.lent }
+    ensures still { length desks.new.desks ≡ length desks.old.desks }
 {
     let Some(newest) = next.checked_sub(1) else {
         return true;
     };
-    match head_at(back, place, newest) {
+    match head_at(desks, place, newest) {
         Ok(head) => head.timestamp <= until,
         Err(_) => false,
     }

@@ -8,7 +8,7 @@
 //! `releasing` unlocks. `event` finds the clips of an event, `growth` goes on with one, and `save` writes clips
 //! meanwhile. `clerk` does a camera's orders by these, one after the other, between the flushes, and `guide` lets it.
 //!
-//! A keep locks exactly the held frames of its time, as `Back::keep` of loop_pipeline ensures.
+//! A keep locks exactly the held frames of its time, as `Desks::keep` of loop_pipeline ensures.
 #![tactic(auto)]
 
 mod clerk;

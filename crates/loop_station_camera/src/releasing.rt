@@ -1,16 +1,16 @@
 //! Which clips may be released, and how they are unlocked.
 
-ghost use Rattle.std.specs.Prelude.{◌≡◌, ◌<◌, length};
+ghost use Rattle.std.specs.Prelude.{◌≡◌};
 
-use crate::reading::{find, place_in};
+use crate::reading::{find, head_at, place_in};
 use crate::replies::tell_released;
 use crate::state::CameraState;
 use loop_disk::Disk;
-use loop_pipeline::Back;
+use loop_pipeline::Desks;
 use loop_station_core::{MayRelease, SaveKey, id_parts, may_release, may_release_saved};
-use loop_station_shared::{FoundClip, store_of};
+use loop_station_shared::FoundClip;
 use loop_station_words::Lines;
-use loop_store::StoreFault;
+use loop_store::{Clip, StoreFault};
 use std::alloc::Global;
 use std::io;
 use std::sync::Wait;
@@ -67,16 +67,16 @@ impl CameraState {
 pub(crate) fn release<R: Wait, D: Disk + Drop>(
     rt: &R,
     state: &CameraState,
-    back: &mut Back<D, CameraState>,
+    desks: &mut Desks<D, CameraState>,
     id: u32,
     first: Option<u64>,
     lines: &mut Lines,
 )
-    ensures { back.new ≡ record back.old { desks = back.new.desks } }
+    ensures { desks.new.lent ≡ desks.old.lent }
 {
     let may = state.may_release(rt, id, first);
     match may {
-        Ok(()) => unlock_and_tell(rt, state, back, id, lines),
+        Ok(()) => unlock_and_tell(rt, state, desks, id, lines),
         Err(why) => {
             // Where memory for the line is refused, it isn't printed.
             let _ = why.tell(state, id, lines);
@@ -88,16 +88,55 @@ pub(crate) fn release<R: Wait, D: Disk + Drop>(
 fn unlock_and_tell<R: Wait, D: Disk + Drop>(
     rt: &R,
     state: &CameraState,
-    back: &mut Back<D, CameraState>,
+    desks: &mut Desks<D, CameraState>,
     id: u32,
     lines: &mut Lines,
 )
-    ensures { back.new ≡ record back.old { desks = back.new.desks } }
+    ensures { desks.new.lent ≡ desks.old.lent }
 {
-    let released = unlock(rt, state, back, id);
-    state.desk.unsettle(rt, store_of(id));
+    let released = unlock_part(rt, state, desks, id);
     // Where memory for the line is refused, it isn't printed.
     let _ = tell_released(state, id, released, lines);
+}
+
+// Unlocks a clip. Where it is a part of an event that goes on, that part ends; where the time of its last frame can't
+// be read, it stays locked.
+fn unlock_part<R: Wait, D: Disk + Drop>(
+    rt: &R,
+    state: &CameraState,
+    desks: &mut Desks<D, CameraState>,
+    id: u32,
+) -> Result<(), StoreFault>
+    ensures { desks.new.lent ≡ desks.old.lent }
+{
+    let part = match state.stored.clip_of(rt, id) {
+        Some(clip) if state.desk.owns(rt, &clip) => Some(clip),
+        _ => None,
+    };
+    let Some(clip) = part else {
+        return unlock(rt, state, desks, id);
+    };
+    let last = time_of_last(rt, state, desks, &clip)?;
+    let released = unlock(rt, state, desks, id);
+    if released.is_ok() {
+        state.desk.end_part(rt, &clip, last);
+    }
+    released
+}
+
+// When the last frame of a clip came.
+fn time_of_last<R: Wait, D: Disk + Drop>(
+    rt: &R,
+    state: &CameraState,
+    desks: &mut Desks<D, CameraState>,
+    clip: &Clip,
+) -> Result<u64, StoreFault>
+    ensures { desks.new.lent ≡ desks.old.lent }
+{
+    match place_in(rt, state, desks, clip.id) {
+        Some(place) => Ok(head_at(desks, place, clip.to)?.timestamp),
+        None => Err(StoreFault::NoSuchClip),
+    }
 }
 
 /// Unlocks a clip that is saved, if it is still there. Where a save that an order has begun since reads it, that waits
@@ -107,13 +146,13 @@ pub(crate) fn release_saved<R: Wait, D: Disk + Drop>(
     rt: &R,
     alloc: Global,
     state: &CameraState,
-    back: &mut Back<D, CameraState>,
+    desks: &mut Desks<D, CameraState>,
     saved: SaveKey,
     lines: &mut Lines,
 )
-    ensures { back.new ≡ record back.old { desks = back.new.desks } }
+    ensures { desks.new.lent ≡ desks.old.lent }
 {
-    let there = match find(rt, alloc, state, back, saved.id) {
+    let there = match find(rt, alloc, state, desks, saved.id) {
         Ok(there) => there,
         Err(fault) => {
             // Where memory for the line is refused, it isn't printed.
@@ -122,7 +161,7 @@ pub(crate) fn release_saved<R: Wait, D: Disk + Drop>(
         }
     };
     match state.may_release_saved(rt, saved, there) {
-        MayRelease::Now => unlock_and_tell(rt, state, back, saved.id, lines),
+        MayRelease::Now => unlock_and_tell(rt, state, desks, saved.id, lines),
         MayRelease::Saving => state.desk.put_saved(rt, saved),
         MayRelease::Other(_) => {}
     }
@@ -133,10 +172,10 @@ pub(crate) fn release_later<R: Wait, D: Disk + Drop>(
     rt: &R,
     alloc: Global,
     state: &CameraState,
-    back: &mut Back<D, CameraState>,
+    desks: &mut Desks<D, CameraState>,
     saved: SaveKey,
 )
-    ensures { back.new ≡ record back.old { desks = back.new.desks } }
+    ensures { desks.new.lent ≡ desks.old.lent }
 {
     // The store isn't looked at as long as it has to wait.
     if state.is_read(rt, saved.id, Some(saved.tag)) {
@@ -144,39 +183,42 @@ pub(crate) fn release_later<R: Wait, D: Disk + Drop>(
         return;
     }
     let mut lines = state.lines(alloc);
-    release_saved(rt, alloc, state, back, saved, &mut lines);
+    release_saved(rt, alloc, state, desks, saved, &mut lines);
     if !lines.is_empty() {
         state.tell(rt, lines, None);
     }
 }
 
-/// Unlocks a clip in the store that has it.
-pub(crate) fn unlock<R: Wait, D: Disk + Drop>(
+/// Unlocks a clip in the store that has it, unless its id is another clip's by now.
+pub(crate) fn unlock_same<R: Wait, D: Disk + Drop>(
     rt: &R,
     state: &CameraState,
-    back: &mut Back<D, CameraState>,
+    desks: &mut Desks<D, CameraState>,
+    clip: &Clip,
+) -> Result<(), StoreFault>
+    ensures { desks.new.lent ≡ desks.old.lent }
+{
+    match state.stored.clip_of(rt, clip.id) {
+        Some(there) if there.from == clip.from => unlock(rt, state, desks, clip.id),
+        _ => Err(StoreFault::NoSuchClip),
+    }
+}
+
+// Unlocks a clip in the store that has it.
+fn unlock<R: Wait, D: Disk + Drop>(
+    rt: &R,
+    state: &CameraState,
+    desks: &mut Desks<D, CameraState>,
     id: u32,
 ) -> Result<(), StoreFault>
-    ensures { back.new ≡ record back.old { desks = back.new.desks } }
+    ensures { desks.new.lent ≡ desks.old.lent }
 {
-    let Some(place) = place_in(rt, state, back, id) else {
+    let Some(place) = place_in(rt, state, desks, id) else {
         return Err(StoreFault::NoSuchClip);
     };
-    let released = unlock_at(back, place, id_parts(id).1);
+    let released = desks.unlock_clip(place, id_parts(id).1);
     if released.is_ok() {
         state.remove_clip(rt, id);
     }
     released
-}
-
-// Unlocks the clip that has an id in the store at a place.
-fn unlock_at<D: Disk + Drop>(
-    back: &mut Back<D, CameraState>,
-    place: usize,
-    id: u32,
-) -> Result<(), StoreFault>
-    requires { place < length back.old.desks }
-    ensures { back.new ≡ record back.old { desks = back.new.desks } }
-{
-    back.unlock_clip(place, id)
 }

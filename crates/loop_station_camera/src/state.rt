@@ -4,12 +4,13 @@ ghost use Rattle.std.specs.Prelude.{false};
 
 use crate::growing::Ongoing;
 use crate::saves::Saves;
+use loop_desk::Flushed;
 use loop_pipeline::{Link, Noting, Visits};
 use loop_station_core::{FilmingEvent, SaveKey, Tally};
 use loop_station_outside::{Absent, Maker, Timeline};
 use loop_station_shared::{
-    Answering, Feed, FoundClip, Inbox, Job, Jobs, KeptClip, Life, Member, Message, NotTaken, Posts,
-    Request, Room, Stored,
+    Answering, Feed, FoundClip, Inbox, Job, Jobs, KeptClip, Life, MOST_NOTES, Member, Message,
+    NotTaken, Note, Post, Posts, Request, Room, Stored,
 };
 use loop_station_words::{CameraConfig, Lines, duration_of, numbered};
 use loop_store::{Clip, ReadFrame, StoreFault};
@@ -63,6 +64,8 @@ pub struct CameraState {
     pub jobs: Jobs,
     /// What the thread of its desk goes on with.
     pub(crate) desk: Ongoing,
+    /// What goes into its file of events.
+    pub notes: Post<Note>,
     /// Where its answers go.
     pub posts: Arc<Posts>,
     /// The saves of all cameras.
@@ -98,6 +101,7 @@ impl CameraState {
             threads: Link::new(alloc)?,
             jobs: Jobs::new(alloc)?,
             desk: Ongoing::new(alloc)?,
+            notes: Post::new(alloc, MOST_NOTES)?,
             posts,
             saves,
             reader: Inbox::new(),
@@ -271,9 +275,14 @@ impl CameraState {
         self.desk.begin_anew(rt);
     }
 
-    /// Whether the event of a number goes on.
-    pub fn has_event<R: Wait>(&self, rt: &R, event: u64) -> bool {
-        self.desk.has_event(rt, event)
+    /// Whether the events that were open when the program ended last go on.
+    pub fn has_gone_on<R: Wait>(&self, rt: &R) -> bool {
+        self.desk.has_gone_on(rt)
+    }
+
+    /// The same; from now on it is so.
+    pub fn go_on<R: Wait>(&self, rt: &R) -> bool {
+        self.desk.go_on(rt)
     }
 
     /// The store isn't there. Orders that wait, and the keep that waits for frames, get that as their answer.
@@ -323,12 +332,21 @@ impl CameraState {
 
     /// Whether all orders that came are done.
     pub fn is_idle<R: Wait>(&self, rt: &R) -> bool {
-        self.jobs.is_idle(rt) && !self.desk.has_waiting(rt)
+        self.jobs.is_idle(rt) && !self.desk.has_waiting(rt) && self.notes.is_empty(rt)
     }
 
     /// Whether frames wait because every block is locked.
     pub fn is_locked<R: Wait>(&self, rt: &R) -> bool {
         self.life.camera(rt).locked
+    }
+
+    /// Why frames that came before a keep aren't stored, where the camera has several stores: none of them takes one.
+    pub(crate) fn locked_fault<R: Wait>(&self, rt: &R) -> Option<StoreFault> {
+        if self.has_several(rt) && self.is_locked(rt) {
+            Some(StoreFault::AllLocked)
+        } else {
+            None
+        }
     }
 
     /// How many frames have come from its source.
@@ -348,6 +366,12 @@ impl CameraState {
         let (come, taken) = self.feed.counts(rt);
         let ready = u64::from(self.feed.is_ready(rt));
         self.life.lose(rt, come, taken.saturating_sub(ready));
+    }
+
+    /// A flush of the desk at a place stored frames.
+    pub(crate) fn count_stored<R: Wait>(&self, rt: &R, place: usize, done: Flushed) {
+        self.life.store_frames(rt, done.stored);
+        self.stored.grow(rt, place, done.stored);
     }
 
     /// The duration in microseconds of the frames that have come from the source and are neither stored nor given up.

@@ -1,9 +1,9 @@
 -- What holds of a camera whatever happens.
 use Rattle.std.proofs.Common.{◌≡◌, true, false, List, [], ◌∷◌, is_some, arith, refl, ◌≢◌, ◌⊎◌, inl, inr, ◌+◌, ◌*◌, ◌<◌}
 use Rattle.std.proofs.lemmas.Grind.{common_steps}
-use Rattle.loop_station_core.specs.Cameras.{lived, step_camera, CamerasEndWithTheProgram, EndedFilmingsGoOn, LockedFilmingsWait, OffersAreAnswered, SilenceIsSeen, source_seen, stops_in}
-use Rattle.loop_station_core.specs.Laws.{NoneBegins, NothingBreaks}
-use Rattle.loop_station_core.specs.declared.camera.Act.TheVariants.{GiveUp, Finish, Refuse}
+use Rattle.loop_station_core.specs.Cameras.{lived, step_camera, CamerasEndWithTheProgram, EndedFilmingsGoOn, LockedFilmingsWait, OffersAreAnswered, SilenceIsSeen, source_seen, stops_in, StoresAreOpenedAgain, LockedBlocksAreKnown, SourcesAreSeen}
+use Rattle.loop_station_core.specs.Laws.{NoneBegins, NothingBreaks, BrokenFilmingsEnd}
+use Rattle.loop_station_core.specs.declared.camera.Act.TheVariants.{GiveUp, Finish, Refuse, OpenAgain}
 use Rattle.loop_station_core.specs.declared.camera.Camera.{Camera}
 use Rattle.loop_station_core.specs.declared.camera.Event.{Event}
 use Rattle.loop_station_core.specs.declared.camera.Event.TheVariants.{Filming, Source}
@@ -92,9 +92,9 @@ stops-with c (Filming Leave ∷ es) h =
 stops-with c (Source s ∷ es) h = stops-with (step_camera c (Source s)).0 es (grind (arith, common_steps))
 
 -- what follows, by whether it is stopping
-finishes : (c : Camera) → c.stopping ≡ true
-    → ((step_camera c (Filming (End false))).1 ≡ Finish) × ((step_camera c (Filming Leave)).1 ≡ Finish)
-finishes c h = (grind (arith, common_steps), grind (arith, common_steps))
+finishes : (c : Camera) → c.stopping ≡ true → ((step_camera c (Filming (End false))).1 ≡ Finish)
+    × ((step_camera c (Filming (End true))).1 ≡ OpenAgain) × ((step_camera c (Filming Leave)).1 ≡ Finish)
+finishes c h = (grind (arith, common_steps), grind (arith, common_steps), grind (arith, common_steps))
 
 goes-on-with : (c : Camera) (e : Event) → c.stopping ≡ false → (step_camera c e).1 ≢ Finish
 goes-on-with c (Filming Stop) h e = absurd (cc)
@@ -148,3 +148,25 @@ silence-seen c since now frame w (inr gone) fits =
         → source_seen (step_camera c (Source (its.Look now frame))).0 ≡ c.source
     early (inl a) = grind (arith, common_steps)
     early (inr b) = grind (arith, common_steps)
+
+pub opened-again : StoresAreOpenedAgain
+opened-again c h fits = (
+  (λ m. (grind (arith, common_steps), grind (arith, common_steps))),
+  (λ m. (grind (arith, common_steps), grind (arith, common_steps), grind (arith, common_steps))),
+)
+
+pub locked-known : LockedBlocksAreKnown
+locked-known c frames = (refl, refl, grind (arith, common_steps), λ some. grind (arith, common_steps))
+
+pub sources-seen : SourcesAreSeen
+sources-seen c = ((λ e. grind (arith, common_steps)), stays-so c.source refl, refl, refl, refl)
+  where
+    stays-so : (x : SourceSeen) → c.source ≡ x → c.source ≢ On → (step_camera c (Source its.Close)).0.source ≡ c.source
+    stays-so Missing e n = grind (arith, common_steps)
+    stays-so Silent e n = grind (arith, common_steps)
+    stays-so Other e n = grind (arith, common_steps)
+    stays-so Unusable e n = grind (arith, common_steps)
+    stays-so On e n = absurd (n e)
+
+pub broken-end : BrokenFilmingsEnd
+broken-end c es u = (ends (step_camera c (Filming Break)).0 es u refl, ends (step_camera c (Filming Move)).0 es u refl)

@@ -1,18 +1,12 @@
 -- When a keep is done, and what else is decided for good.
-use Rattle.std.proofs.Common.{◌≡◌, ◌≢◌, ℕ, ◌==◌, ◌≤◌, ◌⊎◌, ◌||◌, ◌&&◌, Bool, true, false, not, Option, Some, None, arith, refl, sym, ap, subst, inl, inr, is_some, unwrap_or, max, nat_le, nat_lt, if◌then◌else◌, ◌∙◌}
+use Rattle.std.proofs.Common.{◌≡◌, ◌≢◌, ℕ, ◌==◌, ◌≤◌, ◌⊎◌, ◌||◌, ◌&&◌, Bool, true, false, not, Option, Some, None, arith, refl, sym, ap, subst, inl, inr, is_some, unwrap_or, max, nat_le, if◌then◌else◌, ◌∙◌, ◌<◌, ◌-◌}
 use Rattle.std.proofs.lemmas.Grind.{common_steps}
-use Rattle.loop_station_core.specs.Cameras.{films}
-use Rattle.loop_station_core.specs.Gaps.{lies_within}
-use Rattle.loop_station_core.specs.Growth.{how_event_ends}
-use Rattle.loop_station_core.specs.Stores.{goes_on}
-use Rattle.loop_station_core.specs.Keeps.{acts, end_seen, is_clear, is_done, is_over, looked, needed, part_is_due, part_locked, progress_seen, step_keep, steps_taken, KeepsLockEachBlock, has_newest}
-use Rattle.loop_station_core.specs.declared.camera.Camera.{Camera}
-use Rattle.loop_station_core.specs.declared.growth.EventEnd.TheVariants.{Whole as WholeEvent}
+use Rattle.loop_station_core.specs.Gaps.{CoveredPartsAreWithin, lies_within}
+use Rattle.loop_station_core.specs.Keeps.{acts, end_seen, is_clear, is_done, is_over, looked, needed, part_is_due, part_locked, progress_seen, step_keep, steps_taken, KeepsLockEachBlock, has_newest, StuckKeepsEnd, ProgressIsSeen, KeepsLockOnce}
 use Rattle.loop_station_core.specs.declared.keep.Keep.{Keep}
 use Rattle.loop_station_core.specs.declared.keep.Look.{Look}
-use Rattle.loop_station_core.specs.declared.keep.KeepTurn.TheVariants.{Wait, Whole}
-use Rattle.loop_station_core.specs.declared.runs.ClipSpan.{ClipSpan}
-use Rattle.std.proofs.lemmas.Bool.{ne_eqb}
+use Rattle.loop_station_core.specs.declared.keep.KeepTurn.TheVariants.{Wait, Whole, Part}
+use Rattle.std.proofs.lemmas.Bool.{ne_eqb, eq-eqb}
 
 both : (a b : Bool) → a ≡ true → b ≡ true → a && b ≡ true
 both true true d e = refl
@@ -66,21 +60,15 @@ pub keeps-end : (k : Keep) (l : Look) → k.until ≤ l.time → unwrap_or k.all
     → (step_keep k l).1 ≡ Whole
 keeps-end k l over enough = acts-whole (looked k l) l (done-with (looked k l) l _ (looked-all k l over) enough)
 
-pub films-on : (c : Camera) (come taken : ℕ) → c.over ≡ false → (c.stopping ≡ false) ⊎ (come ≢ taken) → films c come taken ≡ true
-films-on c come taken goes (inl on) = ap (λ b. not b && (not c.stopping || not (come == taken))) goes ∙ ap (λ b. not b || not (come == taken)) on
-films-on c come taken goes (inr apart) = ap (λ b. not b && (not c.stopping || not (come == taken))) goes ∙ grind (arith, common_steps)
+pub within : CoveredPartsAreWithin
+within old new some = ((λ is n from to. inside is n from to), λ each. covered (each old.from (grind (arith, common_steps)) some) (each old.to some (grind (arith, common_steps))))
+  where
+    inside : lies_within old new ≡ true → (n : ℕ) → old.from ≤ n → n ≤ old.to → (new.from ≤ n) × (n ≤ new.to)
+    inside is n from to =
+        let ends : (new.from ≤ old.from) × (old.to ≤ new.to) = grind (arith, common_steps) in (omega arith, omega arith)
 
-pub frames-go-on : (frames : ℕ) (alike : Bool) → 1 ≤ frames → goes_on frames alike ≡ true
-frames-go-on frames alike some = or-true (nat_lt 0 frames) alike (grind (arith, common_steps))
-
-pub within : (old new : ClipSpan) (n : ℕ) → lies_within old new ≡ true → old.from ≤ n → n ≤ old.to → (new.from ≤ n) × (n ≤ new.to)
-within old new n is from to =
-    let ends : (new.from ≤ old.from) × (old.to ≤ new.to) = grind (arith, common_steps) in (omega arith, omega arith)
-
-pub whole-events : (refused held : Bool) → how_event_ends refused held ≡ WholeEvent → (refused ≡ false) × (held ≡ true)
-whole-events true held e = absurd (cc)
-whole-events false true e = (refl, refl)
-whole-events false false e = absurd (cc)
+    covered : (new.from ≤ old.from) × (old.from ≤ new.to) → (new.from ≤ old.to) × (old.to ≤ new.to) → lies_within old new ≡ true
+    covered a b = both (nat_le new.from old.from) (nat_le old.to new.to) (le-true new.from old.from a.0) (le-true old.to new.to b.1)
 
 -- one that is due locks a part
 acts-now : (k : Keep) (l : Look) → part_is_due k l ≡ true → (acts k l).1 ≢ Wait
@@ -125,3 +113,52 @@ keeps-lock k l here either =
     at : (k.part ≡ None) ⊎ (k.block ≢ l.block) → ((looked k l).part ≡ None) ⊎ ((looked k l).block ≢ l.block)
     at (inl none) = inl ((looked-part k l).0 ∙ none)
     at (inr other) = inr (λ e. other (sym (looked-part k l).1 ∙ e))
+
+-- its end is seen, or the program ends
+over-seen : (k : Keep) (l : Look) → (k.until ≤ l.time) ⊎ (l.stopping ≡ true) → is_over (looked k l) l ≡ true
+over-seen k l (inl past) = ap (λ o. is_some o || l.stopping) (looked-all k l past)
+over-seen k l (inr stop) = or-second (is_some (looked k l).all) l.stopping stop
+  where
+    or-second : (a b : Bool) → b ≡ true → a || b ≡ true
+    or-second true b e = refl
+    or-second false b e = e
+
+clear-if : (k : Keep) (l : Look)
+    → (l.locked ≡ true) ⊎ ((60000000 < l.time - k.moved) ⊎ (needed k l ≤ l.tally.brought)) → is_clear (needed k l) k l ≡ true
+clear-if k l (inl locked) = grind (arith, common_steps)
+clear-if k l (inr (inl stuck)) = grind (arith, common_steps)
+clear-if k l (inr (inr enough)) = or-true (nat_le (needed k l) l.tally.brought) _ (le-true (needed k l) l.tally.brought enough)
+
+pub stuck-end : StuckKeepsEnd
+stuck-end k l over clear =
+    acts-whole (looked k l) l (both (is_over (looked k l) l) (is_clear (needed (looked k l) l) (looked k l) l)
+    (over-seen k l over) (clear-if (looked k l) l clear))
+
+ended-moved : (k : Keep) (t c : ℕ) → (end_seen k t c).moved ≡ k.moved
+ended-moved k t c = elim (nat_le k.until t && not (is_some k.all)) as (λ b. (if b then record k { all = Some (max c k.come) } else k).moved ≡ k.moved)
+    [ true ↦ refl | false ↦ refl ]
+
+pub progress-is-seen : ProgressIsSeen
+progress-is-seen k l =
+    let m = progress_seen k (steps_taken l.tally) l.time in (
+      (λ same. ended-moved m l.time l.come ∙ ap (λ b. (if b then k else record k { steps = steps_taken l.tally; moved = l.time }).moved) (eq-eqb (steps_taken l.tally) k.steps same)),
+      (λ other. ended-moved m l.time l.come ∙ ap (λ b. (if b then k else record k { steps = steps_taken l.tally; moved = l.time }).moved) (ne_eqb (steps_taken l.tally) k.steps other)),
+    )
+
+-- what locks a part hasn't locked its block
+part-new : (k : Keep) (l : Look) (until : ℕ) (b c : Bool) → is_done k l ≡ b → part_is_due k l ≡ c → (acts k l).1 ≡ Part until
+    → (has_newest k l ≡ false) × (has_newest (acts k l).0 l ≡ true)
+part-new k l until true c d e is = grind (arith, common_steps)
+part-new k l until false false d e is = grind (arith, common_steps)
+part-new k l until false true d e is =
+    let same : (l.block == l.block) ≡ true = grind (arith, common_steps) in
+    (grind (arith, common_steps), grind (arith, common_steps))
+
+pub keeps-lock-once : KeepsLockOnce
+keeps-lock-once k l until is =
+    let new = part-new (looked k l) l until (is_done (looked k l) l) (part_is_due (looked k l) l) refl refl is in
+    let same = looked-part k l in (
+      subst (λ p. is_some p && (k.block == l.block) ≡ false) same.0
+          (subst (λ b. is_some (looked k l).part && (b == l.block) ≡ false) same.1 new.0),
+      new.1,
+    )

@@ -1,7 +1,7 @@
 -- What is held of a time and its gaps are all of it.
 use Rattle.std.proofs.Common.{◌≡◌, ℕ, ◌+◌, ◌-◌, ◌≤◌, Bool, true, false, List, [], ◌∷◌, arith, filter, if◌then◌else◌, refl}
 use Rattle.std.proofs.lemmas.List.Sums.{sum_by-cons}
-use Rattle.loop_station_core.specs.Gaps.{AreWithin, between, gaps, is_long_gap, micros_missing, TimesAddUp, micros_held}
+use Rattle.loop_station_core.specs.Gaps.{AreWithin, between, gaps, is_long_gap, micros_missing, TimesAddUp, micros_held, LongGapsAreLong}
 use Rattle.loop_station_core.specs.declared.runs.Gap.{Gap}
 use Rattle.loop_station_core.specs.declared.runs.Run.{Run}
 use Rattle.std.proofs.lemmas.Grind.{common_steps}
@@ -72,3 +72,6 @@ all-between since until (r ∷ rs) h =
 pub times-add-up : TimesAddUp
 times-add-up since until runs h =
     let same = zero-all (between since runs until) in let all = all-between since until runs h in omega arith
+
+pub long-gaps : LongGapsAreLong
+long-gaps period g = ((λ e. grind (arith, common_steps)), (λ long. grind (arith, common_steps)))

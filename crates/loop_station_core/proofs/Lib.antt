@@ -1,6 +1,7 @@
 pub mod AnswerLaws
 pub mod CameraLaws
 pub mod DecisionLaws
+pub mod EarnedLaws
 pub mod EndLaws
 pub mod FrameLaws
 pub mod GapLaws

@@ -1,8 +1,8 @@
 -- Lines say what is so, once.
-use Rattle.std.proofs.Common.{◌≡◌, ℕ, ◌+◌, ◌/◌, ◌≤◌, ◌==◌, ◌||◌, ◌&&◌, Bool, true, false, List, [], ◌∷◌, Option, Some, None, IfSome, arith, refl, nat_lt, if◌then◌else◌, subst, sym, suc, zero}
+use Rattle.std.proofs.Common.{◌≡◌, ℕ, ◌+◌, ◌/◌, ◌≤◌, ◌==◌, ◌||◌, ◌&&◌, Bool, true, false, List, [], ◌∷◌, Option, Some, None, IfSome, arith, refl, nat_lt, if◌then◌else◌, subst, sym, suc, zero, ◌∙◌, is_some, ◌⊎◌, inl, inr, ◌^◌, ◌<◌}
 use Rattle.std.proofs.lemmas.Grind.{common_steps}
-use Rattle.loop_station_core.specs.Laws.{Alternate, IsSo, StaysLost, is_measured, locked_lines, lost_in_line, lost_told_in, syncs_in, LinesAreSo, LockedLinesTellAll}
-use Rattle.loop_station_core.specs.Telling.{is_missing, known_after, lines_of, same_source, source_line, told_behind, told_locked, told_lost, told_making, told_nearly, told_slow, told_source, told_store, told_syncs, told_unusable, told_waited, FirstLooksTellAll, LinesTellAll, heard_behind, heard_store}
+use Rattle.loop_station_core.specs.Laws.{Alternate, IsSo, StaysLost, is_measured, locked_lines, lost_in_line, lost_told_in, syncs_in, LinesAreSo, LockedLinesTellAll, NothingIsToldTwice}
+use Rattle.loop_station_core.specs.Telling.{is_missing, known_after, lines_of, same_source, source_line, told_behind, told_locked, told_lost, told_making, told_nearly, told_slow, told_source, told_store, told_syncs, told_unusable, told_waited, FirstLooksTellAll, LinesTellAll, heard_behind, heard_store, LongWaitsAreTold, SlowDisksAreTold, LostFramesAreToldSoon}
 use Rattle.loop_station_core.specs.declared.changes.SourceSeen.{SourceSeen}
 use Rattle.loop_station_core.specs.declared.changes.SourceSeen.TheVariants.{Missing, Silent, Other, Unusable, On}
 use Rattle.loop_station_core.specs.declared.changes.StoreSeen.{StoreSeen}
@@ -225,6 +225,10 @@ first-tell now s fits = (
   (λ e. grind (arith, common_steps)),
   (λ e late. grind (arith, common_steps)),
   (λ e early. grind (arith, common_steps)),
+  (λ e. grind (arith, common_steps)),
+  (λ some few. grind (arith, common_steps)),
+  (λ far. grind (arith, common_steps)),
+  (λ percent e. grind (arith, common_steps)),
 )
 
 pub lines-tell : LinesTellAll
@@ -236,3 +240,118 @@ lines-tell r s = (
   (λ e. grind (arith, common_steps)),
   (λ some. (grind (arith, common_steps), grind (arith, common_steps))),
 )
+
+pub slow-told : SlowDisksAreTold
+slow-told r s d new is some = (
+  grind (arith, common_steps),
+  (λ slow. grind (arith, common_steps)),
+  (λ fast. grind (arith, common_steps)),
+  grind (arith, common_steps),
+  grind (arith, common_steps),
+)
+
+pub waits-told : LongWaitsAreTold
+waits-told r s since none =
+    ((λ new waits long. grind (arith, common_steps)), (λ known gone over long. grind (arith, common_steps)))
+
+-- what is told once isn't told again at the same look
+source-once : (known : Option SourceSeen) (seen : SourceSeen) (early : Bool)
+    → (told_source (told_source known seen early).0 seen early).1 ≡ None
+source-once None Missing true = refl
+source-once None Missing false = refl
+source-once None Silent early = refl
+source-once None Other early = refl
+source-once None Unusable early = refl
+source-once None On early = refl
+source-once (Some Missing) Missing early = refl
+source-once (Some Missing) Silent early = refl
+source-once (Some Missing) Other early = refl
+source-once (Some Missing) Unusable early = refl
+source-once (Some Missing) On early = refl
+source-once (Some Silent) Missing early = refl
+source-once (Some Silent) Silent early = refl
+source-once (Some Silent) Other early = refl
+source-once (Some Silent) Unusable early = refl
+source-once (Some Silent) On early = refl
+source-once (Some Other) Missing early = refl
+source-once (Some Other) Silent early = refl
+source-once (Some Other) Other early = refl
+source-once (Some Other) Unusable early = refl
+source-once (Some Other) On early = refl
+source-once (Some Unusable) Missing early = refl
+source-once (Some Unusable) Silent early = refl
+source-once (Some Unusable) Other early = refl
+source-once (Some Unusable) Unusable early = refl
+source-once (Some Unusable) On early = refl
+source-once (Some On) Missing early = refl
+source-once (Some On) Silent early = refl
+source-once (Some On) Other early = refl
+source-once (Some On) Unusable early = refl
+source-once (Some On) On early = refl
+
+store-once : (known seen : StoreSeen) (early : Bool) → (told_store (told_store known seen early).0 seen early).1 ≡ None
+store-once known seen early = grind (arith, common_steps)
+
+lost-once : (known : LostTold) (lost now : ℕ) (stopping : Bool)
+    → (told_lost (told_lost known lost now stopping).0 lost now stopping).1 ≡ None
+lost-once known lost now stopping = grind (arith, common_steps)
+
+nearly-once : (known : Bool) (room blocks : ℕ) → (told_nearly (told_nearly known room blocks).0 room blocks).1 ≡ None
+nearly-once known room blocks = grind (arith, common_steps)
+
+behind-once : (known behind : ℕ) → (told_behind (told_behind known behind).0 behind).1 ≡ None
+behind-once known behind = grind (arith, common_steps)
+
+waited-once : (known : WaitTold) (waits : Option ℕ) (now : ℕ) (stopping : Bool)
+    → (told_waited (told_waited known waits now stopping).0 waits now stopping).1 ≡ None
+waited-once known (Some since) now stopping = grind (arith, common_steps)
+waited-once known None now stopping = grind (arith, common_steps)
+
+unusable-once : (known : Option ℕ) (seen : SourceSeen) (why : ℕ)
+    → (told_unusable (told_unusable known seen why).0 seen why).1 ≡ None
+unusable-once known seen why = grind (arith, common_steps)
+
+making-once : (known : Option ℕ) (seen : StoreSeen) → (told_making (told_making known seen).0 seen).1 ≡ None
+making-once known seen = grind (arith, common_steps)
+
+locked-once : (b : Bool) → told_locked b b ≡ None
+locked-once true = refl
+locked-once false = refl
+
+syncs-once : (known : Bool) (d : Option DiskSeen) → told_syncs (known || is_some d) d ≡ None
+syncs-once true None = refl
+syncs-once true (Some d) = refl
+syncs-once false None = refl
+syncs-once false (Some d) = refl
+
+slow-once : (known : Bool) (d : Option DiskSeen) → told_slow (known || is_some d) d ≡ None
+slow-once true None = refl
+slow-once true (Some d) = refl
+slow-once false None = refl
+slow-once false (Some d) = refl
+
+pub told-twice : NothingIsToldTwice
+told-twice r s zero line h is = is.0 refl ∙ source-once r.source s.source (nat_lt s.now r.soon)
+told-twice r s (suc zero) line h is = is.1 refl ∙ store-once r.store s.store (nat_lt s.now r.soon)
+told-twice r s (suc (suc zero)) line h is = is.2 refl ∙ lost-once r.lost s.lost s.now s.stopping
+told-twice r s (suc (suc (suc zero))) line h is = is.3 refl ∙ locked-once s.locked
+told-twice r s (suc (suc (suc (suc zero)))) line h is = is.4 refl ∙ nearly-once r.nearly s.room s.blocks
+told-twice r s (suc (suc (suc (suc (suc zero))))) line h is = is.5 refl ∙ behind-once r.behind s.behind
+told-twice r s (suc (suc (suc (suc (suc (suc zero)))))) line h is = is.6 refl ∙ waited-once r.waited s.waited s.now s.stopping
+told-twice r s (suc (suc (suc (suc (suc (suc (suc zero))))))) line h is = is.7 refl ∙ unusable-once r.unusable s.source s.unusable
+told-twice r s (suc (suc (suc (suc (suc (suc (suc (suc zero)))))))) line h is = is.8 refl ∙ making-once r.making s.store
+told-twice r s (suc (suc (suc (suc (suc (suc (suc (suc (suc zero))))))))) line h is = is.9 refl ∙ syncs-once r.disk s.disk
+told-twice r s (suc (suc (suc (suc (suc (suc (suc (suc (suc (suc zero)))))))))) line h is = is.10 refl ∙ slow-once r.disk s.disk
+told-twice r s (suc (suc (suc (suc (suc (suc (suc (suc (suc (suc (suc kind))))))))))) line h is = absurd (omega (arith, h))
+
+pub lost-soon : LostFramesAreToldSoon
+lost-soon r s = ((λ more due. grind (arith, common_steps)), told)
+  where
+    told : is_some (lines_of r s).given_up ≡ true → ((r.lost.again ≤ s.now) ⊎ (s.stopping ≡ true))
+        × (s.now + 1000000 < 2 ^ 64 → (known_after r s).lost.again ≡ s.now + 1000000)
+    told some = (at s.stopping (nat_lt s.now r.lost.again) refl refl, (λ fits. grind (arith, common_steps)))
+      where
+        at : (b c : Bool) → s.stopping ≡ b → nat_lt s.now r.lost.again ≡ c → (r.lost.again ≤ s.now) ⊎ (s.stopping ≡ true)
+        at true c e l = inr e
+        at false false e l = inl (grind (arith, common_steps))
+        at false true e l = absurd (grind (arith, common_steps))

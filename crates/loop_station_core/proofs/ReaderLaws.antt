@@ -1,13 +1,13 @@
 -- A clip is read by as many saves as were taken in and haven't ended.
-use Rattle.std.proofs.Common.{◌≡◌, ◌⊎◌, inl, inr, ℕ, ◌+◌, ◌++◌, ◌==◌, Bool, true, false, not, List, [], ◌∷◌, Option, Some, None, is_some, option_map, zero, suc, length, nat_lt, slice_get, slice_set, remove, replicate, ap, arith, refl}
+use Rattle.std.proofs.Common.{◌≡◌, ◌⊎◌, inl, inr, ℕ, ◌+◌, ◌++◌, ◌==◌, Bool, true, false, not, List, [], ◌∷◌, Option, Some, None, is_some, option_map, zero, suc, length, nat_lt, slice_get, slice_set, remove, replicate, ap, arith, refl, ◌≢◌}
 use Rattle.std.specs.List.{list_any, position, position_or_len}
 use Rattle.std.proofs.lemmas.Grind.{common_steps}
 use Rattle.loop_station_core.proofs.ReleaseLaws.{first-at}
-use Rattle.loop_station_core.specs.Clips.{may_release, may_release_saved}
-use Rattle.loop_station_core.specs.Laws.{OrdersSpareReadClips, SavedClipsAreReleased, clip_key, OrdersReleaseUnreadClips}
-use Rattle.loop_station_core.specs.Releases.{SaveStep, asks, cancels, ends, no_saves, one_if, saves_after, saves_after_all, saves_ended_by, saves_ended_in, saves_taken_by, saves_taken_in, stops, SavesAddUp, counted, readers}
+use Rattle.loop_station_core.specs.Clips.{may_release, may_release_saved, RefusedReleasesAreSo}
+use Rattle.loop_station_core.specs.Laws.{OrdersSpareReadClips, SavedClipsAreReleased, clip_key, OrdersReleaseUnreadClips, UnreadSavedClipsAreReleased}
+use Rattle.loop_station_core.specs.Releases.{SaveStep, asks, cancels, ends, no_saves, one_if, saves_after, saves_after_all, saves_ended_by, saves_ended_in, saves_taken_by, saves_taken_in, stops, SavesAddUp, how_many, readers}
 use Rattle.loop_station_core.specs.Saving.{Places, after_end_of, begun, covers, earns, ended_at, freed, has_key, has_such, held_at, is_read, is_same, left_to_others, new_save, place_of, place_with, turn_of_clip, turn_with, update, update_held, wanted, with_cancel, with_release, with_wish}
-use Rattle.loop_station_core.specs.declared.clips.MayRelease.TheVariants.{Now}
+use Rattle.loop_station_core.specs.declared.clips.MayRelease.TheVariants.{Now, Saving, Other}
 use Rattle.loop_station_core.specs.declared.save_end.SaveEnd.{SaveEnd}
 use Rattle.loop_station_core.specs.declared.saves.SaveKey.{SaveKey}
 use Rattle.loop_station_core.specs.declared.saves.Save.{Save}
@@ -18,8 +18,8 @@ passes f None = false
 passes f (Some x) = f x
 
 module _ {X : Type 0} where
-  set-counts : (f : X → Bool) (xs : List X) (i : ℕ) (x y : X) → slice_get xs i ≡ Some x
-      → counted f (slice_set xs i y) + one_if (f x) ≡ counted f xs + one_if (f y)
+  pub set-counts : (f : X → Bool) (xs : List X) (i : ℕ) (x y : X) → slice_get xs i ≡ Some x
+      → how_many f (slice_set xs i y) + one_if (f x) ≡ how_many f xs + one_if (f y)
   set-counts f [] i x y e = grind (arith, common_steps)
   set-counts f (z ∷ zs) zero x y e = grind (arith, common_steps)
   set-counts f (z ∷ zs) (suc i) x y e =
@@ -27,10 +27,10 @@ module _ {X : Type 0} where
       let rest = set-counts f zs i x y at in
       grind (arith, common_steps)
 
-  update-counts : (f : X → Bool) (g : X → X) (xs : List X) (i : ℕ) → ((x : X) → f (g x) ≡ f x)
-      → counted f (update g i xs) ≡ counted f xs
+  pub update-counts : (f : X → Bool) (g : X → X) (xs : List X) (i : ℕ) → ((x : X) → f (g x) ≡ f x)
+      → how_many f (update g i xs) ≡ how_many f xs
   update-counts f g xs i k = at (slice_get xs i) refl where
-    at : (o : Option X) → slice_get xs i ≡ o → counted f (update g i xs) ≡ counted f xs
+    at : (o : Option X) → slice_get xs i ≡ o → how_many f (update g i xs) ≡ how_many f xs
     at None e = grind (arith, common_steps)
     at (Some x) e =
         let same : f (g x) ≡ f x = k x in
@@ -58,7 +58,7 @@ module _ {X : Type 0} where
         grind (arith, common_steps)
 
   -- what was put in a place is there
-  set-there : (xs : List X) (i : ℕ) (x y : X) → slice_get xs i ≡ Some x → slice_get (slice_set xs i y) i ≡ Some y
+  pub set-there : (xs : List X) (i : ℕ) (x y : X) → slice_get xs i ≡ Some x → slice_get (slice_set xs i y) i ≡ Some y
   set-there [] i x y e = grind (arith, common_steps)
   set-there (z ∷ zs) zero x y e = grind (arith, common_steps)
   set-there (z ∷ zs) (suc i) x y e =
@@ -66,12 +66,12 @@ module _ {X : Type 0} where
       let rest = set-there zs i x y at in
       grind (arith, common_steps)
 
-  append-counts : (f : X → Bool) (xs : List X) (y : X) → counted f (xs ++ y ∷ []) ≡ counted f xs + one_if (f y)
+  pub append-counts : (f : X → Bool) (xs : List X) (y : X) → how_many f (xs ++ y ∷ []) ≡ how_many f xs + one_if (f y)
   append-counts f [] y = grind (arith, common_steps)
   append-counts f (x ∷ xs) y = let rest = append-counts f xs y in grind (arith, common_steps)
 
-  remove-counts : (f : X → Bool) (xs : List X) (i : ℕ) (x : X) → slice_get xs i ≡ Some x
-      → counted f (remove xs i) + one_if (f x) ≡ counted f xs
+  pub remove-counts : (f : X → Bool) (xs : List X) (i : ℕ) (x : X) → slice_get xs i ≡ Some x
+      → how_many f (remove xs i) + one_if (f x) ≡ how_many f xs
   remove-counts f [] i x e = grind (arith, common_steps)
   remove-counts f (z ∷ zs) zero x e = grind (arith, common_steps)
   remove-counts f (z ∷ zs) (suc i) x e =
@@ -80,7 +80,7 @@ module _ {X : Type 0} where
       grind (arith, common_steps)
 
   -- where none passes, none counts
-  none-any : (f : X → Bool) (xs : List X) → list_any f xs ≡ false → counted f xs ≡ 0
+  none-any : (f : X → Bool) (xs : List X) → list_any f xs ≡ false → how_many f xs ≡ 0
   none-any f [] h = refl
   none-any f (x ∷ xs) h =
       let here : f x ≡ false = grind (arith, common_steps) in
@@ -89,10 +89,10 @@ module _ {X : Type 0} where
       grind (arith, common_steps)
 
   -- where none counts, none passes
-  any-none : (f : X → Bool) (xs : List X) → counted f xs ≡ 0 → list_any f xs ≡ false
+  any-none : (f : X → Bool) (xs : List X) → how_many f xs ≡ 0 → list_any f xs ≡ false
   any-none f [] h = refl
   any-none f (x ∷ xs) h = at (f x) refl (λ e. any-none f xs e) where
-    at : (b : Bool) → f x ≡ b → (counted f xs ≡ 0 → list_any f xs ≡ false) → list_any f (x ∷ xs) ≡ false
+    at : (b : Bool) → f x ≡ b → (how_many f xs ≡ 0 → list_any f xs ≡ false) → list_any f (x ∷ xs) ≡ false
     at true e more = grind (arith, common_steps)
     at false e more = let rest = more (grind (arith, common_steps)) in grind (arith, common_steps)
 
@@ -110,7 +110,7 @@ module _ {X : Type 0} where
         let there = rest more in
         grind (arith, common_steps)
 
-  found-there : (f : X → Bool) (xs : List X) (i : ℕ) → position f xs ≡ Some i → is_some (slice_get xs i) ≡ true
+  pub found-there : (f : X → Bool) (xs : List X) (i : ℕ) → position f xs ≡ Some i → is_some (slice_get xs i) ≡ true
   found-there f xs i e =
       let within : nat_lt (position_or_len f xs) (length xs) ≡ true = grind (arith, common_steps) in
       let same : position_or_len f xs ≡ i = grind (arith, common_steps) in
@@ -166,7 +166,7 @@ release-stays : (o : Option Save) → is_some (update_held with_release o) ≡ i
 release-stays None = refl
 release-stays (Some s) = refl
 
-abbrev holds_one : Places → ℕ → Bool
+abbrev pub holds_one : Places → ℕ → Bool
 holds_one p place = passes (λ (o : Option Save). not (is_some o)) (slice_get p.running place)
 
 wanted-free : (p : Places) (k : SaveKey) (place : ℕ) → holds_one (wanted p k).0 place ≡ holds_one p place
@@ -189,7 +189,7 @@ left-counts f p s = at s.release refl where
   at true e = let w = wanted-counts f p s.key in grind (arith, common_steps)
   at false e = grind (arith, common_steps)
 
-left-free : (p : Places) (s : Save) (place : ℕ) → holds_one (left_to_others p s).0 place ≡ holds_one p place
+pub left-free : (p : Places) (s : Save) (place : ℕ) → holds_one (left_to_others p s).0 place ≡ holds_one p place
 left-free p s place = at s.release refl where
   at : (b : Bool) → s.release ≡ b → holds_one (left_to_others p s).0 place ≡ holds_one p place
   at true e = let w = wanted-free p s.key place in grind (arith, common_steps)
@@ -334,7 +334,7 @@ all-add f p (s ∷ ss) =
     ≡ readers f (saves_after p s) + saves_taken_in f (saves_after p s) ss = all-add f (saves_after p s) ss in
     omega (arith, one, rest)
 
-none-reads : (f : SaveKey → Bool) (places : ℕ) → counted (has_such (has_key f)) (replicate places None) ≡ 0
+none-reads : (f : SaveKey → Bool) (places : ℕ) → how_many (has_such (has_key f)) (replicate places None) ≡ 0
 none-reads f zero = refl
 none-reads f (suc n) = let rest = none-reads f n in omega (arith, rest)
 
@@ -436,3 +436,43 @@ saved-released places saved steps there h =
     let both = spares-saved (is_read (saves_after_all (no_saves places) steps) saved.camera saved.id tag) saved there h in
     let rest = orders-spare places saved.camera saved.id tag steps None None (rw both.0 refl) in
     (both.1, rest.0)
+
+-- what is the same clip is released, where none reads it
+frees-saved : (read : Bool) (saved there : SaveKey) → read ≡ false → is_same saved there ≡ true
+    → may_release_saved read saved (Some there) ≡ Now
+frees-saved true saved there h e = grind (arith, common_steps)
+frees-saved false saved there h e = grind (arith, common_steps)
+
+alike : (saved there : SaveKey) → clip_key there ≡ clip_key saved → is_same saved there ≡ true
+alike saved there e =
+    let camera : there.camera ≡ saved.camera = ap (λ k. k.camera) e in
+    let id : there.id ≡ saved.id = ap (λ k. k.id) e in
+    let first : there.first ≡ saved.first = ap (λ k. k.first) e in
+    let last : there.last ≡ saved.last = ap (λ k. k.last) e in
+    let tag : there.tag ≡ saved.tag = ap (λ k. k.tag) e in
+    let time : there.time ≡ saved.time = ap (λ k. k.time) e in
+    grind (arith, common_steps)
+
+pub saved-free : UnreadSavedClipsAreReleased
+saved-free places saved there steps e same =
+    let f : SaveKey → Bool = covers saved.camera saved.id (Some saved.tag) in
+    let all : saves_taken_in f (no_saves places) steps
+    ≡ saves_ended_in f (no_saves places) steps + readers f (saves_after_all (no_saves places) steps) =
+    saves-add-up places f steps in
+    let none : readers f (saves_after_all (no_saves places) steps) ≡ 0 = omega (arith, all, e) in
+    frees-saved (is_read (saves_after_all (no_saves places) steps) saved.camera saved.id (Some saved.tag)) saved there
+    (read-none saved.camera saved.id (Some saved.tag) (saves_after_all (no_saves places) steps) none) (alike saved there same)
+
+pub refused-so : RefusedReleasesAreSo
+refused-so true asked first number = ((λ e. refl), (λ e. refl), (λ e. absurd (cc)))
+refused-so false None first number = ((λ e. absurd (cc)), (λ e. absurd (cc)), (λ e. absurd (cc)))
+refused-so false (Some n) None number =
+    ((λ e. absurd (cc)), (λ e. absurd (cc)), (λ e. (grind (arith, common_steps), (λ same. absurd (cc)))))
+refused-so false (Some n) (Some f) number = at (n == f) refl
+  where
+    at : (b : Bool) → (n == f) ≡ b → let is = may_release false (Some n) (Some f) in
+        (is ≡ Saving → false ≡ true) × (false ≡ true → is ≡ Saving)
+        × (is ≡ Other number → (Some n ≡ Some number) × (Some f ≢ Some n))
+    at true e = ((λ h. grind (arith, common_steps)), (λ h. absurd (cc)), (λ h. absurd (grind (arith, common_steps))))
+    at false e =
+        ((λ h. grind (arith, common_steps)), (λ h. absurd (cc)), (λ h. (grind (arith, common_steps), (λ same. grind (arith, common_steps)))))

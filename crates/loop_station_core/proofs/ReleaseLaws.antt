@@ -68,7 +68,7 @@ module _ {X : Type 0} where
         grind (arith, common_steps)
 
 -- the end of a save releases a clip
-abbrev bears : SaveKey → Save → Bool
+abbrev pub bears : SaveKey → Save → Bool
 bears key s = is_of_clip key s && s.release
 
 -- that of no save does

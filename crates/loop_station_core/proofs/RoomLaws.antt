@@ -1,5 +1,5 @@
 -- What has room, and what is still to be done.
-use Rattle.std.proofs.Common.{◌≡◌, ℕ, ◌+◌, ◌-◌, ◌*◌, ◌/◌, ◌%◌, ◌^◌, ◌==◌, ◌≤◌, ◌<◌, ◌⊎◌, ◌&&◌, Bool, true, false, not, List, [], ◌∷◌, Some, None, zero, suc, slice_get, length, arith, refl, sym, ap, subst, inl, inr, max, min, nat_le, nat_lt, if◌then◌else◌, ◌∙◌}
+use Rattle.std.proofs.Common.{◌≡◌, ℕ, ◌+◌, ◌-◌, ◌*◌, ◌/◌, ◌%◌, ◌^◌, ◌==◌, ◌≤◌, ◌<◌, ◌⊎◌, ◌&&◌, Bool, true, false, not, List, [], ◌∷◌, Some, None, zero, suc, slice_get, length, arith, refl, sym, ap, subst, inl, inr, max, min, nat_lt, if◌then◌else◌, ◌∙◌}
 use Rattle.std.specs.Int.{div_ceil}
 use Rattle.std.specs.List.{position, position_or_len}
 use Rattle.std.proofs.lemmas.Bool.{eqb-true, eq-eqb}
@@ -10,7 +10,7 @@ use Rattle.loop_station_core.proofs.ReleaseLaws.{first-at}
 use Rattle.loop_station_core.specs.Clips.{keeps_in}
 use Rattle.loop_station_core.specs.Orders.{OrderStep, are_done, no_orders, orders_after_all, orders_handed_in, orders_taken_in}
 use Rattle.loop_station_core.specs.Retries.{reads_clip, taken}
-use Rattle.loop_station_core.specs.Sets.{frames_held_since, is_written}
+use Rattle.loop_station_core.specs.Sets.{frames_held_since}
 use Rattle.loop_station_core.specs.declared.orders.Orders.{Orders}
 use Rattle.loop_station_core.specs.declared.retries.Retry.{Retry}
 
@@ -69,18 +69,6 @@ stores-hold-what-came (suc n) slots held began next some wide =
     let m = mod_below (next + (slots - 1)) slots wide in
     let one : (suc n - 1) * slots + slots ≡ suc n * slots = grind (arith, common_steps) in
     (omega arith, omega arith, λ h. omega arith)
-
-pub late-files-are-read : (written newest : ℕ) → newest < 2 ^ 64
-    → (newest ≤ written + 60000000 → is_written written newest ≡ true)
-    × (written + 60000000 < newest → is_written written newest ≡ false)
-late-files-are-read written newest fits =
-    (λ l. is newest (min (written + 60000000) (2 ^ 64 - 1)) (omega arith), λ l. isn't newest (min (written + 60000000) (2 ^ 64 - 1)) (omega arith))
-  where
-    is : (a b : ℕ) → a ≤ b → nat_le a b ≡ true
-    is a b l = grind (arith, common_steps)
-
-    isn't : (a b : ℕ) → b < a → nat_le a b ≡ false
-    isn't a b l = grind (arith, common_steps)
 
 idle-means : (o : Orders) → are_done o ≡ true → (o.waiting ≡ 0) × (o.busy ≡ false)
 idle-means o e = at (o.waiting == 0) o.busy refl refl e

@@ -1,10 +1,10 @@
 -- What a search finds is a gap, and a stretch with one is looked into.
 use Rattle.std.proofs.Common.{◌≡◌, ℕ, ◌+◌, ◌-◌, ◌*◌, ◌≤◌, ◌<◌, Bool, true, false, zero, suc, ap, arith, refl}
 use Rattle.std.proofs.lemmas.Grind.{common_steps}
-use Rattle.loop_station_core.specs.Laws.{search_of, searched, step_search}
+use Rattle.loop_station_core.specs.Laws.{search_of, searched, step_search, SearchesLookAtAll}
 use Rattle.loop_station_core.specs.Search.{has_gap, mark_at, middle, most, passed, told, turn}
 use Rattle.loop_station_core.specs.declared.search.Search.{Search}
-use Rattle.loop_station_core.specs.declared.search.SearchTurn.TheVariants.{Gap}
+use Rattle.loop_station_core.specs.declared.search.SearchTurn.TheVariants.{Gap, Over, Again}
 
 -- its stretch is one of frames, in their order
 record IsOf (time : ℕ → ℕ) (period : ℕ) (s : Search) : Type 0 where
@@ -79,3 +79,13 @@ looked-for time period a b n h before after gap =
     let finish : time (suc n + (b - suc n)) ≡ time b = ap time there in
     let more : (b - a) * period + most period < time b - time a = omega arith in
     grind (arith, common_steps)
+
+pub looks-at-all : SearchesLookAtAll
+looks-at-all s = (over, again)
+  where
+    over : (turn s).1 ≡ Over → (has_gap s.period s.from s.to ≡ false) × (s.end.number ≤ s.to.number)
+    over e = (grind (arith, common_steps), grind (arith, common_steps))
+
+    again : (turn s).1 ≡ Again
+        → (has_gap s.period s.from s.to ≡ false) × ((turn s).0.from ≡ s.to) × ((turn s).0.to ≡ s.end)
+    again e = (grind (arith, common_steps), grind (arith, common_steps), grind (arith, common_steps))

@@ -4,6 +4,7 @@ use Rattle.std.proofs.lemmas.Grind.{common_steps}
 use Rattle.loop_station_core.specs.Texts.{AllThreeCame, FirstCame, after_steps}
 use Rattle.loop_station_core.specs.declared.text.TextStep.{TextStep}
 use Rattle.loop_station_core.specs.declared.text.TextStep.TheVariants.{SyncText, SyncName, Unname, Saved, NotSaved}
+use Rattle.loop_station_core.specs.Laws.{TextsAreSaved}
 
 -- what isn't saved stays so
 stays : (replaces : Bool) (steps : List Bool) → after_steps NotSaved replaces steps ≡ NotSaved
@@ -32,3 +33,10 @@ saved-there replaces (true ∷ true ∷ []) = grind (arith, common_steps)
 saved-there replaces (true ∷ true ∷ true ∷ bs) = let s = saved-stays replaces bs in grind (arith, common_steps)
 saved-there true (true ∷ true ∷ false ∷ bs) = let s = stays true bs in grind (arith, common_steps)
 saved-there false (true ∷ true ∷ false ∷ bs) = let s = unnamed false bs (after_steps Unname false bs) refl in grind (arith, common_steps)
+
+pub texts-saved : TextsAreSaved
+texts-saved replaces rest = (stays-saved rest, refl, refl)
+  where
+    stays-saved : (rest : List Bool) → after_steps Saved replaces rest ≡ Saved
+    stays-saved [] = refl
+    stays-saved (done ∷ rest) = stays-saved rest

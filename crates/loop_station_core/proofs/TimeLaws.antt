@@ -2,7 +2,7 @@
 use Rattle.std.proofs.Common.{◌≡◌, ℕ, ◌+◌, ◌-◌, ◌^◌, ◌<◌, ◌≤◌, Bool, true, false, List, [], ◌∷◌, Option, Some, None, is_some, min, arith, refl}
 use Rattle.std.specs.Prelude.{IfSome, if◌then◌else◌, nat_le}
 use Rattle.std.proofs.lemmas.Bool.{leb-false, leb-true}
-use Rattle.loop_station_core.specs.Timing.{EachLater, later, said_or_now, step_timing, tells, LongGapsAreTold, TimesAreTheSources}
+use Rattle.loop_station_core.specs.Timing.{EachLater, later, said_or_now, step_timing, tells, LongGapsAreTold, TimesAreTheSources, OddTimesAreToldOnce}
 use Rattle.loop_station_core.specs.declared.timing.Arrival.{Arrival}
 use Rattle.loop_station_core.specs.declared.timing.Timing.{Timing}
 use Rattle.std.proofs.lemmas.Grind.{common_steps}
@@ -36,10 +36,23 @@ pub apart : (t : Timing) (a : Arrival) (told : ℕ) → t.told ≡ Some told →
 apart t a told is some = apart_by t.told _ told a.now is some
 
 pub times-sources : TimesAreTheSources
-times-sources t a last = (λ e. grind (arith, common_steps), λ e less. grind (arith, common_steps))
+times-sources t a last said = (
+  (λ e. grind (arith, common_steps)),
+  (λ e. grind (arith, common_steps)),
+  (λ e. grind (arith, common_steps)),
+  (λ e less. grind (arith, common_steps)),
+)
 
 pub gaps-told : LongGapsAreTold
 gaps-told t a last is fits = (
   (λ some. (grind (arith, common_steps), grind (arith, common_steps))),
   (λ streams some long. ((λ more. grind (arith, common_steps)), (λ untold. grind (arith, common_steps)))),
+)
+
+pub odd-once : OddTimesAreToldOnce
+odd-once t a last said = (
+  (λ b. (grind (arith, common_steps), grind (arith, common_steps))),
+  (λ u. (grind (arith, common_steps), grind (arith, common_steps))),
+  (λ b e f g. (grind (arith, common_steps), grind (arith, common_steps))),
+  (λ u e. (grind (arith, common_steps), grind (arith, common_steps))),
 )

@@ -1,5 +1,5 @@
 -- A camera's life: its filming and its source.
-use Rattle.std.specs.Prelude.{◌≡◌, ◌≢◌, ◌⊎◌, ℕ, ◌+◌, ◌-◌, ◌*◌, ◌^◌, ◌==◌, ◌&&◌, ◌||◌, Bool, true, false, not, List, [], ◌∷◌, Some, None, max, min, nat_le, if◌then◌else◌, ◌<◌, ◌≤◌}
+use Rattle.std.specs.Prelude.{◌≡◌, ◌≢◌, ◌⊎◌, ℕ, ◌+◌, ◌-◌, ◌*◌, ◌^◌, ◌==◌, ◌&&◌, ◌||◌, Bool, true, false, List, [], ◌∷◌, Some, None, max, min, nat_le, if◌then◌else◌, ◌<◌, ◌≤◌}
 use Rattle.loop_station_core.specs.declared.changes.SourceSeen.{SourceSeen}
 use Rattle.loop_station_core.specs.declared.changes.SourceSeen.TheVariants.{Missing, Silent, Other, Unusable, On}
 use Rattle.loop_station_core.specs.declared.camera.Camera.{Camera}
@@ -78,19 +78,10 @@ step_camera c (Source e) = step_source c e
 abbrev pub source_seen : Camera → SourceSeen
 source_seen c = if c.silent then Silent else c.source
 
--- its filming goes on: nothing is broken, and the program doesn't end, or frames that came wait for the device
-abbrev pub films : Camera → ℕ → ℕ → Bool
-films c come taken = not c.over && (not c.stopping || not (come == taken))
-
 -- a camera after all that happened
 abbrev pub lived : Camera → List Event → Camera
 lived c [] = c
 lived c (e ∷ es) = lived (step_camera c e).0 es
-
--- A camera is filmed as long as nothing is broken, and the program doesn't end or frames that came wait for the device.
-abbrev pub FilmsWhileFramesWait : Type 0
-FilmsWhileFramesWait = (c : Camera) (come taken : ℕ) → c.over ≡ false → (c.stopping ≡ false) ⊎ (come ≢ taken)
-    → films c come taken ≡ true
 
 -- the program ends
 abbrev pub stops_in : List Event → Bool
@@ -99,10 +90,11 @@ stops_in (Filming Stop ∷ events) = true
 stops_in (e ∷ events) = stops_in events
 
 -- A camera ends at the end of its filming, or where its store isn't there, once the program ends, whatever happened
--- before; and it never ends while the program goes on.
+-- before, unless the store must be opened again; and it never ends while the program goes on.
 abbrev pub CamerasEndWithTheProgram : Type 0
 CamerasEndWithTheProgram = (c : Camera) (events : List Event) → c.stopping ≡ false → let d = lived c events in
-    (stops_in events ≡ true → ((step_camera d (Filming (End false))).1 ≡ Finish) × ((step_camera d (Filming Leave)).1 ≡ Finish))
+    (stops_in events ≡ true → ((step_camera d (Filming (End false))).1 ≡ Finish)
+    × ((step_camera d (Filming (End true))).1 ≡ OpenAgain) × ((step_camera d (Filming Leave)).1 ≡ Finish))
     × (stops_in events ≡ false → (e : Event) → (step_camera d e).1 ≢ Finish)
 
 -- While the program goes on, a filming whose store was moved away is followed by a store that is made anew. Where it
@@ -132,3 +124,26 @@ SilenceIsSeen = (c : Camera) (since now frame : ℕ) → c.waits ≡ Some since 
     (since + 2000000 ≤ now → since + frame * 3 ≤ now → source_seen d ≡ Silent)
     × ((now < since + 2000000) ⊎ (now < since + frame * 3) → source_seen d ≡ c.source)
     × (source_seen (step_camera d (Source its.Read)).0 ≡ c.source)
+
+-- While the program goes on, a store that isn't there is opened again, and that is counted; one that was moved away is
+-- made anew, once.
+abbrev pub StoresAreOpenedAgain : Type 0
+StoresAreOpenedAgain = (c : Camera) → c.stopping ≡ false → c.faults + 1 < 2 ^ 64
+    → let left = step_camera c (Filming Leave) in
+    (c.moved ≡ false → (left.1 ≡ OpenAgain) × (left.0.faults ≡ c.faults + 1))
+    × (c.moved ≡ true → (left.1 ≡ MakeAnew) × (left.0.moved ≡ false) × (left.0.faults ≡ c.faults))
+
+-- Each block is known to be locked from a refused flush on until a flush stores a frame, or another filming begins.
+abbrev pub LockedBlocksAreKnown : Type 0
+LockedBlocksAreKnown = (c : Camera) (frames : ℕ) → ((step_camera c (Filming AllLocked)).0.locked ≡ true)
+    × ((step_camera c (Filming Begin)).0.locked ≡ false) × ((step_camera c (Filming (Store 0))).0.locked ≡ c.locked)
+    × (1 ≤ frames → (step_camera c (Filming (Store frames))).0.locked ≡ false)
+
+-- A source is seen as what it was found to be; one that gave frames is missing once it is closed, and others stay what
+-- they are.
+abbrev pub SourcesAreSeen : Type 0
+SourcesAreSeen = (c : Camera) → let closed = step_camera c (Source its.Close) in
+    (c.source ≡ On → closed.0.source ≡ Missing) × (c.source ≢ On → closed.0.source ≡ c.source)
+    × ((step_camera c (Source (its.Offer true))).0.source ≡ On)
+    × ((step_camera c (Source its.Missing)).0.source ≡ Missing)
+    × ((step_camera c (Source its.Unusable)).0.source ≡ Unusable)

@@ -1,6 +1,6 @@
 -- Which clips may be released, and how many keeps have room.
 use Rattle.std.specs.Int.{div_ceil}
-use Rattle.std.specs.Prelude.{◌≤◌, ◌<◌, ◌*◌, ℕ, ◌+◌, ◌-◌, ◌/◌, ◌^◌, ◌==◌, Bool, Option, Some, None, max, min, if◌then◌else◌}
+use Rattle.std.specs.Prelude.{◌≤◌, ◌<◌, ◌*◌, ℕ, ◌+◌, ◌-◌, ◌/◌, ◌^◌, ◌==◌, Bool, Option, Some, None, max, min, if◌then◌else◌, ◌≡◌, ◌≢◌, true}
 use Rattle.loop_station_core.specs.Saving.{is_same}
 use Rattle.loop_station_core.specs.declared.clips.MayRelease.{MayRelease}
 use Rattle.loop_station_core.specs.declared.clips.MayRelease.TheVariants.{Now, Saving, Other}
@@ -35,3 +35,10 @@ abbrev pub KeepsHaveRoom : Type 0
 KeepsHaveRoom = (blocks frames slots begins : ℕ) → 1 ≤ slots → frames < 2 ^ 64 - 1 → begins < slots
     → let keeps = keeps_in blocks frames slots in
     (keeps * ((begins + frames + (slots - 1)) / slots) ≤ blocks) × (blocks < (keeps + 1) * (frames / slots + 2))
+
+-- A clip isn't released by an order where a save reads it, or where another one has its id; and it is told which.
+abbrev pub RefusedReleasesAreSo : Type 0
+RefusedReleasesAreSo = (is_read : Bool) (asked first : Option ℕ) (number : ℕ)
+    → (may_release is_read asked first ≡ Saving → is_read ≡ true)
+    × (is_read ≡ true → may_release is_read asked first ≡ Saving)
+    × (may_release is_read asked first ≡ Other number → (asked ≡ Some number) × (first ≢ asked))

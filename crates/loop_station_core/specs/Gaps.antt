@@ -1,5 +1,5 @@
 -- What of a time is held, and where one clip lies within others.
-use Rattle.std.specs.Prelude.{◌≡◌, true, ℕ, ◌+◌, ◌-◌, ◌/◌, ◌≤◌, ◌&&◌, Bool, List, [], ◌∷◌, filter, sum_by, nat_lt, nat_le}
+use Rattle.std.specs.Prelude.{◌≡◌, true, ℕ, ◌+◌, ◌-◌, ◌/◌, ◌≤◌, ◌&&◌, Bool, List, [], ◌∷◌, filter, sum_by, nat_lt, nat_le, ◌<◌, ◌*◌}
 use Rattle.loop_station_core.specs.declared.runs.Run.{Run}
 use Rattle.loop_station_core.specs.declared.runs.Gap.{Gap}
 use Rattle.loop_station_core.specs.declared.runs.ClipSpan.{ClipSpan}
@@ -30,10 +30,11 @@ AreWithin since (r ∷ rs) until = (since ≤ r.first) × (r.first ≤ r.last) �
 abbrev pub lies_within : ClipSpan → ClipSpan → Bool
 lies_within old new = nat_le new.from old.from && nat_le old.to new.to
 
--- What is released as a part that a longer clip covers has no number that this one hasn't.
+-- A part is released as covered by a longer clip exactly where each of its numbers is one of that clip's.
 abbrev pub CoveredPartsAreWithin : Type 0
-CoveredPartsAreWithin = (old new : ClipSpan) (n : ℕ) → lies_within old new ≡ true → old.from ≤ n → n ≤ old.to
-    → (new.from ≤ n) × (n ≤ new.to)
+CoveredPartsAreWithin = (old new : ClipSpan) → old.from ≤ old.to
+    → (lies_within old new ≡ true → (n : ℕ) → old.from ≤ n → n ≤ old.to → (new.from ≤ n) × (n ≤ new.to))
+    × (((n : ℕ) → old.from ≤ n → n ≤ old.to → (new.from ≤ n) × (n ≤ new.to)) → lies_within old new ≡ true)
 
 -- how long runs are together
 abbrev pub micros_held : List Run → ℕ
@@ -43,3 +44,8 @@ micros_held runs = sum_by (λ r. r.last - r.first) runs
 abbrev pub TimesAddUp : Type 0
 TimesAddUp = (since until : ℕ) (runs : List Run) → AreWithin since runs until
     → micros_missing (gaps 0 since runs until) + micros_held runs ≡ until - since
+
+-- A gap is long exactly where it is longer than one and a half of a frame's time.
+abbrev pub LongGapsAreLong : Type 0
+LongGapsAreLong = (period : ℕ) (g : Gap) → (is_long_gap period g ≡ true → period * 3 < g.micros * 2)
+    × (period * 3 < g.micros * 2 → is_long_gap period g ≡ true)

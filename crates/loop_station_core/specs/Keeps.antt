@@ -1,5 +1,5 @@
 -- When a keep of a camera locks, and what.
-use Rattle.std.specs.Prelude.{ℕ, ◌+◌, ◌-◌, ◌*◌, ◌%◌, ◌^◌, ◌≡◌, ◌≢◌, ◌≤◌, ◌<◌, ◌⊎◌, ◌==◌, ◌&&◌, ◌||◌, Bool, true, not, List, [], ◌∷◌, Option, Some, None, is_some, unwrap_or, min, max, nat_lt, nat_le, if◌then◌else◌}
+use Rattle.std.specs.Prelude.{ℕ, ◌+◌, ◌-◌, ◌*◌, ◌%◌, ◌^◌, ◌≡◌, ◌≢◌, ◌≤◌, ◌<◌, ◌⊎◌, ◌==◌, ◌&&◌, ◌||◌, Bool, true, not, List, [], ◌∷◌, Option, Some, None, is_some, unwrap_or, min, max, nat_lt, nat_le, if◌then◌else◌, false}
 use Rattle.loop_station_core.specs.declared.tally.Tally.{Tally}
 use Rattle.loop_station_core.specs.declared.keep.Keep.{Keep}
 use Rattle.loop_station_core.specs.declared.keep.Look.{Look}
@@ -70,11 +70,6 @@ abbrev pub asked_time : KeepPeriod → ℕ → ℕ → ℕ → ℕ × ℕ
 asked_time (Around seconds more) read before after = bounds read (unwrap_or seconds before) (unwrap_or more after)
 asked_time (Between since until) read before after = (since, until)
 
--- the tag that its line says, or else its camera's own, or where that is 0 the event's number
-abbrev pub tag_of : Option ℕ → ℕ → ℕ → ℕ
-tag_of (Some tag) own event = tag
-tag_of None own event = if own == 0 then event else own
-
 -- this holds of each of some looks, of the keep after it and of what it does then
 abbrev pub EachTurn : (Look → Keep → KeepTurn → Type 0) → Keep → List Look → Type 0
 EachTurn P k [] = Unit {0}
@@ -117,16 +112,16 @@ KeepsHaveAll = (k : Keep) (l : Look) → (step_keep k l).1 ≡ Whole
     → IsClear (unwrap_or k.all (max l.come k.come)) (step_keep k l).0 l
 
 -- a time is one of those that are asked for
-abbrev pub IsAsked : ℕ × ℕ → ℕ → Type 0
-IsAsked times t = (times.0 ≤ t) × (t ≤ times.1)
+abbrev pub IsAskedTime : ℕ × ℕ → ℕ → Type 0
+IsAskedTime times t = (times.0 ≤ t) × (t ≤ times.1)
 
 -- `keep CAMERA N +M`: of the times that a clock can tell, exactly those are asked for that lie no more than N seconds
 -- before its line was read, and no more than M seconds after.
 abbrev pub KeepsCoverTheirSeconds : Type 0
 KeepsCoverTheirSeconds = (read seconds more before after t : ℕ) → t < 2 ^ 64
     → let asked = asked_time (Around (Some seconds) (Some more)) read before after in
-    (IsAsked asked t → (read ≤ t + seconds * 1000000) × (t ≤ read + more * 1000000))
-    × (read ≤ t + seconds * 1000000 → t ≤ read + more * 1000000 → IsAsked asked t)
+    (IsAskedTime asked t → (read ≤ t + seconds * 1000000) × (t ≤ read + more * 1000000))
+    × (read ≤ t + seconds * 1000000 → t ≤ read + more * 1000000 → IsAskedTime asked t)
 
 -- What a line doesn't say is as if it had said its camera's own seconds. So a keep without any has the time of the
 -- camera's seconds, and what is said of one side leaves the other side alone.
@@ -140,16 +135,26 @@ KeepsTakeTheCamerasSeconds = (seconds more : Option ℕ) (read before after : �
 abbrev pub KeepsCoverBothEnds : Type 0
 KeepsCoverBothEnds = (since until read before after t : ℕ)
     → let asked = asked_time (Between since until) read before after in
-    (IsAsked asked t → (since ≤ t) × (t ≤ until)) × (since ≤ t → t ≤ until → IsAsked asked t)
-
--- Whom a clip's tag is from: a tag that a line says is that of its clips, at each camera. Without one, clips have their
--- camera's own, whatever the event is, if it has one. Else those of two events have two tags, and each the number of
--- its event.
-abbrev pub TagsAreTheUsers : Type 0
-TagsAreTheUsers = (tag own event : ℕ)
-    → (tag_of (Some tag) own event ≡ tag) × (own ≢ 0 → tag_of None own event ≡ own) × (tag_of None 0 event ≡ event)
+    (IsAskedTime asked t → (since ≤ t) × (t ≤ until)) × (since ≤ t → t ≤ until → IsAskedTime asked t)
 
 -- A keep waits only for frames that had come before its line, or for a block after the one that it has locked.
 abbrev pub KeepsLockEachBlock : Type 0
 KeepsLockEachBlock = (k : Keep) (l : Look) → k.come ≤ l.tally.brought → (k.part ≡ None) ⊎ (k.block ≢ l.block)
     → (step_keep k l).1 ≢ Wait
+
+-- A keep is done once its end has passed, or the program ends, and nothing helps: each block is locked, or no frame has
+-- made progress for a minute. At a stop it is done at once where the frames that came are at the desk or lost.
+abbrev pub StuckKeepsEnd : Type 0
+StuckKeepsEnd = (k : Keep) (l : Look) → (k.until ≤ l.time) ⊎ (l.stopping ≡ true)
+    → (l.locked ≡ true) ⊎ ((60000000 < l.time - (looked k l).moved) ⊎ (needed (looked k l) l ≤ l.tally.brought))
+    → (step_keep k l).1 ≡ Whole
+
+-- A frame's progress is seen when the count of steps is another one.
+abbrev pub ProgressIsSeen : Type 0
+ProgressIsSeen = (k : Keep) (l : Look) → (steps_taken l.tally ≡ k.steps → (looked k l).moved ≡ k.moved)
+    × (steps_taken l.tally ≢ k.steps → (looked k l).moved ≡ l.time)
+
+-- A keep locks a part only once for each block.
+abbrev pub KeepsLockOnce : Type 0
+KeepsLockOnce = (k : Keep) (l : Look) (until : ℕ) → (step_keep k l).1 ≡ Part until
+    → (has_newest k l ≡ false) × (has_newest (step_keep k l).0 l ≡ true)

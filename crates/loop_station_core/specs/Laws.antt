@@ -29,7 +29,7 @@ use Rattle.loop_station_core.specs.declared.save_end.SaveEnd.{SaveEnd}
 use Rattle.loop_station_core.specs.declared.saves.Save.{Save}
 use Rattle.loop_station_core.specs.declared.search.Search.{Search}
 use Rattle.loop_station_core.specs.declared.search.SearchTurn.TheVariants.{Read, Gap as SearchGap, Again, Over}
-use Rattle.loop_station_core.specs.declared.text.TextStep.TheVariants.{SyncText, SyncName, Saved}
+use Rattle.loop_station_core.specs.declared.text.TextStep.TheVariants.{SyncText, SyncName, Saved, Unname, NotSaved}
 use Rattle.loop_station_core.specs.declared.changes.SourceSeen.TheVariants.{Missing, Silent, Unusable, On}
 use Rattle.loop_station_core.specs.declared.changes.StoreSeen.TheVariants.{Open, Absent, Making}
 use Rattle.loop_station_core.specs.declared.changes.Seen.{Seen}
@@ -92,6 +92,14 @@ SavedClipsAreReleased = (places : ℕ) (saved : SaveKey) (steps : List SaveStep)
     → (option_map clip_key there ≡ Some (clip_key saved))
     × (saves_taken_in reads p steps ≡ saves_ended_in reads p steps)
 
+-- And it is released then, where each save that reads it has ended.
+abbrev pub UnreadSavedClipsAreReleased : Type 0
+UnreadSavedClipsAreReleased = (places : ℕ) (saved there : SaveKey) (steps : List SaveStep)
+    → let p = no_saves places in let reads = covers saved.camera saved.id (Some saved.tag) in
+    saves_taken_in reads p steps ≡ saves_ended_in reads p steps → clip_key there ≡ clip_key saved
+    → may_release_saved (is_read (saves_after_all p steps) saved.camera saved.id (Some saved.tag)) saved (Some there)
+    ≡ Now
+
 -- A save that is withdrawn once it was told to wait leaves all as if it hadn't been asked for.
 abbrev pub WithdrawnSavesLeaveNothing : Type 0
 WithdrawnSavesLeaveNothing = (p : Places) (key : SaveKey) (automatic : Bool)
@@ -130,6 +138,11 @@ IsSo s (TooSlow micros frames) = (option_map (λ d. d.sync) s.disk ≡ Some micr
 abbrev pub LinesAreSo : Type 0
 LinesAreSo = (r : Reported) (s : Seen) (kind : ℕ) (line : Option Change) → kind < 11
     → IsLineOfKind (lines_of r s) kind line → IfSome line (IsSo s)
+
+-- Where a camera is looked at again, and nothing has changed, nothing is told.
+abbrev pub NothingIsToldTwice : Type 0
+NothingIsToldTwice = (r : Reported) (s : Seen) (kind : ℕ) (line : Option Change) → kind < 11
+    → IsLineOfKind (lines_of (known_after r s) s) kind line → line ≡ None
 
 -- how many lines of some looks say how fast the disk is
 abbrev pub syncs_in : Reported → List Seen → ℕ
@@ -224,6 +237,11 @@ abbrev pub MovedStoresAreLeft : Type 0
 MovedStoresAreLeft = (c : Camera) (events : List Event) → NoneBegins events
     → (step_camera (lived c (Filming Move ∷ events)) (Filming AllAreLocked)).1 ≡ GiveUp
 
+-- Once something breaks, or its store is moved away, a filming is over until another one begins, whatever happens.
+abbrev pub BrokenFilmingsEnd : Type 0
+BrokenFilmingsEnd = (c : Camera) (events : List Event) → NoneBegins events
+    → ((lived c (Filming Break ∷ events)).over ≡ true) × ((lived c (Filming Move ∷ events)).over ≡ true)
+
 -- A source that is told as silent waits for a byte.
 abbrev pub SilentSourcesWait : Type 0
 SilentSourcesWait = (c : Camera) (events : List Event) → c.silent ≡ false
@@ -265,12 +283,27 @@ FoundGapsAreSo = (time : ℕ → ℕ) (period a b turns from to : ℕ) → a ≤
     (turn s).1 ≡ SearchGap from to
     → (from ≡ time s.from.number) × (to ≡ time (s.from.number + 1)) × (period + most period < to - from)
 
+-- A search is over only once no gap is seen up to its end; it leaves no stretch with a gap that isn't told, and goes on
+-- where the last one ended.
+abbrev pub SearchesLookAtAll : Type 0
+SearchesLookAtAll = (s : Search) → let now = turn s in
+    (now.1 ≡ Over → (has_gap s.period s.from s.to ≡ false) × (s.end.number ≤ s.to.number))
+    × (now.1 ≡ Again → (has_gap s.period s.from s.to ≡ false) × (now.0.from ≡ s.to) × (now.0.to ≡ s.end))
+
 -- A stretch in which a frame is missing is looked into, where no frame comes earlier than a period after the one
 -- before.
 abbrev pub GapsAreLookedFor : Type 0
 GapsAreLookedFor = (time : ℕ → ℕ) (period a b n : ℕ) → ((k : ℕ) → time k + period ≤ time (suc k))
     → a ≤ n → n < b → time n + period + most period < time (suc n)
     → has_gap period (mark_at time a) (mark_at time b) ≡ true
+
+-- A text is told to be saved once its three steps came; where a new name can't be kept, it is taken away again, and
+-- where it replaced another, it stays.
+abbrev pub TextsAreSaved : Type 0
+TextsAreSaved = (replaces : Bool) (rest : List Bool)
+    → (after_steps SyncText replaces (true ∷ true ∷ true ∷ rest) ≡ Saved)
+    × (after_steps SyncText false (true ∷ true ∷ false ∷ []) ≡ Unname)
+    × (after_steps SyncText true (true ∷ true ∷ false ∷ []) ≡ NotSaved)
 
 -- A text is told to be saved only where its bytes were synced, then its name was given, and then its folder was synced;
 -- and it has its name only once its bytes are synced.

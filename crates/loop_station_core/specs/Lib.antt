@@ -3,7 +3,6 @@ pub mod Cameras
 pub mod Clips
 pub mod Frames
 pub mod Gaps
-pub mod Growth
 pub mod Keeps
 pub mod Laws
 pub mod Marks
@@ -14,9 +13,6 @@ pub mod SaveEnds
 pub mod Saving
 pub mod Search
 pub mod Sets
-pub mod Spools
-pub mod Still
-pub mod Stores
 pub mod Telling
 pub mod Texts
 pub mod Timing

@@ -1,5 +1,5 @@
 -- Which orders of a camera are taken in, and which are handed out.
-use Rattle.std.specs.Prelude.{◌≡◌, ◌≤◌, ◌⊎◌, ℕ, ◌+◌, ◌-◌, ◌==◌, ◌&&◌, Bool, true, false, not, List, [], ◌∷◌, nat_lt, if◌then◌else◌}
+use Rattle.std.specs.Prelude.{◌≡◌, ◌≤◌, ◌⊎◌, ℕ, ◌+◌, ◌-◌, ◌==◌, ◌&&◌, Bool, true, false, not, List, [], ◌∷◌, nat_lt, if◌then◌else◌, ◌≢◌, ◌<◌}
 use Rattle.loop_station_core.specs.declared.orders.AddedOrder.{AddedOrder}
 use Rattle.loop_station_core.specs.declared.orders.AddedOrder.TheVariants.{Waits, Absent, TooMany}
 use Rattle.loop_station_core.specs.declared.orders.Attended.{Attended}
@@ -84,5 +84,14 @@ orders_handed_in o (s ∷ ss) = orders_handed_by o s + orders_handed_in (orders_
 -- is being done.
 abbrev pub IdleCamerasAreDone : Type 0
 IdleCamerasAreDone = (steps : List OrderStep) → let orders = orders_after_all no_orders steps in
-    (are_done orders ≡ true → (orders_handed_in no_orders steps ≡ orders_taken_in no_orders steps) × (orders.busy ≡ false))
+    (are_done orders ≡ true → (orders_handed_in no_orders steps ≡ orders_taken_in no_orders steps)
+    × (orders.busy ≡ false))
     × (are_done orders ≡ false → (1 ≤ orders.waiting) ⊎ (orders.busy ≡ true))
+
+-- An order is taken in exactly where somebody does orders, or is still to come, and fewer than 256 wait; and where one
+-- waits, one is handed out.
+abbrev pub OrdersAreTakenIn : Type 0
+OrdersAreTakenIn = (o : Orders) → let added = order_added o in
+    (added.1 ≡ Waits → (o.attended ≢ Gone) × (o.waiting < 256)) × (added.1 ≡ TooMany → 256 ≤ o.waiting)
+    × (added.1 ≡ Absent → o.attended ≡ Gone) × (1 ≤ o.waiting → (order_handed o).1 ≡ true)
+    × (1 ≤ o.waiting → (after_one o).1 ≡ true) × ((after_one o).1 ≡ true → 1 ≤ o.waiting)

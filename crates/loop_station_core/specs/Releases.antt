@@ -1,13 +1,13 @@
 -- Which clips are released, by what happens to saves one after the other.
-use Rattle.std.specs.Prelude.{◌≡◌, ◌⊎◌, ℕ, ◌+◌, ◌&&◌, ◌||◌, Bool, true, false, List, [], ◌∷◌, Option, Some, None, replicate, slice_get}
-use Rattle.loop_station_core.specs.Saving.{Places, asked, cancelled, earns, finished, has_key, has_such, held_at, is_of_clip, stopped, turn_of_clip, with_wish}
+use Rattle.std.specs.Prelude.{◌≡◌, ◌⊎◌, ℕ, ◌+◌, ◌&&◌, ◌||◌, Bool, true, false, List, [], ◌∷◌, Option, Some, None, replicate, slice_get, ◌≢◌}
+use Rattle.loop_station_core.specs.Saving.{Places, asked, cancelled, earns, finished, has_key, has_such, held_at, is_of_clip, is_saving, picks, reads, stopped, turn_of_clip, with_wish}
 use Rattle.loop_station_core.specs.declared.save_end.SaveEnd.{SaveEnd}
 use Rattle.loop_station_core.specs.declared.saves.Save.{Save}
 use Rattle.loop_station_core.specs.declared.saves.SaveKey.{SaveKey}
 use Rattle.loop_station_core.specs.declared.saves.Asked.{Asked}
 use Rattle.loop_station_core.specs.declared.saves.Asked.TheVariants.{Begins, Waits}
 use Rattle.loop_station_core.specs.declared.saves.Cancelled.{Cancelled}
-use Rattle.loop_station_core.specs.declared.saves.Cancelled.TheVariants.{Waiting}
+use Rattle.loop_station_core.specs.declared.saves.Cancelled.TheVariants.{Waiting, No}
 use Rattle.loop_station_core.specs.declared.saves.StoppedSave.{StoppedSave}
 
 -- What happens: a save of a clip is asked for, by an order or by itself; the one in a place comes to an end; an order
@@ -116,15 +116,42 @@ SavesWaitForPlaces = (places : ℕ) (steps : List SaveStep) → let p = saves_af
     (p.stopped ≡ true) ⊎ ((p.waiting ≡ []) ⊎ NoneIsFree p)
 
 -- how many elements of a list pass
-abbrev pub counted : {X : Type 0} → (X → Bool) → List X → ℕ
-counted f [] = 0
-counted f (x ∷ xs) = one_if (f x) + counted f xs
+abbrev pub how_many : {X : Type 0} → (X → Bool) → List X → ℕ
+how_many f [] = 0
+how_many f (x ∷ xs) = one_if (f x) + how_many f xs
 
 -- how many saves that run or wait have a key that passes
 abbrev pub readers : (SaveKey → Bool) → Places → ℕ
-readers f p = counted (has_such (has_key f)) p.running + counted (has_key f) p.waiting
+readers f p = how_many (has_such (has_key f)) p.running + how_many (has_key f) p.waiting
 
 -- Each save that was taken in runs, waits or has ended, whichever of them are looked at.
 abbrev pub SavesAddUp : Type 0
 SavesAddUp = (places : ℕ) (f : SaveKey → Bool) (steps : List SaveStep) → let p = no_saves places in
     saves_taken_in f p steps ≡ saves_ended_in f p steps + readers f (saves_after_all p steps)
+
+-- the program doesn't end
+abbrev pub NeverStops : List SaveStep → Type 0
+NeverStops [] = Unit {0}
+NeverStops (stops ∷ ss) = ⊥
+NeverStops (s ∷ ss) = NeverStops ss
+
+-- As long as the program goes on, saves do release a clip once the text of one that began by itself is there, and clips
+-- of its camera are released then: as soon as no save of it runs or waits any more.
+abbrev pub EarnedClipsAreReleased : Type 0
+EarnedClipsAreReleased = (places : ℕ) (key : SaveKey) (steps : List SaveStep) → let p = no_saves places in
+    NeverStops steps → lets_in key p steps ≡ true → is_saving (saves_after_all p steps) key ≡ false
+    → clip_released_in key p steps ≡ true
+
+-- As long as the program goes on, a save that begins by itself is taken in, and so is each one where a place is free.
+-- Once it ends, none is.
+abbrev pub SavesAreTakenIn : Type 0
+SavesAreTakenIn = (p : Places) (key : SaveKey) (automatic : Bool) (place : ℕ)
+    → (p.stopped ≡ true → is_taken (asked p key automatic).1 ≡ false)
+    × (p.stopped ≡ false → is_taken (asked p key true).1 ≡ true)
+    × (p.stopped ≡ false → slice_get p.running place ≡ Some None → is_taken (asked p key automatic).1 ≡ true)
+
+-- A cancel takes a save of the clip of its id, if one runs that isn't cancelled yet, or one waits.
+abbrev pub CancelsFindTheirSave : Type 0
+CancelsFindTheirSave = (p : Places) (camera id place : ℕ) (s : Save)
+    → (slice_get p.running place ≡ Some (Some s) → picks camera id s ≡ true → (cancelled p camera id).1 ≢ No)
+    × (slice_get p.waiting place ≡ Some s → reads camera id s ≡ true → (cancelled p camera id).1 ≢ No)

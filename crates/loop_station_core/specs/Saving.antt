@@ -1,5 +1,5 @@
 -- Which saves run, which wait, and what follows from what happens to them.
-use Rattle.std.specs.Prelude.{ℕ, ◌-◌, ◌==◌, ◌&&◌, ◌||◌, ◌++◌, Bool, true, false, not, List, [], ◌∷◌, Option, Some, None, is_some, length, remove, slice_get, slice_set, take, if◌then◌else◌, ◌≡◌}
+use Rattle.std.specs.Prelude.{ℕ, ◌-◌, ◌==◌, ◌&&◌, ◌||◌, ◌++◌, Bool, true, false, not, List, [], ◌∷◌, Option, Some, None, is_some, length, remove, slice_get, slice_set, take, if◌then◌else◌, ◌≡◌, ◌⊎◌, ◌+◌, option_map}
 use Rattle.std.specs.List.{list_any, position}
 use Rattle.loop_station_core.specs.SaveEnds.{is_saved}
 use Rattle.loop_station_core.specs.declared.save_end.SaveEnd.{SaveEnd}
@@ -220,7 +220,8 @@ IsByItself key s = (s.automatic ≡ true) × (s.cancelled ≡ false) × (is_same
 -- was cancelled, or that a user asked for, or that is of another clip, holds none back.
 abbrev pub ClipsAreSavedOnce : Type 0
 ClipsAreSavedOnce = (p : Places) (key : SaveKey)
-    → ((place : ℕ) (s : Save) → slice_get p.running place ≡ Some (Some s) → IsByItself key s → has_automatic p key ≡ true)
+    → ((place : ℕ) (s : Save) → slice_get p.running place ≡ Some (Some s)
+    → IsByItself key s → has_automatic p key ≡ true)
     × ((turn : ℕ) (s : Save) → slice_get p.waiting turn ≡ Some s → IsByItself key s → has_automatic p key ≡ true)
     × (((place : ℕ) (s : Save) → slice_get p.running place ≡ Some (Some s) → IsByItself key s → ⊥)
     → ((turn : ℕ) (s : Save) → slice_get p.waiting turn ≡ Some s → IsByItself key s → ⊥)
@@ -230,3 +231,37 @@ ClipsAreSavedOnce = (p : Places) (key : SaveKey)
 abbrev pub PlacesTellAll : Type 0
 PlacesTellAll = (s t : Saves) → places_of s ≡ places_of t
     → (s.running.items ≡ t.running.items) × (s.waiting.items ≡ t.waiting.items) × (s.stopped ≡ t.stopped)
+
+-- A clip is read exactly by the saves of its camera that are of its id, or that read each clip with its tag.
+abbrev pub ReadersAreSo : Type 0
+ReadersAreSo = (camera id : ℕ) (tag : Option ℕ) (key : SaveKey)
+    → (covers camera id tag key ≡ true
+    → (key.camera ≡ camera) × ((key.id ≡ id) ⊎ ((key.whole ≡ true) × (tag ≡ Some key.tag))))
+    × (key.camera ≡ camera → key.id ≡ id → covers camera id tag key ≡ true)
+    × (key.camera ≡ camera → key.whole ≡ true → tag ≡ Some key.tag → covers camera id tag key ≡ true)
+
+-- A save releases its clip exactly where it began by itself, its text is there, and clips of its camera are released
+-- then.
+abbrev pub SavesEarnTheirClip : Type 0
+SavesEarnTheirClip = (s : Save) (end : SaveEnd) (releases : Bool)
+    → (earns s end releases ≡ true → (s.automatic ≡ true) × (is_saved end ≡ true) × (releases ≡ true))
+    × (s.automatic ≡ true → is_saved end ≡ true → releases ≡ true → earns s end releases ≡ true)
+
+-- A cancel that finds a save that runs is of that camera's clip of that id, and it isn't found again.
+abbrev pub CancelledSavesAreTheirs : Type 0
+CancelledSavesAreTheirs = (p : Places) (camera id place : ℕ) (s : Save) → (cancelled p camera id).1 ≡ Running place
+    → slice_get p.running place ≡ Some (Some s) → (s.key.camera ≡ camera) × (s.key.id ≡ id)
+    × (has_such (picks camera id) (held_at (cancelled p camera id).0 place) ≡ false)
+
+-- Once the program ends, each save ends, one after the other, and none is left when none is told.
+abbrev pub StopsEndSaves : Type 0
+StopsEndSaves = (p : Places) → ((stopped p).0.stopped ≡ true) × ((stopped p).1 ≡ None
+    → (position is_some p.running ≡ None) × (p.waiting ≡ []))
+
+-- What begins in a free place is told, and runs there; where nothing is told, nothing begins.
+abbrev pub BegunSavesAreTold : Type 0
+BegunSavesAreTold = (p : Places) (place : ℕ) (key : SaveKey) → slice_get p.running place ≡ Some None
+    → let after = begun p place in
+    (after.1 ≡ None → after.0 ≡ p)
+    × (after.1 ≡ Some key → (option_map (λ s. s.key) (held_at after.0 place) ≡ Some key)
+    × (length after.0.waiting + 1 ≡ length p.waiting))

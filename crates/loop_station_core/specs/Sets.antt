@@ -1,5 +1,5 @@
 -- What a camera's several stores are together.
-use Rattle.std.specs.Prelude.{◌≡◌, ◌<◌, ◌≤◌, ℕ, ◌+◌, ◌*◌, ◌-◌, ◌%◌, ◌^◌, Bool, true, false, min, nat_le}
+use Rattle.std.specs.Prelude.{◌≡◌, ◌<◌, ◌≤◌, ℕ, ◌+◌, ◌*◌, ◌-◌, ◌%◌, ◌^◌, min}
 
 -- the id by which users know a clip: that of its store, and 64 times the store's number
 abbrev pub clip_id : ℕ → ℕ → ℕ
@@ -10,10 +10,6 @@ clip_id store id = store * 64 + id
 abbrev pub frames_held_since : ℕ → ℕ → ℕ → ℕ → ℕ → ℕ
 frames_held_since segments slots held began next =
     min ((segments - 1) * slots + ((next + (slots - 1)) % slots + 1)) (next - began + held)
-
--- a file's time is no earlier than this one; the clocks by which they are may differ by a minute
-abbrev pub is_written : ℕ → ℕ → Bool
-is_written written newest = nat_le newest (min (written + 60000000) (2 ^ 64 - 1))
 
 -- Of two clips of a camera with one id, both are in one store, and are the same there.
 abbrev pub ClipsHaveTheirOwnIds : Type 0
@@ -32,9 +28,3 @@ StoresHoldWhatCame = (segments slots held began next : ℕ) → 1 ≤ segments �
     → let holds = frames_held_since segments slots held began next in
     (holds ≤ held + (next - began)) × (holds ≤ segments * slots)
     × (held + (next - began) ≤ (segments - 1) * slots → holds ≡ held + (next - began))
-
--- A file is looked into exactly where it was written no more than a minute before the newest frame that is known.
-abbrev pub LateFilesAreRead : Type 0
-LateFilesAreRead = (written newest : ℕ) → newest < 2 ^ 64
-    → (newest ≤ written + 60000000 → is_written written newest ≡ true)
-    × (written + 60000000 < newest → is_written written newest ≡ false)

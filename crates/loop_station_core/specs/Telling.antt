@@ -1,5 +1,5 @@
 -- Which lines about a camera follow from what is seen of it.
-use Rattle.std.specs.Prelude.{◌≡◌, ℕ, ◌+◌, ◌-◌, ◌*◌, ◌/◌, ◌^◌, ◌==◌, ◌&&◌, ◌||◌, Bool, true, false, not, Option, Some, None, is_some, unwrap_or, max, min, nat_lt, nat_le, if◌then◌else◌, ◌≤◌, ◌<◌}
+use Rattle.std.specs.Prelude.{◌≡◌, ℕ, ◌+◌, ◌-◌, ◌*◌, ◌/◌, ◌^◌, ◌==◌, ◌&&◌, ◌||◌, Bool, true, false, not, Option, Some, None, is_some, unwrap_or, max, min, nat_lt, nat_le, if◌then◌else◌, ◌≤◌, ◌<◌, ◌⊎◌}
 use Rattle.loop_station_core.specs.declared.changes.SourceSeen.{SourceSeen}
 use Rattle.loop_station_core.specs.declared.changes.SourceSeen.TheVariants.{Missing, Silent, Other, Unusable, On}
 use Rattle.loop_station_core.specs.declared.changes.StoreSeen.{StoreSeen}
@@ -221,3 +221,34 @@ FirstLooksTellAll = (now : ℕ) (s : Seen) → now + 1000000 < 2 ^ 64 → let li
     × (s.locked ≡ true → lines.locked ≡ Some AllLocked) × (1 ≤ s.lost → lines.given_up ≡ Some (GivenUp s.lost now))
     × (s.source ≡ Missing → now + 1000000 ≤ s.now → lines.source ≡ Some SourceMissing)
     × (s.source ≡ Missing → s.now < now + 1000000 → lines.source ≡ None)
+    × (s.source ≡ Unusable → lines.unusable ≡ Some (SourceUnusable s.unusable))
+    × (1 ≤ s.blocks → s.room * 5 ≤ s.blocks → lines.nearly ≡ Some NearlyAllLocked)
+    × (1000000 < s.behind → lines.behind ≡ Some (Behind s.behind))
+    × ((percent : ℕ) → s.store ≡ Making percent → lines.making ≡ Some (Made percent))
+
+-- The first look at which a disk is measured tells how fast it is, and that it is too slow exactly where it takes fewer
+-- frames a second than come. It takes as many as it can in the time of two syncs for each group.
+abbrev pub SlowDisksAreTold : Type 0
+SlowDisksAreTold = (r : Reported) (s : Seen) (d : DiskSeen) → r.disk ≡ false → s.disk ≡ Some d → 1 ≤ d.sync
+    → let lines = lines_of r s in let frames = disk_frames d in
+    (lines.syncs ≡ Some (Syncs d.sync)) × (frames * d.rate_den < d.rate_num → lines.slow ≡ Some (TooSlow d.sync frames))
+    × (d.rate_num ≤ frames * d.rate_den → lines.slow ≡ None)
+    × (frames * d.sync ≤ d.group * 500000) × (d.group * 500000 < (frames + 1) * d.sync)
+
+-- A wait for memory that wasn't told is told once it has lasted for a second, or once it is over, if it was a tenth of
+-- one: over once none was seen for a second.
+abbrev pub LongWaitsAreTold : Type 0
+LongWaitsAreTold = (r : Reported) (s : Seen) (since : ℕ) → r.waited.told ≡ 0 → let lines = lines_of r s in
+    (r.waited.since ≡ None → s.waited ≡ Some since → since + 1000000 ≤ s.now
+    → lines.waited ≡ Some (Waited (s.now - since) since))
+    × (r.waited.since ≡ Some since → s.waited ≡ None → r.waited.last + 1000000 ≤ s.now
+    → since + 100000 ≤ r.waited.last → lines.waited ≡ Some (Waited (r.waited.last - since) since))
+
+-- Lost frames are told as soon as they are seen, with how many and since when, but no more than once a second, unless
+-- the program ends.
+abbrev pub LostFramesAreToldSoon : Type 0
+LostFramesAreToldSoon = (r : Reported) (s : Seen) → let line = (lines_of r s).given_up in
+    (r.lost.frames < s.lost → r.lost.again ≤ s.now
+    → line ≡ Some (GivenUp (s.lost - r.lost.frames) r.lost.since))
+    × (is_some line ≡ true → ((r.lost.again ≤ s.now) ⊎ (s.stopping ≡ true))
+    × (s.now + 1000000 < 2 ^ 64 → (known_after r s).lost.again ≡ s.now + 1000000))

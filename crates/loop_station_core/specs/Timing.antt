@@ -21,9 +21,6 @@ abbrev pub is_back : Option ℕ → Option ℕ → Bool
 is_back (Some last) (Some said) = nat_le said last
 is_back _ _ = false
 
-abbrev pub goes_back : Timing → Arrival → Bool
-goes_back t a = is_back t.last a.said
-
 -- the gap before a time, if it is longer than one and a half of a frame's time
 abbrev pub gap_since : Bool → Option ℕ → ℕ → ℕ → Option ℕ
 gap_since streams None time period = None
@@ -31,17 +28,11 @@ gap_since streams (Some last) time period =
     if streams && (nat_lt 0 period && nat_lt (min (period + period / 2) (2 ^ 64 - 1)) (time - last))
     then Some (time - last) else None
 
-abbrev pub gap_of : Timing → ℕ → ℕ → Option ℕ
-gap_of t time period = gap_since t.streams t.last time period
-
 -- a gap is told unless one was told less than a second before
 abbrev pub tells : Option ℕ → Option ℕ → ℕ → Bool
 tells None told now = false
 tells (Some gap) None now = true
 tells (Some gap) (Some told) now = nat_le 1000000 (now - told)
-
-abbrev pub is_told : Timing → Option ℕ → ℕ → Bool
-is_told t gap now = tells gap t.told now
 
 abbrev pub counted : ℕ → Option ℕ → ℕ
 counted gaps gap = if is_some gap then min (gaps + 1) (2 ^ 64 - 1) else gaps
@@ -53,15 +44,15 @@ stamped_with t a time gap = (
     last = Some time;
     streams = true;
     gaps = counted t.gaps gap;
-    told = if is_told t gap a.now then Some a.now else t.told;
-    back = t.back || goes_back t a;
+    told = if tells gap t.told a.now then Some a.now else t.told;
+    back = t.back || is_back t.last a.said;
     untimed = t.untimed || is_none a.said;
   },
   record {
     time = time;
-    back = goes_back t a && not t.back;
+    back = is_back t.last a.said && not t.back;
     untimed = is_none a.said && not t.untimed;
-    gap = if is_told t gap a.now then gap else None;
+    gap = if tells gap t.told a.now then gap else None;
   },
 )
 
@@ -69,12 +60,7 @@ stamped_with t a time gap = (
 abbrev pub step_timing : Timing → Arrival → Timing × Stamped
 step_timing t a =
     let time = later t.last (said_or_now a) in
-    stamped_with t a time (gap_of t time a.period)
-
--- what is known after frames that have come
-abbrev pub timed_by : Timing → List Arrival → Timing
-timed_by t [] = t
-timed_by t (a ∷ more) = timed_by (step_timing t a).0 more
+    stamped_with t a time (gap_since t.streams t.last time a.period)
 
 -- each frame's time is later than that of the frame before, as long as there are later ones
 abbrev pub EachLater : Timing → List Arrival → Type 0
@@ -93,8 +79,9 @@ GapsAreToldApart = (t : Timing) (a : Arrival) (told : ℕ) → t.told ≡ Some t
 
 -- A frame has the time that its source says, or else that at which it came, wherever this is later than the last one.
 abbrev pub TimesAreTheSources : Type 0
-TimesAreTheSources = (t : Timing) (a : Arrival) (last : ℕ) → let time = (step_timing t a).1.time in
-    (t.last ≡ None → time ≡ said_or_now a) × (t.last ≡ Some last → last < said_or_now a → time ≡ said_or_now a)
+TimesAreTheSources = (t : Timing) (a : Arrival) (last said : ℕ) → let time = (step_timing t a).1.time in
+    (a.said ≡ Some said → said_or_now a ≡ said) × (a.said ≡ None → said_or_now a ≡ a.now)
+    × (t.last ≡ None → time ≡ said_or_now a) × (t.last ≡ Some last → last < said_or_now a → time ≡ said_or_now a)
 
 -- A gap is told only where more than one and a half of a frame's time passed since the last one; and where so much did
 -- in a stream, one is told unless that was so within a second. Each counts, told or not.
@@ -104,3 +91,13 @@ LongGapsAreTold = (t : Timing) (a : Arrival) (last : ℕ) → t.last ≡ Some la
     (is_some now.1.gap ≡ true → (now.1.gap ≡ Some gap) × (a.period + a.period / 2 < gap))
     × (t.streams ≡ true → 1 ≤ a.period → a.period + a.period / 2 < gap
     → (t.gaps + 1 < 2 ^ 64 → now.0.gaps ≡ t.gaps + 1) × (t.told ≡ None → now.1.gap ≡ Some gap))
+
+-- That a source's time isn't later than the last one, or that it says none, is told the first time that it is so, and
+-- not again.
+abbrev pub OddTimesAreToldOnce : Type 0
+OddTimesAreToldOnce = (t : Timing) (a : Arrival) (last said : ℕ) → let now = step_timing t a in
+    (t.back ≡ true → (now.1.back ≡ false) × (now.0.back ≡ true))
+    × (t.untimed ≡ true → (now.1.untimed ≡ false) × (now.0.untimed ≡ true))
+    × (t.back ≡ false → t.last ≡ Some last → a.said ≡ Some said → said ≤ last
+    → (now.1.back ≡ true) × (now.0.back ≡ true))
+    × (t.untimed ≡ false → a.said ≡ None → (now.1.untimed ≡ true) × (now.0.untimed ≡ true))

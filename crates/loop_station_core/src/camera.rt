@@ -1,7 +1,7 @@
 //! A camera's life: whether it is filmed, when a filming ends and what follows, and the state of its source.
 
-ghost use Rattle.std.specs.Prelude.{◌≡◌};
-ghost use Rattle.loop_station_core.specs.Cameras.{after_filming, films, is_silent, source_seen, step_camera, step_filming, step_source, without_store};
+ghost use Rattle.std.specs.Prelude.{◌≡◌, ◌≢◌, ◌↔◌, ◌⊎◌, IsTrue, false};
+ghost use Rattle.loop_station_core.specs.Cameras.{after_filming, is_silent, source_seen, step_camera, step_filming, step_source, without_store};
 
 use crate::SourceSeen;
 
@@ -263,7 +263,7 @@ impl Camera {
 
     /// Whether its filming goes on, when so many frames have come from the source and so many of them were taken.
     pub fn films(&self, come: u64, taken: u64) -> bool
-        ensures { result ≡ films self.now come taken }
+        ensures { IsTrue result ↔ ((self.now.over ≡ false) × ((self.now.stopping ≡ false) ⊎ (come ≢ taken))) }
     {
         !self.over && (!self.stopping || come != taken)
     }

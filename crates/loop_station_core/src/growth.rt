@@ -1,8 +1,9 @@
 //! What is answered to a keep, and what is done of an event whose end lies ahead.
 
-ghost use Rattle.std.specs.Prelude.{◌≡◌};
+ghost use Rattle.std.specs.Prelude.{◌≡◌, ◌==◌, not, ◌≤◌, ◌<◌, ◌↔◌, IsTrue, true, false};
 ghost use Rattle.std.specs.List.{list_any};
-ghost use Rattle.loop_station_core.specs.Growth.{answer_to_keep, growth_turn, has_event_number, how_event_ends, is_saved_at_start};
+ghost use Rattle.loop_station_core.specs.declared.growth.GrowthTurn.TheVariants.{End, Leave, Release};
+ghost use Rattle.loop_station_core.specs.declared.growth.EventEnd.TheVariants.{Refused, Whole};
 
 /// Which lines answer a keep of a camera, besides one for each clip and each refusal.
 #[derive(Clone, Copy)]
@@ -18,7 +19,9 @@ pub struct KeptAnswer {
 /// The lines for a keep that has locked so many clips. `refused`: the desk refused to lock more; `is_whole`: nothing of
 /// its time lies ahead.
 pub fn kept_answer(clips: usize, refused: bool, is_whole: bool) -> KeptAnswer
-    ensures { result ≡ answer_to_keep clips refused is_whole }
+    ensures none { IsTrue result.none ↔ ((clips ≡ 0) × (refused ≡ false)) }
+    ensures held { IsTrue result.held ↔ ((is_whole ≡ true) × (1 ≤ clips)) }
+    ensures begun { IsTrue result.begun ↔ (is_whole ≡ false) }
 {
     KeptAnswer {
         none: clips == 0 && !refused,
@@ -43,7 +46,10 @@ pub enum GrowthTurn {
 /// What is done next: `covered`: a clip of it lies within a longer one; `is_done`: it is locked to its end; `until`:
 /// its end. At a stop it is left where its end lies ahead.
 pub fn next_growth(covered: bool, is_done: bool, stopping: bool, now: u64, until: u64) -> GrowthTurn
-    ensures { result ≡ growth_turn covered is_done stopping now until }
+    ensures release { (result ≡ Release) ↔ (covered ≡ true) }
+    ensures end { (result ≡ End) ↔ ((covered ≡ false) × (is_done ≡ true)) }
+    ensures leave { (result ≡ Leave)
+        ↔ ((covered ≡ false) × (is_done ≡ false) × (stopping ≡ true) × (now < until)) }
 {
     if covered {
         return GrowthTurn::Release;
@@ -71,7 +77,7 @@ pub struct OpenEvent {
 
 // Whether one of some events has a number.
 fn has_event(events: &[OpenEvent], number: u64) -> bool
-    ensures { result ≡ list_any (has_event_number number) events.now }
+    ensures { result ≡ list_any (λ e. e.event == number) events.now }
 {
     events.iter().any(|event| event.event == number)
 }
@@ -80,7 +86,7 @@ fn has_event(events: &[OpenEvent], number: u64) -> bool
 /// it is tagged with the number of an event that goes on, whose clips are saved once it is over. Where an event has a
 /// tag of the user's, what it had locked before the program ended stays a clip of its own, and is saved.
 pub fn is_saved_at_start(tag: u64, events: &[OpenEvent]) -> bool
-    ensures { result ≡ is_saved_at_start tag events.now }
+    ensures { result ≡ not (list_any (λ e. e.event == tag) events.now) }
 {
     !has_event(events, tag)
 }
@@ -98,7 +104,8 @@ pub enum EventEnd {
 
 /// How an event ended of which the store refused to lock more, or not, and all is held, or not.
 pub fn event_end(refused: bool, all_held: bool) -> EventEnd
-    ensures { result ≡ how_event_ends refused all_held }
+    ensures refused { (result ≡ Refused) ↔ (refused ≡ true) }
+    ensures whole { (result ≡ Whole) ↔ ((refused ≡ false) × (all_held ≡ true)) }
 {
     if refused {
         EventEnd::Refused

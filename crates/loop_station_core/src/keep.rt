@@ -1,7 +1,7 @@
 //! A keep of one camera: when it locks, and of which times.
 
-ghost use Rattle.std.specs.Prelude.{◌≡◌, ◌+◌, ◌-◌, ◌^◌, ◌<◌, ◌↔◌, IsTrue, max, nat_le, if◌then◌else◌};
-ghost use Rattle.loop_station_core.specs.Keeps.{acts, asked_time, bounds, end_seen, is_clear, is_done, looked, needed, part_is_due, part_locked, progress_seen, step_keep, steps_taken, tag_of};
+ghost use Rattle.std.specs.Prelude.{◌≡◌, ◌≢◌, IfSome, None, ◌+◌, ◌-◌, ◌^◌, ◌<◌, ◌↔◌, IsTrue, max, nat_le, if◌then◌else◌};
+ghost use Rattle.loop_station_core.specs.Keeps.{acts, asked_time, bounds, end_seen, is_clear, is_done, looked, needed, part_is_due, part_locked, progress_seen, step_keep, steps_taken};
 
 use crate::{OpenEvent, Tally};
 
@@ -210,8 +210,8 @@ impl Keep {
     }
 }
 
-/// What a keep does once it was looked at. It locks only once each frame that had come before its line is at the desk or
-/// lost, or each block is locked, or no frame has made progress for a minute.
+/// What a keep does once it was looked at. It locks only once each frame that had come before its line is at the desk
+/// or lost, or each block is locked, or no frame has made progress for a minute.
 pub fn next_turn(keep: Keep, look: &Look) -> (Keep, KeepTurn)
     ensures { result ≡ step_keep keep look.now }
 {
@@ -242,7 +242,9 @@ pub fn asked_time(period: KeepPeriod, read: u64, before: u32, after: u32) -> (u6
 /// The tag of the clips of an event: that which its line says, or else the camera's `own`, or where that is 0 the
 /// event's number.
 pub fn tag_of(said: Option<u64>, own: u64, event: u64) -> u64
-    ensures { result ≡ tag_of said own event }
+    ensures said { IfSome said (λ tag. result ≡ tag) }
+    ensures own { said ≡ None → own ≢ 0 → result ≡ own }
+    ensures event { said ≡ None → own ≡ 0 → result ≡ event }
 {
     match said {
         Some(tag) => tag,

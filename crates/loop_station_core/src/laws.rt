@@ -1,24 +1,20 @@
 //! What holds over any list of events. Each function does nothing: its contract is the law.
 
-ghost use Rattle.loop_station_core.specs.Laws.{DisksAreToldOnce, FilmingsGoOn, FoundGapsAreSo, FramesAddUp, GapsAddUp, GapsAreLookedFor, KeepsAreRight, LinesAreSo, LockedLinesAlternate, LockedLinesTellAll, LostAreToldOnce, MovedStoresAreLeft, OrdersAreAnsweredOnce, OrdersAreHandedOut, OrdersReleaseUnreadClips, OrdersSpareReadClips, ReleasesAreEarned, ReleasesAreFree, SavedClipsAreReleased, SavedTextsAreThere, SavesWaitOnce, SilentSourcesWait, StopsAreForGood, WithdrawnSavesLeaveNothing};
-ghost use Rattle.loop_station_core.specs.Cameras.{CamerasEndWithTheProgram, EndedFilmingsGoOn, FilmsWhileFramesWait, LockedFilmingsWait, OffersAreAnswered, SilenceIsSeen};
-ghost use Rattle.loop_station_core.specs.Gaps.{CoveredPartsAreWithin, TimesAddUp};
-ghost use Rattle.loop_station_core.specs.Growth.{ClipsOfOpenEventsWait, EventsEndOnceDone, KeepsAreAnswered, WholeEventsAreWhole};
-ghost use Rattle.loop_station_core.specs.Keeps.{KeepsCoverBothEnds, KeepsCoverTheirSeconds, KeepsEnd, KeepsHaveAll, KeepsLockEachBlock, KeepsTakeTheCamerasSeconds, TagsAreTheUsers};
-ghost use Rattle.loop_station_core.specs.Marks.{LateFramesAreMarked, MarksAreRead};
-ghost use Rattle.loop_station_core.specs.Stores.{MovedStoresAreElsewhere, StoresWithFramesGoOn};
-ghost use Rattle.loop_station_core.specs.Releases.{SavesAddUp, SavesWaitForPlaces};
+ghost use Rattle.loop_station_core.specs.Laws.{BrokenFilmingsEnd, DisksAreToldOnce, FilmingsGoOn, FoundGapsAreSo, FramesAddUp, GapsAddUp, GapsAreLookedFor, KeepsAreRight, LinesAreSo, LockedLinesAlternate, LockedLinesTellAll, LostAreToldOnce, MovedStoresAreLeft, NothingIsToldTwice, OrdersAreAnsweredOnce, OrdersAreHandedOut, OrdersReleaseUnreadClips, OrdersSpareReadClips, ReleasesAreEarned, ReleasesAreFree, SavedClipsAreReleased, SavedTextsAreThere, SavesWaitOnce, SearchesLookAtAll, SilentSourcesWait, StopsAreForGood, TextsAreSaved, UnreadSavedClipsAreReleased, WithdrawnSavesLeaveNothing};
+ghost use Rattle.loop_station_core.specs.Cameras.{CamerasEndWithTheProgram, EndedFilmingsGoOn, LockedBlocksAreKnown, LockedFilmingsWait, OffersAreAnswered, SilenceIsSeen, SourcesAreSeen, StoresAreOpenedAgain};
+ghost use Rattle.loop_station_core.specs.Gaps.{CoveredPartsAreWithin, LongGapsAreLong, TimesAddUp};
+ghost use Rattle.loop_station_core.specs.Keeps.{KeepsCoverBothEnds, KeepsCoverTheirSeconds, KeepsEnd, KeepsHaveAll, KeepsLockEachBlock, KeepsLockOnce, KeepsTakeTheCamerasSeconds, ProgressIsSeen, StuckKeepsEnd};
+ghost use Rattle.loop_station_core.specs.Marks.{MarksAreRead};
+ghost use Rattle.loop_station_core.specs.Releases.{CancelsFindTheirSave, EarnedClipsAreReleased, SavesAddUp, SavesAreTakenIn, SavesWaitForPlaces};
 ghost use Rattle.loop_station_core.specs.Retries.{CancelsMeanTheirClip, DueRetriesAreTaken, RetriesAreDue};
-ghost use Rattle.loop_station_core.specs.Timing.{FrameTimesRise, GapsAreToldApart, LongGapsAreTold, TimesAreTheSources};
-ghost use Rattle.loop_station_core.specs.Sets.{ClipsHaveTheirOwnIds, IdsAreThoseOfTheFile, LateFilesAreRead, StoresHoldWhatCame};
-ghost use Rattle.loop_station_core.specs.Still.{StandstillsAreTold};
-ghost use Rattle.loop_station_core.specs.Spools.{DroppedLinesAreTold, UnreadLinesAreKept};
-ghost use Rattle.loop_station_core.specs.Clips.{KeepsHaveRoom};
-ghost use Rattle.loop_station_core.specs.Orders.{IdleCamerasAreDone};
-ghost use Rattle.loop_station_core.specs.Saving.{ClipsAreSavedOnce, PlacesTellAll};
+ghost use Rattle.loop_station_core.specs.Timing.{FrameTimesRise, GapsAreToldApart, LongGapsAreTold, OddTimesAreToldOnce, TimesAreTheSources};
+ghost use Rattle.loop_station_core.specs.Sets.{ClipsHaveTheirOwnIds, IdsAreThoseOfTheFile, StoresHoldWhatCame};
+ghost use Rattle.loop_station_core.specs.Clips.{KeepsHaveRoom, RefusedReleasesAreSo};
+ghost use Rattle.loop_station_core.specs.Orders.{IdleCamerasAreDone, OrdersAreTakenIn};
+ghost use Rattle.loop_station_core.specs.Saving.{BegunSavesAreTold, CancelledSavesAreTheirs, ClipsAreSavedOnce, PlacesTellAll, ReadersAreSo, SavesEarnTheirClip, StopsEndSaves};
 ghost use Rattle.loop_station_core.specs.Frames.{LostFramesWereGivenUp, TalliesAddUp};
 ghost use Rattle.loop_station_core.specs.SaveEnds.{EndsAreTold, RetriesAreTold};
-ghost use Rattle.loop_station_core.specs.Telling.{FirstLooksTellAll, LinesTellAll};
+ghost use Rattle.loop_station_core.specs.Telling.{FirstLooksTellAll, LinesTellAll, LongWaitsAreTold, LostFramesAreToldSoon, SlowDisksAreTold};
 
 /// Each frame that came is stored, lost, at the desk, or on its way to it.
 pub fn frames_add_up()
@@ -155,7 +151,8 @@ pub fn orders_are_answered_once()
     ensures { OrdersAreAnsweredOnce }
 {}
 
-/// A keep whose end has passed is done at the first look at which each frame that had come by then is at the desk or lost.
+/// A keep whose end has passed is done at the first look at which each frame that had come by then is at the desk or
+/// lost.
 pub fn keeps_end()
     ensures { KeepsEnd }
 {}
@@ -166,24 +163,9 @@ pub fn keeps_have_all()
     ensures { KeepsHaveAll }
 {}
 
-/// A camera is filmed as long as nothing breaks and the program goes on, or frames that came wait for the device.
-pub fn films_while_frames_wait()
-    ensures { FilmsWhileFramesWait }
-{}
-
-/// A store that has a frame isn't made anew.
-pub fn stores_with_frames_go_on()
-    ensures { StoresWithFramesGoOn }
-{}
-
 /// A part is released as covered only where each of its frames is in the longer clip.
 pub fn covered_parts_are_within()
     ensures { CoveredPartsAreWithin }
-{}
-
-/// An event is told as whole only where nothing of it was refused, and all of its time is held.
-pub fn whole_events_are_whole()
-    ensures { WholeEventsAreWhole }
 {}
 
 /// No save waits while a place is free, unless the program ends.
@@ -206,11 +188,6 @@ pub fn keeps_cover_both_ends()
     ensures { KeepsCoverBothEnds }
 {}
 
-/// A clip's tag is its line's, or else its camera's, or else its event's number.
-pub fn tags_are_the_users()
-    ensures { TagsAreTheUsers }
-{}
-
 /// No two clips of a camera have one id.
 pub fn clips_have_their_own_ids()
     ensures { ClipsHaveTheirOwnIds }
@@ -221,47 +198,6 @@ pub fn ids_are_those_of_the_file()
     ensures { IdsAreThoseOfTheFile }
 {}
 
-/// A store is moved away exactly where its path doesn't name its file.
-pub fn moved_stores_are_elsewhere()
-    ensures { MovedStoresAreElsewhere }
-{}
-
-/// At a start a clip is saved by itself exactly where it is of no event that goes on.
-pub fn clips_of_open_events_wait()
-    ensures { ClipsOfOpenEventsWait }
-{}
-
-/// A keep is told to go on, to be held already, or to have found nothing, each exactly where it is so.
-pub fn keeps_are_answered()
-    ensures { KeepsAreAnswered }
-{}
-
-/// An event is over exactly once its keep is done and covers no other clip. It is left to the next start exactly where
-/// the program ends before.
-pub fn events_end_once_done()
-    ensures { EventsEndOnceDone }
-{}
-
-/// A frame is marked as late exactly where it came while the program stood still, or just after.
-pub fn late_frames_are_marked()
-    ensures { LateFramesAreMarked }
-{}
-
-/// A standstill is told exactly where it was longer than a second, and for as long as it was.
-pub fn standstills_are_told()
-    ensures { StandstillsAreTold }
-{}
-
-/// A line is dropped only without room, or before it is said how many were.
-pub fn dropped_lines_are_told()
-    ensures { DroppedLinesAreTold }
-{}
-
-/// While nobody reads, the last 64 KiB of lines are kept.
-pub fn unread_lines_are_kept()
-    ensures { UnreadLinesAreKept }
-{}
-
 /// As many keeps of a length as are told to fit into a store do, wherever in a block each begins.
 pub fn keeps_have_room()
     ensures { KeepsHaveRoom }
@@ -270,11 +206,6 @@ pub fn keeps_have_room()
 /// A store holds no more frames than came and than have room, and all of them while they fit into all segments but one.
 pub fn stores_hold_what_came()
     ensures { StoresHoldWhatCame }
-{}
-
-/// A file is looked into exactly where it may have frames as new as the newest that is known.
-pub fn late_files_are_read()
-    ensures { LateFilesAreRead }
 {}
 
 /// A camera has nothing to do exactly once each order that it took in was handed out, and none is being done.
@@ -391,4 +322,136 @@ pub fn first_looks_tell_all()
 /// Whoever reads the lines about locked blocks knows whether each was locked at the last look.
 pub fn locked_lines_tell_all()
     ensures { LockedLinesTellAll }
+{}
+
+/// A clip is released once the text of a save that began by itself is there, where clips of its camera are released
+/// then: as soon as no other save of it runs or waits, unless the program ends.
+pub fn earned_clips_are_released()
+    ensures { EarnedClipsAreReleased }
+{}
+
+/// While the program goes on, a store that isn't there is opened again, or made anew once where it was moved away.
+pub fn stores_are_opened_again()
+    ensures { StoresAreOpenedAgain }
+{}
+
+/// Each block is known to be locked from a refused flush on until a frame is stored, or another filming begins.
+pub fn locked_blocks_are_known()
+    ensures { LockedBlocksAreKnown }
+{}
+
+/// A source is seen as what it was found to be, and as missing once it has ended.
+pub fn sources_are_seen()
+    ensures { SourcesAreSeen }
+{}
+
+/// Once something breaks, or its store is moved away, a filming is over, whatever happens, until another one begins.
+pub fn broken_filmings_end()
+    ensures { BrokenFilmingsEnd }
+{}
+
+/// The very clip that was saved is released where each save that reads it has ended.
+pub fn unread_saved_clips_are_released()
+    ensures { UnreadSavedClipsAreReleased }
+{}
+
+/// Where a camera is looked at again, and nothing has changed, nothing is told.
+pub fn nothing_is_told_twice()
+    ensures { NothingIsToldTwice }
+{}
+
+/// A search passes no stretch in which it sees a gap, and is over only at its end.
+pub fn searches_look_at_all()
+    ensures { SearchesLookAtAll }
+{}
+
+/// A text whose bytes, name and folder came to the disk is told to be saved; a new name that fails is taken away.
+pub fn texts_are_saved()
+    ensures { TextsAreSaved }
+{}
+
+/// A disk that takes fewer frames than come is told as too slow, and no other one.
+pub fn slow_disks_are_told()
+    ensures { SlowDisksAreTold }
+{}
+
+/// A wait for memory is told once it has lasted for a second, or is over after a tenth of one.
+pub fn long_waits_are_told()
+    ensures { LongWaitsAreTold }
+{}
+
+/// An order is taken in exactly where somebody does orders, or is still to come, and fewer than 256 wait.
+pub fn orders_are_taken_in()
+    ensures { OrdersAreTakenIn }
+{}
+
+/// A save that begins by itself is taken in, and each one where a place is free, as long as the program goes on.
+pub fn saves_are_taken_in()
+    ensures { SavesAreTakenIn }
+{}
+
+/// A cancel takes a save of the clip of its id, if one runs or waits.
+pub fn cancels_find_their_save()
+    ensures { CancelsFindTheirSave }
+{}
+
+/// That a time goes back, or is missing, is told the first time, and not again.
+pub fn odd_times_are_told_once()
+    ensures { OddTimesAreToldOnce }
+{}
+
+/// A keep whose end has passed, or at a stop, is done once its frames are there, each block is locked, or nothing
+/// moves.
+pub fn stuck_keeps_end()
+    ensures { StuckKeepsEnd }
+{}
+
+/// A keep sees when a frame makes progress, and takes nothing else for that.
+pub fn progress_is_seen()
+    ensures { ProgressIsSeen }
+{}
+
+/// A keep locks a part only once for each block.
+pub fn keeps_lock_once()
+    ensures { KeepsLockOnce }
+{}
+
+/// A gap is long exactly where it is longer than one and a half of a frame's time.
+pub fn long_gaps_are_long()
+    ensures { LongGapsAreLong }
+{}
+
+/// A clip is read exactly by the saves of its camera that are of its id, or that read each clip with its tag.
+pub fn readers_are_so()
+    ensures { ReadersAreSo }
+{}
+
+/// A save releases its clip exactly where it began by itself, its text is there, and its camera releases clips then.
+pub fn saves_earn_their_clip()
+    ensures { SavesEarnTheirClip }
+{}
+
+/// A cancel is of the clip of its camera and id, and finds each save once.
+pub fn cancelled_saves_are_theirs()
+    ensures { CancelledSavesAreTheirs }
+{}
+
+/// Once the program ends each save ends, one after the other, and none is left when none is told.
+pub fn stops_end_saves()
+    ensures { StopsEndSaves }
+{}
+
+/// The save that begins in a free place is told, and runs there.
+pub fn begun_saves_are_told()
+    ensures { BegunSavesAreTold }
+{}
+
+/// An order that may not release a clip is told why: a save reads it, or another one has its id.
+pub fn refused_releases_are_so()
+    ensures { RefusedReleasesAreSo }
+{}
+
+/// Lost frames are told as soon as they are seen, but no more than once a second, unless the program ends.
+pub fn lost_frames_are_told_soon()
+    ensures { LostFramesAreToldSoon }
 {}

@@ -1,7 +1,7 @@
 //! The mark of a frame, which stands in its flags: how many bits its samples have, and whether it came late.
 
-ghost use Rattle.std.specs.Prelude.{◌≡◌};
-ghost use Rattle.loop_station_core.specs.Marks.{bits_of, came_late, mark};
+ghost use Rattle.std.specs.Prelude.{◌≡◌, ◌<◌, ◌+◌, ◌⊎◌, ◌↔◌, IsTrue};
+ghost use Rattle.loop_station_core.specs.Marks.{IsJustAfter, bits_of, mark};
 
 // What the bits of a sample are multiplied by in a mark.
 const BITS: u32 = 16_777_216;
@@ -35,7 +35,7 @@ pub fn bits_of(flags: u32) -> u32
 /// Whether a frame that came at `now` came while the program stood still: it was seen to run last too long before, or
 /// was seen shortly before to have stood still.
 pub fn came_late(now: u64, seen: u64, still: Option<u64>) -> bool
-    ensures { result ≡ came_late now seen still }
+    ensures { IsTrue result ↔ ((seen + 1100000 < now) ⊎ IsJustAfter now still) }
 {
     if now.saturating_sub(seen) > STILL {
         return true;

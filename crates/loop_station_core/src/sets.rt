@@ -1,7 +1,7 @@
 //! What a camera's several stores are together: their clips' ids, what they hold, and which is recorded into first.
 
-ghost use Rattle.std.specs.Prelude.{◌≡◌, ◌≤◌, ◌<◌, ◌+◌, ◌*◌, ◌-◌, ◌/◌, ◌%◌, ◌^◌, min};
-ghost use Rattle.loop_station_core.specs.Sets.{clip_id, frames_held_since, is_written};
+ghost use Rattle.std.specs.Prelude.{◌≡◌, ◌≤◌, ◌<◌, ◌+◌, ◌*◌, ◌-◌, ◌/◌, ◌%◌, ◌^◌, ◌↔◌, IsTrue, min};
+ghost use Rattle.loop_station_core.specs.Sets.{clip_id, frames_held_since};
 
 // How many clips a store has at most.
 const CLIPS: u32 = 64;
@@ -39,7 +39,7 @@ pub fn held_after(segments: u32, slots: u32, held: u64, began: u64, next: u64) -
 /// Whether a file that was written last at a time may have frames that are newer than one of another store, in
 /// microseconds since 1970.
 pub fn is_written_since(written: u64, newest: u64) -> bool
-    ensures { result ≡ is_written written newest }
+    ensures { IsTrue result ↔ (newest ≤ written + 60000000) }
 {
     written.saturating_add(AHEAD) >= newest
 }

@@ -1,7 +1,6 @@
 //! Which lines on their way to a reader are dropped.
 
-ghost use Rattle.std.specs.Prelude.{◌≡◌};
-ghost use Rattle.loop_station_core.specs.Spools.{drops_oldest, says_dropped, takes_line};
+ghost use Rattle.std.specs.Prelude.{◌≡◌, ◌≤◌, ◌<◌, ◌+◌, ◌↔◌, IsTrue};
 
 /// How many bytes of lines wait at most.
 pub const MOST_SPOOLED: usize = 1_048_576;
@@ -15,21 +14,21 @@ const UNREAD: usize = 65_536;
 /// Whether a line of so many bytes is taken in, and not dropped, where so many bytes wait, and so many lines were
 /// dropped after those.
 pub fn takes_line(waiting: usize, dropped: u64, line: usize) -> bool
-    ensures { result ≡ takes_line waiting dropped line }
+    ensures { IsTrue result ↔ ((dropped ≡ 0) × (waiting + line ≤ 1048576)) }
 {
     dropped == 0 && line <= MOST_SPOOLED && waiting <= MOST_SPOOLED - line
 }
 
 /// Whether it is said now that so many lines were dropped, after so many bytes that wait.
 pub fn says_dropped(waiting: usize, dropped: u64) -> bool
-    ensures { result ≡ says_dropped waiting dropped }
+    ensures { IsTrue result ↔ ((1 ≤ dropped) × (waiting + 262144 ≤ 1048576)) }
 {
     dropped > 0 && waiting <= ROOM_AGAIN
 }
 
 /// Whether the oldest line is dropped for so many bytes more, where so many wait and nobody reads.
 pub fn drops_oldest(waiting: usize, more: usize) -> bool
-    ensures { result ≡ drops_oldest waiting more }
+    ensures { IsTrue result ↔ ((1 ≤ waiting) × (65536 < waiting + more)) }
 {
     waiting > 0 && (more > UNREAD || waiting > UNREAD - more)
 }

@@ -1,7 +1,7 @@
 //! The times of frames that their source says, and the gaps between them.
 
 ghost use Rattle.std.specs.Prelude.{◌≡◌, false};
-ghost use Rattle.loop_station_core.specs.Timing.{counted, gap_of, goes_back, is_told, later, said_or_now, step_timing};
+ghost use Rattle.loop_station_core.specs.Timing.{counted, gap_since, is_back, later, said_or_now, step_timing, tells};
 
 // A gap is told only where the one before was told so many microseconds earlier.
 const TOLD_AGAIN: u64 = 1_000_000;
@@ -117,7 +117,7 @@ fn later(last: Option<u64>, time: u64) -> u64
 
 // Whether the time that its source says isn't later than the last one.
 fn goes_back(timing: Timing, frame: Arrival) -> bool
-    ensures { result ≡ goes_back timing frame }
+    ensures { result ≡ is_back timing.last frame.said }
 {
     match (timing.last, frame.said) {
         (Some(last), Some(said)) => said <= last,
@@ -127,7 +127,7 @@ fn goes_back(timing: Timing, frame: Arrival) -> bool
 
 // The gap before a time, if it is longer than one and a half of a frame's time.
 fn gap_of(timing: Timing, time: u64, period: u64) -> Option<u64>
-    ensures { result ≡ gap_of timing time period }
+    ensures { result ≡ gap_since timing.streams timing.last time period }
 {
     let Some(last) = timing.last else {
         return None;
@@ -142,7 +142,7 @@ fn gap_of(timing: Timing, time: u64, period: u64) -> Option<u64>
 
 // Whether a gap is told now.
 fn is_told(timing: Timing, gap: Option<u64>, now: u64) -> bool
-    ensures { result ≡ is_told timing gap now }
+    ensures { result ≡ tells gap timing.told now }
 {
     match (gap, timing.told) {
         (None, _) => false,

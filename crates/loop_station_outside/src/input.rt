@@ -15,6 +15,16 @@ const MAGIC: [u8; LENGTH] = *b"YUV4MPEG2 ";
 
 const LENGTH: usize = 10;
 
+// How the line of a frame begins, and how many bytes that are with the one after it.
+const FRAME: [u8; 5] = *b"FRAME";
+
+const FRAME_LENGTH: usize = 6;
+
+// How many bytes the line of a frame has at most, and how many of its bytes are read ahead at once.
+const LINE_MOST: u32 = 4_096;
+
+const PIECE: usize = 4_096;
+
 // Reads of at most so many bytes are of lines, and others of frames.
 const OF_LINES: usize = 16;
 
@@ -72,6 +82,54 @@ fn find_beginning(bytes: &[u8], from: usize, least: usize) -> Option<usize> {
         at = at.saturating_add(1);
     }
     None
+}
+
+// Where a header or the line of a frame may begin among bytes.
+fn may_begin(bytes: &[u8]) -> Option<usize> {
+    bytes.iter().position(|byte| *byte == b'F' || *byte == b'Y')
+}
+
+/// What comes first in an input that is read from amid a writer's text on.
+#[derive(Clone, Copy, PartialEq, Eq)]
+pub enum Joined {
+    /// A header.
+    Header,
+    /// The line of a frame.
+    Frame,
+    /// The end.
+    End,
+    /// None of these, in as many bytes as were looked at.
+    Other,
+}
+
+// What bytes begin as: a header or the line of a frame. None where nothing can be said yet.
+fn beginning_of(bytes: &[u8]) -> Option<Joined> {
+    if bytes == MAGIC.as_slice() {
+        return Some(Joined::Header);
+    }
+    if bytes.starts_with(FRAME.as_slice()) {
+        return match bytes.get(FRAME_LENGTH - 1) {
+            Some(b' ' | b'\n') => Some(Joined::Frame),
+            Some(_) => Some(Joined::Other),
+            None => None,
+        };
+    }
+    if MAGIC.as_slice().starts_with(bytes) || FRAME.as_slice().starts_with(bytes) {
+        return None;
+    }
+    Some(Joined::Other)
+}
+
+/// Whether the line of a frame stands among bytes.
+pub fn has_frame_line(bytes: &[u8]) -> bool {
+    let mut at = 0usize;
+    for byte in bytes {
+        if *byte == b'F' && beginning_of(bytes.get(at..).unwrap_or(&[])) == Some(Joined::Frame) {
+            return true;
+        }
+        at = at.saturating_add(1);
+    }
+    false
 }
 
 /// A source's file or pipe.
@@ -162,6 +220,106 @@ impl<I: Read + Drop> Input<I> {
             }
         }
         Ok(false)
+    }
+
+    /// Drops all that comes before the next header or the next line of a frame, but so many bytes at most. Returns also
+    /// how many were dropped.
+    pub fn join(&mut self, most: u64) -> io::Result<(Joined, u64)> {
+        let mut passed = 0u64;
+        for _ in 0..u64::MAX {
+            let (found, length) = if self.rest().is_empty() {
+                let bytes = self.inner.fill_buf()?;
+                (may_begin(bytes), bytes.len())
+            } else {
+                (may_begin(self.rest()), self.rest().len())
+            };
+            if length == 0 {
+                return Ok((Joined::End, passed));
+            }
+            let count = found.unwrap_or(length);
+            self.drop_bytes(count);
+            passed = passed.saturating_add(count as u64);
+            if found.is_some() {
+                match self.begins_with()? {
+                    Joined::Other => {
+                        self.drop_bytes(1);
+                        passed = passed.saturating_add(1);
+                    }
+                    joined => return Ok((joined, passed)),
+                }
+            }
+            if passed > most {
+                break;
+            }
+        }
+        Ok((Joined::Other, passed))
+    }
+
+    /// Whether the line of a frame, so many bytes, and then the line of another frame, a header or the end follow. They
+    /// stay to be read. Where they don't follow, the first byte is dropped.
+    pub fn is_frame(&mut self, size: u64) -> io::Result<bool> {
+        let mut ahead = Vec::new(self.alloc);
+        for _ in 0..LINE_MOST {
+            if !self.read_ahead(1, &mut ahead)? || ahead.ends_with(b"\n") {
+                break;
+            }
+        }
+        let is_frame = self.read_ahead(size, &mut ahead)? && self.begins_with()? != Joined::Other;
+        self.begin_line();
+        let rest = if is_frame {
+            ahead.as_slice()
+        } else {
+            ahead.get(1..).unwrap_or(&[])
+        };
+        Ok(self.give_back(rest) && is_frame)
+    }
+
+    // Reads so many bytes, and adds them to others. Returns whether they are there, and memory for them.
+    fn read_ahead(&mut self, count: u64, ahead: &mut Vec<u8>) -> io::Result<bool> {
+        let mut piece = [0u8; PIECE];
+        let mut left = count;
+        for _ in 0..u64::MAX {
+            if left == 0 {
+                return Ok(true);
+            }
+            let most = PIECE.min(usize::try_from(left).unwrap_or(PIECE));
+            let Some(place) = piece.get_mut(..most) else {
+                return Ok(false);
+            };
+            let came = self.read(place)?;
+            let bytes = piece.get(..came).unwrap_or(&[]);
+            if came == 0 || ahead.extend_from_slice(bytes).is_err() {
+                return Ok(false);
+            }
+            left = left.saturating_sub(came as u64);
+        }
+        Ok(false)
+    }
+
+    /// What begins with the next byte. It waits until that is known.
+    pub fn begins_with(&mut self) -> io::Result<Joined> {
+        let mut first = [0u8; LENGTH];
+        let mut count = 0usize;
+        let mut joined = None;
+        for _ in 0..LENGTH {
+            let end = count.saturating_add(1);
+            let Some(place) = first.get_mut(count..end) else {
+                break;
+            };
+            if self.read(place)? == 0 {
+                return Ok(Joined::End);
+            }
+            count = end;
+            joined = beginning_of(first.get(..count).unwrap_or(&[]));
+            if joined.is_some() {
+                break;
+            }
+        }
+        self.begin_line();
+        if !self.give_back(first.get(..count).unwrap_or(&[])) {
+            return Ok(Joined::End);
+        }
+        Ok(joined.unwrap_or(Joined::Other))
     }
 
     // Drops so many of the bytes that are there.

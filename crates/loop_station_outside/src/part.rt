@@ -1,7 +1,8 @@
 //! The file, pipe or device that the text of a clip is written to.
 //!
 //! A file is written as OUT.part, in the same folder, and gets its name once its bytes are on the disk: so whatever has
-//! the name OUT is whole. What a stop or a loss of power leaves of OUT.part is written anew by the next save to OUT.
+//! the name OUT is whole. OUT.part is made anew by each save: what a stop or a loss of power has left of one is
+//! removed, and no other file.
 
 use crate::not_saved::NotSaved;
 use crate::path_kind::PathKind;
@@ -20,6 +21,11 @@ const UNFINISHED: &str = "part";
 
 // A text gets its name in so many steps at most, and one that says the result.
 const TEXT_STEPS: u32 = 5;
+
+// How each text begins.
+const BEGINNING: &[u8] = b"YUV4MPEG2 ";
+
+const BEGINNING_LENGTH: usize = 10;
 
 // What a store has after its first byte.
 const STORE_MARK: &[u8] = b"LOOPREC";
@@ -42,6 +48,10 @@ pub struct PartFile {
     part: Option<Part>,
     // A pipe or a device.
     other: Option<TextFile>,
+    // It is a pipe.
+    is_pipe: bool,
+    // How many bytes of the text a pipe's reader has before it is written.
+    ahead: usize,
 }
 
 impl PartFile {
@@ -56,14 +66,12 @@ impl PartFile {
         match kind {
             PathKind::Unknown => Err(NotSaved::CannotOpen),
             PathKind::File if !replace => Err(NotSaved::Exists),
-            PathKind::Pipe | PathKind::Other => match TextFile::open(rt, path) {
-                Ok(file) => Ok(PartFile {
-                    part: None,
-                    other: Some(file),
-                }),
-                Err(FileFault::Busy) => Err(NotSaved::InUse),
-                Err(fault) => Err(NotSaved::File(fault)),
-            },
+            PathKind::Pipe => {
+                // While this end is read, the other one is opened at once. It alone is held.
+                let _read = open_file(rt, OpenOptions::new().read(true).write(true), path);
+                PartFile::over(rt, path, true)
+            }
+            PathKind::Other => PartFile::over(rt, path, false),
             PathKind::File => {
                 check_old(rt, path)?;
                 let whole = canonical(rt, path)?;
@@ -73,6 +81,41 @@ impl PartFile {
                 let whole = in_folder(rt, path)?;
                 PartFile::begin(rt, whole, replace)
             }
+        }
+    }
+
+    // Opens a pipe or a device.
+    fn over<R: AllocGlobal + Files<File = File>>(
+        rt: &R,
+        path: &str,
+        is_pipe: bool,
+    ) -> Result<PartFile, NotSaved> {
+        match TextFile::open(rt, path) {
+            Ok(file) => Ok(PartFile {
+                part: None,
+                other: Some(file),
+                is_pipe,
+                ahead: 0,
+            }),
+            Err(FileFault::Busy) => Err(NotSaved::InUse),
+            Err(fault) => Err(NotSaved::File(fault)),
+        }
+    }
+
+    /// Whether somebody reads the pipe, who has the first bytes of the text by that. A file or a device needs nobody.
+    pub fn has_reader(&mut self) -> bool {
+        if !self.is_pipe || self.ahead > 0 {
+            return true;
+        }
+        let Some(pipe) = &mut self.other else {
+            return true;
+        };
+        match pipe.write(BEGINNING) {
+            Ok(count) => {
+                self.ahead = count;
+                true
+            }
+            Err(error) => error.kind() != ErrorKind::BrokenPipe,
         }
     }
 
@@ -86,15 +129,8 @@ impl PartFile {
             return Err(NotSaved::NoMemory);
         };
         let folder = opened(open_to_read(rt, folder_of(whole.as_path())))?;
-        let file = opened(open_file(
-            rt,
-            OpenOptions::new().write(true).create(true),
-            path.as_path(),
-        ))?;
+        let file = made_anew(rt, path.as_path())?;
         take(rt, &file, path.as_path())?;
-        if file.set_len(0).is_err() {
-            return Err(NotSaved::CannotWrite);
-        }
         Ok(PartFile {
             part: Some(Part {
                 file,
@@ -104,6 +140,8 @@ impl PartFile {
                 replace,
             }),
             other: None,
+            is_pipe: false,
+            ahead: 0,
         })
     }
 
@@ -148,6 +186,11 @@ impl PartFile {
 
 impl Write for PartFile {
     fn write(&mut self, buf: &[u8]) -> io::Result<usize> {
+        let count = self.ahead.min(buf.len());
+        if count > 0 {
+            self.ahead = self.ahead.saturating_sub(count);
+            return Ok(count);
+        }
         match (&mut self.part, &mut self.other) {
             (Some(part), _) => part.file.write(buf),
             (None, Some(other)) => other.write(buf),
@@ -188,6 +231,40 @@ fn name_whole<R: Files<File = File>>(rt: &R, part: &Part) -> Result<(), NotSaved
                 Err(_) => Err(NotSaved::CannotWrite),
             },
         },
+    }
+}
+
+// Makes an unfinished file anew, where none is there but what a stop has left of one.
+fn made_anew<R: Files<File = File>>(rt: &R, path: Path<'_>) -> Result<File, NotSaved> {
+    match open_file(rt, OpenOptions::new().write(true).create_new(true), path) {
+        Ok(file) => return Ok(file),
+        Err(error) if error.kind() == ErrorKind::AlreadyExists => remove_left(rt, path)?,
+        Err(error) => return Err(NotSaved::File(FileFault::from(error))),
+    }
+    match open_file(rt, OpenOptions::new().write(true).create_new(true), path) {
+        Ok(file) => Ok(file),
+        Err(error) if error.kind() == ErrorKind::AlreadyExists => Err(NotSaved::InUse),
+        Err(error) => Err(NotSaved::File(FileFault::from(error))),
+    }
+}
+
+// Removes what a stop has left of an unfinished file: a file, and no link to one, that nobody writes and that is empty
+// or begins as a text does.
+fn remove_left<R: Files<File = File>>(rt: &R, path: Path<'_>) -> Result<(), NotSaved> {
+    match fs::symlink_metadata(rt, path) {
+        Ok(metadata) if metadata.is_file() => {}
+        _ => return Err(NotSaved::InUse),
+    }
+    let mut file = opened(open_to_read(rt, path))?;
+    take(rt, &file, path)?;
+    let mut first = [0u8; BEGINNING_LENGTH];
+    match file.read(&mut first) {
+        Ok(count) if BEGINNING.starts_with(first.get(..count).unwrap_or(&[])) => {}
+        _ => return Err(NotSaved::InUse),
+    }
+    match fs::remove_file(rt, path) {
+        Ok(()) => Ok(()),
+        Err(_) => Err(NotSaved::CannotOpen),
     }
 }
 

@@ -104,8 +104,8 @@ pub trait Places {
         geometry: Geometry,
     ) -> Result<Store<FileDisk>, Absent>;
 
-    /// Opens the named pipe of orders, so that it never comes to an end: this end of it can write too. A file is opened
-    /// to be read.
+    /// Opens the named pipe of orders to be read, also while it has no writer: then it is at its end, until the next
+    /// one comes. A file is opened to be read.
     fn open_orders(&self, path: &str) -> io::Result<File>;
 
     /// The numbers of the files beside a path that have it with a number, in no order.
@@ -202,8 +202,9 @@ impl Places for HostRuntime {
 
     fn open_orders(&self, path: &str) -> io::Result<File> {
         if path_kind_at(self, path) == PathKind::Pipe {
-            if let Ok(both) = open_file(self, OpenOptions::new().read(true).write(true), path) {
-                return Ok(both);
+            // While this end is written, the other one is opened at once. It alone is held.
+            if let Ok(_both) = open_file(self, OpenOptions::new().read(true).write(true), path) {
+                return open_to_read(self, path);
             }
         }
         open_to_read(self, path)

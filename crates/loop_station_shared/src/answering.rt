@@ -114,35 +114,52 @@ pub enum Message {
     End,
 }
 
-/// What the thread of the events' files is told.
+/// What is told once a camera's file of events is on the disk.
+#[derive(Drop)]
+pub enum Announcement {
+    /// The answer of the camera at a place among those that an order means.
+    Answer(Arc<Answering>, usize, Lines),
+    /// Lines that answer no order, and clips that an event has made by its end.
+    Told(Lines, Vec<KeptClip>),
+}
+
+/// What the thread of a camera's file of events is told.
 #[derive(Drop)]
 pub enum Note {
-    /// The camera at a place has these open events, and no others.
-    Open(usize, Vec<OpenEvent>),
+    /// These events are open, and no others; and what is told once that is on the disk.
+    Open(Vec<OpenEvent>, Announcement),
     /// The program ends.
     End,
 }
 
-/// The lists into which the threads of a camera put what others do.
+/// How many changes of a camera's file of events may wait.
+pub const MOST_NOTES: usize = 1_024;
+
+/// The list into which the threads of a camera put what is printed.
 #[derive(Drop)]
 pub struct Posts {
     pub printer: Post<Message>,
-    pub notes: Post<Note>,
 }
 
 // How many messages may wait.
 const MOST_MESSAGES: usize = 4_096;
 
-// How many changes of the events' files may wait.
-const MOST_NOTES: usize = 1_024;
-
 impl Posts {
-    /// Empty lists.
+    /// An empty list.
     pub fn new(alloc: Global) -> Result<Posts, AllocError> {
         Ok(Posts {
             printer: Post::new(alloc, MOST_MESSAGES)?,
-            notes: Post::new(alloc, MOST_NOTES)?,
         })
+    }
+
+    /// Tells what waited for a file of events.
+    pub fn announce<R: Wait>(&self, rt: &R, announcement: Announcement) {
+        match announcement {
+            Announcement::Answer(answering, place, lines) => {
+                self.answer(rt, answering, place, lines, None);
+            }
+            Announcement::Told(lines, kept) => self.printer.put(rt, Message::Told(lines, kept)),
+        }
     }
 
     /// A camera's answer to an order; where it was the last one, the printer is told.

@@ -21,13 +21,16 @@ mod stored;
 mod tap;
 mod writers;
 
-pub use answering::{Answering, KeptClip, Message, NotTaken, Note, Posts, SaveOrder};
+pub use answering::{
+    Announcement, Answering, KeptClip, MOST_NOTES, Message, NotTaken, Note, Posts, SaveOrder,
+};
 pub use feed::{Feed, FeedSource, Said};
 pub use found::FoundClip;
 pub use inbox::Inbox;
 pub use jobs::{AskedKeep, Job, Jobs, Request};
 pub use life::{Life, source_name};
 pub use outlet::Outlet;
+pub use post::Post;
 pub use spool::LineForm;
 pub use stored::{Extent, Member, Room, Stored, store_of};
 pub use tap::Tap;

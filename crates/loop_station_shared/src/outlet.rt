@@ -181,13 +181,15 @@ impl<W: Write + Drop> Outlet<W> {
     /// only by the program's status. Where the further file or pipe gets JSON, it has the same lines in that form.
     pub fn answer<R: Wait + Clock>(&self, rt: &R, label: Option<&str>, lines: &Lines) {
         let mut line = self.line.lock(rt);
+        // A line has one time in both forms.
+        let time = self.time(rt);
         let mut rest = lines.text();
         for _ in 0..lines.text().len() {
             if rest.is_empty() {
                 break;
             }
             let (text, more) = first_line(rest);
-            self.put_line(rt, &mut line, label, text);
+            self.put_line(rt, &mut line, time, label, text);
             rest = more;
         }
         let mut rest = lines.json();
@@ -196,7 +198,7 @@ impl<W: Write + Drop> Outlet<W> {
                 break;
             }
             let (text, more) = first_line(rest);
-            self.tap_json(rt, &mut line, label, text);
+            self.tap_json(rt, &mut line, time, label, text);
             rest = more;
         }
     }
@@ -206,6 +208,7 @@ impl<W: Write + Drop> Outlet<W> {
         &self,
         rt: &R,
         whole: &mut Vec<u8>,
+        time: Option<u64>,
         label: Option<&str>,
         text: &[u8],
     ) {
@@ -213,7 +216,6 @@ impl<W: Write + Drop> Outlet<W> {
             return;
         };
         whole.clear();
-        let time = self.time(rt);
         if Lines::json_head(self.alloc, whole, time, label).is_err()
             || whole.extend_from_slice(text).is_err()
             || !tap.give(rt, whole)
@@ -227,6 +229,7 @@ impl<W: Write + Drop> Outlet<W> {
         &self,
         rt: &R,
         whole: &mut Vec<u8>,
+        time: Option<u64>,
         label: Option<&str>,
         text: &[u8],
     ) {
@@ -234,7 +237,7 @@ impl<W: Write + Drop> Outlet<W> {
         if text == b"\n".as_slice() {
             return;
         }
-        if self.head(rt, whole, label).is_err() || whole.extend_from_slice(text).is_err() {
+        if Lines::head(whole, time, label).is_err() || whole.extend_from_slice(text).is_err() {
             self.fail();
             return;
         }
@@ -249,11 +252,6 @@ impl<W: Write + Drop> Outlet<W> {
         if !self.spool.put(rt, whole) || !is_tapped {
             self.fail();
         }
-    }
-
-    // What a line begins with: the time and its label.
-    fn head<R: Clock>(&self, rt: &R, whole: &mut Vec<u8>, label: Option<&str>) -> io::Result<()> {
-        Lines::head(whole, self.time(rt), label)
     }
 
     // The time that a line begins with, if lines begin with times.

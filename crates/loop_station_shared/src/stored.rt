@@ -43,6 +43,8 @@ struct Inside {
     opening: bool,
     // The filming ends: no further store is opened or made.
     closing: bool,
+    // The numbers of the stores that failed, and until when each is left alone.
+    failed: Vec<(u32, u64)>,
 }
 
 /// What a camera's stores hold: their next numbers, and their clips. The thread of the desks says what it changes.
@@ -86,6 +88,7 @@ impl Stored {
                 wanted: 1,
                 opening: false,
                 closing: false,
+                failed: Vec::new(alloc),
             }),
             changed: Condvar::new(),
             period: AtomicU64::new(0),
@@ -151,6 +154,28 @@ impl Stored {
         self.inside.lock(rt).closing = false;
     }
 
+    /// The store of a number failed, and is left alone until this time. Returns whether it wasn't already.
+    pub fn leave_alone<R: Wait>(&self, rt: &R, number: u32, until: u64) -> bool {
+        let mut inside = self.inside.lock(rt);
+        for failed in inside.failed.as_mut_slice() {
+            if failed.0 == number {
+                failed.1 = until;
+                return false;
+            }
+        }
+        // Where memory is refused, it is tried again at once.
+        inside.failed.push((number, until)).is_ok()
+    }
+
+    /// Whether the store of a number is left alone at this time.
+    pub fn is_left_alone<R: Wait>(&self, rt: &R, number: u32, now: u64) -> bool {
+        let inside = self.inside.lock(rt);
+        inside
+            .failed
+            .iter()
+            .any(|failed| failed.0 == number && now < failed.1)
+    }
+
     /// The filming ends.
     pub fn close<R: Wait>(&self, rt: &R) {
         self.inside.lock(rt).closing = true;
@@ -164,8 +189,15 @@ impl Stored {
 
     /// This many frames were stored at a place.
     pub fn grow<R: Wait>(&self, rt: &R, place: usize, count: u32) {
-        if let Some(member) = self.inside.lock(rt).members.get_mut(place) {
-            member.next = member.next.saturating_add(u64::from(count));
+        let mut guard = self.inside.lock(rt);
+        let inside = &mut *guard;
+        let Some(member) = inside.members.get_mut(place) else {
+            return;
+        };
+        member.next = member.next.saturating_add(u64::from(count));
+        if count > 0 {
+            let number = member.number.unwrap_or(0);
+            forgive(&mut inside.failed, number);
         }
     }
 
@@ -342,6 +374,13 @@ impl Inside {
             wanted: self.wanted,
             held,
         })
+    }
+}
+
+// A flush into the store of a number came through: it is none of those that failed.
+fn forgive(failed: &mut Vec<(u32, u64)>, number: u32) {
+    if let Some(at) = failed.iter().position(|known| known.0 == number) {
+        failed.remove(at);
     }
 }
 

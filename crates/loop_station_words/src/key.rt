@@ -56,12 +56,18 @@ pub(crate) fn unknown_key(
     known: &[&'static str],
 ) -> Result<Option<UnknownKey>, AllocError> {
     for key in table.keys() {
-        if !known.contains(&key.as_str()) {
-            let near = nearest(alloc, key.as_str(), known)?;
-            return Ok(Some(UnknownKey::of(key.as_str(), near)));
+        let key = key.as_str();
+        if !is_among(key, &*known) {
+            let near = nearest(alloc, key, &*known)?;
+            return Ok(Some(UnknownKey::of(key, near)));
         }
     }
     Ok(None)
+}
+
+// Whether a key is one of these.
+fn is_among(key: &str, known: &[&'static str]) -> bool {
+    known.iter().any(|other| *other == key)
 }
 
 // The known key that fewest changes of letters make of this one; `None` where that takes too many.

@@ -7,8 +7,8 @@
 //!   how many stores a camera has where one isn't enough; `room` for what the configuration asks, how much of a store
 //!   is free, and how many frames may wait before it;
 //! - `config` reads the configuration file, which says which cameras there are. `fields` reads the value at a key
-//!   there, `choices` has what such a value chooses, `shape` reads what the pattern's frames look like, `key` names the known
-//!   key that is nearest to an unknown one, and `fault` says what is wrong with that file;
+//!   there, `choices` has what such a value chooses, `shape` reads what the pattern's frames look like, `key` names the
+//!   known key that is nearest to an unknown one, and `fault` says what is wrong with that file;
 //! - `lines` has the lines of the program's output, as text and as JSON, each of parts (`part`); `answers` has the
 //!   status of a camera, what a line begins with, and what the file of a clip is called.
 //!

@@ -127,12 +127,29 @@ impl LastReported {
     }
 }
 
+// How many syncs a flush costs, and how many more the one that begins a block in the place of another.
+const FLUSH_SYNCS: u64 = 2;
+
+const BLOCK_SYNCS: u64 = 3;
+
+// How many frames two syncs store on the mean: a flush ends with its block, of so many slots, and the first one of a
+// block costs more.
+fn frames_of_flush(slots: u32, group: u32) -> u32 {
+    let flushes = u64::from(slots.div_ceil(group.max(1)));
+    let syncs = flushes
+        .saturating_mul(FLUSH_SYNCS)
+        .saturating_add(BLOCK_SYNCS);
+    let stored = u64::from(slots).saturating_mul(FLUSH_SYNCS);
+    let frames = stored.saturating_add(syncs / 2) / syncs.max(1);
+    u32::try_from(frames.max(1)).unwrap_or(u32::MAX)
+}
+
 // What is known of the disk of a camera's store.
 fn disk_seen<R: Wait>(rt: &R, state: &CameraState) -> Option<DiskSeen> {
     let (sync, geometry) = (state.life.sync(rt)?, state.life.store(rt)?);
     Some(DiskSeen {
         sync,
-        group: limits_for(size_of(&geometry)?).group,
+        group: frames_of_flush(geometry.slots, limits_for(size_of(&geometry)?).group),
         rate_num: geometry.rate_num,
         rate_den: geometry.rate_den,
     })

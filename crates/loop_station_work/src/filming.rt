@@ -1,14 +1,16 @@
-//! A camera's thread: it films the camera into its stores, again and again. `opening` has how they are opened and made, and
-//! `stores` what they are.
+//! A camera's thread: it films the camera into its stores, again and again. `opening` has how they are opened and made,
+//! and `stores` what they are.
 
 use crate::notes::read_events;
-use crate::opening::{OpenStore, Opened, Unopened, member_of, open_first, open_others};
+use crate::opening::{
+    OpenStore, Opened, Unopened, member_of, open_first, open_others, tell_layout,
+};
 use crate::stores::{limits_for, tell_clips};
 use loop_capture::Device;
 use loop_desk::Desk;
-use loop_file::FileDisk;
+use loop_file::{FileDisk, FileFault};
 use loop_pipeline::{
-    Camera, CameraEnd, Door, Unfilmed, film_desks, heap_start, new_queue, start_queue,
+    Camera, CameraEnd, Door, GuidedCamera, Unfilmed, film_desks, heap_start, new_queue, start_queue,
 };
 use loop_plane::HeapPlane;
 use loop_station_camera::CameraState;
@@ -26,6 +28,12 @@ use std::time::{Clock, Duration};
 
 // How many milliseconds pass before a store that can't be opened or made is tried again.
 const OPEN_AGAIN: u64 = 1_000;
+
+// After so many such times a store is made again for which the disk had no room.
+const ROOM_AGAIN: u32 = 60;
+
+// For how many microseconds one of several stores is left alone that failed.
+const ALONE: u64 = 60_000_000;
 
 // How many milliseconds pass before a store is made in the place of one that was moved away.
 const MOVED_AGAIN: u64 = 250;
@@ -85,7 +93,15 @@ fn rest<R: Wait + Clock>(rt: &R, state: &CameraState, why: Absent) {
             state.begin_anew(rt);
             thread::sleep(rt, Duration::from_millis(MOVED_AGAIN));
         }
-        Act::OpenAgain => thread::sleep(rt, Duration::from_millis(OPEN_AGAIN)),
+        Act::OpenAgain => {
+            let is_full = matches!(why, Absent::File(FileFault::NoRoom));
+            for _ in 0..if is_full { ROOM_AGAIN } else { 1 } {
+                thread::sleep(rt, Duration::from_millis(OPEN_AGAIN));
+                if state.is_stopped(rt) {
+                    break;
+                }
+            }
+        }
         _ => {}
     }
 }
@@ -126,12 +142,16 @@ fn film_into<R: AllocGlobal + Places + Threads + Wait + Clock + Sync, W: Write +
         wanted,
     } = opened;
     let geometry = store.geometry();
+    let is_start = !state.has_gone_on(rt);
+    if is_start {
+        tell_layout(rt, state, outlet, number, store.version());
+    }
     take_store(rt, state, &mut store);
     let member = match member_of(rt, state, number, &store) {
         Ok(member) => member,
         Err(why) => return why,
     };
-    let events = read_events(rt, rt.alloc(), state.config.store.as_str());
+    let events = open_events(rt, state);
     tell_clips(
         rt,
         state,
@@ -152,10 +172,12 @@ fn film_into<R: AllocGlobal + Places + Threads + Wait + Clock + Sync, W: Write +
         there,
         events,
         wanted,
+        is_start,
     };
     let filmed = film(rt, state, outlet, camera, rest);
     count_lost(rt, state, before, &filmed);
     state.lose_rest(rt);
+    leave_failed(rt, state, outlet, &filmed);
     why_ended(rt, state, filmed)
 }
 
@@ -169,23 +191,40 @@ fn take_store<R: Wait>(rt: &R, state: &CameraState, store: &mut Store<FileDisk>)
     }
 }
 
-// Goes on with the events that were open when the program ended last.
+// The events that go on: at first those that were open when the program ended last.
+fn open_events<R: AllocGlobal + Places + Wait>(rt: &R, state: &CameraState) -> Vec<OpenEvent> {
+    let known = if state.has_gone_on(rt) {
+        state.open_events(rt, rt.alloc())
+    } else {
+        None
+    };
+    match known {
+        Some(events) => events,
+        None => read_events(rt, rt.alloc(), state.config.store.as_str()),
+    }
+}
+
+// Goes on once with the events that were open when the program ended last.
 fn go_on_with<R: AllocGlobal + Wait + Clock>(rt: &R, state: &CameraState, events: &[OpenEvent]) {
+    if state.go_on(rt) {
+        return;
+    }
     let alloc = rt.alloc();
+    let mut lines = state.lines(alloc);
     for event in events {
-        if state.has_event(rt, event.event) {
-            continue;
-        }
-        let mut lines = state.lines(alloc);
         // Where memory for the line is refused, it isn't printed.
         let _ = lines.event_begun(event.event, event.since, event.until);
-        state.tell(rt, lines, None);
         let now = state.timeline.now(rt);
         let come = state.feed.come(rt, now.min(event.until));
         let keep = Keep::new(*event, now, come, &state.tally(rt));
         let clips = state.clips_tagged(rt, alloc, 0, event.event);
         // Its clips are among those that `tell_clips` leaves out, so the next start saves them where too many go on.
-        let _goes_on = state.begin_growing(rt, alloc, keep, clips);
+        if !state.put_event(rt, alloc, keep, clips) {
+            let _ = state.tell_too_many(event.event, &mut lines);
+        }
+    }
+    if !events.is_empty() {
+        state.tell(rt, lines, None);
     }
 }
 
@@ -201,6 +240,56 @@ fn count_lost<R: Wait>(rt: &R, state: &CameraState, before: u64, filmed: &Filmed
         .saturating_add(ended.failed);
     let (come, _) = state.feed.counts(rt);
     state.life.settle(rt, come, before, lost);
+}
+
+// Of several stores those that failed are left alone for a while: the others go on. It is told.
+fn leave_failed<R: AllocGlobal + Wait + Clock, W: Write + Drop>(
+    rt: &R,
+    state: &CameraState,
+    outlet: &Outlet<W>,
+    filmed: &Filmed,
+) {
+    let Ok(ended) = filmed else {
+        return;
+    };
+    if !state.has_several(rt) {
+        return;
+    }
+    if ended.desk.status().must_reopen {
+        leave_alone(rt, state, outlet, 0);
+    }
+    let mut place = 1usize;
+    for desk in ended.joined.as_slice() {
+        if desk.status().must_reopen {
+            leave_alone(rt, state, outlet, place);
+        }
+        place = place.saturating_add(1);
+    }
+}
+
+// The store at a place failed.
+fn leave_alone<R: AllocGlobal + Wait + Clock, W: Write + Drop>(
+    rt: &R,
+    state: &CameraState,
+    outlet: &Outlet<W>,
+    place: usize,
+) {
+    let number = state.stored.number_at(rt, place);
+    let until = state.timeline.now(rt).saturating_add(ALONE);
+    let is_new = state.stored.leave_alone(rt, number, until);
+    let Ok(path) = state.path_of(rt.alloc(), Some(number)) else {
+        return;
+    };
+    let mut lines = state.lines(rt.alloc());
+    let why = Absent::Store(StoreFault::MustReopen);
+    // Where memory for the line is refused, it isn't printed.
+    if is_new
+        && lines
+            .one_absent(state.config.name.as_str(), path.as_str(), &why)
+            .is_ok()
+    {
+        outlet.put(rt, &lines);
+    }
 }
 
 // Why a filming ended.
@@ -257,7 +346,12 @@ fn film<R: AllocGlobal + Places + Threads + Wait + Clock + Sync, W: Write + Drop
             // Where a thread is refused, the camera is filmed into the one store that is open.
             let _alone = scope.spawn(move || open_others(rt, state, outlet, door, rest));
         }
-        let filmed = film_desks(rt, rt.alloc(), scope, &state.threads, state, door, camera);
+        let guided = GuidedCamera {
+            link: &state.threads,
+            guide: state,
+            camera,
+        };
+        let filmed = film_desks(rt, rt.alloc(), scope, guided, door);
         state.stored.close(rt);
         filmed
     })

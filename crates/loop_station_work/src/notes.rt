@@ -1,96 +1,102 @@
 //! The files of open events. While an event's end lies ahead, STORE.events beside the camera's store has a line for it,
-//! `EVENT SINCE UNTIL TAG`, so that the next start goes on with it after a stop or a loss of power. A file that can't
-//! be written is told once, and tried again each second: stores have their room, but a disk may have none for this
-//! file.
+//! `EVENT SINCE UNTIL TAG`, so that the next start goes on with it after a stop or a loss of power. An event is
+//! answered once its line is on the disk, and told as over once the file without it is. A file that can't be written is
+//! told once, and tried again each second: stores have their room, but a disk may have none for this file.
 
 use crate::orders::Station;
 use loop_script::number::number;
 use loop_script::print_parts;
+use loop_station_camera::CameraState;
 use loop_station_core::OpenEvent;
-use loop_station_outside::Places;
+use loop_station_outside::{PathKind, Places};
 use loop_station_shared::Note;
 use std::alloc::{AllocGlobal, Global};
 use std::io::Write;
 use std::sync::Wait;
+use std::thread::{JoinHandle, Scope, Threads};
 use std::time::{Clock, Duration};
 
-// How many milliseconds pass before files that couldn't be written are tried again.
+// How many milliseconds pass before a file that couldn't be written is tried again.
 const TRY_AGAIN: u64 = 1_000;
 
-// The open events of the camera at a place, of which the file couldn't be written.
-#[derive(Drop)]
-struct Unwritten {
-    camera: usize,
-    events: Vec<OpenEvent>,
+/// Starts a thread for the file of each camera's events: a disk that stands still delays no other camera's. Returns
+/// whether all could be started.
+pub(crate) fn start_notes<
+    's,
+    E,
+    R: AllocGlobal + Places + Threads + Wait + Clock + Sync + 'static,
+    W: Write + Drop + Send + 'static,
+>(
+    rt: &'s R,
+    scope: &Scope<'s, E>,
+    station: &'s Station<W>,
+    handles: &mut Vec<JoinHandle<()>>,
+) -> bool {
+    for state in station.cameras.as_slice() {
+        let Ok(handle) = scope.spawn(move || run_notes(rt, state)) else {
+            return false;
+        };
+        if handles.push(handle).is_err() {
+            return false;
+        }
+    }
+    true
 }
 
-/// Writes the files of events, until the program ends.
-pub(crate) fn run_notes<R: AllocGlobal + Places + Wait + Clock, W: Write + Drop>(
+/// Ends these threads.
+pub(crate) fn end_notes<R: Wait + Threads, W: Write + Drop>(
     rt: &R,
     station: &Station<W>,
+    handles: Vec<JoinHandle<()>>,
 ) {
-    let mut unwritten = Vec::new(rt.alloc());
+    for state in station.cameras.as_slice() {
+        state.notes.put(rt, Note::End);
+    }
+    for handle in handles {
+        handle.join(rt);
+    }
+}
+
+// Writes the file of a camera's events, until the program ends.
+fn run_notes<R: AllocGlobal + Places + Wait + Clock>(rt: &R, state: &CameraState) {
+    // The events that couldn't be written.
+    let mut unwritten: Option<Vec<OpenEvent>> = None;
     for _ in rt.forever() {
-        let note = if unwritten.is_empty() {
-            station.posts.notes.take(rt)
+        let note = if unwritten.is_none() {
+            state.notes.take(rt)
         } else {
-            let most = Duration::from_millis(TRY_AGAIN);
-            station.posts.notes.take_within(rt, most)
+            state
+                .notes
+                .take_within(rt, Duration::from_millis(TRY_AGAIN))
         };
         match note {
-            Some(Note::Open(camera, events)) => {
-                let was_told = forget(&mut unwritten, camera);
-                write_or_keep(rt, station, &mut unwritten, camera, events, was_told);
+            Some(Note::Open(events, told)) => {
+                unwritten = write_or_keep(rt, state, events, unwritten.is_some());
+                state.posts.announce(rt, told);
             }
             Some(Note::End) => break,
-            None => try_again(rt, station, &mut unwritten),
+            None => {
+                if let Some(events) = unwritten.take() {
+                    unwritten = write_or_keep(rt, state, events, true);
+                }
+            }
         }
     }
 }
 
-// Other events of a camera are open now than those that couldn't be written. Returns whether there were such.
-fn forget(unwritten: &mut Vec<Unwritten>, camera: usize) -> bool {
-    match unwritten.iter().position(|known| known.camera == camera) {
-        Some(at) if at < unwritten.len() => {
-            let _forgotten = unwritten.remove(at);
-            true
-        }
-        _ => false,
-    }
-}
-
-// Tries to write the first of the files that couldn't be written.
-fn try_again<R: AllocGlobal + Places + Wait, W: Write + Drop>(
+// Writes the file of a camera's events. Where that fails, it is told, unless it was, and the answer has the events.
+fn write_or_keep<R: AllocGlobal + Places + Wait>(
     rt: &R,
-    station: &Station<W>,
-    unwritten: &mut Vec<Unwritten>,
-) {
-    if unwritten.is_empty() {
-        return;
-    }
-    let Unwritten { camera, events } = unwritten.remove(0);
-    write_or_keep(rt, station, unwritten, camera, events, true);
-}
-
-// Writes the file of a camera's events. Where that fails, they are kept for the next try, and it is told, unless it
-// was.
-fn write_or_keep<R: AllocGlobal + Places + Wait, W: Write + Drop>(
-    rt: &R,
-    station: &Station<W>,
-    unwritten: &mut Vec<Unwritten>,
-    camera: usize,
+    state: &CameraState,
     events: Vec<OpenEvent>,
     was_told: bool,
-) {
-    let Some(state) = station.cameras.get(camera) else {
-        return;
-    };
+) -> Option<Vec<OpenEvent>> {
     let store = state.config.store.as_str();
     let Ok(path) = format!(in rt.alloc(); "{store}.events") else {
-        return;
+        return Some(events);
     };
     if write_events(rt, path.as_str(), events.as_slice()) {
-        return;
+        return None;
     }
     if !was_told {
         let mut lines = state.lines(rt.alloc());
@@ -98,22 +104,34 @@ fn write_or_keep<R: AllocGlobal + Places + Wait, W: Write + Drop>(
         let _ = lines.not_noted(state.config.name.as_str(), path.as_str());
         state.tell(rt, lines, None);
     }
-    // Where memory is refused, it is written at the next change.
-    let _later = unwritten.push(Unwritten { camera, events });
+    Some(events)
 }
 
-// Writes a file of events; without events it is removed. Returns whether it has these events now, on the disk.
+// Writes a file of events. Without events it is written empty, and then removed: the name of a file that is removed may
+// come back after a loss of power. Returns whether it has these events now, on the disk.
 fn write_events<R: AllocGlobal + Places>(rt: &R, path: &str, events: &[OpenEvent]) -> bool {
-    if events.is_empty() {
-        // One that stays has events that are over, which the next start sees.
-        let _ = rt.remove(path);
+    if events.is_empty() && rt.path_kind(path) == PathKind::Nothing {
         return true;
     }
+    let wrote = write_text(rt, path, events);
+    if wrote && events.is_empty() {
+        // An empty file that stays says the same.
+        let _ = rt.remove(path);
+    }
+    wrote
+}
+
+// Writes the text of a file of events, and syncs it and its name.
+fn write_text<R: AllocGlobal + Places>(rt: &R, path: &str, events: &[OpenEvent]) -> bool {
     let mut text = Vec::new(rt.alloc());
     for event in events {
         if print_event(&mut text, event).is_err() {
             return false;
         }
+    }
+    if let Ok(left) = format!(in rt.alloc(); "{path}.part") {
+        // What a stop has left; mostly there is none.
+        let _none = rt.remove(left.as_str());
     }
     let Ok(mut file) = rt.open_text(path, true) else {
         return false;

@@ -2,7 +2,7 @@
 
 use crate::events::LastReported;
 use crate::filming::run_camera;
-use crate::notes::run_notes;
+use crate::notes::{end_notes, start_notes};
 use crate::opening::has_stores;
 use crate::orders::{Station, status, take_orders};
 use crate::printer::{run_printer, stop_saves};
@@ -12,10 +12,12 @@ use loop_script::MAX_LINE;
 use loop_station_camera::{CameraState, Common, MOST_SAVES, Saves, begin, run_saves};
 use loop_station_core::Numbers;
 use loop_station_outside::{PathKind, Places, Timeline};
-use loop_station_shared::{LineForm, Message, Note, Outlet, Posts, Tap, run_outlet, run_tap};
+use loop_station_shared::{LineForm, Message, Outlet, Posts, Tap, run_outlet, run_tap};
 use loop_station_words::{AnswersForm, CameraConfig, Config, Lines, NoRing, Source, asked_set};
 use std::alloc::{AllocError, AllocGlobal, Global};
+use std::fs::OpenFile;
 use std::io::{BufReader, Read, Write};
+use std::os::unix::fs::{FileTypeExt, MetadataExt};
 use std::sync::{Arc, Mutex, Wait};
 use std::thread;
 use std::thread::{JoinHandle, Scope, Threads};
@@ -28,6 +30,12 @@ const STATUS_STEPS: u32 = 10;
 const FINISH_STEPS: u32 = 12_000;
 
 const FINISH_AGAIN: u64 = 5;
+
+// How many milliseconds pass before a pipe of orders without a writer is read again.
+const NEXT_WRITER: u64 = 5;
+
+// After so many such reads it is looked whether the pipe still has its name.
+const ORDER_ENDS: u32 = 100;
 
 /// Why the program couldn't begin.
 #[derive(Drop)]
@@ -238,7 +246,9 @@ fn add_store(alloc: Global, paths: &mut Vec<String>, store: &str) -> Result<(), 
     let made = format!(in alloc; "{store}.new")?;
     add_path(alloc, paths, made.as_str())?;
     let events = format!(in alloc; "{store}.events")?;
-    add_path(alloc, paths, events.as_str())
+    add_path(alloc, paths, events.as_str())?;
+    let unfinished = format!(in alloc; "{store}.events.part")?;
+    add_path(alloc, paths, unfinished.as_str())
 }
 
 // Refuses `answers` that lead to what the station reads or records into.
@@ -410,8 +420,9 @@ fn run_in<
     let Ok(printer) = scope.spawn(move || run_printer(rt, station)) else {
         return false;
     };
-    let notes = scope.spawn(move || run_notes(rt, station));
-    let all = notes.is_ok() && start_cameras(rt, scope, station, &mut handles, watched);
+    let mut notes = Vec::new(station.alloc);
+    let all = start_notes(rt, scope, station, &mut notes)
+        && start_cameras(rt, scope, station, &mut handles, watched);
     if !all || serve(rt, station, reader) {
         finish_orders(rt, station);
         stop_saves(rt, station);
@@ -422,10 +433,7 @@ fn run_in<
     for handle in handles {
         handle.join(rt);
     }
-    station.posts.notes.put(rt, Note::End);
-    if let Ok(notes) = notes {
-        notes.join(rt);
-    }
+    end_notes(rt, station, notes);
     station.posts.printer.put(rt, Message::End);
     printer.join(rt);
     all
@@ -577,7 +585,8 @@ enum Served {
     Again,
 }
 
-// Does the orders of a pipe or file, from its beginning to its end.
+// Does the orders of a pipe or file. A file ends; a pipe is at its end as long as it has no writer, and a line without
+// its end is an order then.
 fn serve_file<
     R: AllocGlobal + Places + Threads + Wait + Clock + Clone + Drop + Send + Sync + 'static,
     W: Write + Drop + Send + 'static,
@@ -585,15 +594,28 @@ fn serve_file<
     let Ok(file) = rt.open_orders(path) else {
         return Served::Again;
     };
-    let once = match file.metadata() {
-        Ok(metadata) => metadata.is_file(),
-        Err(_) => false,
+    let Ok(metadata) = file.metadata() else {
+        return Served::Again;
     };
     let Ok(mut input) = BufReader::new(rt.alloc(), file) else {
         return Served::Again;
     };
-    if take_orders(rt, station, &mut input, line) {
-        return Served::Stop;
+    let place = (metadata.dev(), metadata.ino());
+    let mut ends = 0u32;
+    for _ in rt.forever() {
+        if take_orders(rt, station, &mut input, line) {
+            return Served::Stop;
+        }
+        if metadata.is_file() {
+            return Served::Once;
+        }
+        ends = ends.wrapping_add(1);
+        if !metadata.file_type().is_fifo()
+            || ends % ORDER_ENDS == 0 && rt.place_of(path).ok() != Some(Some(place))
+        {
+            return Served::Again;
+        }
+        thread::sleep(rt, Duration::from_millis(NEXT_WRITER));
     }
-    if once { Served::Once } else { Served::Again }
+    unreachable!()
 }

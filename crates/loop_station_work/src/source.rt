@@ -5,6 +5,9 @@
 //! A pipe stays open when its writer has left, so that no frame of the next writer is lost. Each stream in it begins
 //! with a header. A frame that isn't whole is dropped, also where the next writer's header stands in the place of its
 //! rest.
+//!
+//! A writer that went on while the program was begun anew gives no header again. Then its frames are read from their
+//! next line on, as the store has them. Where that can't be, the pipe is closed: its writer ends, and comes again.
 
 ghost use Rattle.std.specs.Prelude.{◌≡◌, IfSome, length};
 
@@ -13,20 +16,33 @@ use loop_desk::frame_memory;
 use loop_record::Geometry;
 use loop_station_camera::{CameraState, said_of, tell_other};
 use loop_station_core::{Act, SourceEvent};
-use loop_station_outside::{Input, PathKind, Places, find_header};
+use loop_station_outside::{Input, Joined, PathKind, Places, find_header, has_frame_line};
 use loop_station_shared::{Outlet, Said};
 use loop_station_words::{RingSize, Source, frames_before, size_of};
-use loop_y4m::{FrameLine, GeometryFault, Y4mFault, Y4mReader};
+use loop_y4m::{Depth, FrameLine, GeometryFault, Y4mFault, Y4mReader, write_deep_header};
 use std::alloc::AllocGlobal;
 use std::fs::OpenFile;
 use std::io::{Read, Write};
 use std::os::unix::fs::{FileTypeExt, MetadataExt};
 use std::sync::Wait;
-use std::thread;
 use std::time::{Clock, Duration};
+use std::{io, thread};
 
 // How many milliseconds pass before a source that ended, broke or isn't there is opened again.
 const OPEN_AGAIN: u64 = 200;
+
+// A pipe that was closed so that its writer ends is opened again after twice as many milliseconds each time, and so
+// many at most: a writer of few frames has to meet it closed.
+const CLOSED_MOST: u64 = 60_000;
+
+// How many milliseconds pass before it is looked again whether the store is open, whose frames a source may go on with.
+const STORE_AGAIN: u64 = 20;
+
+// How many lines of a frame are looked at that no frame of the store's size follows.
+const CANDIDATES: u32 = 16;
+
+// How many bytes of lines may stand between two frames.
+const LINES: u64 = 8_192;
 
 // How many milliseconds pass before a pipe without a writer is read again.
 const READ_AGAIN: u64 = 20;
@@ -74,15 +90,24 @@ pub(crate) fn run_source<R: AllocGlobal + Places + Wait + Clock, W: Write + Drop
     state: &CameraState,
     outlet: &Outlet<W>,
 ) {
+    let mut rest = OPEN_AGAIN;
     for _ in rt.forever() {
         if state.is_stopped(rt) {
             break;
         }
-        match &state.config.source {
-            Source::Pattern(shape) => play_pattern(rt, state, outlet, &shape.geometry(ANY_RING)),
+        let is_broken = match &state.config.source {
+            Source::Pattern(shape) => {
+                play_pattern(rt, state, outlet, &shape.geometry(ANY_RING));
+                false
+            }
             Source::Path(path) => play_file(rt, state, outlet, path.as_str()),
-        }
-        thread::sleep(rt, Duration::from_millis(OPEN_AGAIN));
+        };
+        rest = if is_broken {
+            rest.saturating_mul(2).min(CLOSED_MOST)
+        } else {
+            OPEN_AGAIN
+        };
+        thread::sleep(rt, Duration::from_millis(rest));
     }
 }
 
@@ -186,19 +211,20 @@ fn offer<R: AllocGlobal + Wait + Clock, W: Write + Drop>(
     }
 }
 
-// Gives the frames of a file or pipe: those of a file each when it is due, those of a pipe as they come.
+// Gives the frames of a file or pipe: those of a file each when it is due, those of a pipe as they come. Returns
+// whether it is closed so that its writer ends.
 fn play_file<R: AllocGlobal + Places + Wait + Clock, W: Write + Drop>(
     rt: &R,
     state: &CameraState,
     outlet: &Outlet<W>,
     path: &str,
-) {
+) -> bool {
     let Ok(file) = rt.open_input(path) else {
         state.life.on_source(rt, SourceEvent::Missing);
-        return;
+        return false;
     };
     let Ok(metadata) = file.metadata() else {
-        return;
+        return false;
     };
     let place = if metadata.file_type().is_fifo() {
         Some((metadata.dev(), metadata.ino()))
@@ -206,19 +232,26 @@ fn play_file<R: AllocGlobal + Places + Wait + Clock, W: Write + Drop>(
         None
     };
     let Some(mut input) = Input::new(rt.alloc(), file) else {
-        return;
+        return false;
     };
+    let mut next = Next::Stream;
     for _ in rt.forever() {
         if !waits_for_more(rt, state, &mut input, path, place) {
             break;
         }
-        let end = play_stream(rt, state, outlet, &mut input, metadata.is_file());
-        if !goes_on(rt, state, &mut input, end) || place.is_none() {
+        let joined = next == Next::Joined;
+        let end = play_stream(rt, state, outlet, &mut input, metadata.is_file(), joined);
+        next = goes_on(rt, state, &mut input, end, joined);
+        if matches!(next, Next::End | Next::Break) || place.is_none() {
             break;
         }
     }
     state.life.on_source(rt, SourceEvent::Read);
+    if next == Next::Break && place.is_some() {
+        return true;
+    }
     state.life.on_source(rt, SourceEvent::Close);
+    false
 }
 
 // Waits until an input has more, in a pipe for its next writer. Returns whether it has: not where the camera is
@@ -269,37 +302,127 @@ enum StreamEnd {
     Failed,
     // Its header can't be read, or is of what no store takes: the fault's name.
     Unusable(&'static str),
+    // It doesn't begin with a header, of a pipe.
+    NoHeader,
     // A line isn't a frame's, and may be the next header.
     OtherLine,
     // In the place of a frame's rest the next header begins: what came there.
     OtherHeader(Vec<u8>),
 }
 
-// What follows a stream. Returns whether the input goes on.
-fn goes_on<R: Wait + Clock, I: Read + Drop>(
+// What follows a stream.
+#[derive(Clone, Copy, PartialEq, Eq)]
+enum Next {
+    // Another one, where its writer or the next one goes on.
+    Stream,
+    // The rest of one whose header isn't there any more.
+    Joined,
+    // Nothing: a read failed.
+    End,
+    // Nothing: its writer has to end.
+    Break,
+}
+
+// What follows a stream; `joined`: its header isn't its writer's own.
+fn goes_on<R: AllocGlobal + Wait + Clock, I: Read + Drop>(
     rt: &R,
     state: &CameraState,
     input: &mut Input<I>,
     end: StreamEnd,
-) -> bool {
+    joined: bool,
+) -> Next {
     match end {
-        StreamEnd::Ended => return true,
-        StreamEnd::Failed => return false,
+        StreamEnd::Ended => return Next::Stream,
+        StreamEnd::Failed => return Next::End,
+        StreamEnd::NoHeader => return join(rt, state, input),
         StreamEnd::Unusable(why) => {
             state.life.set_unusable(rt, why);
             input.return_rest_of_line();
         }
-        StreamEnd::OtherLine => input.return_line(),
+        StreamEnd::OtherLine => {
+            input.return_line();
+            if joined && input.begins_with().ok() != Some(Joined::Header) {
+                // Its frames aren't as the store has them.
+                state.life.set_unusable(rt, fault_name(Y4mFault::NotY4m));
+                return Next::Break;
+            }
+        }
         StreamEnd::OtherHeader(bytes) => {
             if !input.give_back(&bytes) {
-                return false;
+                return Next::End;
             }
         }
     }
     begin_read(rt, state);
     let found = input.seek_header();
     state.life.on_source(rt, SourceEvent::Read);
-    found.is_ok()
+    if found.is_ok() {
+        Next::Stream
+    } else {
+        Next::End
+    }
+}
+
+// A writer goes on that gave its header before the program began: its frames are as the store has them, from the next
+// line of one on. Without a store, or such a line, its writer has to end.
+fn join<R: AllocGlobal + Wait + Clock, I: Read + Drop>(
+    rt: &R,
+    state: &CameraState,
+    input: &mut Input<I>,
+) -> Next {
+    let header = header_of_store(rt, state);
+    let size = match &header {
+        Some((_, size)) => *size,
+        None => 0,
+    };
+    begin_read(rt, state);
+    let found = next_line(input, size);
+    state.life.on_source(rt, SourceEvent::Read);
+    match (found, header) {
+        (Ok(Joined::Header), _) => Next::Stream,
+        (Ok(Joined::Frame), Some((text, _))) if input.give_back(&text) => Next::Joined,
+        (Ok(Joined::End), _) => {
+            state.life.set_unusable(rt, fault_name(Y4mFault::NotY4m));
+            Next::Stream
+        }
+        (Ok(_), _) => {
+            state.life.set_unusable(rt, fault_name(Y4mFault::NotY4m));
+            Next::Break
+        }
+        (Err(_), _) => Next::End,
+    }
+}
+
+// Finds the next header, or the next line of a frame of so many bytes: one with which the input begins, as that of a
+// writer that wrote nothing meanwhile, or one that another one follows.
+fn next_line<I: Read + Drop>(input: &mut Input<I>, size: u64) -> io::Result<Joined> {
+    let most = size.saturating_mul(2).saturating_add(LINES);
+    for place in 0..CANDIDATES {
+        let (joined, passed) = input.join(most)?;
+        if joined != Joined::Frame || place == 0 && passed == 0 || input.is_frame(size)? {
+            return Ok(joined);
+        }
+    }
+    Ok(Joined::Other)
+}
+
+// The header that the frames of the store have, and the bytes of one, once it is known whether the store is open. None
+// where it isn't, or has no frame.
+fn header_of_store<R: AllocGlobal + Wait + Clock>(
+    rt: &R,
+    state: &CameraState,
+) -> Option<(Vec<u8>, u64)> {
+    for _ in rt.forever() {
+        if state.jobs.attended(rt).is_some() || state.is_stopped(rt) {
+            break;
+        }
+        thread::sleep(rt, Duration::from_millis(STORE_AGAIN));
+    }
+    let geometry = state.life.store(rt)?;
+    let depth = Depth::of_bits(state.life.bits(rt).1?)?;
+    let mut text = Vec::new(rt.alloc());
+    write_deep_header(&geometry, depth, &mut text).ok()?;
+    Some((text, u64::from(geometry.frame_bytes())))
 }
 
 // The name of the fault of a header.
@@ -315,15 +438,24 @@ fn fault_name(fault: Y4mFault) -> &'static str {
     }
 }
 
-// Gives the frames of a stream that begins with a header.
+// Gives the frames of a stream that begins with a header; `joined`: that isn't its writer's own.
 fn play_stream<R: AllocGlobal + Wait + Clock, I: Read + Drop, W: Write + Drop>(
     rt: &R,
     state: &CameraState,
     outlet: &Outlet<W>,
     input: &mut Input<I>,
     paced: bool,
+    joined: bool,
 ) -> StreamEnd {
     begin_read(rt, state);
+    if !paced {
+        match input.begins_with() {
+            Ok(Joined::Header) => {}
+            Ok(Joined::End) => return StreamEnd::Ended,
+            Ok(Joined::Frame | Joined::Other) => return StreamEnd::NoHeader,
+            Err(_) => return StreamEnd::Failed,
+        }
+    }
     input.begin_line();
     let opened = Y4mReader::open_deep(&mut *input);
     state.life.on_source(rt, SourceEvent::Read);
@@ -340,6 +472,8 @@ fn play_stream<R: AllocGlobal + Wait + Clock, I: Read + Drop, W: Write + Drop>(
     let mut beat = beat_of(rt, state, &geometry);
     let said = said_of(state, &geometry, depth.bits());
     state.feed.begin_stream(rt);
+    // Its first frame may be one of another size.
+    let mut is_doubted = joined;
     for _ in rt.forever() {
         if state.is_stopped(rt) {
             return StreamEnd::Ended;
@@ -350,7 +484,9 @@ fn play_stream<R: AllocGlobal + Wait + Clock, I: Read + Drop, W: Write + Drop>(
         let epoch = state.feed.epoch(rt);
         let fits = offer(rt, state, outlet, &geometry, depth.bits());
         match next_of(rt, state, &mut reader, paced) {
+            Ok((bytes, _)) if is_doubted && has_frame_line(&bytes) => return StreamEnd::OtherLine,
             Ok((bytes, line)) if fits => {
+                is_doubted = false;
                 let said = Said {
                     time: line.time,
                     ..said

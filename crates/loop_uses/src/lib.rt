@@ -2,7 +2,8 @@
 //! then gives. So what a call requires of its caller is shown to be met, where only tests call it otherwise.
 //!
 //! The clauses here follow from those of the calls alone. `disk`, `overlay`, `record` and `clips` have what is written
-//! and read again, `pages`, `planes` and `events` the memory and the events of a queue. No program runs any of it.
+//! and read again, `pages`, `planes` and `events` the memory and the events of a queue, `recorders` a recorder of one
+//! camera. No program runs any of it.
 //!
 //! `tests/checks/uses_check --list` prints each public call that requires something, with its callers here and elsewhere.
 #![tactic(auto)]
@@ -14,6 +15,7 @@ pub mod overlay;
 pub mod pages;
 pub mod planes;
 pub mod record;
+pub mod recorders;
 
 use loop_record::{Geometry, PixelFormat};
 

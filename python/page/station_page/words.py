@@ -34,6 +34,8 @@ MEMBERS = {
         "absent": "camera why",
         "store_absent": "camera why",
         "one_absent": "camera path why",
+        "store_missing": "camera path",
+        "old_layout": "camera path",
         # What else stands in a list, the page reads in the store.
         "camera": "camera ?#store #next",
         "status": "camera #stored #given_up #waiting #behind_micros #room ?#keeps #faults source ?#gaps",
@@ -299,6 +301,17 @@ EVENTS = {
         "one absent",
         True,
         "{camera}: {path} can't be used: {why}. Its other stores go on.",
+    ),
+    "store_missing": (
+        "missing",
+        True,
+        "{camera}: {path} was gone, with what it held. A store is made in its place.",
+    ),
+    "old_layout": (
+        "old layout",
+        True,
+        "{camera}: {path} has an old layout, so nothing can be kept. Stop the station, and run "
+        "loop_cli upgrade {path}.",
     ),
     "not_a_store": (
         "not a store",

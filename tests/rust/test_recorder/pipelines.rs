@@ -5,10 +5,11 @@ use crate::common::*;
 use loop_capture::{Device, Pattern, Tick};
 use loop_desk::{Desk, Flushed, Hand, LaneFault};
 use loop_disk::{Disk, FuseDisk, MemDisk};
-use loop_lane::{LostFrames, film_and_export};
+use loop_lane::{LostFrames, Numbers, film_and_export};
 use loop_pipeline::{
-    Back, Begun, Brought, Camera, CameraEnd, Front, Guide, Link, LostFrame, Noting, Outcome, Seat,
-    Shot, TakeOutcome, Visits, end, film_all, film_camera, heap_start, new_queue, start_queue,
+    Back, Begun, Brought, Camera, CameraEnd, Desks, Front, Guide, GuidedCamera, Link, LostFrame,
+    Noting, Outcome, Seat, Shot, TakeOutcome, Taken, Visits, end, film_all, film_camera,
+    heap_start, new_queue, start_queue,
 };
 use loop_plane::{FdTable, HeapPlane, PlaneMemory};
 use loop_record::{Frame, Times};
@@ -95,16 +96,15 @@ impl Guide for Guided {
         &self,
         _rt: &R,
         alloc: Global,
-        back: &mut Back<D, Guided>,
+        desks: &mut Desks<D, Guided>,
     ) {
-        let place = back.active();
-        if self.clips.load(Ordering::SeqCst) > 0 || back.status(place).held < 2 {
+        let place = desks.active();
+        if self.clips.load(Ordering::SeqCst) > 0 || desks.status(place).held < 2 {
             return;
         }
-        let kept = back.keep(alloc, place, ALL, 7);
-        let place = back.active();
+        let kept = desks.keep(alloc, place, ALL, 7);
         if let Some(clip) = kept.clips.first() {
-            if back.unlock_clip(place, clip.id).is_ok() {
+            if desks.unlock_clip(place, clip.id).is_ok() {
                 self.clips.store(kept.clips.len() as u64, Ordering::SeqCst);
             }
         }
@@ -330,7 +330,13 @@ fn film_text<R: Threads + Wait + Clock + Abort + Sync>(
         rt,
         move |scope| -> (Option<LostFrames>, Vec<u8>) {
             let mut out = Vec::new(alloc);
-            let lost = film_and_export(rt, alloc, scope, link, guide, camera, 18, 19, &mut out);
+            let guided = GuidedCamera {
+                link,
+                guide,
+                camera,
+            };
+            let numbers = Numbers { from: 18, to: 19 };
+            let lost = film_and_export(rt, alloc, scope, guided, numbers, &mut out);
             (lost.ok(), out)
         },
     )
@@ -411,12 +417,13 @@ fn fill_desk(rt: &impl Abort, back: &mut TestBack) {
 }
 
 // No flush was refused, so no frame is given up: the two are stored, and the third comes to the desk.
-fn store_and_bring(rt: &impl Abort, back: &mut TestBack) {
+fn store_and_bring<R: Abort + Wait>(rt: &R, back: &mut TestBack, told: &Guided) {
     assert_eq!(rt; bring(back), "no room");
     assert!(rt; back.give_up().is_none());
-    match back.flush() {
-        Ok(flushed) => assert_eq!(rt; flushed.stored, 2),
-        Err(fault) => panic!(rt; "no flush: {fault}"),
+    match back.flush_for(rt, told) {
+        Some(Ok(flushed)) => assert_eq!(rt; flushed.stored, 2),
+        Some(Err(fault)) => panic!(rt; "no flush: {fault}"),
+        None => panic!(rt; "no flush: not asked"),
     }
     assert_eq!(rt; bring(back), "submitted");
 }
@@ -446,7 +453,7 @@ fn a_front_and_a_back_work_by_turns(rt: HostRuntime) {
     fill_ring(&rt, alloc, &mut front, &told);
     fill_desk(&rt, &mut back);
     assert_eq!(rt; take(alloc, &mut front), "frame");
-    store_and_bring(&rt, &mut back);
+    store_and_bring(&rt, &mut back, &told);
     take_last(&rt, alloc, &mut front, &told);
     let Ok(parts) = front.into_ended() else {
         panic!(rt; "its guide has ended it")
@@ -477,14 +484,16 @@ fn back_before(
     }
 }
 
-// A back over a store that holds four frames, with times 0, 10, 20 and 30.
-fn back_of_four(rt: &impl Abort, alloc: Global) -> TestBack {
+type TestDesks = Desks<MemDisk, Guided>;
+
+// A desk at which four frames wait, with times 0, 10, 20 and 30.
+fn desks_of_four(rt: &impl Abort, alloc: Global) -> TestDesks {
     let disk = MemDisk::new(alloc, SMALL_BYTES).expect(rt, "memory for a disk");
     let desk = desk_of(rt, alloc, store_on(rt, alloc, disk), limits(8, 1_000_000));
-    let Ok((mut to, from)) = RingBuffer::new(alloc, 4) else {
+    let Ok((mut to, mut from)) = RingBuffer::new(alloc, 4) else {
         panic!(rt; "memory for a ring")
     };
-    let mut back = back_before(rt, alloc, desk, from);
+    let mut seat = Seat::alone(desk);
     for number in 0..4u32 {
         let stamp = FrameInfo {
             sequence: number,
@@ -493,14 +502,18 @@ fn back_of_four(rt: &impl Abort, alloc: Global) -> TestBack {
         };
         let given = frame(alloc, stamp, 12).expect(rt, "memory for a frame");
         assert!(rt; to.push(given).is_ok(), "{number:?}");
-        assert_eq!(rt; bring(&mut back), "submitted", "{number:?}");
+        let taken = seat.submit_from(&mut from);
+        assert!(rt; matches!(taken, Taken::Asked(_, Ok(_))), "{number:?}");
     }
-    back
+    match Desks::new(alloc, 1, seat) {
+        Ok(desks) => desks,
+        Err(_) => panic!(rt; "memory for desks"),
+    }
 }
 
 // Stores two frames.
-fn store_two(rt: &impl Abort, back: &mut TestBack) {
-    match back.flush() {
+fn store_two(rt: &impl Abort, desks: &mut TestDesks) {
+    match desks.flush() {
         Ok(flushed) => assert_eq!(rt; flushed.stored, 2),
         Err(fault) => panic!(rt; "no flush: {fault}"),
     }
@@ -510,11 +523,11 @@ fn store_two(rt: &impl Abort, back: &mut TestBack) {
 fn keep(
     rt: &impl Abort,
     alloc: Global,
-    back: &mut TestBack,
+    desks: &mut TestDesks,
     times: Times,
 ) -> (Option<Clip>, usize) {
-    let place = back.active();
-    let kept = back.keep(alloc, place, times, 7);
+    let place = desks.active();
+    let kept = desks.keep(alloc, place, times, 7);
     assert!(rt; kept.fault.is_none());
     (kept.clips.first().copied(), kept.clips.len())
 }
@@ -522,32 +535,32 @@ fn keep(
 #[test]
 fn a_keep_between_flushes_locks_what_is_held(rt: HostRuntime) {
     let alloc = rt.alloc();
-    let mut back = back_of_four(&rt, alloc);
-    assert_eq!(rt; keep(&rt, alloc, &mut back, ALL).1, 0);
-    store_two(&rt, &mut back);
-    store_two(&rt, &mut back);
+    let mut desks = desks_of_four(&rt, alloc);
+    assert_eq!(rt; keep(&rt, alloc, &mut desks, ALL).1, 0);
+    store_two(&rt, &mut desks);
+    store_two(&rt, &mut desks);
     let times = Times {
         since: 10,
         until: 29,
     };
-    let (Some(clip), count) = keep(&rt, alloc, &mut back, times) else {
+    let (Some(clip), count) = keep(&rt, alloc, &mut desks, times) else {
         panic!(rt; "no clip")
     };
     assert_eq!(rt; (clip.from, clip.to, clip.tag, count), (1, 2, 7, 1));
-    match back.outline(alloc, back.active()) {
+    match desks.outline(alloc, desks.active()) {
         Ok(outline) => assert_eq!(rt;
             (outline.next, outline.clips.len(), outline.pending),
             (4, 1, 0)
         ),
         Err(fault) => panic!(rt; "no outline: {fault}"),
     }
-    let place = back.active();
-    match back.read_frame(alloc, place, 3) {
+    let place = desks.active();
+    match desks.read_frame(alloc, place, 3) {
         Ok(read) => assert!(rt; are_of(&read.bytes, 3, 12)),
         Err(fault) => panic!(rt; "frame 3: {fault}"),
     }
-    let place = back.active();
-    assert!(rt; back.unlock_clip(place, clip.id).is_ok());
-    let place = back.active();
-    assert!(rt; back.unlock_clip(place, clip.id).is_err());
+    let place = desks.active();
+    assert!(rt; desks.unlock_clip(place, clip.id).is_ok());
+    let place = desks.active();
+    assert!(rt; desks.unlock_clip(place, clip.id).is_err());
 }

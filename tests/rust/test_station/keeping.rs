@@ -5,8 +5,8 @@ use crate::judge::Judge;
 use crate::saving::{Saving, tag_in};
 use crate::store::{Clip, MOST_CLIPS, Pieces};
 use loop_station_core::{
-    ClipSpan, EventEnd, GrowthTurn, Keep, KeepTurn, Run, event_end, is_covered, kept_answer,
-    next_growth, next_turn, shortfall_of,
+    ClipSpan, EventEnd, GrowthTurn, Keep, KeepTurn, Look, OpenEvent, Run, event_end, is_covered,
+    kept_answer, next_growth, next_turn, shortfall_of,
 };
 use std::alloc::Global;
 
@@ -65,12 +65,18 @@ impl Waiting {
         let (event, since, until) = (noted.event, noted.since, noted.until);
         let come = camera.come(until.min(now));
         let came = camera.frames.len();
+        let asked = OpenEvent {
+            event,
+            since,
+            until,
+            tag: event,
+        };
         Waiting {
             camera: camera.place,
             event,
             since,
             until,
-            keep: Keep::new(event, since, until, event, now, come, &camera.tally),
+            keep: Keep::new(asked, now, come, &camera.tally),
             came,
             ended: if until <= now { Some(came) } else { None },
             block: None,
@@ -142,17 +148,15 @@ impl Waiting {
         now: u64,
         stopping: bool,
     ) -> KeepTurn {
-        let come = camera.come(self.until.min(now));
-        let block = camera.store.newest();
-        let (keep, turn) = next_turn(
-            self.keep,
-            &camera.tally,
-            now,
-            come,
-            block,
-            camera.locked,
+        let look = Look {
+            tally: camera.tally,
+            time: now,
+            come: camera.come(self.until.min(now)),
+            block: camera.store.newest(),
+            locked: camera.locked,
             stopping,
-        );
+        };
+        let (keep, turn) = next_turn(self.keep, &look);
         self.keep = keep;
         judge.holds(
             keep.event == self.event && keep.since == self.since && keep.until == self.until,

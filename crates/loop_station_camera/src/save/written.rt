@@ -20,9 +20,14 @@ use std::alloc::{AllocGlobal, Global};
 use std::io::{BufWriter, Write};
 use std::sync::Wait;
 use std::sync::atomic::Ordering;
+use std::thread;
+use std::time::{Clock, Duration};
 
 // How many bytes of a text are gathered before they are written.
 const AT_ONCE: usize = 262_144;
+
+// How many milliseconds pass before it is looked again whether somebody reads a pipe.
+const READER_AGAIN: u64 = 20;
 
 // How many clips that are saved by themselves may have names that differ only in the number at the end.
 const MOST_NAMES: u32 = 100;
@@ -89,8 +94,30 @@ pub(super) fn path_for<R: AllocGlobal + Places>(
     Ok((path_in(rt, folder, name, &save.found)?, false))
 }
 
+// Waits until somebody reads a pipe that is written to, unless the save is to end before.
+fn wait_reader<R: Wait + Clock>(
+    rt: &R,
+    state: &CameraState,
+    save: &Save,
+    file: &mut PartFile,
+) -> Result<(), NotSaved> {
+    for _ in rt.forever() {
+        if file.has_reader() {
+            return Ok(());
+        }
+        if state.saves.stopped.load(Ordering::SeqCst) {
+            return Err(NotSaved::Stopped);
+        }
+        if save.ended.load(Ordering::SeqCst) {
+            return Err(NotSaved::Cancelled);
+        }
+        thread::sleep(rt, Duration::from_millis(READER_AGAIN));
+    }
+    unreachable!()
+}
+
 /// Writes a clip. Returns how many frames it has, once the file would survive a loss of power.
-pub(super) fn write<R: AllocGlobal + Places + Wait>(
+pub(super) fn write<R: AllocGlobal + Places + Wait + Clock>(
     rt: &R,
     state: &CameraState,
     save: &Save,
@@ -117,6 +144,7 @@ pub(super) fn write<R: AllocGlobal + Places + Wait>(
         return Err(NotSaved::Absent(Absent::NoStore));
     };
     let mut file = rt.open_text(path, replace)?;
+    wait_reader(rt, state, save, &mut file)?;
     let came = write_clips(rt, state, save, &geometry, &mut file);
     match came {
         Ok(count) => match rt.finish_text(&file) {

@@ -251,7 +251,42 @@ impl Lines {
         self.line_of_one(camera, path, why.as_str())
     }
 
-    // The same, of the words of why.
+    /// `store CAMERA PATH missing, made anew`: the file of one of a camera's stores was gone.
+    ///
+    /// JSON: `camera`, `path`.
+    pub fn store_missing<'a>(&mut self, camera: &'a str, path: &'a str) -> io::Result<()> {
+        self.line(
+            "store_missing",
+            &[
+                Words("store "),
+                Text("camera", camera),
+                Words(" "),
+                Text("path", path),
+                Words(" missing, made anew"),
+            ],
+        )
+    }
+
+    /// `store CAMERA PATH has an old layout: ..`: a store of version 1 of the layout, whose clips have no tags.
+    ///
+    /// JSON: `camera`, `path`.
+    pub fn old_layout<'a>(&mut self, camera: &'a str, path: &'a str) -> io::Result<()> {
+        self.line(
+            "old_layout",
+            &[
+                Words("store "),
+                Text("camera", camera),
+                Words(" "),
+                Text("path", path),
+                Words(
+                    " has an old layout: its keeps are refused; end the station, and run loop_cli upgrade ",
+                ),
+                Words(path),
+            ],
+        )
+    }
+
+    // That one of a camera's stores can't be used, by the words of why.
     fn line_of_one<'a>(&mut self, camera: &'a str, path: &'a str, why: &'a str) -> io::Result<()> {
         self.line(
             "one_absent",

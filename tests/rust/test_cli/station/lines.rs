@@ -93,6 +93,9 @@ source left unusable no rate\n\
 store left open\n\
 store left open holds 30.8 s of 300.0 s\n\
 store left absent NoRoom\n\
+store left left.003.loop absent Disk\n\
+store left left.003.loop missing, made anew\n\
+store left a.loop has an old layout: its keeps are refused; end the station, and run loop_cli upgrade a.loop\n\
 not a store left a store.loop.new: move it away, and a store is made\n\
 making left a store.loop 40 %\n\
 given up left 7 since 2000-02-29T23:59:59.999Z\n\
@@ -125,6 +128,9 @@ const EVENTS_JSON: &str =
 \"kind\":\"store_open\",\"camera\":\"left\"}\n\
 \"kind\":\"store_open\",\"camera\":\"left\",\"held_micros\":30800000,\"asked_micros\":300000000}\n\
 \"kind\":\"store_absent\",\"camera\":\"left\",\"why\":\"NoRoom\"}\n\
+\"kind\":\"one_absent\",\"camera\":\"left\",\"path\":\"left.003.loop\",\"why\":\"Disk\"}\n\
+\"kind\":\"store_missing\",\"camera\":\"left\",\"path\":\"left.003.loop\"}\n\
+\"kind\":\"old_layout\",\"camera\":\"left\",\"path\":\"a.loop\"}\n\
 \"kind\":\"not_a_store\",\"camera\":\"left\",\"path\":\"a store.loop.new\"}\n\
 \"kind\":\"making\",\"camera\":\"left\",\"path\":\"a store.loop\",\"percent\":40}\n\
 \"kind\":\"given_up\",\"camera\":\"left\",\"frames\":7,\"since\":\"2000-02-29T23:59:59.999Z\"}\n\
@@ -265,6 +271,9 @@ fn tells_sources(lines: &mut Lines) -> bool {
             .store_open("left", Some((30_800_000, 300_000_000)))
             .is_ok()
         && lines.store_absent("left", &"NoRoom").is_ok()
+        && lines.one_absent("left", "left.003.loop", &"Disk").is_ok()
+        && lines.store_missing("left", "left.003.loop").is_ok()
+        && lines.old_layout("left", "a.loop").is_ok()
         && lines.not_a_store("left", "a store.loop", ".new").is_ok()
         && lines.making("left", "a store.loop", 40).is_ok()
 }

@@ -6,7 +6,7 @@ pub returns-then-not-wait_for_others : goal.returns-then-not-wait_for_others
 returns-then-not-wait_for_others g c = (
   λ _. (refl, refl),
   rested g.S.FrameSource.next_gives g.P.PlaneMemory.plane (g.G.Guide.due c.args.guide.now) (g.G.Guide.ends c.args.guide.now)
-      c.args.queue c.args.table c.args.device (g.W.Carrier.inside c.args.to) c.args.guide.now c.requires.ready c.requires.ring,
+      c.args.inlet.queue c.args.inlet.table c.args.inlet.device (g.W.Carrier.inside c.args.inlet.to) c.args.guide.now c.requires.ready c.requires.ring,
 )
 
 pub returns : goal.returns

@@ -7,8 +7,8 @@ use Rattle.loop_pipeline.proofs.film.film_desks.Goals as goal
 pub returns-then-ended-clause-keeps : goal.returns-then-ended-clause-keeps
 returns-then-ended-clause-keeps g c =
     keeps-joined g.D.Disk.medium g.S.FrameSource.next_gives g.P.PlaneMemory.plane g.G.Visits.asks g.G.Visits.gives_up
-    g.G.Guide.due g.G.Guide.ends _ c.args.camera _ c.camera.inside.device c.camera.inside.queue c.camera.inside.desk _
-    c.args.guide.now _ _ _ c.run_in-front.result.back _ _ _ _ _ c.camera.view_is c.of-again.ensures c.in-Ok-new.ensures.made
+    g.G.Guide.due g.G.Guide.ends _ c.args.guided.camera _ c.camera.inside.device c.camera.inside.queue c.camera.inside.desk _
+    c.args.guided.guide.now _ _ _ c.run_in-front.result.back _ _ _ _ _ c.camera.view_is c.of-again.ensures c.in-Ok-new.ensures.made
     c.run_in-front.ensures.back c.end_both-ended.ensures.keeps
 
 -- the queue that ended is that of the camera that was given
@@ -45,7 +45,7 @@ returns-else-ended-clause-refused g c =
           ∙ ap (λ v. v.queue) c.camera.view_is),
       c.end_both-ended.ensures.again.0,
       keeps-joined g.D.Disk.medium g.S.FrameSource.next_gives g.P.PlaneMemory.plane g.G.Visits.asks g.G.Visits.gives_up
-          g.G.Guide.due g.G.Guide.ends _ c.args.camera _ c.camera.inside.device c.camera.inside.queue c.camera.inside.desk _
-          c.args.guide.now _ _ _ c.run_in-front.result.back _ _ _ _ _ c.camera.view_is c.of-again.ensures c.in-Ok-new.ensures.made
+          g.G.Guide.due g.G.Guide.ends _ c.args.guided.camera _ c.camera.inside.device c.camera.inside.queue c.camera.inside.desk _
+          c.args.guided.guide.now _ _ _ c.run_in-front.result.back _ _ _ _ _ c.camera.view_is c.of-again.ensures c.in-Ok-new.ensures.made
           c.run_in-front.ensures.back c.end_both-ended.ensures.keeps,
     )

@@ -3,10 +3,7 @@ use Rattle.std.specs.Global.{Global}
 use Rattle.loop_pipeline.specs.Fronts.{LeavesCarried, SeenFront}
 use denote.Param.Send.{sendable}
 use Rattle.std.proofs.Crossing.{crosses}
-use Rattle.loop_plane.proofs.Crossing.{table_send}
-use Rattle.loop_vb2.proofs.Crossing.{queue_send}
-use Rattle.loop_capture.proofs.Crossing.{device_send}
-use Rattle.loop_pipeline.proofs.Crossing.{left_send, link_sync}
+use Rattle.loop_pipeline.proofs.Crossing.{inlet_send, left_send, link_sync}
 use Rattle.loop_pipeline.proofs.film.run_in.Goals as goal
 
 pub spawn_with-requires-send-F : goal.spawn_with-requires-send-F
@@ -14,10 +11,7 @@ spawn_with-requires-send-F g c =
     let yr = c.type_bounds.sync-R in
     let yg = c.type_bounds.sync-G in
     let yl = link_sync in
-    let sw = c.type_bounds.send-W in
-    let sd = device_send _ c.type_bounds.send-S in
-    let sq = queue_send _ c.type_bounds.send-P in
-    let st = table_send _ c.type_bounds.send-P in
+    let si = inlet_send _ _ _ c.type_bounds.send-S c.type_bounds.send-P c.type_bounds.send-W in
     search (sendable, crosses) depth 40
 
 pub spawn_with-requires-send-T : goal.spawn_with-requires-send-T

@@ -3,6 +3,6 @@ use Rattle.loop_station_camera.proofs.event.find_event.Given as goal
 
 abbrev pub invariant-places : goal.invariant-places
 invariant-places g l = record {
-  same : l.back ≡ record l.fn.back { desks = l.back.desks };
-  still : length l.back.desks ≡ length l.fn.back.desks;
+  lent : l.desks.lent ≡ l.fn.desks.lent;
+  still : length l.desks.desks ≡ length l.fn.desks.desks;
 }

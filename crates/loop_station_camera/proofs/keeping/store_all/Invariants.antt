@@ -7,8 +7,9 @@ use Rattle.loop_station_camera.proofs.keeping.store_all.Given as goal
 
 abbrev pub invariant-flushes : goal.invariant-flushes
 invariant-flushes g l = record {
-  place : l.place ≡ l.fn.back.active;
-  inside : l.place < length l.fn.back.desks;
-  went : GoesAt l.fn.back.active l.fn.back l.back
+  place : l.place ≡ l.fn.desks.lent.active;
+  inside : l.place < length l.fn.desks.desks;
+  lent : l.desks.lent ≡ l.fn.desks.lent;
+  went : GoesAt l.fn.desks.lent.active l.fn.desks.desks l.desks.desks
       (λ d e. (answers : List (Result Flushed StoreFault)) × Flushes g.D.Disk.medium d answers e);
 }

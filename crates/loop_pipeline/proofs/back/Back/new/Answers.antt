@@ -5,6 +5,6 @@ use Rattle.loop_pipeline.proofs.back.Back.new.Goals as goal
 
 pub invariant_of-result : goal.invariant_of-result
 invariant_of-result g c =
-    rw (c.push_reserved.ensures.items, c.push_reserved-2.ensures.items, c.in-Ok-Ok.ensures.items, c.in-Ok-Ok.ensures'.items, c.of.ensures, c.of-from_before.ensures)
+    rw (c.push_reserved.ensures.items, c.in-Ok.ensures.items, c.of-opened.ensures, c.of-from_before.ensures, c.in-Ok-new.ensures.made)
     (begun g.D.Disk.medium g.K.Visits.asks g.K.Visits.gives_up c.args.desk c.args.from (subst TellsOne (ap (λ d. d.store) c.desk.ensures) c.opens.ensures.tells)
     (λ now. g.met.D.Disk.sound c.args.desk.store.disk now) c.requires.ring)

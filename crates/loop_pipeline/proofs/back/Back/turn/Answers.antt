@@ -1,22 +1,36 @@
-use Rattle.std.proofs.Common.{◌≤◌, refl, subst}
-use Rattle.loop_pipeline.proofs.Turning.{locked-all, may-turn, turned-same}
+use Rattle.std.proofs.Common.{◌<◌, ap, length, refl, subst}
+use Rattle.loop_pipeline.specs.Backs.{SeenBack}
+use Rattle.loop_pipeline.specs.Desks.{SeenDesks}
+use Rattle.loop_pipeline.specs.Turns.{MayTurn, TurnsTo}
+use Rattle.loop_pipeline.proofs.BackRuns.{turned-to}
+use Rattle.loop_pipeline.proofs.Visiting.{back-but-active, back-stays, kept-as}
 use Rattle.loop_pipeline.proofs.back.Back.turn.Goals as goal
 
-pub returns-in-Some-clause-stays : goal.returns-in-Some-clause-stays
-returns-in-Some-clause-stays g c never =
-    absurd (never (may-turn c.args.self.now c.is_between.result c.is_between.ensures
-    (subst (λ n. 2 ≤ n) c.count.ensures c.if-count-lt2.false) c.if-not-is_between.false))
+pub invariant_of-self : goal.invariant_of-self
+invariant_of-self g c =
+    let new = c.turn-is_locked.new.self in
+    let same = ap (λ (b : SeenDesks g.row.D.Denot). b.desks) c.turn-is_locked.ensures.same in
+    kept-as g.D.Disk.medium g.K.Visits.asks g.K.Visits.gives_up _ _ _ _ _ _ _ new same refl
+    (turned-to g.D.Disk.medium g.K.Visits.asks g.K.Visits.gives_up _ _ c.self.inside.desks.lent.active new.lent.active _ _ _ _
+    (subst (λ l. new.lent.active < length l) same c.visited.ensures.inside) c.self.invariant)
 
-pub returns-in-None-clause-stays : goal.returns-in-None-clause-stays
-returns-in-None-clause-stays g c never =
-    absurd (never (may-turn c.args.self.now c.is_between.result c.is_between.ensures
-    (subst (λ n. 2 ≤ n) c.count.ensures c.if-count-lt2.false) c.if-not-is_between.false))
+pub returns-clause-turns : goal.returns-clause-turns
+returns-clause-turns g c =
+    subst (λ (b : SeenBack g.row.D.Denot g.row.A.Denot). MayTurn b.desks b.active
+    → TurnsTo g.D.Disk.medium b.desks b.active c.turn-is_locked.new.self.lent.active c.turn-is_locked.result) c.self.view_is
+    c.turn-is_locked.ensures.turns
 
-pub returns-in-None-clause-locked : goal.returns-in-None-clause-locked
-returns-in-None-clause-locked g c e =
-    locked-all g.D.Disk.medium c.args.self.now c.args.self.now c.next_desk.result c.in-None.is c.next_desk.ensures refl
-    (may-turn c.args.self.now c.is_between.result c.is_between.ensures (subst (λ n. 2 ≤ n) c.count.ensures c.if-count-lt2.false)
-    c.if-not-is_between.false)
+pub returns-clause-stays : goal.returns-clause-stays
+returns-clause-stays g c =
+    let new = c.turn-is_locked.new.self in
+    back-stays _ _ new.desks new.lent.active c.turn-is_locked.result c.self.view_is
+    (λ never. let both = c.turn-is_locked.ensures.stays never in (
+      ap (λ (b : SeenDesks g.row.D.Denot). b.desks) both.0,
+      ap (λ (b : SeenDesks g.row.D.Denot). b.lent.active) both.0,
+      both.1,
+    ))
 
-pub returns-in-Some-clause-same : goal.returns-in-Some-clause-same
-returns-in-Some-clause-same g c = turned-same g.D.Disk.medium c.args.self.now _ c.in-Some.place c.turn_to.ensures
+pub returns-clause-same : goal.returns-clause-same
+returns-clause-same g c =
+    back-but-active _ _ _ c.turn-is_locked.new.self.lent.active c.self.view_is
+    (ap (λ (b : SeenDesks g.row.D.Denot). b.desks) c.turn-is_locked.ensures.same)

@@ -1,0 +1,8 @@
+use Rattle.loop_pipeline.proofs.Places.{set-same}
+use Rattle.loop_pipeline.proofs.desks.Desks.return_memory.Goals as goal
+
+pub invariant_of-self : goal.invariant_of-self
+invariant_of-self g c = rw (set-same _ _ _ _ c.index_mut.ensures.value c.return_memory.ensures) c.self.invariant
+
+pub returns : goal.returns
+returns g c = rw (set-same _ _ _ _ c.index_mut.ensures.value c.return_memory.ensures) c.self.view_is

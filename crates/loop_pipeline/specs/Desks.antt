@@ -1,0 +1,54 @@
+-- A camera's desks, as they are lent to a visit.
+use Rattle.std.specs.Prelude.{◌≡◌, ◌<◌, ℕ, Some, List, [], All, length, slice_get, slice_set}
+use Rattle.std.specs.List.{filter, flat_map}
+use Rattle.rtrb.specs.declared.AnyItems.{AnyItems}
+use Rattle.rtrb.specs.declared.consumer.Consumer.{Consumer}
+use Rattle.loop_disk.specs.Medium.{Medium}
+use Rattle.loop_record.specs.declared.frame.Frame.{Frame}
+use Rattle.loop_desk.specs.Desk.{DeskCall}
+use Rattle.loop_desk.specs.Seen.{SeenDesk}
+use Rattle.loop_pipeline.specs.declared.seat.Taken.{Taken}
+use Rattle.loop_pipeline.specs.Backs.{GoesBy, IsRightful, Part, is_placed_submit, parts_at, placed_calls}
+use Rattle.loop_pipeline.specs.Seats.{TakesFrom}
+
+-- what no visit changes: the desks as they were when it began, and the place of the active one
+pub record Lent (D : Type 0) : Type 0 where
+  pub began : List (SeenDesk D)
+  pub active : ℕ
+
+-- with it the desks as they are now
+pub record SeenDesks (D : Type 0) : Type 0 where
+  pub lent : Lent D
+  pub desks : List (SeenDesk D)
+
+-- another desk is active
+abbrev pub turned : {D : Type 0} → ℕ → SeenDesks D → SeenDesks D
+turned place seen = record seen { lent = record seen.lent { active = place } }
+
+-- each desk of a list went on by the parts of its place
+abbrev pub EachWent : {D : Type 0} → (D → Medium) → List (SeenDesk D) → List (SeenDesk D) → List (ℕ × Part) → Type 0
+EachWent {D} medium old new parts =
+    (place : ℕ) (d e : SeenDesk D) → slice_get old place ≡ Some d → slice_get new place ≡ Some e
+    → GoesBy medium d (parts_at place parts) e
+
+-- Since the visit began the desks went on by calls that visits may make, and by flushes: no frame came to one.
+pub record AreVisited {D : Type 0} (medium : D → Medium) (asks : DeskCall → Type 0) (seen : SeenDesks D) : Type 0 where
+  pub all : length seen.desks ≡ length seen.lent.began
+  pub inside : seen.lent.active < length seen.desks
+  pub parts : List (ℕ × Part)
+  pub among : All (λ part. part.0 < length seen.lent.began) parts
+  pub went : EachWent medium seen.lent.began seen.desks parts
+  pub rightful : All (λ part. IsRightful asks part.1) parts
+  pub quiet : filter is_placed_submit (flat_map placed_calls parts) ≡ []
+
+-- ---- between visits (private contracts alone)
+
+-- the next frame of a ring goes to the active desk, if there is one and it can be noted
+pub record SubmitsAt {D A : Type 0} (medium : D → Medium) (old new : SeenDesks D)
+    (from up : Consumer (Frame A) A AnyItems) (taken : Taken) : Type 0 where
+  pub before : SeenDesk D
+  pub after : SeenDesk D
+  pub at : slice_get old.desks old.lent.active ≡ Some before
+  pub takes : TakesFrom medium before after from up taken
+  pub desks : new.desks ≡ slice_set old.desks old.lent.active after
+  pub active : new.lent.active ≡ old.lent.active
