@@ -47,7 +47,8 @@ def test_a_process_writes_that_may_where_its_own_program_may_not(tmp_path):
         "resource.setrlimit(resource.RLIMIT_FSIZE, (0, 64_000_000))\n"
         "it = chunks.Chunks(Path('lines'), ['Gain', 'Text'], print)\n"
         "it.write(7, 5, [1.5, 'a,b'])\nit.close()\n"
-        "try:\n    open('own', 'w').write('x')\nexcept OSError:\n    print('may not')\n"
+        "try:\n    open('own', 'wb', buffering=0).write(b'x')\n"
+        "except OSError:\n    print('may not')\n"
     )
     place = str(Path(chunks.__file__).resolve().parents[1])
     words_ = [sys.executable, "-B", "-c", code, place]
