@@ -74,6 +74,11 @@ _lapyrei_export() {
     esac
 }
 
+_loop_demo() {
+    mapfile -t COMPREPLY < <(compgen -W "--port --keep --no-browser --power --help --version" -- "${COMP_WORDS[COMP_CWORD]}")
+}
+
+complete -F _loop_demo loop_demo
 complete -o filenames -F _loop_cli loop_cli
 complete -o filenames -F _loop_station loop_station
 complete -o filenames -F _loop_page loop_page

@@ -3,7 +3,6 @@ save_check share: the programs, the preloaded library and its log, what a loss o
 a file, and the plain recorder that says what a file may hold."""
 import os
 import pathlib
-import random
 import struct
 import subprocess
 import sys
@@ -12,12 +11,19 @@ import tempfile
 import layout
 import trial
 import unproved
+from power_loss import (  # noqa: F401 (the checks take them from here)
+    after_power_loss,
+    at_random,
+    change,
+    library,
+    log_of,
+    under,
+)
 
 TOOLS = os.path.dirname(os.path.abspath(__file__))
 CRATES = os.path.join(TOOLS, "..", "crates")
 ALL = str(2**64 - 1)
 MODES = ("no_sync", "late_sync", "gate_first")
-SECTOR = 512
 
 
 class Violation(Exception):
@@ -41,10 +47,10 @@ def built(name):
         sys.exit(
             f"{name} isn't built, or is older than its sources. {name.upper()}=PATH names another;"
             f" tools/check KIND --trial compiles it without a proof, in a minute; with --prove, or"
-            f" LAPYREI_PROVE=1, it is proved and built, in up to an hour"
+            f" LAPYREI_PROVE=1, it is proved and built, in an hour or more"
         )
     print(
-        f"proving and building {name} where something has changed: up to an hour, silently",
+        f"proving and building {name} where something has changed: an hour or more, silently",
         file=sys.stderr,
         flush=True,
     )
@@ -96,52 +102,6 @@ def words_of(name, folder, stops=True):
     return ["--", config]
 
 
-def library(folder):
-    """The preloaded library, built into a folder."""
-    path = os.path.join(folder, "preload.so")
-    subprocess.run(
-        ["cc", "-shared", "-fPIC", "-O2", "-o", path, os.path.join(TOOLS, "preload.c"), "-ldl"],
-        check=True,
-    )
-    return path
-
-
-def under(
-    preload, path, log=None, mode=None, fail=None, threads=None, text=None, kill=None, clip=None
-):
-    """The environment of a program with the library before it."""
-    env = dict(os.environ, LD_PRELOAD=preload, LOOP_FILE=path)
-    given = (
-        ("LOOP_LOG", log),
-        ("LOOP_MODE", mode),
-        ("LOOP_FAIL", fail),
-        ("LOOP_THREADS", threads),
-        ("LOOP_TEXT", text),
-        ("LOOP_KILL", kill),
-        ("LOOP_CLIP", clip),
-    )
-    env.update({name: value for name, value in given if value})
-    return env
-
-
-def log_of(path):
-    """The records of a log, as far as they are whole: (kind, place or length, bytes)."""
-    if not os.path.exists(path):
-        return []
-    with open(path, "rb") as file:
-        data = file.read()
-    records, at = [], 0
-    while at + 17 <= len(data):
-        kind = chr(data[at])
-        place, count = struct.unpack_from("<QQ", data, at + 1)
-        size = count if kind in "WAw" else 0
-        if at + 17 + size > len(data):
-            break
-        records.append((kind, place, data[at + 17 : at + 17 + size]))
-        at += 17 + size
-    return records
-
-
 def settle(log, path):
     """Makes a log after a kill one of what was done: a record that was cut is removed, and a last
     write, which is logged before it is made, has the bytes that the file has in its place, since
@@ -157,67 +117,6 @@ def settle(log, path):
     with open(log, "wb") as file:
         for kind, at, data in whole:
             file.write(kind.encode() + struct.pack("<QQ", at, len(data)) + data)
-
-
-def write_to(image, at, data):
-    """Writes bytes into an image, which grows where it has to."""
-    if len(image) < at + len(data):
-        image.extend(bytes(at + len(data) - len(image)))
-    image[at : at + len(data)] = data
-
-
-def set_length(image, length):
-    """Cuts an image, or lets it grow."""
-    del image[length:]
-    image.extend(bytes(length - len(image)))
-
-
-def change(image, record):
-    """Makes a change that stands in a log."""
-    kind, place, data = record
-    if kind == "W":
-        write_to(image, place, data)
-    elif kind == "T":
-        set_length(image, place)
-
-
-def torn(image, record, choose):
-    """Makes what a loss of power leaves of a change: of each sector of a write what was chosen for
-    it, new, old or zero."""
-    kind, place, data = record
-    if kind == "T":
-        if choose() != "old":
-            set_length(image, place)
-        return
-    at = 0
-    while at < len(data):
-        part = data[at : at + SECTOR - (place + at) % SECTOR]
-        what = choose()
-        if what != "old":
-            write_to(image, place + at, part if what == "new" else bytes(len(part)))
-        at += len(part)
-
-
-def after_power_loss(base, records, choose):
-    """A file after the loss of power after these records: what was synced, and of all else what was
-    chosen."""
-    image = bytearray(base)
-    pending: list[tuple] = []
-    for record in records:
-        if record[0] == "S":
-            for it in pending:
-                change(image, it)
-            pending = []
-        elif record[0] in "WT":
-            pending.append(record)
-    for it in pending:
-        torn(image, it, choose)
-    return bytes(image)
-
-
-def at_random():
-    """What is left of a sector."""
-    return random.choice(("new", "old", "zero"))
 
 
 def footage(number, run):

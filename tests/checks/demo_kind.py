@@ -46,7 +46,9 @@ KIND = Kind(
         Wrong(
             "cameras whose picture stands still",
             given={
-                "DEMO": changed_demo("CAMERAS:\n        # The shell", "[]:\n        # The shell")
+                "DEMO": changed_demo(
+                    "in CAMERAS:\n        start_camera", "in []:\n        start_camera"
+                )
             },
             says="shows no picture|stands still|no 'http",
         ),

@@ -14,7 +14,6 @@ VARYING = (
 # last is what they need: where it is installed, they are typed.
 ELSEWHERE = (
     (r"apt install", "changes the machine", None),
-    (r"^tools/install", "proves and builds for an hour, and changes the machine", None),
     (r"/dev/v(ideo|4l)|^loop_camera --list", "needs a camera", None),
     (r"\bsudo (reboot|tee|systemctl|journalctl)", "needs root, and a systemd that runs", None),
     (r"ffplay", "needs a screen", None),
@@ -25,8 +24,7 @@ ELSEWHERE = (
     (r"^rt ", "needs the kit", None),
     (r"^tools/check", "takes minutes, and the programs", None),
     (r"^python3 -m venv|^mine/bin/pip", "needs the wheel that tools/package makes", None),
-    (r"^tools/demo", "runs until Ctrl-C, and needs the page's packages", None),
-    (r"^\.ci/run", "is the gate", None),
+    (r"^loop_demo", "runs until Ctrl-C, and needs the page's packages", None),
 )
 
 

@@ -1,6 +1,6 @@
 #!/usr/bin/python3
 """A station for the page's tests: it writes stores as the layout says, takes the orders that the
-page gives, and prints what docs/station.md says.
+page gives, and prints what docs/reference.md says.
 
     fake_station.py CONFIG
 

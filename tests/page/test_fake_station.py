@@ -1,4 +1,4 @@
-"""The tests' station prints what docs/station.md says of the true one's lines."""
+"""The tests' station prints what docs/reference.md says of the true one's lines."""
 import json
 import time
 

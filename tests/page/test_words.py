@@ -6,9 +6,9 @@ from pathlib import Path
 import pytest
 from station_page import words
 
-STATION = (Path(__file__).resolve().parent.parent.parent / "docs" / "station.md").read_text(
-    encoding="utf-8"
-)
+DOCS = Path(__file__).resolve().parent.parent.parent / "docs"
+REFERENCE = (DOCS / "reference.md").read_text(encoding="utf-8")
+ANSWERS = (DOCS / "answers.md").read_text(encoding="utf-8")
 STATUS = {
     "kind": "status",
     "camera": "left",
@@ -95,13 +95,13 @@ def test_a_status_is_read():
 
 
 def documented():
-    """The kinds of lines, and the members of each, as docs/station.md has them."""
-    table = STATION.split("| Kinds | Further members |\n|---|---|\n")[1].split("\n\n")[0]
+    """The kinds of lines, and the members of each, as docs/reference.md has them."""
+    head = "| Kind, with what to do | Line | Members |\n|---|---|---|\n"
+    table = REFERENCE.split(head)[1].split("\n\n")[0]
     found = {}
     for row in table.splitlines():
-        kinds, _, members = row.strip("| ").partition(" | ")
-        for kind in re.findall(r"`(\w+)`", kinds):
-            found[kind] = set(re.findall(r"`(\w+)`", members))
+        kind, _, members = re.split(r" ?\| ", row.removeprefix("| ").removesuffix("|") + "| ", 2)
+        found[re.search(r"`(\w+)`", kind)[1]] = set(re.findall(r"`(\w+)`", members))
     return found
 
 
@@ -115,7 +115,7 @@ def test_the_page_reads_no_member_that_a_kind_has_not(kind):
 
 
 def test_each_reason_that_the_station_may_name_has_a_sentence():
-    tables = STATION.split("| WHY | What it is |\n|---|---|\n")[1:]
+    tables = ANSWERS.split("| WHY | What to do |\n|---|---|\n")[1:]
     named = {
         word
         for table in tables
@@ -123,8 +123,9 @@ def test_each_reason_that_the_station_may_name_has_a_sentence():
         for word in re.findall(r"`(\w+)", row.split(" | ")[0])
     }
     assert {"Busy", "CannotWrite"} <= named and named <= set(words.WHY)
-    unusable = re.search(r"no store may have its frames: (.*?): change", STATION)[1]
-    assert set(re.findall(r"`(\w+)`", unusable)) <= set(words.WHY)
+    unusable = ANSWERS.split("\n### Why a source can't be used\n")[1].split("\n## ")[0]
+    unusable = set(re.findall(r"`([A-Z][a-z]\w+)`", unusable))
+    assert "RateUnknown" in unusable and unusable <= set(words.WHY)
 
 
 FRAMES = {"width": 320, "height": 240, "format": "GREY", "rate_num": 30, "rate_den": 1}

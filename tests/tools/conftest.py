@@ -7,7 +7,7 @@ from pathlib import Path
 import pytest
 
 TOP = Path(__file__).resolve().parents[2]
-sys.path[1:1] = [str(TOP / "tools"), str(TOP / "tests/checks"), str(TOP / "tests/wrong")]
+sys.path[1:1] = [str(TOP / it) for it in ("tools", "python", "tests/checks", "tests/wrong")]
 sys.dont_write_bytecode = True
 
 

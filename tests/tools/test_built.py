@@ -73,7 +73,7 @@ def test_where_there_is_none_nothing_is_proved_unasked(crates, proved, monkeypat
     assert not proved
     monkeypatch.setenv("LAPYREI_PROVE", "1")
     assert stores.built("loop_cli").endswith("out/loop_cli") and proved == [["rt", "run"]]
-    assert "up to an hour" in capsys.readouterr().err
+    assert "an hour or more" in capsys.readouterr().err
 
 
 def test_the_word_that_lets_a_check_prove_is_its_own(tool, monkeypatch):
@@ -83,3 +83,9 @@ def test_the_word_that_lets_a_check_prove_is_its_own(tool, monkeypatch):
     assert "LAPYREI_PROVE" not in os.environ
     assert check.may_prove(["rows", "--prove", "x"]) == ["rows", "x"]
     assert os.environ.pop("LAPYREI_PROVE") == "1"
+
+
+def test_where_nothing_was_ever_compiled_there_is_nothing_to_forget(tmp_path, monkeypatch):
+    monkeypatch.setattr(stores.unproved, "KEPT", tmp_path / "kept")
+    stores.unproved.forget_old()
+    assert not list((tmp_path / "kept").iterdir())

@@ -83,14 +83,36 @@ def test_an_edit_that_fits_and_one_that_does_not(tmp_path, monkeypatch):
     head = "wrong: it\n"
     path.write_text(f"{head}file: src/lib.rt\nold: let a = 1;\nnew: let a = 2;\n")
     (edit,) = edits.edits_of(path)
-    assert edit == ("one", "it", False, "src/lib.rt", [("let a = 1;", "let a = 2;")])
+    assert edit == ("one", "it", False, "", {"src/lib.rt": [("let a = 1;", "let a = 2;")]})
     assert not edit.unfit()
-    assert edit.changed(edit.source.read_text()) == "let a = 2;\nlet b = 1;\n"
+    assert edit.changed_files() == {"src/lib.rt": "let a = 2;\nlet b = 1;\n"}
     path.write_text(f"{head}gate\nfile: src/lib.rt\nold: = 1;\nnew: = 2;\n")
     (edit,) = edits.edits_of(path)
     assert edit.in_gate and "stands 2 times" in edit.unfit()[0]
     path.write_text(f"{head}file: src/none.rt\nold: a\nnew: b\n")
     assert "names no file" in edits.edits_of(path)[0].unfit()[0]
+
+
+def test_a_wrong_decision_is_a_body_and_its_definition(tmp_path, monkeypatch):
+    monkeypatch.setattr(edits, "TOP", tmp_path)
+    for file, text in (("src/lib.rt", "a && b\n"), ("specs/One.antt", "one a b = a && b\n")):
+        place = tmp_path / "crates/one" / file
+        place.parent.mkdir(parents=True)
+        place.write_text(text)
+    path = tmp_path / "one.edits"
+    head = "wrong: it\nlaw: both_hold\nfile: src/lib.rt\nold: a && b\nnew: a\n"
+    path.write_text(f"{head}file: specs/One.antt\nold: = a && b\nnew: = a\n")
+    (edit,) = edits.edits_of(path)
+    assert (edit.law, edit.file, edit.unfit()) == ("both_hold", "src/lib.rt", [])
+    assert edit.changed_files() == {"src/lib.rt": "a\n", "specs/One.antt": "one a b = a\n"}
+    assert edit.changed_sources() == {"crates/one/src/lib.rt": "a\n"}
+    path.write_text(f"{head}file: specs/One.antt\nold: = b\nnew: = a\n")
+    assert "stands 0 times in specs/One.antt" in edits.edits_of(path)[0].unfit()[0]
+
+
+def test_a_law_speaks_of_each_decision():
+    done = subprocess.run([TOP / "tests/checks/laws_check"], capture_output=True, text=True)
+    assert done.returncode == 0, done.stderr
 
 
 def test_all_wrong_bodies_fit():

@@ -1,10 +1,10 @@
 #!/usr/bin/env python3
 """Counts the definitions of specs/ that contracts rest on: of the store's public calls and the
 trait `Disk`, of the calls that write and open, of a desk's calls, of `lane_run`, of a camera's
-`film_camera` and `film_desks`, of `film_all`, and of a camera with all calls of the recorder's
-library. For the calls that write, a desk's, `lane_run` and `film_camera` it also counts only those
-on which it rests what a power loss leaves: the clauses in LOSS, and of the records in FIELDS the
-fields that are listed there.
+`film_camera` and `film_desks`, of `film_all`, of a camera with all calls of the recorder's library,
+and of what the station decides, without the laws of that and with them. For the calls that write, a
+desk's, `lane_run` and `film_camera` it also counts only those on which it rests what a power loss
+leaves: the clauses in LOSS, and of the records in FIELDS the fields that are listed there.
 
 Run it at the top of the repository: `python3 tools/measure/definitions.py`. With names after it
 (`after Goes`) it says which definitions of these names there are, and what each rests on. It is no
@@ -29,8 +29,6 @@ import sys
 
 sys.path.insert(1, os.path.dirname(os.path.dirname(os.path.abspath(__file__))))
 import about
-
-about.answers(__doc__)
 
 STORE, DESK, PIPELINE = (
     "crates/loop_store/src/",
@@ -58,6 +56,13 @@ CAMERAS = {PIPELINE + "several.rt": ["film_all"]}
 RECORDER = {
     path: None for path in sorted(glob.glob("crates/loop_recorder/src/*.rt"))
 }
+# What the station decides: its decisions, and the laws about them.
+DECIDES = {
+    path: None
+    for path in sorted(glob.glob("crates/loop_station_core/src/*.rt"))
+    if not path.endswith("/laws.rt")
+}
+DECIDED = {"crates/loop_station_core/src/laws.rt": None}
 QUESTIONS = {
     "the store's public calls and the trait Disk": (WHOLE, False),
     "append, lock, run, format, open": (WRITES, False),
@@ -74,6 +79,8 @@ QUESTIONS = {
     "a camera of several desks: film_desks": (DESKS, False),
     "several cameras: film_all": (CAMERAS, False),
     "a recorder's calls and a camera": (RECORDER | CAMERA, False),
+    "what the station decides": (DECIDES, False),
+    "what the station decides, and the laws of that": (DECIDES | DECIDED, False),
 }
 # The clauses that say what a power loss leaves, and of the records that say more than that, the
 # fields that do.
@@ -157,6 +164,20 @@ def rests_on(text, scope):
             yield names[first]
 
 
+def below(named, found, own):
+    """Some definitions, and all on which they rest."""
+    scopes = {
+        key[:2]: scope_of(path, own) for path, names in own.items() for key in names.values()
+    }
+    seen, todo = set(), list(named)
+    while todo:
+        key = todo.pop()
+        if key not in seen:
+            seen.add(key)
+            todo += rests_on("".join(found[key].lines), scopes[key[:2]])
+    return seen
+
+
 def asked(calls, loss, own):
     """The definitions that these calls' clauses and the types that they name rest on; of all the
     store's calls, the trait's."""
@@ -231,4 +252,6 @@ def main():
             print(f"  {at[0]}/specs/{at[1]}: {counts[at][1]}, {counts[at][2]}")
 
 
-main()
+if __name__ == "__main__":
+    about.answers(__doc__)
+    main()

@@ -266,12 +266,8 @@ impl<I: Read + Drop> Input<I> {
         }
         let is_frame = self.read_ahead(size, &mut ahead)? && self.begins_with()? != Joined::Other;
         self.begin_line();
-        let rest = if is_frame {
-            ahead.as_slice()
-        } else {
-            ahead.get(1..).unwrap_or(&[])
-        };
-        Ok(self.give_back(rest) && is_frame)
+        let kept = if is_frame { 0 } else { 1 };
+        Ok(self.give_back(ahead.get(kept..).unwrap_or(&[])) && is_frame)
     }
 
     // Reads so many bytes, and adds them to others. Returns whether they are there, and memory for them.

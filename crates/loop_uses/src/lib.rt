@@ -5,7 +5,8 @@
 //! and read again, `pages`, `planes` and `events` the memory and the events of a queue, `recorders` a recorder of one
 //! camera. No program runs any of it.
 //!
-//! `tests/checks/uses_check --list` prints each public call that requires something, with its callers here and elsewhere.
+//! `tests/checks/uses_check --list` prints each public call that requires something, with its callers here and
+//! elsewhere.
 #![tactic(auto)]
 
 pub mod clips;

@@ -3,7 +3,7 @@ ghost use Rattle.std.specs.Prelude.{◌≡◌, IfSome, length, vec_len};
 ghost use Rattle.loop_recorder.specs.Opened.{IsReady};
 
 use crate::SMALL;
-use loop_capture::{Device, Pattern};
+use loop_capture::{Device, FrameSource, Pattern};
 use loop_desk::{Desk, DeskLimits};
 use loop_disk::MemDisk;
 use loop_ioctl::{BufferType, Ioctl};
@@ -11,7 +11,8 @@ use loop_pipeline::new_queue;
 use loop_plane::{MmapPlane, PlaneMemory};
 use loop_record::Frame;
 use loop_recorder::{CameraParts, Pace, Pass, Recorder, Step, record};
-use loop_store::{Store, format, format_and_append};
+use loop_store::chain::format_and_append;
+use loop_store::{Store, format};
 use std::alloc::Global;
 use std::sync::Wait;
 use std::thread::Threads;
@@ -73,10 +74,11 @@ fn a_camera(alloc: Global) -> Option<CameraParts<MemDisk, MmapPlane>>
 fn a_recorder(alloc: Global) -> Option<(Recorder<MemDisk, MmapPlane>, Vec<Pass>)>
     ensures { IfSome result (λ made. (length made.0.outlines ≡ 1) × (vec_len made.1 ≡ 3)) }
 {
-    let mut cameras = Vec::new(alloc);
-    if cameras.push(a_camera(alloc)?).is_err() {
+    let camera = a_camera(alloc)?;
+    let Ok(mut cameras) = Vec::with_capacity(alloc, 1) else {
         return None;
-    }
+    };
+    cameras.push_reserved(camera);
     match Recorder::new(alloc, cameras, 3) {
         Ok(made) => Some(made),
         Err(_) => None,
@@ -111,6 +113,14 @@ pub fn a_queue_is_asked<R: Wait>(rt: &R, alloc: Global, now: u64) -> Option<bool
     Some(recorder.copy_plane(rt, 0, 0, 0, 0, &mut out).is_ok())
 }
 
+// A device of a source.
+fn a_device(alloc: Global, source: Box<dyn FrameSource + Send>) -> Option<Device> {
+    match Device::new(alloc, source, 12) {
+        Ok(device) => Some(device),
+        Err(_) => None,
+    }
+}
+
 /// A recording of one camera, from the pattern.
 pub fn a_recorder_records<R: Threads + Wait + Clock + Sync>(
     rt: &R,
@@ -121,9 +131,6 @@ pub fn a_recorder_records<R: Threads + Wait + Clock + Sync>(
     let Ok(source) = Box::new(alloc, Pattern::new()) else {
         return None;
     };
-    let Ok(device) = Device::new(alloc, source, 12) else {
-        return None;
-    };
-    let mut devices: [Device; 1] = [device];
+    let mut devices = [a_device(alloc, source)?];
     Some(record(rt, alloc, recorder, passes, &mut devices, frames, &AtOnce).is_ok())
 }

@@ -28,6 +28,7 @@ stands on it.
     together    what several stations say, as one
     stations    several stations in one console
     advice      what to do where a camera isn't well
+    guide       docs/answers.md for the browser, and how long a disk lasts
     warned      what is warned of, and what is over
     standing    how station and cameras stand, in words and numbers
     keeping     orders that keep, and what became of them

@@ -27,5 +27,5 @@ def advice_for(kind: str) -> str:
     return (
         ""
         if kind == "good"
-        else ADVICE.get(kind, "docs/station.md says what the station's words mean.")
+        else ADVICE.get(kind, "docs/answers.md says what the station's words mean.")
     )

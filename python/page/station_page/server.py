@@ -19,6 +19,7 @@ from .asked import FRAME, frame_in, headers_of, moment_in, number_in, problem, r
 from .console import Console
 from .films import FilmFault, Sums, Text, csv_of, zip_stream
 from .guard import COOKIE, HEADERS, OPEN, Connection, Gate, bearer_of, session_word
+from .guide import Guide
 from .journal import Expected, PlainFormatter
 from .laboratory import Laboratory
 from .notes import NotesFault
@@ -122,6 +123,7 @@ class Page:
         get("/", self.front)
         get("/static/{name}", self.static)
         get("/favicon.ico", self.icon, allow_head=False)
+        get("/answers", Guide().page)
         get("/sign-in", self.sign_in_page)
         post("/sign-in", self.sign_in)
         post("/sign-out", self.sign_out)

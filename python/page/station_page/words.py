@@ -6,7 +6,7 @@ from dataclasses import dataclass, field
 
 EPOCH = datetime.datetime(1970, 1, 1, tzinfo=datetime.timezone.utc)
 MICROSECOND = datetime.timedelta(microseconds=1)
-# The members of each kind of line, as docs/station.md has them: a text, with # a number, with @ a
+# The members of each kind of line, as docs/reference.md has them: a text, with # a number, with @ a
 # time; with ? it may be missing.
 FRAMES = "camera #width #height format #rate_num #rate_den ?#bits ?#store_bits"
 MEMBERS = {
@@ -142,7 +142,7 @@ REFUSALS = {
     "no_camera": "the station has no camera of that name. Was its configuration changed? Start "
         "the page again",
 }
-UNKNOWN = "docs/station.md says what this means"
+UNKNOWN = "docs/answers.md says what this means"
 
 
 def plain(text: str) -> str:

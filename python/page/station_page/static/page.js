@@ -141,20 +141,20 @@ function troubles() {
   if (isLost) {
     const at = clock((Date.now() - (performance.now() - heard)) * 1000);
     return [{ level: "bad", text: `This page has lost its server at ${at}. What you see is of that time. Recording may well go on.`,
-      advice: "Does loop_page run (systemctl status loop_page), and is the network there? The page tries again each second." }];
+      advice: "Does loop_page run (systemctl status loop_page), and is the network there? The page tries again each second.", answer: "server" }];
   }
   if (!standing) return [];
   const list = [];
   const [level, text] = standing.station;
-  if (level !== "good") list.push({ level, text, advice: level === "bad" ? "Start the station: systemctl start loop_station. Until then nothing is recorded." : "docs/page.md, \u201cBegin\u201d, says how the station's file names its pipes." });
+  if (level !== "good") list.push({ level, text, advice: level === "bad" ? "Start the station: systemctl start loop_station. Until then nothing is recorded." : "docs/page.md, \u201cBegin\u201d, says how the station's file names its pipes.", answer: "station" });
   for (const camera of standing.cameras) {
-    if (camera.level !== "good") list.push({ level: camera.level, camera: camera.name, text: camera.state, advice: more[camera.name]?.advice || "" });
+    if (camera.level !== "good") list.push({ level: camera.level, camera: camera.name, text: camera.state, advice: more[camera.name]?.advice || "", answer: (camera.kind || "").replace(" ", "-") });
   }
   for (const station of standing.stations || []) {
-    if (station.level !== "good") list.push({ level: station.level, text: station.text, advice: `docs/several.md says more. Its own page is ${station.url}/` });
+    if (station.level !== "good") list.push({ level: station.level, text: station.text, advice: `docs/several.md says more. Its own page is ${station.url}/`, answer: "others" });
   }
-  if (standing.archive?.text) list.push({ level: "warn", text: standing.archive.text, advice: "Events are kept here until they are archived. docs/several.md says how loop_archive is set up." });
-  if (standing.notes_fault) list.push({ level: "warn", text: standing.notes_fault, advice: "Notes aren't written until then. Clips are kept nevertheless." });
+  if (standing.archive?.text) list.push({ level: "warn", text: standing.archive.text, advice: "Events are kept here until they are archived. docs/several.md says how loop_archive is set up.", answer: "archive" });
+  if (standing.notes_fault) list.push({ level: "warn", text: standing.notes_fault, advice: "Notes aren't written until then. Clips are kept nevertheless.", answer: "notes" });
   return list.sort((one, other) => LEVELS.indexOf(other.level) - LEVELS.indexOf(one.level));
 }
 
@@ -184,7 +184,8 @@ function calm() {
 /** What to do about each trouble. */
 function advise() {
   const rows = troubles().filter((it) => it.advice).flatMap((it) => [
-    make("dt", { className: `state ${it.level}` }, `${it.camera ? `${it.camera}: ` : ""}${it.text}`), make("dd", {}, it.advice)]);
+    make("dt", { className: `state ${it.level}` }, `${it.camera ? `${it.camera}: ` : ""}${it.text}`),
+    make("dd", {}, it.advice, " ", make("a", { href: `/answers#advice-${it.answer}`, target: "_blank" }, "More"))]);
   byId("advice-list").replaceChildren(...rows);
   byId("advice").showModal();
 }
