@@ -1,7 +1,7 @@
 # What keeps by itself: python/links/loop_trigger examples/door.trigger
 # docs/several.md and loop_trigger(1) say what each word means.
 page = "http://127.0.0.1:8080"
-#token = "/etc/lapyrei/page.token"
+token = "/etc/lapyrei/page.token"   # without this line where the page has none
 #stations = "all"          # by MQTT to all stations, instead of to the page; needs [broker]
 
 [[trigger]]

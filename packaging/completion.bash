@@ -39,15 +39,15 @@ _loop_page() {
 _loop_camera() {
     local word=${COMP_WORDS[COMP_CWORD]}
     case $word in
-        -*) mapfile -t COMPREPLY < <(compgen -W "--list --fake --to --frames --log --help --version" -- "$word") ;;
+        -*) mapfile -t COMPREPLY < <(compgen -W "--list --fake --to --frames --chunks --log --help --version" -- "$word") ;;
         *) _loop_files "$word" ;;
     esac
 }
 
 _loop_setup() {
     local word=${COMP_WORDS[COMP_CWORD]}
-    mapfile -t COMPREPLY < <(compgen -W "--list --fake --remove --camera --source --format --size --rate --exposure --gain --bits \
-        --store-format --minutes --hours --keep --folder --page --no-page --no-picture --no-start --move-store --yes --help --version" -- "$word")
+    mapfile -t COMPREPLY < <(compgen -W "--list --check --fake --remove --camera --source --format --size --rate --exposure --gain --bits \
+        --store-format --minutes --hours --keep --folder --page --no-page --release --no-release --group --no-group --no-picture --no-start --move-store --yes --help --version" -- "$word")
 }
 
 _store_info() {

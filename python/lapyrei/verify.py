@@ -1,8 +1,10 @@
 """Exports that prove themselves: each is read back from the disk, and its pixels, times and tags
 are compared with what was handed to it. Of each picture that was exported a checksum stays, so that
-the ring may go on meanwhile."""
+the ring may go on meanwhile. A film and a table are also compared with what a station's page says
+of a clip (lapyrei.sums)."""
 from __future__ import annotations
 
+import contextlib
 import csv
 import hashlib
 import json
@@ -10,7 +12,7 @@ import os
 import subprocess
 import tempfile
 from collections.abc import Callable, Iterator
-from typing import TYPE_CHECKING, Any, NamedTuple
+from typing import TYPE_CHECKING, Any, NamedTuple, Protocol
 
 import numpy as np
 from numpy.typing import NDArray
@@ -20,6 +22,7 @@ from .errors import ExportFault
 
 if TYPE_CHECKING:
     from .exports import Job
+    from .parts import Form
 
 Array = NDArray[Any]
 Pictures = Iterator[dict[str, Array]]
@@ -27,12 +30,50 @@ Pictures = Iterator[dict[str, Array]]
 
 class Back(NamedTuple):
     """What a file says: its pictures one after the other, its vectors, what it says of itself, and
-    texts that have to be the same, each beside the one that is wanted."""
+    texts that have to be the same, each beside the one that is wanted. A table's pictures have no
+    pixels."""
 
     pictures: Pictures
     vectors: dict[str, Any]
     about: Any
     texts: tuple[tuple[str, Any, Any], ...] = ()
+    has_pixels: bool = True
+
+
+class Timed(Protocol):
+    """Frames that have times, in microseconds."""
+
+    def __len__(self) -> int:
+        ...
+
+    @property
+    def times(self) -> Array:
+        """Their times."""
+
+
+class Wanted(Protocol):
+    """What has been handed out, as far as films and tables have it: an export's frames, or those of
+    a page's clip. `digests` has the checksums of the pictures."""
+
+    geometry: layout.Geometry
+    form: Form
+    digests: list[dict[str, bytes]]
+
+    @property
+    def frames(self) -> Timed:
+        """The frames."""
+
+    def layers(self) -> dict[str, tuple[int, ...]]:
+        """The arrays of a picture, each with its shape."""
+
+    def vectors(self) -> dict[str, Array]:
+        """What is said of each frame."""
+
+    def about(self) -> dict[str, Any]:
+        """What a file says of itself."""
+
+    def table(self) -> str:
+        """The table of numbers and times."""
 
 
 def digest(array: Array) -> bytes:
@@ -50,22 +91,35 @@ def digests(picture: dict[str, Array]) -> dict[str, bytes]:
 
 def verify(kind: str, job: Job, path: str) -> None:
     """Reads an export back; ExportFault where anything is other than it was handed out."""
-    try:
+    with told():
         compare(job, READERS[kind](job, path))
+
+
+def verify_text(kind: str, wanted: Wanted, path: str) -> None:
+    """The same of a film (y4m) or a table (csv), whoever has handed it out."""
+    with told():
+        compare(wanted, TEXTS[kind](wanted, path))
+
+
+@contextlib.contextmanager
+def told() -> Iterator[None]:
+    """Whatever goes wrong is a fault of the export."""
+    try:
+        yield
     except ExportFault as fault:
         raise ExportFault(f"what was written isn't what was read back: {fault}") from None
     except Exception as fault:
         raise ExportFault(f"what was written can't be read back: {fault!r}") from fault
 
 
-def compare(job: Job, back: Back) -> None:
+def compare(job: Wanted, back: Back) -> None:
     """Compares what was read back with what was handed out."""
     count = 0
     for place, picture in enumerate(back.pictures):
         count = place + 1
-        # A table has no pictures.
-        for name, wanted in (job.digests[place] if place < len(job.digests) else {}).items():
-            if name not in picture or digest(picture[name]) != wanted:
+        wanted = job.digests[place] if back.has_pixels and place < len(job.digests) else {}
+        for name, digest_ in wanted.items():
+            if name not in picture or digest(picture[name]) != digest_:
                 raise ExportFault(f"the pixels of picture {place} ({name})")
     if count != len(job.frames):
         raise ExportFault(f"{count} pictures, and not {len(job.frames)}")
@@ -221,7 +275,7 @@ def table_in(folder: str) -> str:
         return file.read()
 
 
-def back_csv(job: Job, path: str) -> Back:
+def back_csv(job: Wanted, path: str) -> Back:
     """The table alone, which has no pictures."""
     with open(path, encoding="utf-8", newline="") as file:
         text = file.read()
@@ -230,13 +284,13 @@ def back_csv(job: Job, path: str) -> Back:
     found = [int(row["time_us"]) for row in rows]
     texts = ("its table", text, job.table()), ("its times", found, job.frames.times.tolist())
     none: Pictures = iter({} for _ in rows)
-    return Back(none, {}, None, texts)
+    return Back(none, {}, None, texts, has_pixels=False)
 
 
 # ----------------------------------------------------------------------------------- films
 
 
-def back_y4m(job: Job, path: str) -> Back:
+def back_y4m(job: Wanted, path: str) -> Back:
     """YUV4MPEG2."""
     front = layout.text_front(job.geometry, job.form.bits)
 
@@ -252,7 +306,7 @@ def back_y4m(job: Job, path: str) -> Back:
     return Back(pictures(), {}, None)
 
 
-def planes_in(job: Job, file: Any) -> dict[str, Array]:
+def planes_in(job: Wanted, file: Any) -> dict[str, Array]:
     """A picture's planes, of raw bytes."""
     found = {}
     for name, shape in job.layers().items():
@@ -328,6 +382,7 @@ def back_mp4(job: Job, path: str) -> Back:
     return Back(film_pictures(job, path, kind), {}, None, film_texts(job, path))
 
 
+TEXTS: dict[str, Callable[[Wanted, str], Back]] = {"y4m": back_y4m, "csv": back_csv}
 READERS: dict[str, Callable[[Job, str], Back]] = {
     "h5": back_h5,
     "zarr": back_zarr,
@@ -339,6 +394,5 @@ READERS: dict[str, Callable[[Job, str], Back]] = {
     "mp4": back_mp4,
     "png": back_png,
     "npy": back_npy,
-    "y4m": back_y4m,
-    "csv": back_csv,
+    **TEXTS,
 }

@@ -76,8 +76,8 @@ def test_bayer_is_given_on_as_it_is(camera):
     "format,asked,colour",
     [
         ("BayerRG8", "yuv420p", "420jpeg"),
-        ("RGB8", None, "420jpeg"),
-        ("RGB8", "yuv444p", "444"),
+        ("RGB8", None, "444"),
+        ("RGB8", "yuv420p", "420jpeg"),
         ("RGB8", "yuv422p10le", "422p10"),
     ],
 )

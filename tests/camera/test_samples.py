@@ -91,3 +91,13 @@ def test_bayer_for_ffmpeg_has_the_whole_16_bits():
     form = samples.format_of("BayerGR12")
     assert form.ffmpeg == "bayer_grbg16le" and form.is_bayer()
     assert list(samples.full(form, np.array([1, 4095], "<u2").tobytes(), 2, 1)) == [16, 65520]
+
+
+@pytest.mark.parametrize(
+    "name,colour",
+    [("Mono8", "gray"), ("Mono10p", "gray10le"), ("BayerRG12Packed", "gray12le"),
+     ("RGB8", "yuv444p"), ("BGR8Packed", "yuv444p"), ("YUV422_8", "yuv422p"),
+     ("YCbCr422_8_CbYCrY", "yuv422p")],
+)
+def test_colours_are_for_as_many_pixels_as_the_camera_gives_them(name, colour):
+    assert samples.format_of(name).planes() == colour

@@ -16,7 +16,8 @@ from types import SimpleNamespace
 import conftest
 import pytest
 
-from station_camera import disk, found, genicam, pictures, services, setup, v4l2, words, written
+from station_camera import disk, found, genicam, orders, pictures, presses, services, setup
+from station_camera import v4l2, words, written
 from station_camera.ask import Ask, Stopped
 from station_camera.text import Form
 
@@ -130,6 +131,8 @@ def test_options_alone_set_up_a_camera_and_wait_for_its_first_frame(laboratory, 
         "minutes": 2,
         "keep": 30,
         "times_from": "source",
+        "save_to": f"{laboratory.root}/var/lib/loop_station/clips",
+        "release": True,
     }
     assert laboratory.config()["answers_form"] == "json"
     units = ["loop_station.service", "loop_camera@left.service", "loop_page.service"]
@@ -143,8 +146,10 @@ def test_options_alone_set_up_a_camera_and_wait_for_its_first_frame(laboratory, 
         f"a picture is in {laboratory.root}/left.png: 64x48 gray",
         "it writes ",
         "the store takes 9.",
+        "2 minutes, 9.9 MB: 3 presses of 30 s (2.3 MB each) at once; the disk has room for ",
         "left records: frame 9 is in",
         "the page: http://127.0.0.1:8080/  its token: sudo cat ",
+        f"keep what has just happened: echo keep left >{laboratory.root}/run/loop_station/orders\n",
     ):
         assert line in told, told
     token = laboratory.etc / "page.token"
@@ -152,7 +157,7 @@ def test_options_alone_set_up_a_camera_and_wait_for_its_first_frame(laboratory, 
 
 
 def test_a_stranger_answers_questions(laboratory, capsys):
-    # The camera, its name, Mono8, size and rate, so many minutes, no page.
+    # The camera, its name, Mono8, size and rate, each keep is written, so many minutes, no page.
     offers = found.offers(True, print)
     many = [] if len(offers) == 1 else ["1"]
     formats = offers[0].formats
@@ -164,6 +169,7 @@ def test_a_stranger_answers_questions(laboratory, capsys):
         "32x24",
         "nonsense",
         "20",
+        "",
         "1",
         "n",
     ]
@@ -496,3 +502,162 @@ def test_a_prompt_is_asked_again_until_it_is_answered():
     assert ask.one_of("which", ["a", "b"]) == 1 and ask.yes("so", False) is True
     with pytest.raises(Stopped):
         Ask(True).text("size", "8", "nine", lambda word: "no number" if word == "nine" else None)
+
+
+# ------------------------------------------------------------------------------ what a press does
+
+
+GIVEN = [*FAKE, "--no-page", "--yes", "--no-picture", "--no-start"]
+
+
+def test_the_words_of_a_keep_are_those_of_the_packages_own_camera(laboratory):
+    """So no press ends the recording."""
+    (packaged,) = tomllib.loads((conftest.TOP / "packaging/station.toml").read_text())["camera"]
+    assert laboratory.run(*GIVEN) == 0
+    (camera,) = laboratory.config()["camera"]
+    assert {it: camera[it] for it in ("keep", "minutes", "release")} == {
+        it: packaged[it] for it in ("keep", "minutes", "release")
+    }
+    # It saves where the station lets it.
+    assert camera["save_to"] == laboratory.config()["saves"]
+    assert Path(packaged["save_to"]).name == Path(camera["save_to"]).name
+
+
+def test_what_the_file_says_of_a_release_stays_unless_it_is_asked_for(laboratory, capsys):
+    """Where loop_archive releases, the station doesn't."""
+    laboratory.etc.mkdir(parents=True)
+    plain = 'saves = "/data"\n[[camera]]\nname = "left"\nminutes = 5\n'
+    for text, more, wanted in (
+        (plain, [], (None, None)),
+        (plain, ["--release"], ("/data", True)),
+        (plain + 'save_to = "/mine"\nrelease = false\n', [], ("/mine", False)),
+        (plain + 'save_to = "/mine"\nrelease = true\n', [], ("/mine", True)),
+        (plain + 'save_to = "/mine"\nrelease = true\n', ["--no-release"], ("/mine", False)),
+    ):
+        (laboratory.etc / "station.toml").write_text(text)
+        assert laboratory.run(*GIVEN, "--minutes", "5", *more) == 0
+        (camera,) = laboratory.config()["camera"]
+        assert (camera.get("save_to"), camera.get("release")) == wanted, (text, more)
+        said = capsys.readouterr().out
+        assert ("and then frames wait until one is released" in said) == (wanted[1] is not True)
+
+
+@pytest.mark.parametrize(
+    "more, says",
+    [
+        (["--minutes", "0.05"], "0.05 minutes: a keep of 30 s locks all of the store, and the "
+         "recording ends: choose 1 or more, or a shorter --keep"),
+        (["--minutes", "2", "--keep", "200"], "choose 5 or more, or a shorter --keep"),
+        (["--minutes", "5", "--keep", "600"], "recording ends: choose a shorter --keep"),
+        (["--minutes", "5", "--keep", "x"], "--keep x is no number"),
+        (["--minutes", "5", "--keep", "0"], "isn't from 1"),
+        (["--keep", "80000"], "a keep of 80000 s leaves any"),
+    ],
+)
+def test_minutes_that_a_keep_would_lock_are_refused(laboratory, capsys, more, says):
+    assert laboratory.run(*GIVEN, *more) == 1
+    assert says in capsys.readouterr().err
+    assert not laboratory.etc.exists()
+
+
+def test_an_event_that_goes_on_locks_more(laboratory, capsys):
+    laboratory.etc.mkdir(parents=True)
+    (laboratory.etc / "station.toml").write_text('[[camera]]\nname = "left"\nafter = 600\n')
+    assert laboratory.run(*GIVEN, "--minutes", "5") == 1
+    assert "a keep of 630 s locks all" in capsys.readouterr().err
+
+
+@pytest.mark.parametrize("has, is_taken", [(False, False), (True, True)])
+def test_minutes_that_the_disk_has_no_room_for_are_refused(
+    laboratory, capsys, monkeypatch, has, is_taken
+):
+    """Unless the store is there already."""
+    monkeypatch.setattr(disk, "measured", lambda _: disk.Disk(1e9, 1.0, 1.0, 5_000_000))
+    if has:
+        laboratory.next = 5
+    assert (laboratory.run(*GIVEN, "--minutes", "2") == 0) == is_taken
+    said = capsys.readouterr().err
+    assert is_taken or "2 minutes take 9.9 MB, and 5.0 MB are free" in said
+
+
+def test_the_choices_say_how_long_how_large_and_how_many_presses(laboratory, capsys):
+    answers = ["", "3", "n"]
+    given = [*FAKE, "--no-picture", "--no-start"]
+    assert laboratory.run(*given, "--camera", "left", answers=answers) == 0
+    said = capsys.readouterr().out
+    rows = re.findall(
+        r"^  (\d+)  ([\d.]+) minutes, [\d.]+ .B: (\d+) press(?:es)? of 30 s \(2.3 MB each\) "
+        r"at once; the disk has room for \d+ saved ones$", said, re.M)
+    assert [(row[1], row[2]) for row in rows][:4] == [
+        ("1", "1"), ("2", "3"), ("5", "7"), ("10", "14")]
+    assert laboratory.config()["camera"][0]["minutes"] == 5
+
+
+@pytest.mark.parametrize("minutes", [0.5, 1, 2, 5, 10])
+@pytest.mark.parametrize("keep", [1, 30, 90])
+def test_so_many_presses_leave_room_and_one_more_does_not(minutes, keep):
+    """By a plain count of blocks: each keep begins at the last frame of one, far from others."""
+    form = Form(640, 480, "yuv420p", Fraction(25))
+    segments, slots = disk.shape(form, minutes)
+    found = presses.choice(form, minutes, keep, 10**12)
+    frames, locked, count = keep * 25, set(), 0
+    while True:
+        start = count * 1_000_000 * slots + slots - 1
+        locked |= {number // slots for number in range(start, start + frames)}
+        if len(locked) > segments - 2:
+            break
+        count += 1
+    assert found.presses == count
+    assert found.kept == frames * 460_800 and found.size == disk.store_bytes(form, minutes)
+
+
+# ------------------------------------------------------------------------------------ the group
+
+
+@pytest.fixture
+def ordering(laboratory, monkeypatch):
+    """What loop_setup prints as the command that keeps, for a user, and what it did for that."""
+
+    def one(user, members=(), given=None, why=None):
+        added, said = [], []
+        monkeypatch.setenv("SUDO_USER", user)
+        monkeypatch.setattr(orders, "is_member", lambda name: name in members)
+        monkeypatch.setattr(orders, "add", lambda name: added.append(name) or why)
+        monkeypatch.setattr(setup.Setup, "is_real", lambda _: True)
+        words_ = setup.parser().parse_args(["--root", str(laboratory.root), *(given or [])])
+        it = setup.Setup(words_, Ask(True), said.append)
+        return it.order("left"), added, said
+
+    return one
+
+
+def test_the_last_line_works_as_printed(ordering, laboratory):
+    pipe = laboratory.root / "run/loop_station/orders"
+    plain = f"echo keep left >{pipe}"
+    assert ordering("root") == ordering("") == (plain, [], [])
+    assert ordering("anna", ["anna"]) == (plain, [], [])
+    command, added, said = ordering("anna")
+    assert (command, added) == (f"sg loop_station -c '{plain}'", ["anna"])
+    assert "anna is in" in said[0]
+    refused = f"echo keep left | sudo tee {pipe}", "sudo usermod -aG loop_station anna"
+    command, added, said = ordering("anna", given=["--no-group"])
+    assert (command, added) == (refused[0], []) and said[0].endswith(refused[1])
+    command, added, said = ordering("anna", why="no such user")
+    assert (command, added) == (refused[0], ["anna"]) and "no such user" in said[0]
+    assert said[1].endswith(refused[1])
+
+
+def test_the_last_line_gives_an_order_to_the_pipe_of_the_file(ordering, laboratory):
+    laboratory.etc.mkdir(parents=True)
+    pipe = laboratory.root / "pipe"
+    os.mkfifo(pipe)
+    (laboratory.etc / "station.toml").write_text(f'orders = "{pipe}"\n')
+    with open(os.open(pipe, os.O_RDONLY | os.O_NONBLOCK)) as read:
+        subprocess.run(["sh", "-c", ordering("root")[0]], check=True)
+        assert read.readline() == "keep left\n"
+
+
+def test_a_station_that_runs_is_told_to_begin_anew(laboratory, capsys):
+    laboratory.runs.add("loop_station.service")
+    assert laboratory.run(*FAKE, "--minutes", "2", "--no-page", "--yes", "--no-picture") == 0
+    assert "the station begins anew: every camera pauses for a moment\n" in capsys.readouterr().out

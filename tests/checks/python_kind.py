@@ -71,7 +71,7 @@ KIND = Kind(
             "an export that believes what it wrote",
             given={
                 "LAPYREI_PYTHON": changed_module(
-                    "verify.py", "digest(picture[name]) != wanted", "False"
+                    "verify.py", "digest(picture[name]) != digest_", "False"
                 )
             },
             words=["-k", "byte_that_is_another"],

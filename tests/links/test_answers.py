@@ -155,9 +155,13 @@ def test_what_is_held_is_of_own_cameras_that_are_read_and_of_events_that_are_ove
 
 # ------------------------------------------------------------------------------------ connections
 
+# So often, ten times a second, a server drips: for six times as long as an answer may take here.
+DRIPS = 60
+
 
 class Raw:
-    """A server that sends bytes, and drips after them."""
+    """A server that sends bytes, and drips after them, for some seconds: what waits for all of it
+    without a bound has an end too."""
 
     def __init__(self, first, drip=b""):
         self.first, self.drip, self.over = first, drip, threading.Event()
@@ -173,7 +177,9 @@ class Raw:
                 with client, contextlib.suppress(OSError):
                     client.recv(65536)
                     client.sendall(self.first)
-                    while self.drip and not self.over.wait(0.1):
+                    for _ in range(DRIPS if self.drip else 0):
+                        if self.over.wait(0.1):
+                            break
                         client.sendall(self.drip)
 
     def close(self):

@@ -1,5 +1,6 @@
 """loop_archive: clips of a station go to a WebDAV server by rclone, are compared there, and are
 released only then."""
+import hashlib
 import http.client
 import http.server
 import json
@@ -460,9 +461,40 @@ def test_a_place_without_a_checksum_of_each_file_is_read_back(monkeypatch, tmp_p
 
 # -------------------------------------------------------------------------------- a page that lies
 
-# Two frames of 3x2, grey.
+# Two frames of 3x2, grey, as a film, as a table, and as the page says of each what it is.
 FRONT = b"YUV4MPEG2 W3 H2 F25:1 Ip A0:0 Cmono\n"
-FILM = FRONT + b"FRAME\n123456" + b"FRAME\nabcdef"
+PICTURES = b"123456", b"abcdef"
+FILM = FRONT + b"".join(b"FRAME\n" + it for it in PICTURES)
+TABLE = b"""number,time_us,time,sequence\r
+0,1,1970-01-01T00:00:00.000001Z,7\r
+1,2,1970-01-01T00:00:00.000002Z,8\r
+"""
+SAID = {"format": "GREY", "width": 3, "height": 2, "rate": [25, 1], "bits": 8}
+
+
+def sums_of(pictures=PICTURES, numbers=(0, 1), front=None):
+    """What a page says of pictures, each 3x2 in grey."""
+    lines = [json.dumps(SAID | (front or {})).encode() + b"\n"]
+    for number, pixels in zip(numbers, pictures):
+        digest = hashlib.blake2b(b"((2, 3), '|u1')" + pixels, digest_size=16)
+        lines.append(f"{number},{number + 1},{number + 7},{digest.hexdigest()}\n".encode())
+    return b"".join(lines)
+
+
+OWN = neighbour.CLIP | {"first": 0, "last": 1}
+
+
+def page_of(make_neighbour, own, answers):
+    """A page that has one clip, of the two frames, and says what a test gives."""
+    page = make_neighbour()
+    page.answers |= {
+        "/api/status": neighbour.STATE, "/api/clips": {"clips": [own]},
+        "/api/events": {"events": []},
+        "/api/clips/left/0.y4m": (FILM, 200, "video/x-yuv4mpeg2"),
+        "/api/clips/left/0.csv": (TABLE, 200, "text/csv"),
+        "/api/clips/left/0.sums": (sums_of(), 200, "text/plain"),
+    } | answers
+    return page
 
 
 @pytest.fixture
@@ -470,19 +502,38 @@ def lying(make_neighbour, begin, tmp_path):
     """A loop_archive beside a page that says what a test gives; its place is a folder."""
 
     def one(clip=None, **answers):
-        page = make_neighbour()
-        own = neighbour.CLIP | {"first": 0, "last": 1} | (clip or {})
-        page.answers |= {
-            "/api/status": neighbour.STATE, "/api/clips": {"clips": [own]},
-            "/api/events": {"events": []},
-            "/api/clips/left/0.y4m": (FILM, 200, "video/x-yuv4mpeg2"),
-            "/api/clips/left/0.csv": (b"number,time\n0,1\n1,2\n", 200, "text/csv"),
-        } | answers
+        page = page_of(make_neighbour, OWN | (clip or {}), answers)
         folder = tmp_path / "spooler"
         folder.mkdir()
         station = types.SimpleNamespace(folder=folder, port=page.port)
         spool = str(folder / "spool")
         return page, Archive(station, begin, archive=str(tmp_path / "disk"), spool=spool).start()
+
+    return one
+
+
+@pytest.fixture
+def fetch(make_neighbour, tmp_path):
+    """Has a camera fetch a clip from a page that says what a test gives, without the pauses of a
+    program that tries again. Nothing is left in the spool."""
+
+    def one(clip=None, **answers):
+        told = {f"/api/clips/left/0.{kind}": (it, 200, "a/b") for kind, it in answers.items()}
+        page = page_of(make_neighbour, OWN, told)
+        path = tmp_path / "archive.toml"
+        path.write_text(
+            f'url = "http://127.0.0.1:{page.port}/"\nstate = "{tmp_path}/state.json"\n'
+            f'archive = "{tmp_path}/disk"\nspool = "{tmp_path}/spool"\n'
+        )
+        it = program.Archive(program.read_settings(str(path)))
+        camera = program.Camera("left", it.settings.place, it)
+        try:
+            with camera.spool() as folder:
+                camera.fetch(program.clip_of(OWN | (clip or {})), folder)
+                return {path.suffix: path.read_bytes() for path in folder.iterdir()}
+        finally:
+            it.state.holder.close()
+            assert not list((tmp_path / "spool").iterdir())
 
     return one
 
@@ -560,43 +611,110 @@ def test_a_clip_is_archived_to_a_place_of_another_name_before_its_release(held_u
     assert len(released_by(page)) == 1
 
 
-def test_frames_that_are_none_of_the_clip_are_not_archived(lying, tmp_path):
-    page, archive = lying({"last": 2**60})
-    until(lambda: "gives other frames" in archive.camera()["fault"], "fault")
-    page.answers["/api/clips"] = {"clips": [neighbour.CLIP | {"first": 0, "last": 1}]}
-    for table in (b"n\n0,1\n", b"n\n0,1\n2,2\n", b"n\n0,1\n1,2\n2,3\n", b"n\nx,1\n1,2\n"):
-        page.answers["/api/clips/left/0.csv"] = table, 200, "text/csv"
-        seen = len(page.asked)
-        until(lambda seen=seen: [path for path, _ in page.asked[seen:] if ".csv" in path], "try")
-        assert not list((tmp_path / "disk").glob("*/*"))
-    page.answers["/api/clips/left/0.csv"] = b"n\n0,1\n1,2\n" + b"x" * 10_000, 200, "text/csv"
-    until(lambda: "of 600 at most" in archive.camera()["fault"], "fault")
+BACK = "isn't what was read back"
+
+
+def test_files_are_fetched_and_read_back(fetch):
+    found = fetch()
+    assert set(found) == {".y4m", ".csv", ".json"}
+    assert (found[".y4m"], found[".csv"]) == (FILM, TABLE)
+
+
+@pytest.mark.parametrize(
+    "said",
+    [sums_of(PICTURES[:1]), sums_of((*PICTURES, b"123456"), (0, 1, 2)), sums_of(numbers=(0, 2)),
+     sums_of(numbers=(1, 2)), sums_of(numbers=(1, 0)), sums_of(numbers=(0, 0))],
+    ids=range(6),
+)
+def test_frames_that_are_none_of_the_clip_are_refused(fetch, said):
+    with pytest.raises(program.Fault, match="gives other frames"):
+        fetch(sums=said)
+
+
+def test_a_clip_that_no_store_has_room_for_is_refused(fetch):
+    with pytest.raises(program.Fault, match="gives other frames"):
+        fetch({"last": 2**60})
+
+
+@pytest.mark.parametrize(
+    "table",
+    [b"", TABLE[:-1], TABLE[:-36], TABLE + b"2,3,1970-01-01T00:00:00.000003Z,9\r\n",
+     TABLE.replace(b"1,2,", b"1,3,"), TABLE.replace(b",8\r", b",9\r"),
+     TABLE.replace(b"000002Z", b"000003Z"), TABLE.replace(b"\n1,", b"\n2,"),
+     TABLE.replace(b"sequence", b"count"), TABLE.replace(b"\r", b"")],
+    ids=range(10),
+)
+def test_a_table_of_other_times_is_refused(fetch, table):
+    with pytest.raises(program.Fault, match=BACK + ": its t|[0-9] pictures"):
+        fetch(csv=table)
+
+
+def test_a_table_has_a_bound(fetch):
+    with pytest.raises(program.PageFault, match="of 600 at most"):
+        fetch(csv=TABLE + b"x" * 10_000)
 
 
 @pytest.mark.parametrize(
     "film",
     [b"", b"frames", FRONT, FILM[:-1], FILM + b"x", FILM + b"FRAME\n123456", FILM[:-12],
-     FILM.replace(b"FRAME\na", b"FRAMEX\n", 1), FILM.replace(b"W3", b"W4"), b"x" + FILM],
-    ids=range(10),
+     FILM.replace(b"FRAME\na", b"FRAMEX\n", 1), FILM.replace(b"W3", b"W4"), b"x" + FILM,
+     # Whole, and of the right size: pixels, their order and the rate.
+     FILM[:-1] + b"g", FILM.replace(b"123", b"124"), FRONT + FILM[-12:] + FILM[len(FRONT):-12],
+     FILM.replace(b"F25", b"F24"), FILM.replace(b"W3 H2", b"W2 H3")],
+    ids=range(15),
 )
-def test_a_film_that_lacks_frames_is_not_archived(lying, tmp_path, film):
-    _, archive = lying(**{"/api/clips/left/0.y4m": (film, 200, "video/x-yuv4mpeg2")})
-    until(lambda: "hasn't the clip's frames" in archive.camera()["fault"], "fault")
+def test_a_film_of_other_frames_is_refused(fetch, film):
+    with pytest.raises(program.Fault, match=BACK):
+        fetch(y4m=film)
+
+
+def test_a_film_with_another_pixel_is_not_archived(lying, tmp_path):
+    page, archive = lying(**{"/api/clips/left/0.y4m": (FILM[:-1] + b"g", 200, "video/x-yuv4mpeg2")})
+    until(lambda: BACK + ": the pixels of picture 1" in archive.camera()["fault"], "fault")
     assert not list((tmp_path / "disk").glob("*/*"))
+    page.answers["/api/clips/left/0.y4m"] = FILM, 200, "video/x-yuv4mpeg2"
+    archive.has(1)
 
 
 @pytest.mark.parametrize(
-    "colour, size",
-    [("mono", 15), ("420jpeg", 27), ("422", 33), ("444", 45), ("mono12", 30), ("420p10", 54),
-     ("422p16", 66), ("444p9", 90)],
+    "said, why",
+    [(b"", "isn't JSON"), (b"[]\n", "isn't an object"), (sums_of(front={"bits": 7}), "bits isn't"),
+     (sums_of(front={"format": "RGB3"}), "format isn't one of"),
+     (sums_of() + b"x\n", "a line that"),
+     (sums_of(front={"format": "YM12"}), "a line that"), (sums_of()[:-1], "a line that"),
+     (sums_of(front={"width": 16384, "height": 16384}), "has a picture that no store has"),
+     (sums_of(front={"bits": 12}), "has no such samples")],
+    ids=range(9),
 )
-def test_a_films_frames_have_the_size_of_its_header(tmp_path, colour, size):
-    path, front = tmp_path / "a.y4m", f"YUV4MPEG2 W5 H3 F25:1 Ip A0:0 C{colour}\n".encode()
-    path.write_bytes(front + (b"FRAME\n" + bytes(size)) * 3)
-    assert program.has_frames(path, 3)
-    assert not program.has_frames(path, 2) and not program.has_frames(path, 4)
-    path.write_bytes(front + (b"FRAME\n" + bytes(size + 1)) * 3)
-    assert not program.has_frames(path, 3)
+def test_what_a_page_says_of_frames_has_to_be_usable(fetch, said, why):
+    with pytest.raises(program.Fault, match="says of the frames can't be used: .*" + why):
+        fetch(sums=said)
+
+
+def test_what_a_page_says_of_frames_has_a_bound(fetch):
+    with pytest.raises(program.PageFault, match="of 768 at most"):
+        fetch(sums=sums_of() + b"x" * 1000)
+
+
+def test_an_older_page_which_says_nothing_of_frames_is_told(lying, tmp_path):
+    refuses = json.dumps({"error": "There is nothing here."}).encode()
+    _, archive = lying(**{"/api/clips/left/0.sums": (refuses, 404, "application/json")})
+    until(lambda: "refuses /api/clips/left/0.sums" in archive.camera()["fault"], "fault")
+    assert not list((tmp_path / "disk").glob("*/*"))
+
+
+@pytest.mark.parametrize("kind", program.KINDS)
+def test_a_disk_that_gives_back_something_else_is_told(fetch, monkeypatch, kind):
+    from lapyrei import place
+
+    def spoil(folder):
+        (path,) = Path(folder).glob(f"*.{kind}")
+        text = path.read_bytes()
+        path.write_bytes(text.replace(b"run", b"ran") if kind == "json" else text[:-3] + b"9\r\n")
+
+    monkeypatch.setattr(place, "forget_cached", spoil)
+    with pytest.raises(program.Fault, match=BACK):
+        fetch()
 
 
 # ------------------------------------------------------------------------------- threads that end

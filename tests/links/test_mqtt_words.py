@@ -2,10 +2,11 @@
 import json
 import re
 import subprocess
+import tomllib
 
 import pytest
 from conftest import SEVERAL, TOP, until
-from station_links import asked, bridge, settings, standing, triggers
+from station_links import archive, asked, bridge, doing, settings, standing, triggers
 
 
 @pytest.mark.parametrize(
@@ -163,16 +164,40 @@ def test_a_broker_may_want_tls_and_a_user(make_broker, begin, listen, tmp_path):
     until(lambda: it.newest("lapyrei/a/state").get("level") == "bad", "state")
 
 
-def test_the_examples_are_read(tmp_path, monkeypatch):
+def test_the_examples_are_read_with_the_token_of_the_packages_page(tmp_path, monkeypatch):
+    """As docs/several.md has it they are copied, and begun: the page of the package wants a token,
+    and each names the file that page.toml does."""
+    page = tomllib.loads((TOP / "packaging" / "page.toml").read_text())["token"]
+    read = []
+    for module in (doing, archive):
+        monkeypatch.setattr(module, "secret_in", lambda path, _: read.append(path) or "secret")
     monkeypatch.chdir(tmp_path)
     assert bridge.read_words(str(TOP / "examples" / "mqtt.toml")).station == "hall"
     text = (TOP / "examples" / "door.trigger").read_text()
     (tmp_path / "a.trigger").write_text(text)
     assert len(triggers.read_words("a.trigger").triggers) == 1
+    archive.read_settings(str(TOP / "packaging" / "archive.toml"))
+    assert read == [page] * 3
     # Each word that is commented out is one, too.
-    words = re.sub(r"(?m)^#(?=\w+ = |\[\[)", "", text).replace("\ntoken", "\n#token")
+    words = re.sub(r"(?m)^#(?=\w+ = |\[\[)", "", text)
     (tmp_path / "a.trigger").write_text(words + "\n[broker]\n")
     assert len(triggers.read_words("a.trigger").triggers) == 3
+
+
+def test_the_page_is_told_of_the_archive_also_where_it_shows_other_stations(tmp_path):
+    """As docs/several.md has it, one after the other: a word after [[station]] would be that
+    station's."""
+    lines = (TOP / "docs/several.md").read_text().splitlines()
+    (command,) = [it.strip() for it in lines if "archive.json" in it and "sudo" in it]
+    text = (TOP / "packaging/page.toml").read_text()
+    start = lines.index("    [[station]]")
+    path = tmp_path / "page.toml"
+    path.write_text(text + "".join(f"{it.strip()}\n" for it in lines[start : start + 4]))
+    command = command.replace("sudo ", "").replace("/etc/lapyrei/page.toml", str(path))
+    subprocess.run(["sh", "-c", command], check=True)
+    table = tomllib.loads(path.read_text())
+    assert table["archive"] == "/var/lib/loop_archive/archive.json"
+    assert set(table["station"][0]) == {"name", "url", "token"}
 
 
 def test_two_events_of_the_same_frames_are_two():

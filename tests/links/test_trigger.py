@@ -456,3 +456,26 @@ def test_bad_words_are_named(tmp_path, text, why):
     (tmp_path / "a.trigger").write_text(text)
     with pytest.raises(settings.BadSettings, match=why):
         triggers.read_words(str(tmp_path / "a.trigger"))
+
+
+def test_a_plain_word_of_match_is_told_as_the_whole_text_once_at_the_start(tmp_path):
+    words = ('"fire"', '"fire*"', '["shot ?", "go", "a[0]"]', '"it\'s"')
+    ports = [free_port(socket.SOCK_DGRAM) for _ in words]
+    lines = [
+        f'[[trigger]]\nname = "n{number}"\nkind = "udp"\nlisten = "127.0.0.1:{port}"\n'
+        f"match = {it}\n"
+        for number, (port, it) in enumerate(zip(ports, words))
+    ]
+    (tmp_path / "a.trigger").write_text(f'state = "{tmp_path}/a.state"\n' + "".join(lines))
+    said = []
+    found = triggers.Triggers(triggers.read_words(str(tmp_path / "a.trigger")), said.append)
+    thread = threading.Thread(target=found.run, daemon=True)
+    thread.start()
+    time.sleep(0.5)
+    found.over.set()
+    thread.join(60)
+    assert said == [
+        "n0: match 'fire' is the whole text: write '*fire*' for a part of it",
+        "n2: match 'go' is the whole text: write '*go*' for a part of it",
+        "n3: match \"it's\" is the whole text: write '*it's*' for a part of it",
+    ]

@@ -1,5 +1,7 @@
 """Clips as files."""
+import hashlib
 import io
+import json
 import socket
 import subprocess
 import threading
@@ -80,7 +82,7 @@ def test_a_range_of_another_file_is_the_whole(kept):
 
 
 def test_a_head_has_no_body(kept):
-    for kind in ("y4m", "csv", "zip", "mp4", "jpg"):
+    for kind in ("y4m", "csv", "zip", "mp4", "jpg", "sums"):
         found = kept.ask(f"/api/clips/left/0.{kind}", "HEAD")
         assert (found.status, found.body) == (200, b""), kind
 
@@ -170,6 +172,37 @@ def test_the_table_has_each_number_and_time(kept):
     )
     assert lines[1].split(",")[:3] == [str(clip["first"]), str(clip["from_us"]), clip["from"]]
     assert kept.ask("/api/clips/left/0.csv", headers={"Range": "bytes=0-5"}).body == b"number"
+
+
+def digest_of(plane, shape):
+    """The checksum of a plane of 8 bits."""
+    return hashlib.blake2b(repr((shape, "|u1")).encode() + plane, digest_size=16).hexdigest()
+
+
+@pytest.mark.parametrize(
+    "camera, shapes",
+    [("left", [(48, 64), (24, 32), (24, 32)]), ("right", [(21, 33)])],
+)
+def test_what_is_said_of_frames_is_their_checksums(kept, camera, shapes):
+    whole = kept.ask(f"/api/clips/{camera}/0.sums")
+    front, *lines = whole.body.decode().splitlines()
+    said, text = json.loads(front), kept.text_of(camera, kept.clips[camera])
+    table = kept.ask(f"/api/clips/{camera}/0.csv").body.decode().splitlines()[1:]
+    assert (said["height"], said["width"], said["bits"]) == (*shapes[0], 8)
+    size = sum(high * wide for high, wide in shapes)
+    for place, (line, row) in enumerate(zip(lines, table)):
+        at = len(text) - (len(lines) - place) * (size + 6) + 6
+        number, moment, _, sequence = row.split(",")
+        wanted = [number, moment, sequence]
+        for high, wide in shapes:
+            wanted.append(digest_of(text[at : at + high * wide], (high, wide)))
+            at += high * wide
+        assert line.split(",") == wanted
+    assert len(lines) == len(table) and int(whole.headers["Content-Length"]) == len(whole.body)
+    for start, end in ((0, 9), (50, 300), (len(whole.body) - 3, len(whole.body))):
+        words = {"Range": f"bytes={start}-{end - 1}"}
+        part = kept.ask(f"/api/clips/{camera}/0.sums", headers=words)
+        assert (part.status, part.body) == (206, whole.body[start:end])
 
 
 def test_a_thumbnail_is_a_picture_and_a_frame_is_whole(kept):

@@ -82,9 +82,9 @@ def measured_by(folder: Path, user: dict[str, Any]) -> Disk:
     return Disk(*json.loads(done.stdout))
 
 
-def store_bytes(form: Form, minutes: float) -> int | None:
-    """The bytes of the store that the station makes for so many minutes, or None where none holds
-    so many frames."""
+def shape(form: Form, minutes: float) -> tuple[int, int] | None:
+    """The segments and slots of the store that the station makes for so many minutes, or None where
+    none holds so many frames."""
     before = max(int(-(-Fraction(minutes) * 60 * form.rate // 1)) - 1, 0)
     size = form.bytes_of_frame()
     usual = next(
@@ -96,16 +96,19 @@ def store_bytes(form: Form, minutes: float) -> int | None:
         SLOTS,
     )
     slots = max(usual, -(-before // (SEGMENTS_MOST - 1)))
-    if slots > SLOTS_MOST:
-        return None
-    segments = max(2, -(-before // slots) + 1)
-    return HEADER + segments * (SEGMENT_HEAD + slots * (SLOT_HEAD + size))
+    return None if slots > SLOTS_MOST else (max(2, -(-before // slots) + 1), slots)
 
 
-def proposals(form: Form, disk: Disk) -> list[tuple[int, int]]:
-    """Minutes, each with what its store takes, that fit the disk and a store."""
-    found = [(minutes, store_bytes(form, minutes)) for minutes in PROPOSED]
-    return [(minutes, size) for minutes, size in found if size and size < disk.free * (1 - SPARE)]
+def bytes_of(form: Form, segments: int, slots: int) -> int:
+    """The bytes of a store."""
+    return HEADER + segments * (SEGMENT_HEAD + slots * (SLOT_HEAD + form.bytes_of_frame()))
+
+
+def store_bytes(form: Form, minutes: float) -> int | None:
+    """The bytes of the store that the station makes for so many minutes, or None where none holds
+    so many frames."""
+    found = shape(form, minutes)
+    return None if found is None else bytes_of(form, *found)
 
 
 def needs(form: Form) -> float:

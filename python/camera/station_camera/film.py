@@ -5,9 +5,11 @@ from __future__ import annotations
 import contextlib
 import time
 import zlib
+from pathlib import Path
 from typing import Any, Callable
 
 from . import needed, v4l2
+from .chunks import Chunks
 from .counts import Counts
 from .faults import Gone
 from .text import BadFrames, Form, Text
@@ -64,7 +66,8 @@ class OfLinux:
 
 
 class Film:
-    """A camera from its file to the text. `frames` and `log` are the program's words."""
+    """A camera from its file to the text. `frames`, `log` and `chunks` are the program's
+    words."""
 
     def __init__(
         self,
@@ -74,9 +77,11 @@ class Film:
         asked: Callable[[], bool],
         frames: int | None = None,
         log: str | None = None,
+        chunks: str | None = None,
     ) -> None:
         self.kind, self.out, self.tell, self.asked, self.most = kind, out, tell, asked, frames
         self.counts, self.log, self.last = Counts(tell), Log(log), ""
+        self.chunks = Chunks(Path(chunks or "chunks"), kind.wanted.chunks, tell)
         self.form: Form | None = None
 
     def run(self) -> None:
@@ -88,6 +93,7 @@ class Film:
                 except Gone as fault:
                     self._wait(str(fault))
         finally:
+            self.chunks.close()
             self.counts.end()
 
     def _wait(self, why: str) -> None:
@@ -160,6 +166,7 @@ class Stream:
         micros = self.clock.micros(it.stamp, it.arrival)
         self.film.log.write(it, micros)
         self.sink(pieces, micros, it.number)
+        self.film.chunks.write(it.number, micros, getattr(it, "chunks", ()))
         self.film.count()
         if time.monotonic() > self.looked + self.film.kind.clock_every:
             self.clock.look(it.stamp, it.arrival)

@@ -62,7 +62,7 @@ class Found(NamedTuple):
 
 class Picture(NamedTuple):
     """A whole frame as the camera gave it: its number, its time in the camera's nanoseconds, when
-    it began to arrive by the system's, and its bytes."""
+    it began to arrive by the system's, its bytes, and what it said of it by CHUNKS."""
 
     number: int
     stamp: int
@@ -71,6 +71,7 @@ class Picture(NamedTuple):
     height: int
     padding: int
     data: bytes
+    chunks: tuple[Any, ...] = ()
 
 
 def ids() -> Iterator[tuple[int, list[str]]]:
@@ -95,6 +96,15 @@ def device_of(serial: str) -> str | None:
         if serial in words:
             return Aravis.get_device_id(place)
     return None
+
+
+def protocol_of(serial: str) -> str:
+    """How the camera of a serial number is connected; nothing where it isn't found. It isn't
+    opened, so another program may have it."""
+    for place, words in ids():
+        if serial in words:
+            return Aravis.get_device_protocol(place) or ""
+    return ""
 
 
 def cameras(fake: bool = False) -> list[Found]:
@@ -155,6 +165,7 @@ class Camera:
         self.device = self.camera.get_device()
         self.heard = self.device.connect("control-lost", self._lose)
         self._set()
+        self.parser = self._chunks() if wanted.chunks else None
         with said("it doesn't say what it gives", Refused):
             self.format = samples.format_of(self.camera.get_pixel_format_as_string())
             _, _, self.width, self.height = self.camera.get_region()
@@ -167,7 +178,7 @@ class Camera:
     def close(self) -> None:
         """Gives the camera back, so that it can be opened anew."""
         self.device.disconnect(self.heard)
-        self.device = self.camera = None
+        self.device = self.camera = self.parser = None
         # What refers to itself would hold the camera.
         gc.collect()
 
@@ -203,6 +214,32 @@ class Camera:
         else:
             quoted = f'"{value}"' if " " in value else value
             self.device.set_features_from_string(f"{name}={quoted}")
+
+    def _chunks(self) -> Any:
+        """Has the camera say what the file asks for of each frame, and answers what reads it."""
+        names = self.wanted.chunks
+        with said(f"CHUNKS={','.join(names)}", Refused):
+            for it in names:
+                if not self.device.is_feature_available(f"Chunk{it}"):
+                    raise Refused(f"CHUNKS={it}: the camera has no such chunk")
+            self.camera.set_chunks(",".join(names))
+            return self.camera.create_chunk_parser()
+
+    def _said(self, buffer: Any) -> tuple[Any, ...]:
+        """What the camera says of a frame; nothing where a chunk isn't there."""
+        return tuple(self._value(buffer, f"Chunk{it}") for it in self.wanted.chunks)
+
+    def _value(self, buffer: Any, name: str) -> Any:
+        """A chunk of a frame."""
+        node, read = self.device.get_feature(name), self.parser.get_string_value
+        if isinstance(node, Aravis.GcFloat):
+            read = self.parser.get_float_value
+        elif isinstance(node, Aravis.GcInteger):
+            read = self.parser.get_integer_value
+        try:
+            return read(buffer, name)
+        except GLib.Error:
+            return ""
 
     def _region(self) -> None:
         """Sets the region, and sees that the camera took it."""
@@ -295,9 +332,8 @@ class Camera:
     def form(self, _picture: Picture | None = None) -> Form:
         """What its frames become."""
         format, wanted = self.format, self.wanted
-        bits = 8 if wanted.bits else format.bits
-        plain = "gray" if bits == 8 else f"gray{bits}le"
-        colour = wanted.store_format or (plain if format.is_samples() else "yuv420p")
+        plain = "gray" if wanted.bits and format.is_samples() else format.planes()
+        colour = wanted.store_format or plain
         form = Form(self.width, self.height, colour, self.rate)
         if format.is_samples() and not self.ffmpeg(form) and colour != plain:
             raise BadFrames(
@@ -399,7 +435,8 @@ class Camera:
         padding = buffer.get_image_padding()[0]
         if (width, height) != (self.width, self.height):
             raise Gone(f"its frames have {width}x{height} now, and had {self.width}x{self.height}")
-        if len(data) < samples.frame_bytes(self.format, width, height, padding):
+        size = samples.frame_bytes(self.format, width, height, padding)
+        if len(data) < size:
             counts.add("incomplete")
             return None
         return Picture(
@@ -409,7 +446,9 @@ class Camera:
             width,
             height,
             padding,
-            data,
+            # Chunks follow the pixels.
+            data[:size] if self.parser else data,
+            self._said(buffer) if self.parser else (),
         )
 
 

@@ -24,7 +24,7 @@ PLACES = (HERE.parent / "loop_camera", HERE.parents[2] / "bin" / "loop_camera")
 PROGRAM = next((it for it in PLACES if it.is_file()), PLACES[0])
 NONE = "no picture came"
 COLOURS = {word: name for name, word in text.COLOURS.items()}
-# So many frames at least, for so long, and no longer than that.
+# So many frames at least, for so long, and no longer than that; and twice that for a picture of one.
 FRAMES, MEASURED, SECONDS = 5, 2.0, 30.0
 # The service's user, and the groups that its unit adds.
 USER, GROUPS = "loop_camera", ("video",)
@@ -164,10 +164,12 @@ def png(head: bytes, data: bytes, path: Path) -> None:
     ]
     try:
         done = subprocess.run(
-            words, input=head + b"FRAME\n" + data, capture_output=True, timeout=60
+            words, input=head + b"FRAME\n" + data, capture_output=True, timeout=2 * SECONDS
         )
     except FileNotFoundError:
         raise Failed("ffmpeg isn't installed: sudo apt install ffmpeg") from None
+    except subprocess.TimeoutExpired:
+        raise Failed(f"ffmpeg makes no picture within {2 * SECONDS:.0f} s") from None
     if done.returncode or not done.stdout:
         raise Failed(f"ffmpeg makes no picture: {done.stderr.decode(errors='replace').strip()}")
     path.write_bytes(done.stdout)

@@ -21,6 +21,7 @@ class Options(NamedTuple):
     to: str | None = None
     frames: int | None = None
     log: str | None = None
+    chunks: str | None = None
 
 
 def options(given: list[str]) -> Options | None:
@@ -31,7 +32,7 @@ def options(given: list[str]) -> Options | None:
         word = left.pop(0)
         if word in ("--list", "--fake"):
             found[word[2:]] = True
-        elif word in ("--to", "--log") and left:
+        elif word in ("--to", "--log", "--chunks") and left:
             found[word[2:]] = left.pop(0)
         elif word == "--frames" and left and left[0].isdecimal() and int(left[0]):
             found["frames"] = int(left.pop(0))
@@ -136,7 +137,7 @@ def film(given: Options, tell, calls: Any = None) -> int:
             network.film(wanted, out, tell, asked)
             return 0
         kind = OfGenicam(wanted, tell) if wanted.genicam else OfLinux(wanted, tell, calls)
-        Film(kind, out, tell, asked, given.frames, given.log).run()
+        Film(kind, out, tell, asked, given.frames, given.log, given.chunks).run()
     except Ended:
         return 0
     except (NobodyReads, BadFrames, Refused, Failed, OSError) as fault:

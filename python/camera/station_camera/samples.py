@@ -31,6 +31,8 @@ BAYER = {
     "BayerRG": "bayer_rggb",
 }
 SIZES = {"rgb24": 3, "bgr24": 3, "yuyv422": 2, "uyvy422": 2}
+# What of a store has all that these have: each pixel's colour, or that of each two.
+PLANES = {"rgb24": "yuv444p", "bgr24": "yuv444p", "yuyv422": "yuv422p", "uyvy422": "yuv422p"}
 
 
 class UnknownFormat(Exception):
@@ -57,6 +59,13 @@ class Format(NamedTuple):
     def is_samples(self) -> bool:
         """Whether a pixel is one sample, grey or Bayer."""
         return self.is_grey() or self.is_bayer()
+
+    def planes(self) -> str:
+        """What its frames become in a store where nothing else is asked for: samples as they are,
+        and colours for as many pixels as the camera gives them."""
+        if self.is_samples():
+            return "gray" if self.bits == 8 else f"gray{self.bits}le"
+        return PLANES[self.ffmpeg or ""]
 
 
 def format_of(name: str) -> Format:

@@ -12,7 +12,7 @@ from fractions import Fraction
 from pathlib import Path
 from typing import Any, NamedTuple
 
-from . import disk, found, pictures, planes, services, words, written
+from . import check, disk, found, orders, pictures, planes, presses, services, words, written
 from .ask import Ask, Stopped
 from .faults import Failed, Refused
 from .found import Offer
@@ -21,7 +21,8 @@ from .words import BadFile
 
 # How long the first frame is waited for.
 FIRST_FRAME = 60.0
-KEEP = 30
+# What a keep locks, in seconds, and how many times that a store is to hold.
+KEEP, TIMES = 30, 10
 
 
 class Paths(NamedTuple):
@@ -60,8 +61,9 @@ def paths_below(root: str) -> Paths:
 def parser() -> argparse.ArgumentParser:
     """The options."""
     it = argparse.ArgumentParser(prog="loop_setup", add_help=False, allow_abbrev=False)
-    for word in ("--list", "--fake", "--yes", "--no-start", "--no-picture", "--move-store"):
+    for word in ("--list", "--check", "--fake", "--yes", "--no-start", "--no-picture"):
         it.add_argument(word, action="store_true")
+    it.add_argument("--move-store", action="store_true")
     for word in (
         "--remove",
         "--camera",
@@ -80,7 +82,8 @@ def parser() -> argparse.ArgumentParser:
         it.add_argument(word)
     it.add_argument("--bits", choices=["8"])
     it.add_argument("--root", default="/")
-    it.add_argument("--page", action=argparse.BooleanOptionalAction)
+    for word in ("--page", "--release", "--group"):
+        it.add_argument(word, action=argparse.BooleanOptionalAction)
     return it
 
 
@@ -264,7 +267,31 @@ class Setup:
                 f"sudo chown loop_station:loop_station {self.paths.stores}"
             ) from None
 
-    def minutes(self, form: Form) -> float:
+    def old(self, name: str) -> dict[str, Any]:
+        """What station.toml says of a camera."""
+        return next((it for it in self.cameras() if it.get("name") == name), {})
+
+    def keep(self, name: str) -> int:
+        """How many seconds a keep locks."""
+        try:
+            keep = int(self.given.keep or self.old(name).get("keep", KEEP))
+        except ValueError:
+            raise Stopped(f"--keep {self.given.keep} is no number of seconds") from None
+        if not 1 <= keep <= 86400:
+            raise Stopped(f"--keep {keep} isn't from 1 to 86400 seconds")
+        return keep
+
+    def is_released(self, name: str) -> bool:
+        """Whether each keep is written out and unlocked then, so that no press ends the recording.
+        What the file says of a camera stays, unless it is asked for: an archive may release."""
+        old = self.old(name)
+        return self.ask.yes(
+            "Write each keep into a file and unlock it then, so that no press ends the recording?",
+            bool(old.get("release", False)) if old else True,
+            self.given.release,
+        )
+
+    def minutes(self, form: Form, name: str, is_released: bool) -> float:
         """How much the store is to hold."""
         self.paths.stores.mkdir(parents=True, exist_ok=True)
         self.tell(f"measuring the disk of {self.paths.stores}")
@@ -277,76 +304,124 @@ class Setup:
         )
         if disk.needs(form) > it.bandwidth / 2:
             self.tell("that is much for this disk: choose fewer or smaller frames, or another disk")
-        offers = disk.proposals(form, it)
+        # An event locks what comes after it too.
+        keep = self.keep(name) + int(self.old(name).get("after", 0))
+        if self.given.minutes or self.given.hours:
+            chosen = self._given_minutes(form, name, keep, it.free)
+        else:
+            chosen = self._chosen_minutes(form, keep, it.free, is_released)
+        self.tell(f"the store takes {disk.gigabytes(chosen.size)}: {chosen.line(is_released)}")
+        return chosen.minutes
+
+    def _chosen_minutes(
+        self, form: Form, keep: int, free: int, is_released: bool
+    ) -> presses.Choice:
+        """The minutes that are chosen from those that the disk and a keep allow."""
+        found = [presses.choice(form, it, keep, free) for it in disk.PROPOSED]
+        offers = [
+            it for it in found if it and it.size < free * (1 - disk.SPARE) and it.presses > 0
+        ]
         if not offers:
             raise Stopped(
-                f"{self.paths.stores} has no room for a minute of these frames: make room, or "
-                f"choose smaller ones"
+                f"{self.paths.stores} has no room for a store of these frames in which a keep of "
+                f"{keep} s leaves any: make room, choose smaller ones, or a shorter --keep"
             )
-        if self.given.minutes or self.given.hours:
-            try:
-                minutes = float(self.given.minutes or 60 * float(self.given.hours))
-            except ValueError:
-                raise Stopped(
-                    f"{self.given.minutes or self.given.hours} is no number of minutes or hours"
-                ) from None
-            size = disk.store_bytes(form, minutes) if 0 < minutes < 1e6 else None
-            if not size:
-                raise Stopped(
-                    f"{minutes:g} minutes: a store holds {offers[-1][0]} at most of these frames"
-                )
-        else:
-            lines = [f"{minutes} minutes, {disk.gigabytes(size)}" for minutes, size in offers]
-            near = min(range(len(offers)), key=lambda place: abs(offers[place][0] - 5))
-            minutes, size = offers[self.ask.one_of("How much is kept:", lines, near)]
-        if size > it.free:
-            self.tell(
-                f"{disk.gigabytes(size)} are more than is free, unless an old store of this "
-                f"camera goes"
-            )
-        self.tell(f"the store takes {disk.gigabytes(size)}")
-        return minutes
+        # As the packaged file has it, ten times what a keep locks.
+        wished = TIMES * keep / 60
+        near = min(range(len(offers)), key=lambda place: abs(offers[place].minutes - wished))
+        lines = [it.line(is_released) for it in offers]
+        return offers[self.ask.one_of("How much is kept:", lines, near)]
 
-    def station(self, name: str, minutes: float, is_timed: bool) -> tuple[str, Path]:
+    def _given_minutes(self, form: Form, name: str, keep: int, free: int) -> presses.Choice:
+        """The minutes of an option, where a store, the disk and a keep allow them."""
+        given = self.given.minutes or self.given.hours
+        try:
+            minutes = float(self.given.minutes or 60 * float(self.given.hours))
+        except ValueError:
+            raise Stopped(f"{given} is no number of minutes or hours") from None
+        found = presses.choice(form, minutes, keep, free) if 0 < minutes < 1e6 else None
+        if found is None:
+            most = [it for it in disk.PROPOSED if disk.store_bytes(form, it)]
+            raise Stopped(
+                f"{minutes:g} minutes: a store holds {most[-1] if most else 'no'} at most of these "
+                f"frames"
+            )
+        if not found.presses:
+            enough = (presses.choice(form, it, keep, free) for it in disk.PROPOSED)
+            least = next((it.minutes for it in enough if it and it.presses), None)
+            what = f"choose {least:g} or more, or " if least else "choose "
+            raise Stopped(
+                f"{minutes:g} minutes: a keep of {keep} s locks all of the store, and the "
+                f"recording ends: {what}a shorter --keep"
+            )
+        store = self.paths.stores / self.old(name).get("store", f"{name}.loop")
+        has = self._stays(services.store_at(store), form, minutes)
+        if found.size > free + (found.size if has else 0):
+            raise Stopped(
+                f"{minutes:g} minutes take {disk.gigabytes(found.size)}, and "
+                f"{disk.gigabytes(free)} are free in {self.paths.stores}: choose fewer, or make "
+                f"room"
+            )
+        return found
+
+    def station(
+        self, name: str, minutes: float, is_timed: bool, is_released: bool
+    ) -> tuple[str, Path]:
         """The new text of station.toml, and the path of the store. The frames of a camera that says
         their times have these."""
-        old = next((it for it in self.cameras() if it.get("name") == name), {})
+        old = self.old(name)
         store = old.get("store", f"{name}.loop")
-        clips = self.paths.stores / "clips"
+        clips = written.table_of(self.config(), self.paths.config).get(
+            "saves", str(self.paths.stores / "clips")
+        )
         values = {
             "source": str(self.paths.pipe(name)),
             "store": store,
             "minutes": minutes,
-            "keep": int(self.given.keep or old.get("keep", KEEP)),
+            "keep": self.keep(name),
             "times_from": "source" if is_timed else None,
         }
+        if is_released:
+            values |= {"save_to": old.get("save_to", clips), "release": True}
+        elif old.get("release"):
+            values["release"] = False
         heads = {
             "orders": str(self.paths.orders),
             "answers": str(self.paths.answers),
             "answers_form": "json",
-            "saves": str(clips),
+            "saves": clips,
         }
         return (
             written.with_camera(self.config(), name, values, heads, self.paths.config),
             self.paths.stores / store,
         )
 
+    def _stays(self, it: Any, form: Form, minutes: float) -> bool:
+        """Whether a store is of such frames, and as large as one for so many minutes."""
+        wanted = disk.store_bytes(form, minutes)
+        return bool(
+            it is not None
+            and wanted
+            and self._is_alike(it, form)
+            and abs(it.geometry.disk_size() - wanted) <= wanted / 20
+        )
+
+    def _is_alike(self, it: Any, form: Form) -> bool:
+        """Whether a store has such frames, at this rate."""
+        wide = form.width * (2 if form.bits() > 8 else 1)
+        sides = it.geometry.width, it.geometry.height, it.geometry.size
+        same = sides == (wide, form.height, form.bytes_of_frame())
+        depths = services.depths_of(it) <= {form.bits()}
+        return same and depths and Fraction(it.geometry.num, it.geometry.den) == form.rate
+
     def old_store(self, store: Path, form: Form, minutes: float) -> None:
         """A store of other frames, or of another size, is moved away where that is wanted: it
         stays."""
         it = services.store_at(store)
-        if it is None:
+        if it is None or self._stays(it, form, minutes):
             return
-        wide = form.width * (2 if form.bits() > 8 else 1)
-        sides = it.geometry.width, it.geometry.height, it.geometry.size
-        same = sides == (wide, form.height, form.bytes_of_frame()) and services.depths_of(it) <= {
-            form.bits()
-        }
-        rate = Fraction(it.geometry.num, it.geometry.den)
-        wanted = disk.store_bytes(form, minutes)
-        if same and rate == form.rate and abs(it.geometry.disk_size() - wanted) <= wanted / 20:
-            return
-        what = "has other frames" if not same or rate != form.rate else "has another size"
+        is_alike = self._is_alike(it, form)
+        what = "has another size" if is_alike else "has other frames"
         if self.ask.yes(
             f"{store} {what}. Move it away, so that a new one is made? It stays, beside",
             True,
@@ -362,7 +437,7 @@ class Setup:
         else:
             self.tell(
                 f"{store} {what}: "
-                + ("it keeps its size" if same else "the station will say `other geometry`")
+                + ("it keeps its size" if is_alike else "the station will say `other geometry`")
             )
 
     def page(self) -> str | None:
@@ -391,6 +466,8 @@ class Setup:
         services.run("daemon-reload")
         services.run("enable", *units)
         # Each reads its file when it begins. A stop stores what waits.
+        if services.is_active(units[0]):
+            self.tell("the station begins anew: every camera pauses for a moment")
         for unit in units:
             services.run("restart", unit)
         self.tell(f"started: {', '.join(units)}; waiting for a stored frame")
@@ -401,7 +478,26 @@ class Setup:
                 f"loop_camera@{name}"
             )
         self.tell(f"{name} records: frame {following - 1} is in {store}")
-        self.tell(f"keep what has just happened: echo keep {name} >{self.paths.orders}")
+
+    def order(self, name: str) -> str:
+        """The command that keeps, as the user of this machine can give it now: whoever is in the
+        station's group."""
+        pipe = written.table_of(self.config(), self.paths.config).get("orders", self.paths.orders)
+        plain, user = f"echo keep {name} >{pipe}", orders.user()
+        if user is None or orders.is_member(user) or not self.is_real():
+            return plain
+        asked = f"Shall {user} give the station orders, by its group {orders.GROUP}?"
+        if self.ask.yes(asked, True, self.given.group):
+            why = orders.add(user)
+            if why is None:
+                self.tell(
+                    f"{user} is in the group {orders.GROUP} now: other windows know it once {user} "
+                    "has signed in again"
+                )
+                return f"sg {orders.GROUP} -c '{plain}'"
+            self.tell(f"{user} can't be added to the group {orders.GROUP}: {why}")
+        self.tell(f"{user} may give no orders without sudo: {orders.command(user)}")
+        return f"echo keep {name} | sudo tee {pipe}"
 
     def _write(self, path: Path, text: str) -> None:
         """Writes a file, and tells where the old one is."""
@@ -432,9 +528,10 @@ class Setup:
         form = None if self.given.no_picture else self.picture(made, name, values)
         form = form or expected(wanted)
         form.check()
-        minutes = self.minutes(form)
+        is_released = self.is_released(name)
+        minutes = self.minutes(form, name, is_released)
         is_timed = wanted.clock != "arrival"
-        text, store = self.station(name, minutes, is_timed)
+        text, store = self.station(name, minutes, is_timed, is_released)
         self._write(file, made)
         self.old_store(store, form, minutes)
         self._write(self.paths.config, text)
@@ -445,6 +542,8 @@ class Setup:
             self.start(name, store, page)
         if page:
             self.tell(f"the page: {page}  its token: sudo cat {self.paths.token}")
+        if not self.given.no_start:
+            self.tell(f"keep what has just happened: {self.order(name)}")
 
     def _is_of(self, camera: dict[str, Any], offer: Offer) -> bool:
         """Whether a camera of station.toml is this one."""
@@ -478,7 +577,7 @@ def expected(wanted: words.Wanted) -> Form:
         from . import samples
 
         format = samples.format_of(wanted.format or "")
-        plain, bits = planes.grey(format.bits) if format.is_samples() else "yuv420p", format.bits
+        plain, bits = format.planes(), format.bits
     if wanted.bits and bits > 8:
         plain = "gray"
     return Form(size.width, size.height, wanted.store_format or plain, wanted.rate)
@@ -501,7 +600,10 @@ def main(given_words: list[str], doc: str, ask: Ask | None = None) -> int:
             return list_all(given.fake)
         if os.geteuid() and given.root == "/":
             raise Stopped("it writes into /etc/lapyrei and starts services: sudo loop_setup")
-        Setup(given, ask or Ask(given.yes), tell).run()
+        setup = Setup(given, ask or Ask(given.yes), tell)
+        if given.check:
+            return check.Check(setup).run()
+        setup.run()
     except (Stopped, Failed, services.Failed, Refused, BadFile, BadFrames, OSError) as fault:
         print(f"loop_setup: {fault}", file=sys.stderr)
         return 1

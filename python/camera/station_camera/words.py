@@ -22,6 +22,7 @@ KEYS = (
     "STORE_FORMAT",
     "CLOCK",
     "BUFFERS",
+    "CHUNKS",
     "DEVICE",
     "DEVICE_FORMAT",
     "SIZE",
@@ -29,7 +30,8 @@ KEYS = (
 )
 # What names a camera, and which words may stand beside it, with those of any feature or control.
 KINDS = {
-    "GENICAM": "REGION FORMAT EXPOSURE GAIN RATE TRIGGER PACKET BITS STORE_FORMAT CLOCK BUFFERS",
+    "GENICAM": "REGION FORMAT EXPOSURE GAIN RATE TRIGGER PACKET BITS STORE_FORMAT CLOCK BUFFERS "
+    "CHUNKS",
     "DEVICE": "DEVICE_FORMAT SIZE RATE BITS STORE_FORMAT CLOCK BUFFERS",
     "SOURCE": "SIZE RATE STORE_FORMAT",
 }
@@ -75,6 +77,8 @@ class Wanted:
     device_format: str | None = None
     controls: list[tuple[str, str]] = field(default_factory=list)
     source: str | None = None
+    # What is said of each frame, by GenICam's names.
+    chunks: tuple[str, ...] = ()
     # As the file has it.
     rate_word: str | None = None
 
@@ -205,8 +209,18 @@ def of_genicam(found: dict[str, str], common: Wanted, buffers: int | None) -> Wa
             "clock": one_of(found, "CLOCK", CLOCKS, "tied"),
             "buffers": buffers,
             "features": named(found, FEATURE, "feature"),
+            "chunks": chunks_in(found),
         }
     )
+
+
+def chunks_in(found: dict[str, str]) -> tuple[str, ...]:
+    """The names of what is said of each frame."""
+    word = found.get("CHUNKS", "")
+    names = tuple(it.strip() for it in word.split(",")) if word else ()
+    if len(set(names)) < len(names) or not all(FEATURE_NAME.fullmatch(it) for it in names):
+        raise BadFile(f"CHUNKS={word} isn't names with commas between them, as ExposureTime,Gain")
+    return names
 
 
 def size_in(found: dict[str, str]) -> Region | None:

@@ -2,16 +2,18 @@
 there, and only then released, where that is wished. Before each release the place is asked again
 whether it has the clip as it was sent; one that it hasn't is archived anew.
 
-A clip comes from the station's page byte for byte, with the times of its frames and its note. It
-goes into a folder of its own below `.incoming`, is compared there with what was sent, and then the
-folder gets its name: so whatever has a name in the archive is whole. What fails is tried again for
-ever. The file of the state says what is archived; it is replaced whole, and the page and loop_mqtt
-read it."""
+A clip comes from the station's page byte for byte, with the times of its frames and its note. Each
+of these files is read back as `lapyrei-export --verify` does it, and compared with what the page
+says of each frame (lapyrei.sums). They go into a folder of their own below `.incoming`, and are
+compared there with what was sent; then the folder gets its name: so whatever has a name in the
+archive is whole. What fails is tried again for ever. The file of the state says what is archived;
+it is replaced whole, and the page and loop_mqtt read it."""
 import contextlib
 import datetime
 import fcntl
 import hashlib
 import heapq
+import importlib.util
 import json
 import os
 import queue
@@ -53,14 +55,8 @@ KINDS = ("y4m", "csv", "json")
 # The checksums by which a place is asked, the best one first, by rclone's names and Python's.
 HASHES = ("sha256", "sha1", "md5")
 READ_BACK = "sha256, read back"
-# A film's header, and what stands before each of its frames; how colours are divided.
-HEADER_BYTES, FRAME_LINE = 4096, b"FRAME\n"
-HEADER = re.compile(
-    rb"YUV4MPEG2(?: [!-~]+)* W[1-9][0-9]{0,5}(?: [!-~]+)* H[1-9][0-9]{0,5}(?: [!-~]+)*\n"
-)
-DIVIDED = (("420", 2, 2), ("422", 2, 1), ("444", 1, 1), ("mono", 1, 1))
-# A line of the table of times is shorter.
-LINE_BYTES = 200
+# A line of the table of times is shorter; and no store holds more frames.
+LINE_BYTES, MOST_FRAMES = 200, 64 * 256
 # The bytes of the state, and of what rclone lists of a clip's folder.
 STATE_BYTES, LISTED_BYTES = 64 * 1024 * 1024, 1 << 20
 # What rclone does itself about a network that fails: little, since this program tries again.
@@ -291,6 +287,8 @@ def read_settings(path: str) -> Settings:
         raise BadSettings(f"{path}: archive is missing: a place such as REMOTE:folder")
     if config and not os.access(config, os.R_OK):
         raise BadSettings(f"{path}: rclone_config: {config} can't be read")
+    if importlib.util.find_spec("numpy") is None:
+        raise BadSettings("python3-numpy isn't installed: sudo apt install python3-numpy")
     if not shutil.which("rclone"):
         raise BadSettings("rclone isn't installed: sudo apt install rclone")
     secret = secret_in(token, "token") if token else None
@@ -692,26 +690,62 @@ class Camera:
                 file.write(piece)
                 digest.update(piece)
                 count += len(piece)
-        most = LINE_BYTES * (clip.last - clip.first + 2)
-        with open(folder / f"{name}.csv", "wb") as file:
-            for piece in self.page.pieces(f"{path}.csv?first={clip.first}", min(most, free)):
-                file.write(piece)
-        if not has_numbers(folder / f"{name}.csv", clip.first, clip.last):
-            # It was released meanwhile, and another one has its id.
-            raise Fault("the page gives other frames by now")
-        if not has_frames(folder / f"{name}.y4m", clip.last - clip.first + 1):
-            # A release would rest on it.
-            raise Fault("the page gives a film that hasn't the clip's frames, each whole")
+        self.fetch_lines(clip, folder / f"{name}.csv", LINE_BYTES)
         sent = Sent(folder, name, count, digest.hexdigest())
         self.write_words(clip, sent)
+        self.verify(clip, sent)
         return sent
+
+    def fetch_lines(self, clip: Clip, path: Path, most: int) -> None:
+        """Fetches a text that has a line for each frame of a clip, by its ending. A line has so
+        many bytes at most."""
+        where = f"/api/clips/{quote(clip.camera)}/{clip.id}{path.suffix}?first={clip.first}"
+        lines = min(clip.last - clip.first + 1, MOST_FRAMES) + 1
+        with open(path, "wb") as file:
+            for piece in self.page.pieces(where, most * lines):
+                file.write(piece)
+
+    def verify(self, clip: Clip, sent: Sent) -> None:
+        """Reads the files back from the disk, and compares them with what the page says of each
+        frame: a release rests on them."""
+        from lapyrei import place, sums, verify
+        from lapyrei.errors import ExportFault
+
+        place.sync_all(str(sent.folder))
+        place.forget_cached(str(sent.folder))
+        path = sent.folder.with_suffix(".sums")
+        try:
+            self.fetch_lines(clip, path, sums.LINE_BYTES)
+            said = sums.said_in(str(path))
+            if not said.has(clip.first, clip.last):
+                # It was released meanwhile, and another one has its id.
+                raise Fault("the page gives other frames by now")
+            for kind in ("y4m", "csv"):
+                verify.verify_text(kind, said, str(sent.folder / f"{sent.name}.{kind}"))
+        except answers.Unusable as fault:
+            raise Fault(f"what the page says of the frames can't be used: {fault}") from None
+        except ExportFault as fault:
+            raise Fault(f"{sent.name}: {fault}") from None
+        finally:
+            path.unlink(missing_ok=True)
+        self.verify_words(clip, sent)
+
+    def verify_words(self, clip: Clip, sent: Sent) -> None:
+        """The same of what the clip is, such as its tag and its note."""
+        with open(sent.folder / f"{sent.name}.json", encoding="utf-8") as file:
+            if json.load(file) != self.words_for(clip, sent):
+                raise Fault("what was written isn't what was read back: the clip's words")
 
     def write_words(self, clip: Clip, sent: Sent) -> None:
         """Writes what the clip is, and its note."""
-        body = asdict(clip) | {"bytes": sent.bytes, "sha256": sent.sha256}
-        body |= {"from": iso(clip.since), "to": iso(clip.until)}
+        body = self.words_for(clip, sent)
         with open(sent.folder / f"{sent.name}.json", "w", encoding="utf-8") as file:
             json.dump(body, file, ensure_ascii=False, indent=1)
+
+    def words_for(self, clip: Clip, sent: Sent) -> dict:
+        """What the clip is: its tag, its note, its times, and what was sent."""
+        body = asdict(clip) | {"bytes": sent.bytes, "sha256": sent.sha256}
+        return body | {"from": iso(clip.since), "to": iso(clip.until)}
 
     def named(self, clip: Clip, sent: Sent) -> tuple[Sent, bool]:
         """The clip under a name that nothing else has in the archive: its own, or, where another
@@ -755,6 +789,7 @@ class Camera:
         with self.spool() as folder, self.all.lock_of(archive):
             sent = Sent(folder, entry.name, entry.bytes, entry.sha256)
             self.write_words(clip, sent)
+            self.verify_words(clip, sent)
             with self.all.incoming(archive) as place:
                 name, there = sent.names()[-1], f"{archive}/{entry.name}"
                 self.rclone.run("copyto", str(folder / name), f"{place}/{name}", "--ignore-times")
@@ -782,44 +817,6 @@ class Camera:
         self.state.change(entry, replace(entry, is_released=True, asked=asked))
         tell(f"released {clip.words()}: {entry.name} is in the archive by {asked}")
         self.all.look()
-
-
-def has_frames(path: Path, count: int) -> bool:
-    """Whether a text of YUV4MPEG2 has so many frames, each whole and of one size, and no more."""
-    with open(path, "rb") as file:
-        front = file.readline(HEADER_BYTES)
-        rest = path.stat().st_size - len(front)
-        frame, odd = divmod(rest, count)
-        if not HEADER.fullmatch(front) or odd or frame <= len(FRAME_LINE):
-            return False
-        for number in range(count):
-            file.seek(len(front) + number * frame)
-            if file.read(len(FRAME_LINE)) != FRAME_LINE:
-                return False
-    return frame - len(FRAME_LINE) == size_in(front)
-
-
-def size_in(front: bytes) -> int:
-    """The bytes of a frame, by the header of its text."""
-    words = {word[:1]: word[1:] for word in front.decode("ascii", "replace").split()[1:]}
-    wide, high, colour = int(words["W"]), int(words["H"]), words.get("C", "420jpeg")
-    across, down = next((it for name, *it in DIVIDED if colour.startswith(name)), (1, 1))
-    planes = 0 if colour.startswith("mono") else 2
-    part = -(-wide // across) * -(-high // down)
-    is_deep = re.search(r"(?:p|mono)(9|1[0-6])$", colour)
-    return (wide * high + planes * part) * (2 if is_deep else 1)
-
-
-def has_numbers(path: Path, first: int, last: int) -> bool:
-    """Whether a table has a line for each of some frames, in their order, and no other."""
-    number = first
-    with open(path, "rb") as file:
-        file.readline(LINE_BYTES)
-        while line := file.readline(LINE_BYTES):
-            if line.split(b",")[0] != str(number).encode():
-                return False
-            number += 1
-    return number == last + 1
 
 
 def iso(microseconds: int) -> str:

@@ -43,6 +43,8 @@ class Patterns:
 
     def __init__(self, texts: list[str]) -> None:
         self.forms = [re.compile(fnmatch.translate(it)) for it in texts]
+        # Words without a star, which older files took for a part of the text.
+        self.plain = [it for it in texts if not any(sign in it for sign in "*?[")]
 
     def match(self, raw: bytes) -> bool:
         """Whether a text is one of these."""

@@ -135,6 +135,7 @@ class Triggers:
         works = [lambda it=it: self.watch(it) for it in self.words.triggers]
         names += ["that publishes", "that writes down"] if self.words.stations else ["that keeps"]
         works += [self.publish, self.settle] if self.words.stations else [self.doer.run]
+        self.say_what_is_whole()
         if self.broker:
             self.broker.start()
         for name, work in zip(names, works):
@@ -148,6 +149,15 @@ class Triggers:
         self.say_what_was_lost()
         self.journal.flush(is_last=True)
         self.leave()
+
+    def say_what_is_whole(self) -> None:
+        """Says at the start which words of `match` are the whole text: for older programs they were
+        a part of it, and a trigger that keeps nothing doesn't tell."""
+        for trigger in self.words.triggers:
+            pattern = getattr(trigger.source, "pattern", None)
+            for it in pattern.plain if pattern else []:
+                text = f"match {it!r} is the whole text: write '*{it}*' for a part of it"
+                self.tell(f"{trigger.gathered.name}: {text}")
 
     def say_what_was_lost(self) -> None:
         """Says which packets came too fast, and what waits for the journal."""

@@ -9,6 +9,7 @@ from dataclasses import dataclass, replace
 import layout
 
 from . import limits, pictures
+from .chunks import table_of
 from .films import Fetch, Film, Gathered, Text, csv_of
 from .words import iso
 
@@ -17,7 +18,7 @@ PARTS = {
     "mp4": "a film (H.264), for the eye",
     "y4m": "the frames as they are stored, byte for byte (YUV4MPEG2)",
     "png": "a picture of each frame",
-    "csv": "number, time and the camera's own count of each frame",
+    "csv": "number, time and the camera's own count of each frame; _chunks.csv has what it said",
 }
 
 
@@ -89,8 +90,11 @@ def entry(name: str, microseconds: int) -> zipfile.ZipInfo:
 class Bundle:
     """The zip of some clips, made while it is sent."""
 
-    def __init__(self, fetches: list[Fetch], what: list[str], note: str) -> None:
-        self.fetches, self.what, self.note = fetches, what, note
+    def __init__(
+        self, fetches: list[Fetch], what: list[str], note: str, chunks: str | None = None
+    ) -> None:
+        """`chunks` is the folder below which cameras write what they say of each frame."""
+        self.fetches, self.what, self.note, self.chunks = fetches, what, note, chunks
         self.since = min(fetch.clip.since for fetch in fetches)
         self.name = f"event_{stamp(self.since)}"
         frames = sum(len(fetch.frames) for fetch in fetches)
@@ -186,8 +190,10 @@ class Bundle:
             yield text.part(at, limits.PIECE)
 
     def csv_pieces(self, fetch: Fetch) -> Iterator:
-        """The table of times."""
+        """The table of times, and, where the camera has said it, what it said of each frame."""
         yield ".csv", fetch.clip.since, csv_of(fetch)
+        if table := table_of(self.chunks, fetch):
+            yield "_chunks.csv", fetch.clip.since, table
 
     def png_pieces(self, fetch: Fetch) -> Iterator:
         """A picture of each frame, named by its number and time."""

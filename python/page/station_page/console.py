@@ -303,7 +303,8 @@ class Console:
             for clip in self.laboratory.held.clips()
             if clip["note"] and any((clip["camera"], clip["id"]) == it[:2] for it in wanted)
         }
-        bundle = Bundle(fetches, parts, "; ".join(notes))
+        chunks = page.gate.settings.chunks
+        bundle = Bundle(fetches, parts, "; ".join(notes), chunks)
         return await self.send(request, bundle, query.get("as", "")[:40])
 
     async def send(self, request: web.Request, bundle: Bundle, named: str) -> web.StreamResponse:

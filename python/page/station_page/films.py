@@ -1,6 +1,6 @@
 """Clips as files: MP4 by ffmpeg, sent while it is made; YUV4MPEG2, byte for byte as `loop_cli
 export` writes it, or as the station saves it where samples have more than 8 bits; PNGs in a zip;
-numbers and times."""
+numbers and times; a checksum of each frame."""
 import asyncio
 import contextlib
 import fcntl
@@ -15,6 +15,7 @@ from dataclasses import dataclass
 from pathlib import Path
 
 import layout
+from lapyrei import sums
 
 from . import limits, pictures
 from .reader import Clip, Gone, Reading, Source
@@ -29,6 +30,7 @@ KINDS = {
     "zip": "application/zip",
     "csv": "text/csv",
     "jpg": "image/jpeg",
+    "sums": "text/plain",
 }
 # How folders of films are called, and the file in one that its page has locked.
 PREFIX, LOCK = "loop_page.", "lock"
@@ -139,6 +141,35 @@ class Text:
         """The bytes from a place to another, a piece at a time."""
         for at in range(start, end, limits.PIECE):
             yield await self.source.do(self.part, at, min(limits.PIECE, end - at))
+
+
+# ---------------------------------------------------------------------------------------- checksums
+
+
+class Sums:
+    """What a clip's frames are, by a checksum of each plane: the lines of `lapyrei.sums`. Frames are
+    read anew, so a film that was spoilt on its way, or here, is told from the store."""
+
+    def __init__(self, fetch: Fetch) -> None:
+        self.source, self.frames = fetch.source, fetch.frames
+        bits = fetch.bits()
+        self.front = sums.front_of(fetch.source.geometry, bits)
+        self.form = pictures.form_of(fetch.source.geometry, bits)
+        self.length = len(self.front) + sum(sums.row_bytes(it, self.form) for it in self.frames)
+
+    def row(self, frame) -> bytes:
+        """A frame's line."""
+        return sums.row_of(frame, self.form, self.source.frame(frame.number))
+
+    async def pieces(self, start: int, end: int) -> AsyncIterator[bytes]:
+        """The bytes from a place to another, a line at a time."""
+        at = len(self.front)
+        yield self.front[start:end]
+        for frame in self.frames:
+            begin, at = at, at + sums.row_bytes(frame, self.form)
+            if begin < end and start < at:
+                row = await self.source.do(self.row, frame)
+                yield row[max(0, start - begin) : end - begin]
 
 
 # ------------------------------------------------------------------------------------ numbers, PNGs

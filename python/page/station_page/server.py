@@ -29,7 +29,7 @@ from .asked import (
 )
 from .causes import cause
 from .console import Console
-from .films import KINDS, FilmFault, Text, csv_of, zip_stream
+from .films import KINDS, FilmFault, Sums, Text, csv_of, zip_stream
 from .guard import COOKIE, HEADERS, OPEN, Connection, Gate, bearer_of, session_word
 from .guide import Guide
 from .journal import Expected, PlainFormatter
@@ -139,7 +139,7 @@ class Page:
         get(f"/api/cameras/{camera}/newest.jpg", self.newest)
         get(f"/api/cameras/{camera}/frame", self.frame)
         get(rf"/api/cameras/{camera}/frames/{{number:{FRAME}}}.jpg", self.frame_picture)
-        get(rf"/api/clips/{camera}/{{id:\d{{1,5}}}}.{{kind:mp4|y4m|zip|csv|jpg}}", self.fetch)
+        get(rf"/api/clips/{camera}/{{id:\d{{1,5}}}}.{{kind:mp4|y4m|zip|csv|jpg|sums}}", self.fetch)
         post("/api/keep", self.keep)
         post("/api/release", self.release)
         post("/api/note", self.note)
@@ -654,6 +654,11 @@ class Page:
             yield data[start:end]
 
         return await self.send_known(request, fetch, "csv", len(data), pieces)
+
+    async def fetch_sums(self, request: web.Request, fetch) -> web.StreamResponse:
+        """A checksum of each frame, for whoever reads a film back."""
+        found = Sums(fetch)
+        return await self.send_known(request, fetch, "sums", found.length, found.pieces)
 
     async def fetch_zip(self, request: web.Request, fetch) -> web.StreamResponse:
         """PNGs. How long the zip is isn't known before it ends."""

@@ -14,7 +14,7 @@ from urllib.parse import urlsplit
 
 NAME = re.compile(r"[A-Za-z0-9_-]{1,32}")
 WORDS = {"listen", "token", "on_alert", "webhook", "notes", "folder", "archive", "station"}
-WORDS |= {"users", "mail", "mqtt", "remind", "name"}
+WORDS |= {"users", "mail", "mqtt", "remind", "name", "chunks"}
 # What the console is called where nobody gives it a name, and the letters of one.
 NAMELESS = "Laboratory"
 NAME_LETTERS = 64
@@ -71,6 +71,8 @@ class Settings:
     webhook: str | None = None
     # The file in which loop_archive says how it stands.
     archive: str | None = None
+    # The folder below which cameras write what they say of each frame.
+    chunks: str | None = None
     stations: list[OtherStation] = field(default_factory=list)
     # What stands in the title and above the page.
     name: str = NAMELESS
@@ -274,8 +276,8 @@ def parser() -> argparse.ArgumentParser:
     words.add_argument(
         "--settings",
         metavar="FILE",
-        help="more words: listen, token, name, on_alert, webhook, notes, folder, archive, station "
-        "(TOML)",
+        help="more words: listen, token, name, on_alert, webhook, notes, folder, archive, chunks, "
+        "station (TOML)",
     )
     words.add_argument(
         "--folder",
@@ -364,7 +366,7 @@ def read_settings(given: argparse.Namespace) -> Settings:
     orders, answers = (path and os.path.join(folder, path) for path in place.values())
     is_text = answers is not None and config.get("answers_form") != "json"
     notes = os.path.join(folder, named["notes"] or "loop_page.notes")
-    archive = text_at(own, "archive", given.settings or "")
+    archive, chunks = (text_at(own, it, given.settings or "") for it in ("archive", "chunks"))
     return Settings(
         cameras_of(config, folder, given.config) if given.config else [],
         orders,
@@ -377,6 +379,7 @@ def read_settings(given: argparse.Namespace) -> Settings:
         list(own.get("on_alert", [])),
         own.get("webhook"),
         archive and os.path.join(folder, archive),
+        chunks and os.path.join(folder, chunks),
         stations_of(own.get("station", []), given.settings or ""),
         name=name_in(named["name"]),
         config=given.config,
