@@ -150,7 +150,9 @@ def test_of_a_station_that_is_away_no_rate_is_shown_and_until_when_it_is_known()
 KINDS = {*OF_STATION, *(it for ends in ENDS.values() for it in ends)}
 
 
-@pytest.mark.parametrize("kind", sorted(KINDS | {"silent", "hangs", "lost", "station", "one absent"}))
+@pytest.mark.parametrize(
+    "kind", sorted(KINDS | {"silent", "hangs", "lost", "station", "one absent"})
+)
 def test_what_is_over_is_said_in_words_of_its_own(tmp_path, kind):
     lab = laboratory_in(tmp_path, "left")
     camera = None if kind == "station" else "left"
