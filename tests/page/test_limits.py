@@ -338,8 +338,9 @@ def test_a_camera_that_gives_fewer_frames_than_it_ought_to_is_one_to_look_at(tmp
         ring = layout.Ring(4, 2, b"GREY", 8, 16)
         for _ in range(100):
             ring.store(wait=wait)
-        (tmp_path / "a.loop").write_bytes(bytes(ring.image))
-        watched = Watched(SimpleNamespace(name="left"), Reader(str(tmp_path / "a.loop")))
+        path = tmp_path / "a.loop"
+        path.write_bytes(bytes(ring.image))
+        watched = Watched(SimpleNamespace(name="left", store=str(path)), Reader(str(path)))
         watched.look()
         watched.has_moved = True
         standing = Standing(SimpleNamespace(orders=SimpleNamespace(has_answers=True)))

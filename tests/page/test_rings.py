@@ -422,7 +422,8 @@ def test_the_newest_frame_is_found_after_a_turn_before_the_next_look(tmp_path):
 
 def test_the_newest_picture_goes_on_where_several_stores_become_one_and_back(tmp_path):
     films = Set(tmp_path, 2).store(10)
-    watched = Watched(types.SimpleNamespace(name="left"), films.reader())
+    camera = types.SimpleNamespace(name="left", store=str(tmp_path / "a.loop"))
+    watched = Watched(camera, films.reader())
     eye, alone = Eye(watched), layout.Ring(8, 6, b"GREY", 3, 4)
     for _ in range(6):
         alone.store()
