@@ -32,8 +32,9 @@ class Plan(NamedTuple):
     @property
     def frames(self) -> int:
         """How many of the newest frames they hold for certain, while nothing is locked."""
-        slots = self.geometry.slots
-        return (self.stores * self.geometry.segments - 1) * slots + 1
+        blocks: int = self.stores * self.geometry.segments
+        slots: int = self.geometry.slots
+        return (blocks - 1) * slots + 1
 
     @property
     def bytes(self) -> int:
@@ -80,8 +81,9 @@ def room_in(text: str) -> tuple[int | None, Fraction | None]:
 
 def slots_within(geometry: Geometry, segments: int, room: int) -> int:
     """The most slots of so many segments that fit into so much room of one store, 256 at most."""
-    each = (room - layout.FRONT) // segments - layout.HEADER
-    return max(0, min(SLOTS_MOST, each // (layout.HEAD + geometry.size)))
+    each: int = (room - layout.FRONT) // segments - layout.HEADER
+    slot: int = layout.HEAD + geometry.size
+    return max(0, min(SLOTS_MOST, each // slot))
 
 
 def within(geometry: Geometry, room: int) -> Plan:
