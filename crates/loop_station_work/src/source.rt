@@ -422,7 +422,7 @@ fn header_of_store<R: AllocGlobal + Wait + Clock>(
     let depth = Depth::of_bits(state.life.bits(rt).1?)?;
     let mut text = Vec::new(rt.alloc());
     write_deep_header(&geometry, depth, &mut text).ok()?;
-    Some((text, u64::from(geometry.frame_bytes())))
+    Some((text, u64::from(size_of(&geometry)?)))
 }
 
 // The name of the fault of a header.
