@@ -1,5 +1,5 @@
 -- A tick as events of the queue's model, and what it does to the device.
-use Rattle.std.specs.Prelude.{◌≡◌, ◌≢◌, ℕ, ◌+◌, ◌%◌, ◌^◌, true, false, cond, List, [], ◌∷◌, length, Option, Some, None}
+use Rattle.std.specs.Prelude.{◌≡◌, ◌≢◌, Bool, ℕ, ◌+◌, ◌%◌, ◌^◌, true, false, cond, List, [], ◌∷◌, length, Option, Some, None}
 use Rattle.loop_plane.specs.Plane.{Plane}
 use Rattle.loop_record.specs.Turns.{EachIn, Plays, after_all}
 use Rattle.loop_capture.specs.declared.device.Tick.{Tick}
@@ -12,24 +12,34 @@ use Rattle.loop_vb2.specs.Events.{Event, after_event, MayHappen, queue_machine, 
 use Rattle.loop_vb2.specs.Planes.{frame_size}
 use Rattle.loop_vb2.specs.State.{Lined, QueueState, StandsQueue}
 
--- a device: its source, how many bytes a frame has, and the sequence of its next frame
+-- a device: its source, how many bytes a frame has, the sequence of its next frame, and whether that goes on at a start
 pub record SeenDevice (S : Type 0) : Type 0 where
   pub source : S
   pub size : ℕ
   pub next : ℕ
+  pub goes_on : Bool
 
 -- a device without its source
 pub record SeenRest : Type 0 where
   pub size : ℕ
   pub next : ℕ
+  pub goes_on : Bool
 
 -- a new device
 abbrev pub IsNew : {S : Type 0} → S → ℕ → SeenDevice S → Type 0
-IsNew source size d = d ≡ record { source = source; size = size; next = 0 }
+IsNew source size d = d ≡ record { source = source; size = size; next = 0; goes_on = false }
 
--- the sequence of a frame that is taken now: 0 after a start
-abbrev pub sequence_of : ℕ → QueueState → ℕ
-sequence_of next s = cond s.body.fresh 0 next
+-- a new device whose first frame has this sequence, which no start begins anew
+abbrev pub GoesOnFrom : {S : Type 0} → ℕ → S → ℕ → SeenDevice S → Type 0
+GoesOnFrom first source size d = d ≡ record { source = source; size = size; next = first; goes_on = true }
+
+-- the sequence of a frame: the next one, but 0 where it is fresh, unless it goes on
+abbrev pub sequence_at : Bool → Bool → ℕ → ℕ
+sequence_at goes_on fresh next = cond goes_on next (cond fresh 0 next)
+
+-- the sequence of a frame that is taken now: 0 after a start, or the next one where the device goes on
+abbrev pub sequence_of : {S : Type 0} → SeenDevice S → QueueState → ℕ
+sequence_of d s = sequence_at d.goes_on s.body.fresh d.next
 
 -- the sequence of the next frame: an End takes none
 abbrev pub sequence_after : Next → ℕ → ℕ
@@ -62,9 +72,9 @@ Ends meaning answer stamp bytes tick before after =
     × Plays queue_machine (StandsQueue meaning before) (StandsQueue meaning after) (end_event tick stamp bytes)
 
 -- the events of the queue in a tick that asked the source: the start is noticed, and the frame is ended
-abbrev pub tick_events : ℕ → ℕ → Tick → List ℕ → QueueState → List Event
-tick_events now next tick bytes s =
-    take_fresh s.body.fresh ∷ end_event tick (record { sequence = sequence_of next s; timestamp = now }) bytes
+abbrev pub tick_events : {S : Type 0} → ℕ → SeenDevice S → Tick → List ℕ → QueueState → List Event
+tick_events now d tick bytes s =
+    take_fresh s.body.fresh ∷ end_event tick (record { sequence = sequence_of d s; timestamp = now }) bytes
 
 -- A tick that asked the source: the device had a frame's length and had started, the source gave these bytes, which are
 -- a whole frame at More, and the queue's events happen.
@@ -77,10 +87,11 @@ pub record Took {S P : Type 0} (gives : S → Next → List ℕ → S → Type 0
   pub whole : answer ≡ More → length bytes ≡ d.size
   pub given : gives d.source answer bytes e.source
   pub tick_is : tick ≡ tick_of answer (longest_active s)
-  pub next : e.next ≡ sequence_after answer (sequence_of d.next s)
+  pub next : e.next ≡ sequence_after answer (sequence_of d s)
   pub size : e.size ≡ d.size
-  pub happen : EachIn after_event MayHappen s (tick_events now d.next tick bytes s)
-  pub queue : StandsQueue meaning after (after_all after_event s (tick_events now d.next tick bytes s))
+  pub goes_on : e.goes_on ≡ d.goes_on
+  pub happen : EachIn after_event MayHappen s (tick_events now d tick bytes s)
+  pub queue : StandsQueue meaning after (after_all after_event s (tick_events now d tick bytes s))
 
 -- a tick: WrongSize and Idle change nothing
 abbrev pub Ticked : {S P : Type 0} → (S → Next → List ℕ → S → Type 0) → (P → Plane) → ℕ → Tick → SeenDevice S

@@ -1,7 +1,7 @@
 // The device: a source's frames for a queue's buffers. docs/capture.md says why it is so.
 ghost use Rattle.std.specs.Prelude.{◌≡◌, IfErr, IfOk, length};
 ghost use Rattle.loop_capture.specs.declared.source.Next.TheVariants.{More};
-ghost use Rattle.loop_capture.specs.Ticks.{Ends, IsLongest, IsNew, SeenDevice, SeenRest, Ticks, sequence_after};
+ghost use Rattle.loop_capture.specs.Ticks.{Ends, GoesOnFrom, IsLongest, IsNew, SeenDevice, SeenRest, Ticks, sequence_after, sequence_at};
 ghost use Rattle.loop_vb2.specs.Planes.{frame_size};
 
 use crate::loan::Loan;
@@ -36,36 +36,39 @@ pub struct NoMemory<S> {
     pub source: S,
 }
 
-/// A capture device: a source, a buffer for the frames that it doesn't lend, and the sequence of the next frame.
+/// A capture device: a source, a buffer for the frames that it doesn't lend, the sequence of the next frame, and whether
+/// that goes on at a start.
 #[derive(Drop)]
 pub struct Device<S = Box<dyn FrameSource + Send>, A: Allocator + Copy = Global> {
     source: S,
     frame: Vec<u8, A>,
     next: u32,
+    goes_on: bool,
 }
 
-/// A device without its source: its buffer, and the sequence of the next frame.
+/// A device without its source: its buffer, the sequence of the next frame, and whether that goes on at a start.
 #[derive(Drop)]
 pub struct Rest<A: Allocator + Copy = Global> {
     frame: Vec<u8, A>,
     next: u32,
+    goes_on: bool,
 }
 
 impl<S, A: Allocator + Copy> Model for Device<S, A> {
     ghost Value = { SeenDevice S };
 
-    ghost view = { λ d. record { source = d.source; size = length d.frame.items; next = d.next } };
+    ghost view = { λ d. record { source = d.source; size = length d.frame.items; next = d.next; goes_on = d.goes_on } };
 }
 
 impl<A: Allocator + Copy> Model for Rest<A> {
     ghost Value = { SeenRest };
 
-    ghost view = { λ r. record { size = length r.frame.items; next = r.next } };
+    ghost view = { λ r. record { size = length r.frame.items; next = r.next; goes_on = r.goes_on } };
 }
 
 impl<S: FrameSource, A: Allocator + Copy> Device<S, A> {
-    /// A device for frames of so many bytes. Its buffer is taken here, and no tick takes memory. NoMemory: the buffer
-    /// was refused, and the source is returned.
+    /// A device for frames of so many bytes, whose sequence is 0 at the first frame after each start. Its buffer is taken
+    /// here, and no tick takes memory. NoMemory: the buffer was refused, and the source is returned.
     pub fn new(alloc: A, source: S, frame_bytes: u32) -> Result<Device<S, A>, NoMemory<S>>
         ensures new { IfOk result (IsNew source frame_bytes) }
         ensures back { IfErr result (λ refused. refused.source ≡ source) }
@@ -75,6 +78,28 @@ impl<S: FrameSource, A: Allocator + Copy> Device<S, A> {
                 source,
                 frame,
                 next: 0,
+                goes_on: false,
+            }),
+            Err(_) => Err(NoMemory { source }),
+        }
+    }
+
+    /// The same, but its first frame has this sequence, and the sequence goes on at each start: it never begins anew.
+    pub fn from_number(
+        alloc: A,
+        source: S,
+        frame_bytes: u32,
+        first: u32,
+    ) -> Result<Device<S, A>, NoMemory<S>>
+        ensures new { IfOk result (GoesOnFrom first source frame_bytes) }
+        ensures back { IfErr result (λ refused. refused.source ≡ source) }
+    {
+        match vec![in alloc; 0u8; frame_bytes as usize] {
+            Ok(frame) => Ok(Device {
+                source,
+                frame,
+                next: first,
+                goes_on: true,
             }),
             Err(_) => Err(NoMemory { source }),
         }
@@ -82,8 +107,9 @@ impl<S: FrameSource, A: Allocator + Copy> Device<S, A> {
 
     /// One frame period, at `now` (microseconds). WrongSize, then Idle, change nothing. Otherwise the source is asked
     /// for a frame. More completes the buffer that has been active longest, and Bad fails it; without an active buffer
-    /// the frame is Missed. End is Ended. The sequence is 0 at the first frame after a start. It rises by one with each
-    /// frame, modulo 2^32, also with one that is Bad or Missed; an End takes no number.
+    /// the frame is Missed. End is Ended. The sequence is 0 at the first frame after a start, or goes on where the device
+    /// was made `from_number`. It rises by one with each frame, modulo 2^32, also with one that is Bad or Missed; an End
+    /// takes no number.
     pub fn tick<P: PlaneMemory, B: Allocator + Copy>(
         &mut self,
         queue: &mut Queue<P, B>,
@@ -98,7 +124,7 @@ impl<S: FrameSource, A: Allocator + Copy> Device<S, A> {
         if !queue.started() {
             return Tick::Idle;
         }
-        let sequence = if queue.take_fresh() { 0 } else { self.next };
+        let sequence = sequence_at(self.goes_on, queue.take_fresh(), self.next);
         let active = queue.next_active();
         let stamp = Stamp {
             sequence,
@@ -123,6 +149,7 @@ impl<S: FrameSource, A: Allocator + Copy> Device<S, A> {
         ensures source { result.source.source.now ≡ self.old.source }
         ensures size { result.size ≡ self.old.size }
         ensures next { result.next ≡ self.old.next }
+        ensures goes_on { result.goes_on ≡ self.old.goes_on }
     {
         let none = Vec::new(*self.frame.allocator());
         let frame = mem::replace(&mut self.frame, none);
@@ -132,6 +159,7 @@ impl<S: FrameSource, A: Allocator + Copy> Device<S, A> {
             },
             frame,
             next: self.next,
+            goes_on: self.goes_on,
         }
     }
 
@@ -139,22 +167,45 @@ impl<S: FrameSource, A: Allocator + Copy> Device<S, A> {
     pub fn into_rest(self) -> Rest<A>
         ensures size { result.size ≡ self.size }
         ensures next { result.next ≡ self.next }
+        ensures goes_on { result.goes_on ≡ self.goes_on }
     {
         let Device {
             source: _,
             frame,
             next,
+            goes_on,
         } = self;
-        Rest { frame, next }
+        Rest {
+            frame,
+            next,
+            goes_on,
+        }
     }
 
     /// Takes the buffer and the sequence that a device left, as one to which its source was lent.
     pub fn resume(&mut self, rest: Rest<A>)
-        ensures { self.new ≡ record { source = self.old.source; size = rest.size; next = rest.next } }
+        ensures { self.new ≡ record {
+          source = self.old.source;
+          size = rest.size;
+          next = rest.next;
+          goes_on = rest.goes_on;
+        } }
     {
-        let Rest { frame, next } = rest;
+        let Rest {
+            frame,
+            next,
+            goes_on,
+        } = rest;
         self.frame = frame;
         self.next = next;
+        self.goes_on = goes_on;
+    }
+
+    /// The sequence of its next frame; after a start this counts only where the sequence goes on.
+    pub fn next_sequence(&self) -> u32
+        ensures { result ≡ self.now.next }
+    {
+        self.next
     }
 
     /// What is to be among the flags of the frame of the last tick that completed a buffer: its source says so.
@@ -169,6 +220,13 @@ fn ask<S: FrameSource, A: Allocator + Copy>(source: &mut S, frame: &mut Vec<u8, 
     ensures size { length frame.new.items ≡ length frame.old.items }
 {
     source.next(frame)
+}
+
+// The sequence of a frame that is taken now, the first after a start where it is fresh.
+fn sequence_at(goes_on: bool, fresh: bool, next: u32) -> u32
+    ensures { result ≡ sequence_at goes_on fresh next }
+{
+    if fresh && !goes_on { 0 } else { next }
 }
 
 // The sequence of the next frame.

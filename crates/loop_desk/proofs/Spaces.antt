@@ -1,5 +1,6 @@
 -- The first frame of the block that goes.
 use Rattle.std.proofs.Common.{◌≡◌, ◌<◌, ◌≤◌, ◌*◌, ◌-◌, ◌^◌, ◌⊎◌, inl, inr, is_some, ℕ, Bool, true, false, min, Option, Some, None, refl, sym, ap, ◌∙◌, subst, arith}
+use Rattle.std.specs.Prelude.{option_map}
 use Rattle.std.proofs.lemmas.Bool.{cases_lt}
 use Rattle.std.proofs.Math.Nat.{div-mul-le_self, le-div_iff_mul-le}
 use Rattle.loop_record.specs.Recording.{IsWellFormed, Picture, Recording, Ring, block, frame_under, holds, numbers_end, victim}
@@ -81,13 +82,13 @@ same-some a b e = cc
 not-none : (a : ℕ) → let x : Option ℕ = Some a in let y : Option ℕ = None in x ≡ y → ⊥
 not-none a e = absurd (let both : true ≡ false = ap (λ (o : Option ℕ). is_some o) e in cc)
 
--- what a store tells that has found the first frame of the block that goes, and its time
+-- what a store tells that has found the first frame of the block that goes, and its sequence
 pub tells-first : (ring : Ring) (keep : ℕ) (r : Recording) (v : ℕ) (some : 1 ≤ ring.slots) (w : IsWellFormed r)
     (chosen : victim ring keep r ≡ Some v) (among : ℕ → Bool) (are : (n : ℕ) → among n ≡ holds r n) (start : ℕ)
-    (is : start ≡ min (v * ring.slots) (2 ^ 64 - 1)) (first time : ℕ) → first < numbers_end
-    → IsLeastFrom among start (Some first) → ((p : Picture) → frame_under r.frames first ≡ Some p → time ≡ p.timestamp)
-    → TellsOldest ring keep r (Some time)
-tells-first ring keep r v some w chosen among are start is first time low least time-is =
+    (is : start ≡ min (v * ring.slots) (2 ^ 64 - 1)) (first : ℕ) (oldest : Option ℕ) → first < numbers_end
+    → IsLeastFrom among start (Some first) → oldest ≡ option_map (λ p. p.sequence) (frame_under r.frames first)
+    → TellsOldest ring keep r oldest
+tells-first ring keep r v some w chosen among are start is first oldest low least oldest-is =
     let found = first-held ring keep r v some w chosen among are start is first low least in
     record {
       some = λ b goes.
@@ -95,7 +96,7 @@ tells-first ring keep r v some w chosen among are start is first time low least 
             first,
             found.0,
             subst (λ x. BeginsBlock ring r x first found.0) (sym same) found.1,
-            ap (λ (t : ℕ). let o : Option ℕ = Some t in o) (time-is found.0 found.1.held),
+            oldest-is ∙ ap (λ (o : Option Picture). option_map (λ p. p.sequence) o) found.1.held,
           );
       none = λ nothing. absurd (not-none v (sym chosen ∙ nothing));
     }

@@ -9,10 +9,10 @@ pub record BeginsBlock (ring : Ring) (r : Recording) (b number : ℕ) (p : Pictu
   pub of : block ring number ≡ b
   pub first : (n : ℕ) → holds r n ≡ true → block ring n ≡ b → number ≤ n
 
--- the time of the first frame of the block that goes
+-- the sequence of the first frame of the block that goes
 pub record TellsOldest (ring : Ring) (keep : ℕ) (r : Recording) (oldest : Option ℕ) : Type 0 where
   pub some : (v : ℕ) → victim ring keep r ≡ Some v
-      → (number : ℕ) × (p : Picture) × BeginsBlock ring r v number p × (oldest ≡ Some p.timestamp)
+      → (number : ℕ) × (p : Picture) × BeginsBlock ring r v number p × (oldest ≡ Some p.sequence)
   pub none : victim ring keep r ≡ None → oldest ≡ None
 
 -- and whether a segment holds no block

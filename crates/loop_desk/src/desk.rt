@@ -138,15 +138,15 @@ impl<D: Disk + Drop, A: Allocator> Desk<D, A> {
         self.store.room()
     }
 
-    // The time of the first frame of the block that goes when room is needed; None where none may go.
-    fn oldest(&self) -> Option<u64>
+    // The sequence of the first frame of the block that goes when room is needed; None where none may go.
+    fn oldest(&self) -> Option<u32>
         ensures { (r : Recording) → StandsFor D.medium self.now.store r
             → TellsOldest (ring_in self.now.store) self.now.store.keep r result }
     {
         let block = self.store.victim()?;
         let slots = u64::from(self.store.geometry().slots);
         let first = self.store.next_held(block.saturating_mul(slots))?;
-        Some(self.store.time(first))
+        self.store.sequence(first)
     }
 
     /// What the store tells of the room that it has for a block. It takes no memory and makes no call of the disk.

@@ -43,8 +43,8 @@ pub struct Status {
 pub struct Space {
     /// Whether a segment holds no block.
     pub free: bool,
-    /// The time of the first frame of the block that goes when room is needed, in microseconds; None where none may go.
-    pub oldest: Option<u64>,
+    /// The sequence of the first frame of the block that goes when room is needed; None where none may go.
+    pub oldest: Option<u32>,
 }
 
 /// What a desk holds, without pixels.

@@ -1,6 +1,7 @@
 mod Chunks
 mod OneStore
 mod Queues
+mod Counting
 mod Sets
 mod Rule
 mod Turns

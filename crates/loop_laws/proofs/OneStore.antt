@@ -69,7 +69,7 @@ victim-none_few ring keep r low high cs has f h few =
     (blocks-held ring r low high cs has f h)
     ∙ none-found (λ b. not (is_locked ring r b)) (max 1 keep) (numbers cs) less
 
--- ---- the time that is told
+-- ---- the sequence that is told
 
 under-first : (ring : Ring) (r : Recording) (c : Chunk) (cs : List Chunk) → Has ring r (c ∷ cs)
     → frame_under r.frames (c.number * ring.slots) ≡ Some c.first
@@ -91,13 +91,13 @@ first-picture ring r c cs number p some has first =
     let same : number ≡ n = omega (arith, low, high) in
     some-same p c.first (sym first.held ∙ ap (frame_under r.frames) same ∙ there)
 
--- a store of which a block may go tells the time of its first frame
+-- a store of which a block may go tells the sequence of its first frame
 pub tells-first : (ring : Ring) (keep : ℕ) (r : Recording) (low high : ℕ) (c : Chunk) (cs : List Chunk)
     (oldest : Option ℕ) → 1 ≤ ring.slots → Has ring r (c ∷ cs) → Fit ring.slots (c ∷ cs) → Between low high (c ∷ cs)
-    → max 1 keep ≤ length cs → TellsOldest ring keep r oldest → oldest ≡ Some c.first.timestamp
+    → max 1 keep ≤ length cs → TellsOldest ring keep r oldest → oldest ≡ Some c.first.sequence
 tells-first ring keep r low high c cs oldest some has f h more tells =
     let told = tells.some c.number (victim-first ring keep r low high c cs has f h more) in
-    told.3 ∙ ap (λ (p : Picture). Some p.timestamp) (first-picture ring r c cs told.0 told.1 some has told.2)
+    told.3 ∙ ap (λ (p : Picture). Some p.sequence) (first-picture ring r c cs told.0 told.1 some has told.2)
 
 pub tells-none : (ring : Ring) (keep : ℕ) (r : Recording) (low high : ℕ) (cs : List Chunk) (oldest : Option ℕ)
     → Has ring r cs → Fit ring.slots cs → Between low high cs → length cs ≤ max 1 keep → TellsOldest ring keep r oldest
@@ -132,7 +132,7 @@ space-there ring keep r low high cs some has f h = go cs has f h (cases_lt (max 
             absurd cc
     go [] has f h (inl more) = absurd (omega (arith, more))
     go (c ∷ cs) has f h (inl more) = (
-      record { free = free; oldest = Some c.first.timestamp },
+      record { free = free; oldest = Some c.first.sequence },
       record {
         free = has_free;
         oldest = record {

@@ -1,11 +1,10 @@
 -- The blocks of all stores in the order in which they came, and those of one place among them.
-use Rattle.std.proofs.Common.{◌≡◌, ◌⊎◌, inl, inr, ℕ, zero, suc, ◌+◌, ◌*◌, ◌<◌, ◌≤◌, Bool, true, false, cond, eqb, Some, List, [], ◌∷◌, ◌++◌, length, map, refl, sym, ap, ◌∙◌, arith, append_assoc}
+use Rattle.std.proofs.Common.{◌≡◌, ◌⊎◌, inl, inr, ℕ, zero, suc, ◌+◌, ◌*◌, ◌%◌, ◌^◌, ◌<◌, ◌≤◌, Bool, true, false, cond, eqb, List, [], ◌∷◌, ◌++◌, length, map, refl, sym, ap, ◌∙◌, subst, arith, append_assoc}
 use Rattle.std.proofs.lemmas.Bool.{cases_eq}
 use Rattle.std.proofs.lemmas.List.{append-nil, length-append, length-map, map-append}
 use Rattle.std.proofs.lemmas.List.Elements.{filter-append}
 use Rattle.std.proofs.lemmas.Grind.{flat_map-append}
 use Rattle.std.proofs.Math.Nat.{add-mul}
-use Rattle.std.specs.Prelude.{slice_get}
 use Rattle.std.specs.List.{filter, flat_map}
 use Rattle.loop_record.specs.Recording.{Picture}
 use Rattle.loop_record.proofs.TestFacts.{differ_test, equal_test}
@@ -120,10 +119,25 @@ total-each (suc n) each q h =
     let here = h n (omega arith) in
     omega (arith, rest, here, add-mul n 1 each)
 
--- where each place has as many, all are that many times as many
-pub count-all : (n each : ℕ) (q : List Chunk) → Placed n q
-    → ((place : ℕ) → place < n → length (at place q) ≡ each) → length q ≡ n * each
-count-all n each q placed h = sym (total-all n q placed) ∙ total-each n each q h
+-- the first places have no more than all
+total-more : (n m : ℕ) (q : List Chunk) → n ≤ m → total n q ≤ total m q
+total-more n zero q l = go (cases_eq n 0)
+  where
+    go : (n ≡ 0) ⊎ (n ≡ 0 → ⊥) → total n q ≤ total 0 q
+    go (inl is) = subst (λ k. total k q ≤ total 0 q) (sym is) (omega arith)
+    go (inr apart) = absurd (omega (arith, l, apart))
+total-more n (suc m) q l = go (λ less. total-more n m q less) (cases_eq n (suc m))
+  where
+    go : (n ≤ m → total n q ≤ total m q) → (n ≡ suc m) ⊎ (n ≡ suc m → ⊥) → total n q ≤ total (suc m) q
+    go before (inl is) = subst (λ k. total k q ≤ total (suc m) q) (sym is) (omega arith)
+    go before (inr apart) = let rest = before (omega (arith, l, apart)) in omega (arith, rest)
+
+-- where each of the first places has as many, all are that many times as many at least
+pub count-some : (n all each : ℕ) (q : List Chunk) → Placed all q → n ≤ all
+    → ((place : ℕ) → place < n → length (at place q) ≡ each) → n * each ≤ length q
+count-some n all each q placed less h =
+    let few = total-more n all q less in
+    omega (arith, few, total-each n each q h, total-all all q placed)
 
 -- ---- as they came
 
@@ -189,84 +203,69 @@ taken-spread place (c ∷ q) =
     go true e rest = let here = taken-here place c.place (pictures c) e in λ i. here i ++ rest i
     go false e rest = let here = taken-apart place c.place (pictures c) e in λ i. here i ++ rest i
 
--- ---- times
+-- no block is at a place past all
+pub at-past : (n place : ℕ) (q : List Chunk) → Placed n q → n ≤ place → at place q ≡ []
+at-past n place [] h past = refl
+at-past n place (c ∷ q) h past =
+    let l = h.0 in
+    at-apart place c q (λ e. absurd (omega (arith, l, past, e))) ∙ at-past n place q h.1 past
 
--- the first frame of each block is later than this
-abbrev pub Later : ℕ → List Chunk → Type 0
-Later time [] = Unit {0}
-Later time (c ∷ q) = (time < c.first.timestamp) × Later time q
+pub placed-more : (n : ℕ) (q : List Chunk) → Placed n q → Placed (n + 1) q
+placed-more n [] h = tt
+placed-more n (c ∷ q) h = let l = h.0 in (omega (arith, l), placed-more n q h.1)
 
--- the first frame of each block is earlier than this
-abbrev pub Earlier : List Chunk → ℕ → Type 0
-Earlier [] time = Unit {0}
-Earlier (c ∷ q) time = (c.first.timestamp < time) × Earlier q time
+-- ---- how they were counted
 
--- the first frame of each block is later than those of the blocks before it
-abbrev pub Rising : List Chunk → Type 0
-Rising [] = Unit {0}
-Rising (c ∷ q) = Later c.first.timestamp q × Rising q
+-- the first frames of the blocks have counts that rise, from one on and below another
+abbrev pub Rises : ℕ → ℕ → List Chunk → Type 0
+Rises low high [] = low ≤ high
+Rises low high (c ∷ q) =
+    (count : ℕ) × (low ≤ count) × (c.first.sequence ≡ count % 2 ^ 32) × Rises (count + 1) high q
 
-later-push : (time : ℕ) (q : List Chunk) (c : Chunk) → Later time q → time < c.first.timestamp
-    → Later time (q ++ c ∷ [])
-later-push time [] c h l = (l, tt)
-later-push time (d ∷ q) c h l = (h.0, later-push time q c h.1 l)
+pub rises-high : (low high higher : ℕ) (q : List Chunk) → Rises low high q → high ≤ higher → Rises low higher q
+rises-high low high higher [] h l = omega (arith, h, l)
+rises-high low high higher (c ∷ q) h l = (h.0, h.1, h.2, rises-high (h.0 + 1) high higher q h.3 l)
 
-pub rising-push : (q : List Chunk) (c : Chunk) → Rising q → Earlier q c.first.timestamp → Rising (q ++ c ∷ [])
-rising-push [] c h l = (tt, tt)
-rising-push (d ∷ q) c h l = (later-push d.first.timestamp q c h.0 l.0, rising-push q c h.1 l.1)
+pub rises-low : (low lower high : ℕ) (q : List Chunk) → Rises low high q → lower ≤ low → Rises lower high q
+rises-low low lower high [] h l = omega (arith, h, l)
+rises-low low lower high (c ∷ q) h l = let from = h.1 in (h.0, omega (arith, from, l), h.2, h.3)
+
+pub rises-push : (low high count : ℕ) (q : List Chunk) (c : Chunk) → Rises low high q → high ≤ count
+    → c.first.sequence ≡ count % 2 ^ 32 → Rises low (count + 1) (q ++ c ∷ [])
+rises-push low high count [] c h l is = (count, omega (arith, h, l), is, omega arith)
+rises-push low high count (d ∷ q) c h l is = (h.0, h.1, h.2, rises-push (h.0 + 1) high count q c h.3 l is)
 
 -- only the first frame of the last block matters
-later-last : (time : ℕ) (q : List Chunk) (c d : Chunk) → c.first ≡ d.first → Later time (q ++ c ∷ [])
-    → Later time (q ++ d ∷ [])
-later-last time [] c d same h = let e = ap (λ (p : Picture). p.timestamp) same in (omega (arith, h.0, e), tt)
-later-last time (b ∷ q) c d same h = (h.0, later-last time q c d same h.1)
+pub rises-last : (low high : ℕ) (q : List Chunk) (c : Chunk) (ps : List Picture) → Rises low high (q ++ c ∷ [])
+    → Rises low high (q ++ grown c ps ∷ [])
+rises-last low high [] c ps h = h
+rises-last low high (d ∷ q) c ps h = (h.0, h.1, h.2, rises-last (h.0 + 1) high q c ps h.3)
 
-pub rising-last : (q : List Chunk) (c d : Chunk) → c.first ≡ d.first → Rising (q ++ c ∷ []) → Rising (q ++ d ∷ [])
-rising-last [] c d same h = (tt, tt)
-rising-last (b ∷ q) c d same h = (later-last b.first.timestamp q c d same h.0, rising-last q c d same h.1)
+-- so they end above where they begin
+pub rises-all : (low high : ℕ) (q : List Chunk) → Rises low high q → low ≤ high
+rises-all low high [] h = h
+rises-all low high (c ∷ q) h =
+    let from = h.1 in
+    let rest = rises-all (h.0 + 1) high q h.3 in
+    omega (arith, from, rest)
 
--- so the first block of a place is later, too
-pub later-at : (time place : ℕ) (q : List Chunk) (d : Chunk) (ds : List Chunk) → Later time q → at place q ≡ d ∷ ds
-    → time < d.first.timestamp
-later-at time place [] d ds h e = absurd cc
-later-at time place (c ∷ q) d ds h e = go (eqb c.place place) (λ is. later-at time place q d ds h.1 is) e
+-- the count of the first block of a place
+pub count-of : (low high place : ℕ) (q : List Chunk) (d : Chunk) (ds : List Chunk) → Rises low high q
+    → at place q ≡ d ∷ ds → (count : ℕ) × (low ≤ count) × (count < high) × (d.first.sequence ≡ count % 2 ^ 32)
+count-of low high place [] d ds h e = absurd cc
+count-of low high place (c ∷ q) d ds h e = go (eqb c.place place) (λ is. count-of (h.0 + 1) high place q d ds h.3 is) e
   where
-    go : (t : Bool) → (at place q ≡ d ∷ ds → time < d.first.timestamp)
-        → cond t (c ∷ at place q) (at place q) ≡ d ∷ ds → time < d.first.timestamp
+    go : (t : Bool)
+        → (at place q ≡ d ∷ ds
+        → (count : ℕ) × (h.0 + 1 ≤ count) × (count < high) × (d.first.sequence ≡ count % 2 ^ 32))
+        → cond t (c ∷ at place q) (at place q) ≡ d ∷ ds
+        → (count : ℕ) × (low ≤ count) × (count < high) × (d.first.sequence ≡ count % 2 ^ 32)
     go true rest is =
         let same : c ≡ d = cc in
-        let e = ap (λ (b : Chunk). b.first.timestamp) same in
-        omega (arith, h.0, e)
-    go false rest is = rest is
-
--- ---- elements by their places
-
-pub get-left : {X : Type 0} (xs ys : List X) (i : ℕ) (x : X) → slice_get xs i ≡ Some x → slice_get (xs ++ ys) i ≡ Some x
-get-left [] ys i x e = absurd cc
-get-left (y ∷ xs) ys zero x e = e
-get-left (y ∷ xs) ys (suc i) x e = get-left xs ys i x e
-
-pub get-seam : {X : Type 0} (xs : List X) (y : X) (ys : List X) → slice_get (xs ++ y ∷ ys) (length xs) ≡ Some y
-get-seam [] y ys = refl
-get-seam (x ∷ xs) y ys = get-seam xs y ys
-
--- a frame that is later than each that came at least a block's frames before it is later than the first of each full
--- block
-pub earlier-all : (slots time : ℕ) (came lost : List (ℕ × Picture)) (q : List Chunk) → Full slots q
-    → came ≡ lost ++ spread q
-    → ((i : ℕ) (u : ℕ × Picture) → slice_get came i ≡ Some u → i + slots ≤ length came → u.1.timestamp < time)
-    → Earlier q time
-earlier-all slots time came lost [] full is h = tt
-earlier-all slots time came lost (c ∷ q) full is h = (
-  h (length lost) (c.place, c.first)
-      (ap (λ xs. slice_get xs (length lost)) is
-      ∙ get-seam lost (c.place, c.first) (map (λ p. (c.place, p)) c.rest ++ spread q))
-      (within (full.0)),
-  earlier-all slots time came (lost ++ came_of c) q full.1 (is ∙ sym (append_assoc lost (came_of c) (spread q))) h,
-)
-  where
-    within : length c.rest + 1 ≡ slots → length lost + slots ≤ length came
-    within full =
-        let all = ap (λ (xs : List (ℕ × Picture)). length xs) is in
-        let here = length-map {B = ℕ × Picture} (pictures c) (λ (p : Picture). (c.place, p)) in
-        omega (arith, full, all, here, length-append lost (came_of c ++ spread q), length-append (came_of c) (spread q))
+        let above = rises-all (h.0 + 1) high q h.3 in
+        (h.0, h.1, omega (arith, above), ap (λ (b : Chunk). b.first.sequence) (sym same) ∙ h.2)
+    go false rest is =
+        let found = rest is in
+        let from = h.1 in
+        let above = found.1 in
+        (found.0, omega (arith, from, above), found.2, found.3)

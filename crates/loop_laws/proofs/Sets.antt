@@ -1,14 +1,15 @@
 -- The stores of a set between two blocks and within one, and what a frame changes.
-use Rattle.std.proofs.Common.{◌≡◌, ◌⊎◌, inl, inr, ℕ, zero, suc, ◌+◌, ◌*◌, ◌<◌, ◌≤◌, Option, Some, List, [], ◌∷◌, ◌++◌, length, map, set, refl, sym, ap, ◌∙◌, subst, arith, append_assoc}
+use Rattle.std.proofs.Common.{◌≡◌, ◌⊎◌, inl, inr, ℕ, zero, suc, ◌+◌, ◌*◌, ◌%◌, ◌^◌, ◌<◌, ◌≤◌, Option, Some, List, [], ◌∷◌, ◌++◌, length, map, set, refl, sym, ap, ◌∙◌, subst, arith, append_assoc}
 use Rattle.std.proofs.lemmas.Bool.{cases_eq}
 use Rattle.std.proofs.lemmas.List.{length-append, length-set}
 use Rattle.std.proofs.lemmas.List.Elements.{All-append, All-map}
 use Rattle.std.specs.Prelude.{All, slice_get, slice_set}
 use Rattle.loop_record.specs.Recording.{Picture, Recording, Ring, after_step, plain, recycle, store}
-use Rattle.loop_laws.specs.Stores.{LongRing}
+use Rattle.loop_laws.specs.Stores.{Counted, LongRing, end_after}
 use Rattle.loop_laws.proofs.Chunks.{Between, Chunk, Fit, Full, between-lower, between-push, end-of, full-push, grown}
 use Rattle.loop_laws.proofs.OneStore.{Has, has-begun, has-grown, has-recycled, next-after}
-use Rattle.loop_laws.proofs.Queues.{Earlier, Placed, Rising, at, count-push, group_at, placed-front, placed-push, push-apart, push-here, rising-last, rising-push, spread, spread-grown, spread-push}
+use Rattle.loop_laws.proofs.Queues.{Placed, Rises, at, count-push, group_at, placed-front, placed-push, push-apart, push-here, rises-high, rises-last, rises-push, spread, spread-grown, spread-push}
+use Rattle.loop_laws.proofs.Counting.{counted-up, end-of_group}
 
 -- ---- one store
 
@@ -45,57 +46,69 @@ rests-recycled ring r c cs fit s = record {
 
 -- ---- all stores
 
--- nothing was lost, or each place has as many blocks as there are segments
-abbrev pub Whole : Ring → ℕ → List (ℕ × Picture) → List Chunk → Type 0
-Whole ring count lost queue =
-    (lost ≡ []) ⊎ ((place : ℕ) → place < count → length (at place queue) ≡ ring.segments)
+-- A moment from which on it is counted: how many stores there were, and the frames that were lost before; and the count
+-- of the first frame of all.
+pub record Since : Type 0 where
+  pub count : ℕ
+  pub lost : List (ℕ × Picture)
+  pub low : ℕ
+
+-- nothing was lost since then, or each place that there was has as many blocks as there are segments
+abbrev pub Whole : Ring → Since → List (ℕ × Picture) → List Chunk → Type 0
+Whole ring since lost queue =
+    (lost ≡ since.lost) ⊎ ((place : ℕ) → place < since.count → length (at place queue) ≡ ring.segments)
 
 abbrev pub ArePlaced : ℕ → List (ℕ × Picture) → Type 0
 ArePlaced count came = All (λ (t : ℕ × Picture). t.0 < count) came
 
 -- each store is between two blocks, and the stores hold these blocks, in the order in which they came
-pub record Settled (ring : Ring) (count : ℕ) (rs : List Recording) (came lost : List (ℕ × Picture))
-    (queue : List Chunk) : Type 0 where
+pub record Settled (ring : Ring) (since : Since) (count high : ℕ) (rs : List Recording)
+    (came lost : List (ℕ × Picture)) (queue : List Chunk) : Type 0 where
   pub many : length rs ≡ count
+  pub grew : since.count ≤ count
   pub all : ArePlaced count came
   pub came_is : came ≡ lost ++ spread queue
   pub placed : Placed count queue
   pub full : Full ring.slots queue
-  pub rising : Rising queue
+  pub rising : Rises since.low high queue
   pub rest : (place : ℕ) (r : Recording) → slice_get rs place ≡ Some r → Rests ring r (at place queue)
   pub few : (place : ℕ) → place < count → length (at place queue) ≤ ring.segments
-  pub whole : Whole ring count lost queue
+  pub whole : Whole ring since lost queue
 
 -- the active store is within the last block, all others are between two
-pub record Filling (ring : Ring) (count : ℕ) (stores : LongRing) (came : List (ℕ × Picture)) : Type 0 where
+pub record Filling (ring : Ring) (since : Since) (count high : ℕ) (stores : LongRing) (came : List (ℕ × Picture))
+    : Type 0 where
   pub many : length stores.recordings ≡ count
+  pub grew : since.count ≤ count
   pub all : ArePlaced count came
   pub lost : List (ℕ × Picture)
   pub front : List Chunk
   pub last : Chunk
   pub came_is : came ≡ lost ++ spread (front ++ last ∷ [])
   pub active : stores.active ≡ last.place
+  pub ends : stores.end ≡ high % 2 ^ 32
   pub placed : Placed count (front ++ last ∷ [])
   pub full : Full ring.slots front
   pub fits : length last.rest + 1 ≤ ring.slots
-  pub rising : Rising (front ++ last ∷ [])
+  pub rising : Rises since.low high (front ++ last ∷ [])
   pub rest : (place : ℕ) (r : Recording) → (last.place ≡ place → ⊥) → slice_get stores.recordings place ≡ Some r
       → Rests ring r (at place front)
   pub fills : (r : Recording) → slice_get stores.recordings last.place ≡ Some r
       → Fills ring r (at last.place front) last
   pub few : (place : ℕ) → place < count → length (at place (front ++ last ∷ [])) ≤ ring.segments
-  pub whole : Whole ring count lost (front ++ last ∷ [])
+  pub whole : Whole ring since lost (front ++ last ∷ [])
 
 -- the store at a place is changed, and is the active one
-abbrev pub stores_with : List Recording → ℕ → Recording → LongRing
-stores_with rs place r = record { recordings = slice_set rs place r; active = place }
+abbrev pub stores_with : List Recording → ℕ → Recording → ℕ → LongRing
+stores_with rs place r end = record { recordings = slice_set rs place r; active = place; end = end }
 
 -- where the last block is full, all stores are between two
-pub settle : (ring : Ring) (count : ℕ) (stores : LongRing) (came : List (ℕ × Picture))
-    (s : Filling ring count stores came) → length s.last.rest + 1 ≡ ring.slots
-    → Settled ring count stores.recordings came s.lost (s.front ++ s.last ∷ [])
-settle ring count stores came s full = record {
+pub settle : (ring : Ring) (since : Since) (count high : ℕ) (stores : LongRing) (came : List (ℕ × Picture))
+    (s : Filling ring since count high stores came) → length s.last.rest + 1 ≡ ring.slots
+    → Settled ring since count high stores.recordings came s.lost (s.front ++ s.last ∷ [])
+settle ring since count high stores came s full = record {
   many = s.many;
+  grew = s.grew;
   all = s.all;
   came_is = s.came_is;
   placed = s.placed;
@@ -142,13 +155,16 @@ group-placed count place came ps all within =
 
 -- ---- frames within a block
 
-pub grow : (ring : Ring) (count : ℕ) (stores : LongRing) (came : List (ℕ × Picture)) (ps : List Picture)
-    (taker : Recording) (s : Filling ring count stores came) → slice_get stores.recordings s.last.place ≡ Some taker
-    → length s.last.rest + 1 + length ps ≤ ring.slots
-    → Filling ring count (stores_with stores.recordings s.last.place (plain ring taker (map store ps)))
+pub grow : (ring : Ring) (since : Since) (count high higher : ℕ) (stores : LongRing) (came : List (ℕ × Picture))
+    (ps : List Picture) (taker : Recording) (s : Filling ring since count high stores came)
+    → slice_get stores.recordings s.last.place ≡ Some taker → length s.last.rest + 1 + length ps ≤ ring.slots
+    → Counted high ps higher
+    → Filling ring since count higher
+    (stores_with stores.recordings s.last.place (plain ring taker (map store ps)) (end_after stores.end ps))
     (came ++ group_at s.last.place ps)
-grow ring count stores came ps taker s there less = record {
+grow ring since count high higher stores came ps taker s there less counted = record {
   many = length-set stores.recordings s.last.place new ∙ s.many;
+  grew = s.grew;
   all = group-placed count s.last.place came ps s.all within;
   lost = s.lost;
   front = s.front;
@@ -157,10 +173,12 @@ grow ring count stores came ps taker s there less = record {
       ∙ append_assoc s.lost (spread (s.front ++ s.last ∷ [])) (group_at s.last.place ps)
       ∙ ap (λ (x : List (ℕ × Picture)). s.lost ++ x) (sym (spread-grown s.front s.last ps));
   active = refl;
+  ends = ap (λ n. end_after n ps) s.ends ∙ end-of_group high higher ps counted;
   placed = placed-push count s.front (grown s.last ps) (placed-front count s.front s.last s.placed).0 within;
   full = s.full;
   fits = omega (arith, less, longer);
-  rising = rising-last s.front s.last (grown s.last ps) refl s.rising;
+  rising = rises-high since.low high higher (s.front ++ grown s.last ps ∷ [])
+      (rises-last since.low high s.front s.last ps s.rising) (counted-up high higher ps counted);
   rest = λ place r apart is. s.rest place r apart (sym (get-other stores.recordings s.last.place place new apart) ∙ is);
   fills = λ r is. subst (λ (x : Recording). Fills ring x (at s.last.place s.front) (grown s.last ps)) (same r is) mine;
   few = λ place l. let few = s.few place l in
@@ -192,16 +210,17 @@ grow ring count stores came ps taker s there less = record {
         let many = s.many in
         some-same new r (sym (get-set stores.recordings s.last.place new (omega (arith, within, many))) ∙ at)
 
-    whole : Whole ring count s.lost (s.front ++ s.last ∷ []) → Whole ring count s.lost (s.front ++ grown s.last ps ∷ [])
+    whole : Whole ring since s.lost (s.front ++ s.last ∷ []) → Whole ring since s.lost (s.front ++ grown s.last ps ∷ [])
     whole (inl none) = inl none
     whole (inr each) = inr (λ place l. sym (count-push place s.front s.last (grown s.last ps) refl) ∙ each place l)
 
 -- ---- the first frames of a block
 
 -- The store at this place has room for a block, and all stores are between two.
-pub record Ready (ring : Ring) (count : ℕ) (rs : List Recording) (place : ℕ) (taker : Recording)
-    (came : List (ℕ × Picture)) (p : Picture) : Type 0 where
+pub record Ready (ring : Ring) (since : Since) (count high : ℕ) (rs : List Recording) (place : ℕ)
+    (taker : Recording) (came : List (ℕ × Picture)) : Type 0 where
   pub many : length rs ≡ count
+  pub grew : since.count ≤ count
   pub all : ArePlaced count came
   pub within : place < count
   pub lost : List (ℕ × Picture)
@@ -209,22 +228,25 @@ pub record Ready (ring : Ring) (count : ℕ) (rs : List Recording) (place : ℕ)
   pub came_is : came ≡ lost ++ spread queue
   pub placed : Placed count queue
   pub full : Full ring.slots queue
-  pub rising : Rising queue
-  pub earlier : Earlier queue p.timestamp
+  pub rising : Rises since.low high queue
   pub others : (i : ℕ) (r : Recording) → (place ≡ i → ⊥) → slice_get rs i ≡ Some r → Rests ring r (at i queue)
   pub mine : Rests ring taker (at place queue)
   pub few : (i : ℕ) → i < count → (place ≡ i → ⊥) → length (at i queue) ≤ ring.segments
   pub room : length (at place queue) + 1 ≤ ring.segments
-  pub whole : (lost ≡ []) ⊎ (((i : ℕ) → i < count → (place ≡ i → ⊥) → length (at i queue) ≡ ring.segments)
-      × (length (at place queue) + 1 ≡ ring.segments))
+  pub whole : (lost ≡ since.lost)
+      ⊎ (((i : ℕ) → i < since.count → (place ≡ i → ⊥) → length (at i queue) ≡ ring.segments)
+      × (place < since.count → length (at place queue) + 1 ≡ ring.segments))
 
-pub start : (ring : Ring) (count : ℕ) (rs : List Recording) (place : ℕ) (taker : Recording)
-    (came : List (ℕ × Picture)) (p : Picture) (ps : List Picture) → length ps + 1 ≤ ring.slots
-    → Ready ring count rs place taker came p
-    → Filling ring count (stores_with rs place (plain ring taker (map store (p ∷ ps))))
+pub start : (ring : Ring) (since : Since) (count high higher : ℕ) (rs : List Recording) (place : ℕ)
+    (taker : Recording) (came : List (ℕ × Picture)) (p : Picture) (ps : List Picture) (end : ℕ)
+    → length ps + 1 ≤ ring.slots → Ready ring since count high rs place taker came → end ≡ high % 2 ^ 32
+    → Counted high (p ∷ ps) higher
+    → Filling ring since count higher
+    (stores_with rs place (plain ring taker (map store (p ∷ ps))) (end_after end (p ∷ ps)))
     (came ++ group_at place (p ∷ ps))
-start ring count rs place taker came p ps fits s = record {
+start ring since count high higher rs place taker came p ps end fits s ends counted = record {
   many = length-set rs place new ∙ s.many;
+  grew = s.grew;
   all = group-placed count place came (p ∷ ps) s.all s.within;
   lost = s.lost;
   front = s.queue;
@@ -233,10 +255,13 @@ start ring count rs place taker came p ps fits s = record {
       ∙ append_assoc s.lost (spread s.queue) (group_at place (p ∷ ps))
       ∙ ap (λ (x : List (ℕ × Picture)). s.lost ++ x) (sym (spread-push s.queue first));
   active = refl;
+  ends = ap (λ n. end_after n (p ∷ ps)) ends ∙ end-of_group high higher (p ∷ ps) counted;
   placed = placed-push count s.queue first s.placed s.within;
   full = s.full;
   fits = fits;
-  rising = rising-push s.queue first s.rising s.earlier;
+  rising = rises-high since.low (counted.0 + 1) higher (s.queue ++ first ∷ [])
+      (rises-push since.low high counted.0 s.queue first s.rising counted.1 counted.2)
+      (counted-up (counted.0 + 1) higher ps counted.3);
   rest = λ i r apart is. s.others i r apart (sym (get-other rs place i new apart) ∙ is);
   fills = λ r is. subst (λ (x : Recording). Fills ring x (at place s.queue) first) (same r is) mine;
   few = λ i l. few i l (cases_eq place i);
@@ -275,13 +300,15 @@ start ring count rs place taker came p ps fits s = record {
     few i l (inl is) = let room = s.room in omega (arith, room, more i is)
     few i l (inr apart) = let few = s.few i l apart in omega (arith, few, as_many i apart)
 
-    each : ((i : ℕ) → i < count → (place ≡ i → ⊥) → length (at i s.queue) ≡ ring.segments)
-        → length (at place s.queue) + 1 ≡ ring.segments → (i : ℕ) → i < count → (place ≡ i) ⊎ (place ≡ i → ⊥)
-        → length (at i (s.queue ++ first ∷ [])) ≡ ring.segments
-    each others here i l (inl is) = more i is ∙ here
+    each : ((i : ℕ) → i < since.count → (place ≡ i → ⊥) → length (at i s.queue) ≡ ring.segments)
+        → (place < since.count → length (at place s.queue) + 1 ≡ ring.segments) → (i : ℕ) → i < since.count
+        → (place ≡ i) ⊎ (place ≡ i → ⊥) → length (at i (s.queue ++ first ∷ [])) ≡ ring.segments
+    each others here i l (inl is) = more i is ∙ here (omega (arith, l, is))
     each others here i l (inr apart) = as_many i apart ∙ others i l apart
 
-    whole : (s.lost ≡ []) ⊎ (((i : ℕ) → i < count → (place ≡ i → ⊥) → length (at i s.queue) ≡ ring.segments)
-        × (length (at place s.queue) + 1 ≡ ring.segments)) → Whole ring count s.lost (s.queue ++ first ∷ [])
+    whole : (s.lost ≡ since.lost)
+        ⊎ (((i : ℕ) → i < since.count → (place ≡ i → ⊥) → length (at i s.queue) ≡ ring.segments)
+        × (place < since.count → length (at place s.queue) + 1 ≡ ring.segments))
+        → Whole ring since s.lost (s.queue ++ first ∷ [])
     whole (inl none) = inl none
     whole (inr h) = inr (λ i l. each h.0 h.1 i l (cases_eq place i))

@@ -12,8 +12,9 @@
 ghost use Rattle.loop_laws.specs.Laws.{StoresGoOn, StoresHoldNewest};
 
 /// Stores in which nothing was recorded at first and nothing is locked hold the newest of all frames that came, each
-/// store those that it took: all, or at least as many as fill all segments of all stores but one, and one more. Of two
-/// frames that came at least a block apart the later one must have the later time.
+/// store those that it took, over any groups of frames, starts of a filming, and empty stores that join. Of the frames
+/// that came since there have been so many stores, all are held, or at least as many as fill all segments of all these
+/// but one, and one more. The frames are counted, fewer than 2^32 of them with those that were lost: no time decides.
 pub fn stores_hold_the_newest()
     ensures { StoresHoldNewest }
 {}

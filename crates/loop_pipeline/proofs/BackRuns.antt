@@ -156,10 +156,10 @@ module _ {D : Type 0} (medium : D → Medium) where
 
 module _ {D A : Type 0} (medium : D → Medium) (asks : DeskCall → Type 0) (gives_up : StoreFault → Type 0) where
   -- a new back has one desk, and has done nothing
-  pub begun : (desk : SeenDesk D) (from : Consumer (Frame A) A AnyItems) → TellsOne desk.store
+  pub begun : {end : ℕ} (desk : SeenDesk D) (from : Consumer (Frame A) A AnyItems) → TellsOne desk.store
       → ((medium desk.store.disk).honest → IsSound (medium desk.store.disk)) → received from ≡ []
-      → BackKeeps medium asks gives_up (record { began = desk ∷ []; from = from; desks = desk ∷ []; active = 0 }) from 0 false
-  begun desk from one sound none = record {
+      → BackKeeps medium asks gives_up (record { began = desk ∷ []; from = from; desks = desk ∷ []; active = 0; end = end }) from 0 false
+  begun {end} desk from one sound none = record {
     ring = ((refl, refl, refl, refl), refl);
     all = refl;
     inside = omega arith;
@@ -188,14 +188,14 @@ module _ {D A : Type 0} (medium : D → Medium) (asks : DeskCall → Type 0) (gi
   same-ring a b c first second =
       ((second.0.0 ∙ first.0.0, second.0.1 ∙ first.0.1, second.0.2 ∙ first.0.2, second.0.3 ∙ first.0.3), second.1 ∙ first.1)
 
-  module _ (began desks : List (SeenDesk D)) (active : ℕ) (before from up : Consumer (Frame A) A AnyItems) (given_up : ℕ)
+  module _ {end : ℕ} (began desks : List (SeenDesk D)) (active : ℕ) (before from up : Consumer (Frame A) A AnyItems) (given_up : ℕ)
       (refused : Bool)
-      (keeps : BackKeeps medium asks gives_up (record { began = began; from = before; desks = desks; active = active })
+      (keeps : BackKeeps medium asks gives_up (record { began = began; from = before; desks = desks; active = active; end = end })
       from given_up refused)
     where
       -- a flush was refused
       pub was-refused : refused ≡ true
-          → WasRefused medium gives_up (record { began = began; from = before; desks = desks; active = active })
+          → WasRefused medium gives_up (record { began = began; from = before; desks = desks; active = active; end = end })
       was-refused is =
           let why = keeps.tried is in
           let old = some-there began why.place why.among in
@@ -238,7 +238,7 @@ module _ {D A : Type 0} (medium : D → Medium) (asks : DeskCall → Type 0) (gi
         pub called : (part : Part) → IsRightful asks part → filter is_submit (calls_of part) ≡ []
             → DeskGoes medium old new (calls_of part)
             → BackKeeps medium asks gives_up
-            (record { began = began; from = before; desks = slice_set desks place new; active = active }) from given_up refused
+            (record { began = began; from = before; desks = slice_set desks place new; active = active; end = end }) from given_up refused
         called part is none goes = record {
           ring = keeps.ring;
           all = length-set desks place new ∙ keeps.all;
@@ -256,13 +256,13 @@ module _ {D A : Type 0} (medium : D → Medium) (asks : DeskCall → Type 0) (gi
         -- a flush that was answered
         pub flushed-on : (answer : Result Flushed StoreFault) → DeskGoes medium old new (flushed answer ∷ [])
             → BackKeeps medium asks gives_up
-            (record { began = began; from = before; desks = slice_set desks place new; active = active }) from given_up refused
+            (record { began = began; from = before; desks = slice_set desks place new; active = active; end = end }) from given_up refused
         flushed-on answer goes = called (own (flushed answer)) refl refl goes
 
         -- a flush that was refused, and isn't tried again
         pub refused-flush : (fault : StoreFault) → gives_up fault → DeskGoes medium old new (flushed (Err fault) ∷ [])
             → BackKeeps medium asks gives_up
-            (record { began = began; from = before; desks = slice_set desks place new; active = active }) from given_up true
+            (record { began = began; from = before; desks = slice_set desks place new; active = active; end = end }) from given_up true
         refused-flush fault gives goes =
             let part = own (flushed (Err fault)) in record {
               ring = keeps.ring;
@@ -295,7 +295,7 @@ module _ {D A : Type 0} (medium : D → Medium) (asks : DeskCall → Type 0) (gi
             → received up ≡ received from ++ frame ∷ []
             → DeskGoes medium old new (submitted (picture frame) (length frame.bytes.items) answer ∷ [])
             → BackKeeps medium asks gives_up
-            (record { began = began; from = before; desks = slice_set desks place new; active = active }) up
+            (record { began = began; from = before; desks = slice_set desks place new; active = active; end = end }) up
             (given_up + length (lost_by (asked place (picture frame) answer))) refused
         brought frame answer same got goes =
             let part = own (submitted (picture frame) (length frame.bytes.items) answer) in
@@ -325,10 +325,10 @@ module _ {D A : Type 0} (medium : D → Medium) (asks : DeskCall → Type 0) (gi
         pub accepted : (frame : Frame A) (number : ℕ) → SameConsumer from up → received up ≡ received from ++ frame ∷ []
             → DeskGoes medium old new (submitted (picture frame) (length frame.bytes.items) (Ok number) ∷ [])
             → BackKeeps medium asks gives_up
-            (record { began = began; from = before; desks = slice_set desks place new; active = active }) up given_up refused
+            (record { began = began; from = before; desks = slice_set desks place new; active = active; end = end }) up given_up refused
         accepted frame number same got goes =
             subst (λ n. BackKeeps medium asks gives_up
-            (record { began = began; from = before; desks = slice_set desks place new; active = active }) up n refused)
+            (record { began = began; from = before; desks = slice_set desks place new; active = active; end = end }) up n refused)
             (plus-none given_up) (brought frame (Ok number) same got goes)
 
       -- the call that the active desk answered last
@@ -349,7 +349,7 @@ module _ {D A : Type 0} (medium : D → Medium) (asks : DeskCall → Type 0) (gi
 
       -- none came out of the ring
       pub nothing : SameConsumer from up → received up ≡ received from
-          → BackKeeps medium asks gives_up (record { began = began; from = before; desks = desks; active = active }) up
+          → BackKeeps medium asks gives_up (record { began = began; from = before; desks = desks; active = active; end = end }) up
           given_up refused
       nothing same none = record {
         ring = same-ring before from up keeps.ring same;
@@ -367,7 +367,7 @@ module _ {D A : Type 0} (medium : D → Medium) (asks : DeskCall → Type 0) (gi
 
       -- or it was given up unasked
       pub dropped : (frame : Frame A) → refused ≡ true → SameConsumer from up → received up ≡ received from ++ frame ∷ []
-          → BackKeeps medium asks gives_up (record { began = began; from = before; desks = desks; active = active }) up
+          → BackKeeps medium asks gives_up (record { began = began; from = before; desks = desks; active = active; end = end }) up
           (given_up + 1) refused
       dropped frame is same got =
           let x = unasked (picture frame) in record {
@@ -389,14 +389,14 @@ module _ {D A : Type 0} (medium : D → Medium) (asks : DeskCall → Type 0) (gi
           }
 
   -- a desk more
-  pub one-more : (began desks : List (SeenDesk D)) (active : ℕ) (before from : Consumer (Frame A) A AnyItems)
+  pub one-more : {end : ℕ} (began desks : List (SeenDesk D)) (active : ℕ) (before from : Consumer (Frame A) A AnyItems)
       (given_up : ℕ) (refused : Bool) (desk : SeenDesk D) → TellsOne desk.store
       → ((medium desk.store.disk).honest → IsSound (medium desk.store.disk))
-      → BackKeeps medium asks gives_up (record { began = began; from = before; desks = desks; active = active }) from
+      → BackKeeps medium asks gives_up (record { began = began; from = before; desks = desks; active = active; end = end }) from
       given_up refused
       → BackKeeps medium asks gives_up
-      (record { began = began ++ desk ∷ []; from = before; desks = desks ++ desk ∷ []; active = active }) from given_up refused
-  one-more began desks active before from given_up refused desk one sound keeps = record {
+      (record { began = began ++ desk ∷ []; from = before; desks = desks ++ desk ∷ []; active = active; end = end }) from given_up refused
+  one-more {end} began desks active before from given_up refused desk one sound keeps = record {
     ring = keeps.ring;
     all = length-append desks (desk ∷ []) ∙ (ap (λ n. n + 1) keeps.all ∙ sym (length-append began (desk ∷ [])));
     inside = subst (λ n. active < n) (sym (length-append desks (desk ∷ []))) (omega (arith, keeps.inside));
@@ -429,13 +429,13 @@ module _ {D A : Type 0} (medium : D → Medium) (asks : DeskCall → Type 0) (gi
           (record { goes = desk-none medium desk one sound; went = refl })))
 
   -- another desk is active
-  pub turned-to : (began desks : List (SeenDesk D)) (active place : ℕ) (before from : Consumer (Frame A) A AnyItems)
+  pub turned-to : {end : ℕ} (began desks : List (SeenDesk D)) (active place : ℕ) (before from : Consumer (Frame A) A AnyItems)
       (given_up : ℕ) (refused : Bool) → place < length desks
-      → BackKeeps medium asks gives_up (record { began = began; from = before; desks = desks; active = active }) from
+      → BackKeeps medium asks gives_up (record { began = began; from = before; desks = desks; active = active; end = end }) from
       given_up refused
-      → BackKeeps medium asks gives_up (record { began = began; from = before; desks = desks; active = place }) from
+      → BackKeeps medium asks gives_up (record { began = began; from = before; desks = desks; active = place; end = end }) from
       given_up refused
-  turned-to began desks active place before from given_up refused inside keeps = record {
+  turned-to {end} began desks active place before from given_up refused inside keeps = record {
     ring = keeps.ring;
     all = keeps.all;
     inside = inside;

@@ -112,15 +112,27 @@ module _ {D A : Type 0} where
   unchanged-inside inside old is less =
       let same = unchanged inside old is less in (same.0, is ∙ same.1)
 
+  -- nothing, whatever the end was before
+  pub unchanged-end : (inside old : SeenBack D A) → inside ≡ old → inside.active < length inside.desks
+      → IsChangedAt old.active old (record old { end = old.end })
+  unchanged-end inside old is less = unchanged inside old is less
+
   -- only the active desk did
-  pub changed : (inside old : SeenBack D A) (desk : SeenDesk D) (desks : List (SeenDesk D)) (active : ℕ) → inside ≡ old
-      → desks ≡ slice_set inside.desks inside.active desk → active ≡ inside.active
-      → IsChangedAt old.active old (record inside { desks = desks; active = active })
-  changed inside old desk desks active is so same = (
+  pub changed : (inside old : SeenBack D A) (desk : SeenDesk D) (desks : List (SeenDesk D)) (active end : ℕ) → inside ≡ old
+      → desks ≡ slice_set inside.desks inside.active desk → active ≡ inside.active → end ≡ inside.end
+      → IsChangedAt old.active old (record inside { desks = desks; active = active; end = end })
+  changed inside old desk desks active end is so same still = (
     desk,
-    (λ i. record inside { desks = so i; active = same i })
+    (λ i. record inside { desks = so i; active = same i; end = still i })
         ∙ ap (λ (b : SeenBack D A). record b { desks = slice_set b.desks b.active desk }) is,
   )
+
+  -- only the active desk did, and the end
+  pub brought-to : (inside old : SeenBack D A) (desk : SeenDesk D) (desks : List (SeenDesk D)) (active : ℕ) → inside ≡ old
+      → desks ≡ slice_set inside.desks inside.active desk → active ≡ inside.active
+      → IsChangedAt old.active old (record inside { desks = desks; active = active; end = old.end })
+  brought-to inside old desk desks active is so same =
+      changed inside old desk desks active old.end is so same (ap (λ (b : SeenBack D A). b.end) (sym is))
 
 module _ {D : Type 0} (medium : D → Medium) where
   -- what waits at a desk after a frame was accepted

@@ -54,18 +54,18 @@ joins-one old new desk (Err back) done refused =
 module _ {S D P G A : Type 0} (medium : D → Medium) (gives : S → Next → List ℕ → S → Type 0) (meaning : P → Plane)
     (asks : DeskCall → Type 0) (gives_up : StoreFault → Type 0) (due : G → ℕ → ℕ → Type 0) (ends : G → ℕ → Type 0)
     (shut : Type 0) where
-  pub keeps-joined : (camera last : SeenCamera S D P) (device : SeenDevice S) (queue : Lined P) (desk : SeenDesk D)
+  pub keeps-joined : {end : ℕ} (camera last : SeenCamera S D P) (device : SeenDevice S) (queue : Lined P) (desk : SeenDesk D)
       (to : Producer (Frame A) A AnyItems) (guide : G) (seen : SeenFront S P G A) (from : Consumer (Frame A) A AnyItems)
       (old new : SeenBack D A) (given_up left missed failed : ℕ) (over : Bool)
       → record { device = device; queue = queue; desk = desk; joined = [] } ≡ camera
       → seen ≡ record { queue = queue; device = device; to = to; guide = guide }
-      → old ≡ record { began = desk ∷ []; from = from; desks = desk ∷ []; active = 0 } → Joins shut old new
+      → old ≡ record { began = desk ∷ []; from = from; desks = desk ∷ []; active = 0; end = end } → Joins shut old new
       → ((first : SeenDesk D) (others : List (SeenDesk D)) → new.began ≡ first ∷ others → IsRegular meaning seen.queue
       → CameraKeeps medium gives meaning asks gives_up (due seen.guide) (ends seen.guide)
       (record { device = seen.device; queue = seen.queue; desk = first; joined = others }) last given_up left missed failed over)
       → IsRegular meaning camera.queue
       → KeepsJoined medium gives meaning asks gives_up (due guide) (ends guide) shut camera last given_up left missed failed over
-  keeps-joined camera last device queue desk to guide seen from old new given_up left missed failed over is made was joins keeps
+  keeps-joined {end} camera last device queue desk to guide seen from old new given_up left missed failed over is made was joins keeps
       regular =
       let same : seen.queue ≡ camera.queue =
       ap (λ (s : SeenFront S P G A). s.queue) made ∙ ap (λ (c : SeenCamera S D P). c.queue) is in

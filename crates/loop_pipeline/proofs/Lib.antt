@@ -1,15 +1,17 @@
 pub mod Seating
 mod Alone
 mod BackRuns
-mod Earliest
+mod CountedTicks
 mod EmptyQueue
 mod FrameSteps
 mod FrontRuns
 mod Joining
 mod KeepCalls
+mod Oldest
 mod OldestGoes
 mod OutPlanes
 mod RingEnds
+mod Roomy
 mod Searching
 mod SeveralStarts
 mod SeveralSteps

@@ -2,6 +2,7 @@
 use Rattle.std.proofs.Common.{◌≡◌, ◌≢◌, ◌==◌, true, false, ◌<◌, ◌≤◌, ◌⊎◌, inl, inr, is_some, ℕ, Option, Some, None, refl, sym, ap, ◌∙◌, arith}
 use Rattle.std.proofs.lemmas.Bool.Decides.{eqb_tells}
 use Rattle.std.proofs.Math.Nat.{div-mul-le_self, le-div_iff_mul-le}
+use Rattle.loop_record.specs.Counts.{cyclic_place}
 use Rattle.loop_record.specs.Recording.{IsWellFormed, MayGo, Picture, Recording, Ring, block, frame_under, victim}
 use Rattle.loop_record.proofs.Victim.{victim-is, victim-none}
 use Rattle.loop_desk.specs.Space.{BeginsBlock}
@@ -26,14 +27,19 @@ first-before ring keep r v b m n p q some w chosen may first held of = go (eqb_t
         omega (arith, back, low, apart.1, first.of, of) in
         omega (arith, never)
 
+at-most : (a b c : ℕ) → a ≤ b → b ≤ c → a ≤ c
+at-most a b c first second = omega (arith, first, second)
+
 pub oldest-goes : OldestGoes
-oldest-goes spaces place earliest i s there ring keep r some w rise tells b may n q held of = go (victim ring keep r) refl
+oldest-goes end spaces place oldest i s there ring keep r some w rise tells b may n q held of =
+    go (victim ring keep r) refl
   where
-    go : (o : Option ℕ) → victim ring keep r ≡ o → earliest.time ≤ q.timestamp
+    go : (o : Option ℕ) → victim ring keep r ≡ o → cyclic_place end oldest.sequence ≤ cyclic_place end q.sequence
     go None none = absurd (victim-none ring keep r some w none b may)
     go (Some v) chosen =
         let told = tells.oldest.some v chosen in
-        let late = earliest.least i s told.1.timestamp there told.3 in
+        let late = oldest.least i s told.1.sequence there told.3 in
         let order = rise told.0 n told.1 q told.2.held held
         (first-before ring keep r v b told.0 n told.1 q some w chosen may told.2 held of) in
-        omega (arith, late, order)
+        at-most (cyclic_place end oldest.sequence) (cyclic_place end told.1.sequence) (cyclic_place end q.sequence) late
+        order

@@ -100,9 +100,9 @@ module _ {S D P G A : Type 0} (medium : D → Medium) (gives : S → Next → Li
       }
     where
       keeps : BackKeeps medium asks gives_up
-          (record { began = first ∷ others; from = back.from; desks = desk ∷ joined; active = back.active }) from given_up refused
+          (record { began = first ∷ others; from = back.from; desks = desk ∷ joined; active = back.active; end = back.end }) from given_up refused
       keeps = subst (λ b. BackKeeps medium asks gives_up b from given_up refused)
-          (λ i. record { began = was i; from = back.from; desks = (sym is) i; active = back.active }) kept
+          (λ i. record { began = was i; from = back.from; desks = (sym is) i; active = back.active; end = back.end }) kept
 
       none-asked : refused ≡ false → length (flat_map unasked_by (keeps.came ++ map unasked (map picture (known_items down)))) ≡ left
       none-asked on =

@@ -10,7 +10,7 @@ use Rattle.std.proofs.lemmas.Option.{slice_get_within, slice_get-get_or, get_or_
 use Rattle.loop_desk.specs.declared.limits.Space.{Space}
 use Rattle.loop_pipeline.specs.Nexts.{IsBest, IsElsewhere, IsFreeAt, IsFull, TakesNext, IsSearch, has_free, with_last}
 use Rattle.loop_pipeline.specs.declared.next.Search.{Search}
-use Rattle.loop_pipeline.proofs.Earliest.{best-of-all, none-of-all}
+use Rattle.loop_pipeline.proofs.Oldest.{best-of-all, none-of-all}
 use Rattle.loop_pipeline.proofs.Places.{get-joined}
 
 -- ---- one more at the end of a list
@@ -107,14 +107,14 @@ module _ (active : ℕ) (spaces : List Space) (space : Space) where
       go (inl both) = inl (free.0, both.1, free.2)
       go (inr both) = inr (both.0, ap (λ s. s.free) (sym both.1) ∙ free.2)
 
--- ---- the earliest
+-- ---- the oldest
 
 -- it stays so in a longer list
-pub best-beside : (spaces : List Space) (space : Space) (n : ℕ) (best : Option (ℕ × ℕ)) → n ≡ length spaces
-    → IsBest spaces n best → IsBest (spaces ++ space ∷ []) n best
-best-beside spaces space n None long all =
+pub best-beside : (end : ℕ) (spaces : List Space) (space : Space) (n : ℕ) (best : Option (ℕ × ℕ)) → n ≡ length spaces
+    → IsBest end spaces n best → IsBest end (spaces ++ space ∷ []) n best
+best-beside end spaces space n None long all =
     λ i s less is. all i s less (get-below spaces space s i (omega (arith, less, long)) is)
-best-beside spaces space n (Some best) long b = record {
+best-beside end spaces space n (Some best) long b = record {
   within = b.within;
   space = b.space;
   at = get-before spaces space b.space best.0 b.at;
@@ -147,18 +147,19 @@ module _ (was free : Bool) (place active : ℕ) (here : Bool) where
       from (inl found) = absurd (let e : true ≡ false = sym found ∙ never in cc)
       from (inr both) = absurd (let e : true ≡ false = sym both.0 ∙ full in cc)
 
-pub search-more : (active place : ℕ) (spaces : List Space) (space : Space) (search : Search) (here : Bool) (free : Option ℕ)
-    (oldest : Option (ℕ × ℕ)) → place ≡ length spaces → IsSearch active spaces search
+pub search-more : (end active place : ℕ) (spaces : List Space) (space : Space) (search : Search) (here : Bool) (free : Option ℕ)
+    (oldest : Option (ℕ × ℕ)) → place ≡ length spaces → IsSearch end active spaces search
     → ((here ≡ true) ↔ ((search.here ≡ true) ⊎ ((space.free ≡ true) × (place ≡ active))))
     → free ≡ with_last search.free space.free place
-    → (IsBest spaces place search.oldest → IsBest (spaces ++ space ∷ []) (place + 1) oldest)
-    → IsSearch active (spaces ++ space ∷ []) (record { here = here; free = free; oldest = oldest })
-search-more active place spaces space search here free oldest count is at first best = record {
+    → (IsBest end spaces place search.oldest → IsBest end (spaces ++ space ∷ []) (place + 1) oldest)
+    → IsSearch end active (spaces ++ space ∷ []) (record { here = here; free = free; oldest = oldest })
+search-more end active place spaces space search here free oldest count is at first best = record {
   here = (λ e. to (at.0 e), λ f. at.1 (back (free-split active spaces space f)));
   free = first ∙ (ap (λ o. with_last o space.free place) is.free
       ∙ (ap (λ n. with_last (position has_free spaces) space.free n) count ∙ sym (position-push has_free spaces space)));
-  oldest = subst (λ n. IsBest (spaces ++ space ∷ []) n oldest) (sym (length-append spaces (space ∷ []) ∙ ap (λ n. n + 1) (sym count)))
-      (best (subst (λ n. IsBest spaces n search.oldest) (sym count) is.oldest));
+  oldest = subst (λ n. IsBest end (spaces ++ space ∷ []) n oldest)
+      (sym (length-append spaces (space ∷ []) ∙ ap (λ n. n + 1) (sym count)))
+      (best (subst (λ n. IsBest end spaces n search.oldest) (sym count) is.oldest));
 }
   where
     to : ((search.here ≡ true) ⊎ ((space.free ≡ true) × (place ≡ active))) → IsFreeAt (spaces ++ space ∷ []) active
@@ -172,30 +173,30 @@ search-more active place spaces space search here free oldest count is at first 
 
 -- ---- what follows for the next block
 
-module _ (active : ℕ) (spaces : List Space) where
-  -- the earliest that begins, or none, where no store has a free segment
+module _ (end active : ℕ) (spaces : List Space) where
+  -- the oldest block, or none, where no store has a free segment
   pub elsewhere-best : (best : Option (ℕ × ℕ)) (next : Option ℕ) → IfSome best (λ b. next ≡ Some b.0)
-      → (best ≡ None → next ≡ None) → position has_free spaces ≡ None → IsBest spaces (length spaces) best
-      → (IsFreeAt spaces active → ⊥) → TakesNext active spaces next
+      → (best ≡ None → next ≡ None) → position has_free spaces ≡ None → IsBest end spaces (length spaces) best
+      → (IsFreeAt spaces active → ⊥) → TakesNext end active spaces next
   elsewhere-best (Some b) next some none is said never =
       inr (
         never,
-        subst (λ o. IsElsewhere spaces o next) (sym is) (subst (λ n. IsElsewhere spaces None n) (sym some)
-            (best-of-all spaces (length spaces) (Some b) b refl refl said)),
+        subst (λ o. IsElsewhere end spaces o next) (sym is) (subst (λ n. IsElsewhere end spaces None n) (sym some)
+            (best-of-all end spaces (length spaces) (Some b) b refl refl said)),
       )
   elsewhere-best None next some none is said never =
       inr (
         never,
-        subst (λ o. IsElsewhere spaces o next) (sym is) (subst (λ n. IsElsewhere spaces None n) (sym (none refl))
-            (none-of-all spaces (length spaces) None refl refl said)),
+        subst (λ o. IsElsewhere end spaces o next) (sym is) (subst (λ n. IsElsewhere end spaces None n) (sym (none refl))
+            (none-of-all end spaces (length spaces) None refl refl said)),
       )
 
   -- where no desk takes the next block, no store has room for one
-  pub all-full : TakesNext active spaces None → All IsFull spaces
+  pub all-full : TakesNext end active spaces None → All IsFull spaces
   all-full (inl here) = absurd (let e : None ≡ Some active = here.1 in cc)
   all-full (inr rest) = go (position has_free spaces) refl rest.1
     where
-      go : (o : Option ℕ) → position has_free spaces ≡ o → IsElsewhere spaces o None → All IsFull spaces
+      go : (o : Option ℕ) → position has_free spaces ≡ o → IsElsewhere end spaces o None → All IsFull spaces
       go (Some free) is e = absurd (let no : None ≡ Some free = e in cc)
       go None is all = λ k d less.
           (none-passes has_free spaces k (slice_index_or spaces k d) is (slice_get-get_or spaces k d less), all k d less)

@@ -30,7 +30,7 @@ use Rattle.loop_capture.specs.declared.device.Tick.{Tick}
 use Rattle.loop_capture.specs.declared.device.Tick.TheVariants.{Idle, Completed, Failed, Missed, Ended, WrongSize}
 use Rattle.loop_capture.specs.declared.source.Next.{Next}
 use Rattle.loop_capture.specs.declared.source.Next.TheVariants.{More, End, Bad}
-use Rattle.loop_capture.specs.Ticks.{SeenDevice, Ticks, Took, end_event, sequence_after, sequence_of, tick_events, tick_of}
+use Rattle.loop_capture.specs.Ticks.{SeenDevice, Ticks, Took, end_event, sequence_after, sequence_at, sequence_of, tick_events, tick_of}
 use Rattle.loop_capture.proofs.TickLinks.{tick-linked}
 use Rattle.loop_desk.specs.declared.hand.Hand.{Hand}
 use Rattle.loop_desk.specs.Front.{Front, HandState, StandsFront, empty, full, planes_held, spent, hand_frame}
@@ -67,9 +67,11 @@ told-by Idle answer active is asks = absurd asks
 told-by WrongSize answer active is asks = absurd asks
 
 -- after a start 0, otherwise the next one
-fresh-or-next : (fresh : Bool) (next : ℕ) → (cond fresh 0 next ≡ next) ⊎ (cond fresh 0 next ≡ 0)
-fresh-or-next true next = inr refl
-fresh-or-next false next = inl refl
+fresh-or-next : (goes_on fresh : Bool) (next : ℕ)
+    → (sequence_at goes_on fresh next ≡ next) ⊎ (sequence_at goes_on fresh next ≡ 0) × (goes_on ≡ false)
+fresh-or-next true fresh next = inl refl
+fresh-or-next false true next = inr (refl, refl)
+fresh-or-next false false next = inl refl
 
 -- ---- what the end of a buffer is, or none
 
@@ -205,12 +207,12 @@ module _ {S P A : Type 0} (gives : S → Next → List ℕ → S → Type 0) (m 
   abbrev after-tick : Tick → List ℕ → Front → Front
   after-tick tick bytes f = record f {
     queue = record f.queue {
-      queue = after_all after_event f.queue.queue (tick_events now d.next tick bytes f.queue.queue);
+      queue = after_all after_event f.queue.queue (tick_events now d tick bytes f.queue.queue);
     };
   }
 
   abbrev stamp-at : Front → Stamp
-  stamp-at f = record { sequence = sequence_of d.next f.queue.queue; timestamp = now }
+  stamp-at f = record { sequence = sequence_of d f.queue.queue; timestamp = now }
 
   ticked-stands : (tick : Tick) (f : Front) → StandsFront m before table h f
       → (took : Took gives m now tick d e before after f.queue.queue)
@@ -226,7 +228,7 @@ module _ {S P A : Type 0} (gives : S → Next → List ℕ → S → Type 0) (m 
   -- a tick for which the source was asked
   took-adds : (tick : Tick) (f : Front) → after.body.shape ≡ before.body.shape → Asks tick
       → hand_frame f.hand ≡ [] → IsApart f.queue.queue.body f.hand → StandsFront m before table h f
-      → (took : Took gives m now tick d e before after f.queue.queue) → GaveBy gives tick (sequence_of d.next f.queue.queue) took.bytes d e
+      → (took : Took gives m now tick d e before after f.queue.queue) → GaveBy gives tick (sequence_of d f.queue.queue) took.bytes d e
       → TickAdds gives m table f.queue.queue d e before after h to to now tick
   took-adds tick f formed asks free apart stands took gave =
       let s = f.queue.queue in
@@ -237,7 +239,7 @@ module _ {S P A : Type 0} (gives : S → Next → List ℕ → S → Type 0) (m 
         refl,
         refl,
         record {
-          events = tick_events now d.next tick bytes s;
+          events = tick_events now d tick bytes s;
           legal = (
             (took.happen.0, tt),
             end-counted tick stamp bytes (on_body body_seen s) took.happen.1
@@ -262,14 +264,15 @@ module _ {S P A : Type 0} (gives : S → Next → List ℕ → S → Type 0) (m 
 
   gave-of : (tick : Tick) (s : QueueState) → Asks tick → (took : Took gives m now tick d e before after s)
       → (answer : Next) × IsToldBy tick answer × gives d.source answer took.bytes e.source × (e.size ≡ d.size)
-      × ((sequence_of d.next s ≡ d.next) ⊎ (sequence_of d.next s ≡ 0))
-      × (e.next ≡ sequence_after answer (sequence_of d.next s))
+      × (e.goes_on ≡ d.goes_on) × ((sequence_of d s ≡ d.next) ⊎ (sequence_of d s ≡ 0) × (d.goes_on ≡ false))
+      × (e.next ≡ sequence_after answer (sequence_of d s))
   gave-of tick s asks took = (
     took.answer,
     told-by tick took.answer (longest_active s) took.tick_is asks,
     took.given,
     took.size,
-    fresh-or-next s.body.fresh d.next,
+    took.goes_on,
+    fresh-or-next d.goes_on s.body.fresh d.next,
     took.next,
   )
 

@@ -1,5 +1,5 @@
 -- The search for the desk that takes the next block, and the turn to it.
-use Rattle.std.proofs.Common.{◌≡◌, ◌==◌, ◌++◌, ◌<◌, ◌≤◌, ◌-◌, ◌%◌, ◌⊎◌, ◌↔◌, inl, inr, ℕ, ◌+◌, Bool, true, false, not, Option, Some, None, List, [], ◌∷◌, length, slice_get, refl, sym, ap, ◌∙◌, subst}
+use Rattle.std.proofs.Common.{◌≡◌, ◌==◌, ◌++◌, ◌<◌, ◌-◌, ◌%◌, ◌⊎◌, ◌↔◌, inl, inr, ℕ, ◌+◌, Bool, true, false, not, Option, Some, None, List, [], ◌∷◌, length, slice_get, refl, sym, ap, ◌∙◌, subst}
 use Rattle.std.proofs.lemmas.Bool.{eqb-true, eq-eqb}
 use Rattle.std.proofs.lemmas.List.{length-append, nil_from_length}
 use Rattle.loop_disk.specs.Medium.{Medium}
@@ -9,29 +9,29 @@ use Rattle.loop_pipeline.specs.declared.next.Search.{Search}
 use Rattle.loop_pipeline.specs.Backs.{IsSoAt}
 use Rattle.loop_pipeline.specs.Desks.{SeenDesks, turned}
 use Rattle.loop_pipeline.specs.Nexts.{IsFull, TakesNext, IsSearch}
-use Rattle.loop_pipeline.specs.Turns.{AllLocked, Chooses, IsBetween, MayBegin, MayTurn, Searches, TellsRoom}
+use Rattle.loop_pipeline.specs.Turns.{AllLocked, Chooses, IsBetween, MayBegin, Searches, TellsRoom}
 use Rattle.loop_pipeline.proofs.DeskPlaces.{same-desk}
 use Rattle.loop_pipeline.proofs.Places.{get-joined, some-same}
 use Rattle.loop_pipeline.proofs.Searching.{all-full}
 
 module _ {D : Type 0} (medium : D → Medium) where
   -- no store has told anything
-  pub search-begins : (seen : SeenDesks D) (search : Search) → IsSearch seen.lent.active [] search
-      → Searches medium seen.desks seen.lent.active 0 search
+  pub search-begins : (seen : SeenDesks D) (search : Search) → IsSearch seen.lent.end seen.lent.active [] search
+      → Searches medium seen.desks seen.lent.end seen.lent.active 0 search
   search-begins seen search is = record { spaces = []; count = refl; tell = λ place d s at there. absurd (cc); is = is }
 
   -- one store more
   pub search-on : (inside now : SeenDesks D) (n : ℕ) (search next : Search) (desk : SeenDesk D) (space : Space)
       → inside ≡ now → slice_get inside.desks n ≡ Some desk → TellsRoom medium desk space
-      → ((spaces : List Space) → n ≡ length spaces → IsSearch inside.lent.active spaces search
-      → IsSearch inside.lent.active (spaces ++ space ∷ []) next)
-      → Searches medium now.desks now.lent.active n search → Searches medium now.desks now.lent.active (n + 1) next
+      → ((spaces : List Space) → n ≡ length spaces → IsSearch inside.lent.end inside.lent.active spaces search
+      → IsSearch inside.lent.end inside.lent.active (spaces ++ space ∷ []) next)
+      → Searches medium now.desks now.lent.end now.lent.active n search → Searches medium now.desks now.lent.end now.lent.active (n + 1) next
   search-on inside now n search next desk space view at tells step told =
-      subst (λ (b : SeenDesks D). Searches medium b.desks b.lent.active (n + 1) next) view
-      (more (subst (λ (b : SeenDesks D). Searches medium b.desks b.lent.active n search) (sym view) told))
+      subst (λ (b : SeenDesks D). Searches medium b.desks b.lent.end b.lent.active (n + 1) next) view
+      (more (subst (λ (b : SeenDesks D). Searches medium b.desks b.lent.end b.lent.active n search) (sym view) told))
     where
-      more : Searches medium inside.desks inside.lent.active n search
-          → Searches medium inside.desks inside.lent.active (n + 1) next
+      more : Searches medium inside.desks inside.lent.end inside.lent.active n search
+          → Searches medium inside.desks inside.lent.end inside.lent.active (n + 1) next
       more t = record {
         spaces = t.spaces ++ space ∷ [];
         count = length-append t.spaces (space ∷ []) ∙ ap (λ k. k + 1) t.count;
@@ -50,14 +50,14 @@ module _ {D : Type 0} (medium : D → Medium) where
 
   -- all have told
   pub search-ends : (inside now : SeenDesks D) (n : ℕ) (search : Search) (next : Option ℕ) → inside ≡ now
-      → n ≡ length inside.desks → Searches medium now.desks now.lent.active n search
-      → ((spaces : List Space) → IsSearch inside.lent.active spaces search → TakesNext inside.lent.active spaces next)
-      → Chooses medium now.desks now.lent.active next
+      → n ≡ length inside.desks → Searches medium now.desks now.lent.end now.lent.active n search
+      → ((spaces : List Space) → IsSearch inside.lent.end inside.lent.active spaces search → TakesNext inside.lent.end inside.lent.active spaces next)
+      → Chooses medium now.desks now.lent.end now.lent.active next
   search-ends inside now n search next view all told then =
-      subst (λ (b : SeenDesks D). Chooses medium b.desks b.lent.active next) view
-      (ends (subst (λ (b : SeenDesks D). Searches medium b.desks b.lent.active n search) (sym view) told))
+      subst (λ (b : SeenDesks D). Chooses medium b.desks b.lent.end b.lent.active next) view
+      (ends (subst (λ (b : SeenDesks D). Searches medium b.desks b.lent.end b.lent.active n search) (sym view) told))
     where
-      ends : Searches medium inside.desks inside.lent.active n search → Chooses medium inside.desks inside.lent.active next
+      ends : Searches medium inside.desks inside.lent.end inside.lent.active n search → Chooses medium inside.desks inside.lent.end inside.lent.active next
       ends t = record {
         spaces = t.spaces;
         tell = record { all = t.count ∙ all; tells = t.tell };
@@ -69,11 +69,12 @@ module _ {D : Type 0} (medium : D → Medium) where
   turned-same old new place is =
       is ∙ ap (λ (a : ℕ). turned a old) (sym (ap (λ (b : SeenDesks D). b.lent.active) is))
 
-  pub locked-all : (desks : List (SeenDesk D)) (active : ℕ) (next : Option ℕ) → next ≡ None → Chooses medium desks active next
-      → MayTurn desks active → AllLocked medium desks active
-  locked-all desks active next is chosen may =
-      let none = subst (Chooses medium desks active) is chosen in
-      record { may = may; spaces = none.spaces; tell = none.tell; full = all-full active none.spaces none.is }
+  pub locked-all : (desks : List (SeenDesk D)) (end active : ℕ) (next : Option ℕ) → next ≡ None
+      → Chooses medium desks end active next
+      → IsSoAt active desks IsBetween → AllLocked medium desks active
+  locked-all desks end active next is chosen between =
+      let none = subst (Chooses medium desks end active) is chosen in
+      record { between = between; spaces = none.spaces; tell = none.tell; full = all-full end active none.spaces none.is }
 
   -- the active desk isn't between two blocks
   pub begins-not : (seen : SeenDesks D) (b : Bool)
@@ -111,7 +112,7 @@ not-true false e = refl
 
 module _ {D : Type 0} (desks : List (SeenDesk D)) (active : ℕ) (b : Bool)
     (said : IsSoAt active desks (λ d. (b ≡ true) ↔ IsBetween d)) where
-  pub may-turn : 2 ≤ length desks → b ≡ true → MayTurn desks active
-  may-turn several is =
+  pub is-between : b ≡ true → IsSoAt active desks IsBetween
+  is-between is =
       let both = same-desk (λ d. (b ≡ true) ↔ IsBetween d) desks active said.0 said.1 said in
-      record { several = several; between = (said.0, said.1, both.0 is) }
+      (said.0, said.1, both.0 is)

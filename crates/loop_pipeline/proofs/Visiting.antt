@@ -15,9 +15,9 @@ use Rattle.loop_record.specs.Recording.{picture}
 use Rattle.loop_store.specs.declared.fault.StoreFault.{StoreFault}
 use Rattle.loop_desk.specs.Desk.{DeskCall, flushed}
 use Rattle.loop_desk.specs.Seen.{DeskGoes, SeenDesk}
-use Rattle.loop_pipeline.specs.Backs.{BackKeeps, GoesBy, IsFed, IsLast, IsRightful, MayGiveUp, MayGiveUpAt, Part, SeenBack, Served, calls_at, calls_of, is_placed_submit, is_submit, part_for, parts_at, placed_calls, visited}
+use Rattle.loop_pipeline.specs.Backs.{BackKeeps, GoesBy, IsFed, IsLast, IsRightful, IsSoAt, MayGiveUp, MayGiveUpAt, Part, SeenBack, Served, calls_at, calls_of, is_placed_submit, is_submit, part_for, parts_at, placed_calls, visited}
 use Rattle.loop_pipeline.specs.Desks.{AreVisited, EachWent, Lent, SeenDesks, turned}
-use Rattle.loop_pipeline.specs.Turns.{MayTurn}
+use Rattle.loop_pipeline.specs.Turns.{IsBetween}
 use Rattle.loop_pipeline.proofs.BackRuns.{all-more, by-more, fed-beside, parts-elsewhere, parts-here, placed-none, served-more}
 use Rattle.loop_pipeline.proofs.Places.{get-set-other, get-set-same, set-same, some-same, some-there}
 
@@ -45,9 +45,9 @@ went-more medium began desks parts place old new part each at goes i d e first l
 
 module _ {D : Type 0} (medium : D → Medium) (asks : DeskCall → Type 0) where
   -- a visit begins
-  pub none-visited : (desks : List (SeenDesk D)) (active : ℕ) → active < length desks
-      → AreVisited medium asks (record { lent = record { began = desks; active = active }; desks = desks })
-  none-visited desks active inside = record {
+  pub none-visited : {end : ℕ} (desks : List (SeenDesk D)) (active : ℕ) → active < length desks
+      → AreVisited medium asks (record { lent = record { began = desks; active = active; end = end }; desks = desks })
+  none-visited {end} desks active inside = record {
     all = refl;
     inside = inside;
     parts = [];
@@ -155,9 +155,10 @@ module _ {D A : Type 0} (medium : D → Medium) (asks : DeskCall → Type 0) (gi
   pub kept-since : (began : List (SeenDesk D)) (before from : Consumer (Frame A) A AnyItems) (given_up : ℕ) (refused : Bool)
       (seen : SeenDesks D) → AreVisited medium asks seen
       → BackKeeps medium asks gives_up
-      (record { began = began; from = before; desks = seen.lent.began; active = seen.lent.active }) from given_up refused
+      (record { began = began; from = before; desks = seen.lent.began; active = seen.lent.active; end = seen.lent.end }) from given_up refused
       → BackKeeps medium asks gives_up
-      (record { began = began; from = before; desks = seen.desks; active = seen.lent.active }) from given_up refused
+      (record { began = began; from = before; desks = seen.desks; active = seen.lent.active; end = seen.lent.end })
+      from given_up refused
   kept-since began before from given_up refused seen so keeps = record {
     ring = keeps.ring;
     all = so.all ∙ keeps.all;
@@ -181,28 +182,52 @@ module _ {D A : Type 0} (medium : D → Medium) (asks : DeskCall → Type 0) (gi
   }
 
   -- so it is of the desks that were lent
-  pub kept-lent : (began desks : List (SeenDesk D)) (active : ℕ) (before from : Consumer (Frame A) A AnyItems) (given_up : ℕ)
-      (refused : Bool) (seen : SeenDesks D) → seen.lent ≡ record { began = desks; active = active }
+  pub kept-lent : {end : ℕ} (began desks : List (SeenDesk D)) (active : ℕ) (before from : Consumer (Frame A) A AnyItems) (given_up : ℕ)
+      (refused : Bool) (seen : SeenDesks D) → seen.lent ≡ record { began = desks; active = active; end = end }
       → AreVisited medium asks seen
-      → BackKeeps medium asks gives_up (record { began = began; from = before; desks = desks; active = active }) from
+      → BackKeeps medium asks gives_up (record { began = began; from = before; desks = desks; active = active; end = end }) from
       given_up refused
       → BackKeeps medium asks gives_up
-      (record { began = began; from = before; desks = seen.desks; active = seen.lent.active }) from given_up refused
-  kept-lent began desks active before from given_up refused seen lent so keeps =
+      (record { began = began; from = before; desks = seen.desks; active = seen.lent.active; end = seen.lent.end })
+      from given_up refused
+  kept-lent {end} began desks active before from given_up refused seen lent so keeps =
       kept-since began before from given_up refused seen so
       (subst (λ (l : Lent D). BackKeeps medium asks gives_up
-      (record { began = began; from = before; desks = l.began; active = l.active }) from given_up refused) (sym lent) keeps)
+      (record { began = began; from = before; desks = l.began; active = l.active; end = l.end }) from given_up refused) (sym lent) keeps)
+
+  -- wherever the order ends
+  ends-at : (began desks : List (SeenDesk D)) (active : ℕ) (before from : Consumer (Frame A) A AnyItems)
+      (given_up : ℕ) (refused : Bool) (old new : ℕ)
+      → BackKeeps medium asks gives_up
+      (record { began = began; from = before; desks = desks; active = active; end = old }) from given_up refused
+      → BackKeeps medium asks gives_up
+      (record { began = began; from = before; desks = desks; active = active; end = new }) from given_up refused
+  ends-at began desks active before from given_up refused old new keeps = record {
+    ring = keeps.ring;
+    all = keeps.all;
+    inside = keeps.inside;
+    parts = keeps.parts;
+    among = keeps.among;
+    served = keeps.served;
+    rightful = keeps.rightful;
+    came = keeps.came;
+    fed = keeps.fed;
+    tried = keeps.tried;
+    excused = keeps.excused;
+  }
 
   -- what it keeps of desks and of the active one's place it keeps of those that are seen
-  pub kept-as : (began desks : List (SeenDesk D)) (active : ℕ) (before from : Consumer (Frame A) A AnyItems) (given_up : ℕ)
+  pub kept-as : {end : ℕ} (began desks : List (SeenDesk D)) (active : ℕ) (before from : Consumer (Frame A) A AnyItems) (given_up : ℕ)
       (refused : Bool) (seen : SeenDesks D) → seen.desks ≡ desks → seen.lent.active ≡ active
-      → BackKeeps medium asks gives_up (record { began = began; from = before; desks = desks; active = active }) from
+      → BackKeeps medium asks gives_up (record { began = began; from = before; desks = desks; active = active; end = end }) from
       given_up refused
       → BackKeeps medium asks gives_up
-      (record { began = began; from = before; desks = seen.desks; active = seen.lent.active }) from given_up refused
-  kept-as began desks active before from given_up refused seen is same keeps =
+      (record { began = began; from = before; desks = seen.desks; active = seen.lent.active; end = seen.lent.end })
+      from given_up refused
+  kept-as {end} began desks active before from given_up refused seen is same keeps =
       subst (λ (b : SeenBack D A). BackKeeps medium asks gives_up b from given_up refused)
-      (λ i. record { began = began; from = before; desks = (sym is) i; active = (sym same) i }) keeps
+      (λ i. record { began = began; from = before; desks = (sym is) i; active = (sym same) i; end = seen.lent.end })
+      (ends-at began desks active before from given_up refused end seen.lent.end keeps)
 
 -- and so the last call
 pub last-as : {D : Type 0} (medium : D → Medium) (began desks : List (SeenDesk D)) (active : ℕ) (call : DeskCall)
@@ -213,22 +238,28 @@ last-as medium began desks active call seen is same last =
     (subst (λ n. IsLast medium began desks n call) (sym same) last)
 
 -- nothing but its desks changed
-pub back-but-desks : {D A : Type 0} (inside old : SeenBack D A) (desks : List (SeenDesk D)) (active : ℕ) → inside ≡ old
-    → active ≡ inside.active → record inside { desks = desks; active = active } ≡ record old { desks = desks }
-back-but-desks {D} {A} inside old desks active is same =
-    (λ i. record inside { desks = desks; active = same i }) ∙ ap (λ (b : SeenBack D A). record b { desks = desks }) is
+pub back-but-desks : {D A : Type 0} (inside old : SeenBack D A) (desks : List (SeenDesk D)) (active end : ℕ)
+    → inside ≡ old → active ≡ inside.active → end ≡ inside.end
+    → record inside { desks = desks; active = active; end = end } ≡ record old { desks = desks }
+back-but-desks {D} {A} inside old desks active end is same still =
+    (λ i. record inside { desks = desks; active = same i; end = still i })
+    ∙ ap (λ (b : SeenBack D A). record b { desks = desks }) is
 
 -- nothing but the place of the active one
-pub back-but-active : {D A : Type 0} (inside old : SeenBack D A) (desks : List (SeenDesk D)) (active : ℕ) → inside ≡ old
-    → desks ≡ inside.desks → record inside { desks = desks; active = active } ≡ record old { active = active }
-back-but-active {D} {A} inside old desks active is same =
-    (λ i. record inside { desks = same i; active = active }) ∙ ap (λ (b : SeenBack D A). record b { active = active }) is
+pub back-but-active : {D A : Type 0} (inside old : SeenBack D A) (desks : List (SeenDesk D)) (active end : ℕ)
+    → inside ≡ old → desks ≡ inside.desks → end ≡ inside.end
+    → record inside { desks = desks; active = active; end = end } ≡ record old { active = active }
+back-but-active {D} {A} inside old desks active end is same still =
+    (λ i. record inside { desks = same i; active = active; end = still i })
+    ∙ ap (λ (b : SeenBack D A). record b { active = active }) is
 
 -- where the active one isn't between two blocks, nothing changes
-pub back-stays : {D A : Type 0} (inside old : SeenBack D A) (desks : List (SeenDesk D)) (active : ℕ) (locked : Bool)
+pub back-stays : {D A : Type 0} (inside old : SeenBack D A) (desks : List (SeenDesk D)) (active end : ℕ) (locked : Bool)
     → inside ≡ old
-    → ((MayTurn inside.desks inside.active → ⊥) → (desks ≡ inside.desks) × (active ≡ inside.active) × (locked ≡ false))
-    → (MayTurn old.desks old.active → ⊥) → (record inside { desks = desks; active = active } ≡ old) × (locked ≡ false)
-back-stays {D} {A} inside old desks active locked is stays never =
-    let so = stays (subst (λ (b : SeenBack D A). MayTurn b.desks b.active → ⊥) (sym is) never) in
-    ((λ i. record inside { desks = so.0 i; active = so.1 i }) ∙ is, so.2)
+    → ((IsSoAt inside.active inside.desks IsBetween → ⊥)
+    → (desks ≡ inside.desks) × (active ≡ inside.active) × (end ≡ inside.end) × (locked ≡ false))
+    → (IsSoAt old.active old.desks IsBetween → ⊥)
+    → (record inside { desks = desks; active = active; end = end } ≡ old) × (locked ≡ false)
+back-stays {D} {A} inside old desks active end locked is stays never =
+    let so = stays (subst (λ (b : SeenBack D A). IsSoAt b.active b.desks IsBetween → ⊥) (sym is) never) in
+    ((λ i. record inside { desks = so.0 i; active = so.1 i; end = so.2 i }) ∙ is, so.3)

@@ -15,6 +15,7 @@ use Rattle.loop_desk.specs.Seen.{DeskGoes, SeenDesk}
 use Rattle.loop_pipeline.specs.declared.back.Brought.{Brought}
 use Rattle.loop_pipeline.specs.declared.back.Brought.TheVariants.{GivenUp, Submitted}
 use Rattle.loop_pipeline.specs.declared.back.LostFrame.{LostFrame}
+use Rattle.loop_pipeline.specs.Nexts.{end_past}
 
 -- ---- frames that came
 
@@ -135,12 +136,14 @@ pub record IsFed (got : List Picture) (calls : List (ℕ × DeskCall)) (given_up
 -- ---- a back
 
 -- a back as its callers see it: its desks as they were when it took them, the end of its ring as it was when it was
--- made, the desks as they are now, and the place of the one to which frames are brought
+-- made, the desks as they are now, the place of the one to which frames are brought, and one past the sequence of the
+-- last frame that was brought to any
 pub record SeenBack (D A : Type 0) : Type 0 where
   pub began : List (SeenDesk D)
   pub from : Consumer (Frame A) A AnyItems
   pub desks : List (SeenDesk D)
   pub active : ℕ
+  pub end : ℕ
 
 -- of several desks the one at a place goes on so, and the others stay
 pub record GoesAt {D : Type 0} (place : ℕ) (old new : List (SeenDesk D)) (P : SeenDesk D → SeenDesk D → Type 0)
@@ -198,7 +201,8 @@ IsLastOf medium seen call = IsLast medium seen.began seen.desks seen.active call
 
 -- the active desk has just accepted a frame under this number
 abbrev pub IsAccepted : {D A : Type 0} → (D → Medium) → SeenBack D A → ℕ → Type 0
-IsAccepted medium seen number = (p : Picture) × IsLastOf medium seen (submitted p (length p.bytes) (Ok number))
+IsAccepted medium seen number =
+    (p : Picture) × (seen.end ≡ end_past p.sequence) × IsLastOf medium seen (submitted p (length p.bytes) (Ok number))
 
 -- a flush of one of the back's desks was refused, by a fault for which frames are given up
 pub record WasRefused {D A : Type 0} (medium : D → Medium) (gives_up : StoreFault → Type 0) (seen : SeenBack D A)
@@ -216,17 +220,17 @@ pub record WasRefused {D A : Type 0} (medium : D → Medium) (gives_up : StoreFa
 abbrev pub IsTurnedDown : {D A : Type 0} → (D → Medium) → SeenBack D A → LostFrame → Type 0
 IsTurnedDown medium seen lost =
     (p : Picture) × (fault : StoreFault) × (lost ≡ record { sequence = p.sequence; timestamp = p.timestamp })
-    × IsLastOf medium seen (submitted p (length p.bytes) (Err fault))
+    × (seen.end ≡ end_past p.sequence) × IsLastOf medium seen (submitted p (length p.bytes) (Err fault))
 
 -- a frame was given up for a reason: the active desk has just refused it, or a flush was refused
 abbrev pub IsGivenUp : {D A : Type 0} → (D → Medium) → (StoreFault → Type 0) → SeenBack D A → LostFrame → Type 0
 IsGivenUp medium gives_up seen lost = IsTurnedDown medium seen lost ⊎ WasRefused medium gives_up seen
 
--- what is said of a frame that was brought to the active desk is so
-abbrev pub IsBrought : {D A : Type 0} → (D → Medium) → SeenBack D A → Brought → Type 0
-IsBrought medium seen (Submitted number) = IsAccepted medium seen number
-IsBrought medium seen (GivenUp fault lost) = IsTurnedDown medium seen lost
-IsBrought medium seen _ = Unit {0}
+-- what is said of a frame that was brought to the active desk is so; where none was, the end stays
+abbrev pub IsBrought : {D A : Type 0} → (D → Medium) → ℕ → SeenBack D A → Brought → Type 0
+IsBrought medium end seen (Submitted number) = IsAccepted medium seen number
+IsBrought medium end seen (GivenUp fault lost) = IsTurnedDown medium seen lost
+IsBrought medium end seen _ = seen.end ≡ end
 
 -- ---- what a back keeps
 

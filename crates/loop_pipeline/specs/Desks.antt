@@ -8,13 +8,17 @@ use Rattle.loop_record.specs.declared.frame.Frame.{Frame}
 use Rattle.loop_desk.specs.Desk.{DeskCall}
 use Rattle.loop_desk.specs.Seen.{SeenDesk}
 use Rattle.loop_pipeline.specs.declared.seat.Taken.{Taken}
+use Rattle.loop_pipeline.specs.declared.seat.Taken.TheVariants.{Asked}
 use Rattle.loop_pipeline.specs.Backs.{GoesBy, IsRightful, Part, is_placed_submit, parts_at, placed_calls}
+use Rattle.loop_pipeline.specs.Nexts.{end_past}
 use Rattle.loop_pipeline.specs.Seats.{TakesFrom}
 
--- what no visit changes: the desks as they were when it began, and the place of the active one
+-- what no visit changes: the desks as they were when it began, the place of the active one, and one past the sequence
+-- of the last frame that was brought to any
 pub record Lent (D : Type 0) : Type 0 where
   pub began : List (SeenDesk D)
   pub active : ℕ
+  pub end : ℕ
 
 -- with it the desks as they are now
 pub record SeenDesks (D : Type 0) : Type 0 where
@@ -43,6 +47,11 @@ pub record AreVisited {D : Type 0} (medium : D → Medium) (asks : DeskCall → 
 
 -- ---- between visits (private contracts alone)
 
+-- one past the newest sequence, after a frame that was brought
+abbrev pub end_with : Taken → ℕ → ℕ
+end_with (Asked info answer) end = end_past info.sequence
+end_with _ end = end
+
 -- the next frame of a ring goes to the active desk, if there is one and it can be noted
 pub record SubmitsAt {D A : Type 0} (medium : D → Medium) (old new : SeenDesks D)
     (from up : Consumer (Frame A) A AnyItems) (taken : Taken) : Type 0 where
@@ -52,3 +61,4 @@ pub record SubmitsAt {D A : Type 0} (medium : D → Medium) (old new : SeenDesks
   pub takes : TakesFrom medium before after from up taken
   pub desks : new.desks ≡ slice_set old.desks old.lent.active after
   pub active : new.lent.active ≡ old.lent.active
+  pub end : new.lent.end ≡ end_with taken old.lent.end

@@ -49,13 +49,14 @@ IsToldBy _ answer = ⊥
 
 module _ {S : Type 0} (gives : S → Next → List ℕ → S → Type 0) where
   -- one tick: Idle and WrongSize change nothing; at any other the source was asked, and gave these bytes; the frame's
-  -- sequence is the device's next one, or 0 after a start
+  -- sequence is the device's next one, or 0 after a start where the device doesn't go on
   abbrev pub GaveBy : Tick → ℕ → List ℕ → SeenDevice S → SeenDevice S → Type 0
   GaveBy Idle sequence bytes d e = e ≡ d
   GaveBy WrongSize sequence bytes d e = e ≡ d
   GaveBy tick sequence bytes d e =
       (answer : Next) × IsToldBy tick answer × gives d.source answer bytes e.source × (e.size ≡ d.size)
-      × ((sequence ≡ d.next) ⊎ (sequence ≡ 0)) × (e.next ≡ sequence_after answer sequence)
+      × (e.goes_on ≡ d.goes_on) × ((sequence ≡ d.next) ⊎ (sequence ≡ 0) × (d.goes_on ≡ false))
+      × (e.next ≡ sequence_after answer sequence)
 
   -- ticks, one after the other
   abbrev pub GoesOn : SeenDevice S → List TickRecord → SeenDevice S → Type 0

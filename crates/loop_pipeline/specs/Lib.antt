@@ -4,6 +4,7 @@ pub mod Backs
 pub mod Cameras
 pub mod Desks
 pub mod Fronts
+pub mod TickCounts
 pub mod Legal
 pub mod Returns
 pub mod Nexts

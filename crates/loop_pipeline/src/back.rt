@@ -4,7 +4,7 @@ ghost use Rattle.std.specs.Prelude.{◌≡◌, ◌∷◌, ◌<◌, ◌≤◌, �
 ghost use Rattle.rtrb.specs.Ring.{received};
 ghost use Rattle.loop_pipeline.specs.declared.back.Brought.TheVariants.{Submitted};
 ghost use Rattle.loop_pipeline.specs.Backs.{BackKeeps, FitsBlock, IsBrought, IsChangedAt, IsSoAt, WasRefused, with_joined};
-ghost use Rattle.loop_pipeline.specs.Turns.{AllLocked, MayBegin, MayTurn, TurnsTo};
+ghost use Rattle.loop_pipeline.specs.Turns.{AllLocked, IsBetween, MayBegin, TurnsTo};
 
 use crate::{Desks, Seat, Taken, Visits};
 use loop_disk::Disk;
@@ -80,6 +80,7 @@ impl<D: Disk + Drop, K: Visits, A: Allocator + Copy> Model for Back<D, K, A> {
       from = b.from_before.value;
       desks = b.desks.desks;
       active = b.desks.lent.active;
+      end = b.desks.lent.end;
     } };
 
     ghost invariant = { λ b. BackKeeps D.medium K.asks K.gives_up
@@ -88,22 +89,25 @@ impl<D: Disk + Drop, K: Visits, A: Allocator + Copy> Model for Back<D, K, A> {
           from = b.from_before.value;
           desks = b.desks.desks;
           active = b.desks.lent.active;
+          end = b.desks.lent.end;
         }) b.from b.given_up b.refused };
 }
 
 impl<D: Disk + Drop, K: Visits, A: Allocator + Copy> Back<D, K, A> {
-    /// A back with this desk, memory for `most` desks, and the end of a ring from which nothing was taken yet. If
-    /// memory is refused, both come back.
+    /// A back with this desk, memory for `most` desks, and the end of a ring from which nothing was taken yet. `end` is
+    /// one past the newest sequence that any store of the camera holds, so the one of its device's next frame. If memory
+    /// is refused, both come back.
     pub fn new(
         alloc: A,
         most: usize,
         desk: Seat<D, K, A>,
         from: Consumer<Frame<A>, A>,
+        end: u32,
     ) -> Result<Self, (Seat<D, K, A>, Consumer<Frame<A>, A>)>
         requires ring { received from ≡ [] }
         requires room { 1 ≤ most }
         ensures made { IfOk result (λ back. back
-            ≡ record { began = desk ∷ []; from = from; desks = desk ∷ []; active = 0 }) }
+            ≡ record { began = desk ∷ []; from = from; desks = desk ∷ []; active = 0; end = end }) }
         ensures refused { IfErr result (λ parts. parts ≡ (desk, from)) }
     {
         let Ok(mut began) = Vec::with_capacity(alloc, most) else {
@@ -111,7 +115,7 @@ impl<D: Disk + Drop, K: Visits, A: Allocator + Copy> Back<D, K, A> {
         };
         desk.desk().opens();
         let opened = Snapshot::of(&desk);
-        let desks = match Desks::new(alloc, most, desk) {
+        let desks = match Desks::new(alloc, most, desk, end) {
             Ok(desks) => desks,
             Err(desk) => return Err((desk, from)),
         };
@@ -128,21 +132,21 @@ impl<D: Disk + Drop, K: Visits, A: Allocator + Copy> Back<D, K, A> {
         })
     }
 
-    /// Brings the next frame of the ring to the active desk. Where there are several desks, what waits there never
-    /// passes the end of a block; and none comes to a store that has no room for its block, unless it is brought
-    /// `anyway`.
-    pub fn bring(&mut self, anyway: bool) -> Brought
-        ensures told { IsBrought D.medium self.new result }
-        ensures same { IsChangedAt self.old.active self.old self.new }
-        ensures fits { (n : ℕ) → result ≡ Submitted n → 2 ≤ length self.old.desks
+    /// Brings the next frame of the ring to the active desk. Unless that is `alone`, which no other joins, what waits
+    /// there never passes the end of a block; and none comes to a store that has no room for its block, unless it is
+    /// brought `anyway`. Of several desks none is alone.
+    pub fn bring(&mut self, alone: bool, anyway: bool) -> Brought
+        ensures told { IsBrought D.medium self.old.end self.new result }
+        ensures same { IsChangedAt self.old.active self.old (record self.new { end = self.old.end }) }
+        ensures fits { (n : ℕ) → result ≡ Submitted n → (alone ≡ true → 2 ≤ length self.old.desks)
             → IsSoAt self.old.active self.new.desks FitsBlock }
-        ensures begins { (n : ℕ) → result ≡ Submitted n → anyway ≡ false → 2 ≤ length self.old.desks
-            → IsSoAt self.old.active self.old.desks (MayBegin D.medium) }
+        ensures begins { (n : ℕ) → result ≡ Submitted n → anyway ≡ false
+            → (alone ≡ true → 2 ≤ length self.old.desks) → IsSoAt self.old.active self.old.desks (MayBegin D.medium) }
     {
         if self.given_up == u64::MAX {
             return Brought::Nothing;
         }
-        if !self.desks.has_room(anyway) {
+        if !self.desks.has_room(alone, anyway) {
             return Brought::NoRoom;
         }
         match self.desks.submit_from(&mut self.from) {
@@ -201,6 +205,7 @@ impl<D: Disk + Drop, K: Visits, A: Allocator + Copy> Back<D, K, A> {
     pub fn desks(&self) -> &Desks<D, K, A>
         ensures desks { result.now.desks ≡ self.now.desks }
         ensures active { result.now.lent.active ≡ self.now.active }
+        ensures end { result.now.lent.end ≡ self.now.end }
     {
         &self.desks
     }
@@ -212,12 +217,13 @@ impl<D: Disk + Drop, K: Visits, A: Allocator + Copy> Back<D, K, A> {
         self.desks.spare_memory()
     }
 
-    /// Where there are several desks and the active one is between two blocks, makes the desk active that takes the
-    /// next block (`Desks::next_desk`). Returns whether there is none: all is locked. It takes no memory.
+    /// Where the active desk is between two blocks, makes the desk active that takes the next block
+    /// (`Desks::next_desk`). Returns whether there is none: all is locked. It takes no memory.
     pub fn turn(&mut self) -> bool
-        ensures turns { MayTurn self.old.desks self.old.active
-            → TurnsTo D.medium self.old.desks self.old.active self.new.active result }
-        ensures stays { (MayTurn self.old.desks self.old.active → ⊥) → (self.new ≡ self.old) × (result ≡ false) }
+        ensures turns { IsSoAt self.old.active self.old.desks IsBetween
+            → TurnsTo D.medium self.old.desks self.old.end self.old.active self.new.active result }
+        ensures stays { (IsSoAt self.old.active self.old.desks IsBetween → ⊥)
+            → (self.new ≡ self.old) × (result ≡ false) }
         ensures locked { result ≡ true → AllLocked D.medium self.new.desks self.new.active }
         ensures same { self.new ≡ record self.old { active = self.new.active } }
     {

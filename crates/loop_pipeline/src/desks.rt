@@ -5,8 +5,8 @@ ghost use Rattle.loop_desk.specs.Desk.{clip_unlocked, flushed, frame_read};
 ghost use Rattle.loop_desk.specs.Keeps.{HaveTime, KeepsTime};
 ghost use Rattle.loop_desk.specs.Seen.{DeskGoes, OutlineRefuses, TellsOutline, TellsStatus};
 ghost use Rattle.loop_pipeline.specs.Backs.{GoesAt, HasRoom, IsLast, IsSoAt, MayKeep};
-ghost use Rattle.loop_pipeline.specs.Desks.{AreVisited, SubmitsAt, turned};
-ghost use Rattle.loop_pipeline.specs.Turns.{AllLocked, Chooses, IsBetween, MayBegin, MayTurn, Searches, TurnsTo};
+ghost use Rattle.loop_pipeline.specs.Desks.{AreVisited, SubmitsAt, end_with, turned};
+ghost use Rattle.loop_pipeline.specs.Turns.{AllLocked, Chooses, IsBetween, MayBegin, Searches, TurnsTo};
 ghost use Rattle.loop_record.specs.declared.frame.FrameHead.{FrameHead};
 ghost use Rattle.loop_store.specs.declared.fault.StoreFault.{StoreFault};
 ghost use Rattle.loop_store.specs.Calls.{read_with};
@@ -26,13 +26,25 @@ use std::snapshot::Snapshot;
 // The memory of how many stored frames a desk keeps at most.
 const SPARES: usize = 64;
 
+// One past the newest sequence, after a frame that was brought.
+fn end_with(taken: Taken, end: u32) -> u32
+    ensures { result ≡ end_with taken end }
+{
+    match taken {
+        Taken::Asked(info, _) => info.sequence.wrapping_add(1),
+        _ => end,
+    }
+}
+
 /// A camera's desks, one of which is active. A desk is named by its place: the order in which they came. Contracts see
-/// the desks as they are, and what is lent with them to a visit: the desks as they were when it began, and the place of
-/// the active one, which no visit changes. `K` says what visitors may call.
+/// the desks as they are, and what is lent with them to a visit: the desks as they were when it began, the place of the
+/// active one, and one past the newest sequence, which no visit changes. `K` says what visitors may call.
 #[derive(Drop)]
 pub struct Desks<D: Disk + Drop, K: Visits, A: Allocator + Copy = Global> {
     seats: Vec<Seat<D, K, A>, A>,
     active: usize,
+    // One past the newest sequence.
+    end: u32,
     before: Snapshot<Vec<Seat<D, K, A>, A>>,
     visits: PhantomData<K>,
 }
@@ -43,22 +55,23 @@ impl<D: Disk + Drop, K: Visits, A: Allocator + Copy> Model for Desks<D, K, A> {
     ghost Value = { SeenDesks D };
 
     ghost view = { λ d. record {
-      lent = record { began = d.before.value.items; active = d.active };
+      lent = record { began = d.before.value.items; active = d.active; end = d.end };
       desks = d.seats.items;
     } };
 
     ghost invariant = { λ d. AreVisited D.medium K.asks (record {
-      lent = record { began = d.before.value.items; active = d.active };
+      lent = record { began = d.before.value.items; active = d.active; end = d.end };
       desks = d.seats.items;
     }) };
 }
 
 impl<D: Disk + Drop, K: Visits, A: Allocator + Copy> Desks<D, K, A> {
-    /// This desk, and memory for `most` desks. If memory is refused, it comes back.
-    pub fn new(alloc: A, most: usize, desk: Seat<D, K, A>) -> Result<Self, Seat<D, K, A>>
+    /// This desk, and memory for `most` desks. `end` is one past the newest sequence that any store of the camera holds.
+    /// If memory is refused, the desk comes back.
+    pub fn new(alloc: A, most: usize, desk: Seat<D, K, A>, end: u32) -> Result<Self, Seat<D, K, A>>
         requires { 1 ≤ most }
         ensures made { IfOk result (λ desks. desks
-            ≡ record { lent = record { began = desk ∷ []; active = 0 }; desks = desk ∷ [] }) }
+            ≡ record { lent = record { began = desk ∷ []; active = 0; end = end }; desks = desk ∷ [] }) }
         ensures refused { IfErr result (λ back. back ≡ desk) }
     {
         let Ok(mut seats) = Vec::with_capacity(alloc, most) else {
@@ -69,6 +82,7 @@ impl<D: Disk + Drop, K: Visits, A: Allocator + Copy> Desks<D, K, A> {
             before: Snapshot::of(&seats),
             seats,
             active: 0,
+            end,
             visits: PhantomData,
         })
     }
@@ -76,7 +90,7 @@ impl<D: Disk + Drop, K: Visits, A: Allocator + Copy> Desks<D, K, A> {
     // A visit begins: what is lent are the desks as they are.
     pub(crate) fn lend(&mut self)
         ensures { self.new ≡ record self.old {
-          lent = record { began = self.old.desks; active = self.old.lent.active };
+          lent = record { began = self.old.desks; active = self.old.lent.active; end = self.old.lent.end };
         } }
     {
         self.before = Snapshot::of(&self.seats);
@@ -95,6 +109,7 @@ impl<D: Disk + Drop, K: Visits, A: Allocator + Copy> Desks<D, K, A> {
     {
         let taken = self.seats[self.active].submit_from(from);
         self.before = Snapshot::of(&self.seats);
+        self.end = end_with(taken, self.end);
         taken
     }
 
@@ -106,7 +121,8 @@ impl<D: Disk + Drop, K: Visits, A: Allocator + Copy> Desks<D, K, A> {
     // Takes another desk, and returns its place; if there is no memory for it, it comes back. No visit is on.
     pub(crate) fn join(&mut self, desk: Seat<D, K, A>) -> Result<usize, Seat<D, K, A>>
         ensures done { IfOk result (λ place. (place ≡ length self.old.desks)
-            × (self.new.desks ≡ self.old.desks ++ desk ∷ []) × (self.new.lent.active ≡ self.old.lent.active)) }
+            × (self.new.desks ≡ self.old.desks ++ desk ∷ [])
+            × (self.new.lent.active ≡ self.old.lent.active) × (self.new.lent.end ≡ self.old.lent.end)) }
         ensures refused { IfErr result (λ back. (back ≡ desk) × (self.new ≡ self.old)) }
     {
         let place = self.seats.len();
@@ -126,6 +142,7 @@ impl<D: Disk + Drop, K: Visits, A: Allocator + Copy> Desks<D, K, A> {
         let Desks {
             seats,
             active: _,
+            end: _,
             before: _,
             visits: _,
         } = self;
@@ -183,13 +200,13 @@ impl<D: Disk + Drop, K: Visits, A: Allocator + Copy> Desks<D, K, A> {
         self.seats[place].status()
     }
 
-    /// Whether the active desk isn't full; and where there are several desks, whether the block of its next number
-    /// takes one frame more than those that wait, and its store has room for that block, unless frames are brought
-    /// `anyway`.
-    pub fn has_room(&self, anyway: bool) -> bool
-        ensures frame { result ≡ true → 2 ≤ length self.now.desks
+    /// Whether the active desk isn't full; and unless it is `alone`, which no other joins, whether the block of its
+    /// next number takes one frame more than those that wait, and its store has room for that block, unless frames are
+    /// brought `anyway`. Of several desks none is alone.
+    pub fn has_room(&self, alone: bool, anyway: bool) -> bool
+        ensures frame { result ≡ true → (alone ≡ true → 2 ≤ length self.now.desks)
             → IsSoAt self.now.lent.active self.now.desks HasRoom }
-        ensures block { result ≡ true → anyway ≡ false → 2 ≤ length self.now.desks
+        ensures block { result ≡ true → anyway ≡ false → (alone ≡ true → 2 ≤ length self.now.desks)
             → IsSoAt self.now.lent.active self.now.desks (MayBegin D.medium) }
     {
         let desk = self.seats[self.active].desk();
@@ -197,7 +214,7 @@ impl<D: Disk + Drop, K: Visits, A: Allocator + Copy> Desks<D, K, A> {
         if waiting >= desk.limits().pending {
             return false;
         }
-        if self.seats.len() < 2 {
+        if alone && self.seats.len() < 2 {
             return true;
         }
         if waiting >= desk.room() {
@@ -290,17 +307,22 @@ impl<D: Disk + Drop, K: Visits, A: Allocator + Copy> Desks<D, K, A> {
     // What the first desks' stores have told, and that of the desk at the next place.
     fn told(&self, search: Search, place: usize) -> Search
         requires place { place < length self.now.desks }
-        requires so_far { Searches D.medium self.now.desks self.now.lent.active place search }
-        ensures { Searches D.medium self.now.desks self.now.lent.active (place + 1) result }
+        requires so_far { Searches D.medium self.now.desks self.now.lent.end self.now.lent.active place search }
+        ensures { Searches D.medium self.now.desks self.now.lent.end self.now.lent.active (place + 1) result }
     {
-        search.with(self.active, place, self.seats[place].desk().space())
+        search.with(
+            self.active,
+            self.end,
+            place,
+            self.seats[place].desk().space(),
+        )
     }
 
     /// The place of the desk that takes the next block, by what each store tells: the active one, if it has a segment
-    /// that holds no block; else the first that has one; else the one whose block that may go begins earliest, the
-    /// first of such. None where no block may go.
+    /// that holds no block; else the first that has one; else the one whose block that may go is the oldest, by the
+    /// sequence of its first frame, the first of such. None where no block may go.
     pub fn next_desk(&self) -> Option<usize>
-        ensures { Chooses D.medium self.now.desks self.now.lent.active result }
+        ensures { Chooses D.medium self.now.desks self.now.lent.end self.now.lent.active result }
     {
         let mut search = Search::new();
         'desks: for place in 0..self.seats.len() {
@@ -309,17 +331,17 @@ impl<D: Disk + Drop, K: Visits, A: Allocator + Copy> Desks<D, K, A> {
         search.next(self.active)
     }
 
-    // Where there are several desks and the active one is between two blocks, makes the desk active that takes the next
-    // block (`next_desk`). Returns whether there is none: all is locked. It takes no memory.
+    // Where the active desk is between two blocks, makes the desk active that takes the next block (`next_desk`).
+    // Returns whether there is none: all is locked. It takes no memory.
     pub(crate) fn turn(&mut self) -> bool
-        ensures turns { MayTurn self.old.desks self.old.lent.active
-            → TurnsTo D.medium self.old.desks self.old.lent.active self.new.lent.active result }
-        ensures stays { (MayTurn self.old.desks self.old.lent.active → ⊥)
+        ensures turns { IsSoAt self.old.lent.active self.old.desks IsBetween
+            → TurnsTo D.medium self.old.desks self.old.lent.end self.old.lent.active self.new.lent.active result }
+        ensures stays { (IsSoAt self.old.lent.active self.old.desks IsBetween → ⊥)
             → (self.new ≡ self.old) × (result ≡ false) }
         ensures locked { result ≡ true → AllLocked D.medium self.new.desks self.new.lent.active }
         ensures same { self.new ≡ turned self.new.lent.active self.old }
     {
-        if self.count() < 2 || !self.is_between() {
+        if !self.is_between() {
             return false;
         }
         match self.next_desk() {

@@ -206,21 +206,28 @@ fn run_front<R: Wait + Clock, S: FrameSource + Drop, P: PlaneMemory, G: Guide>(
     unreachable!()
 }
 
-// Brings the frames in the ring to the active desk, where all is locked only `anyway`; returns whether one came out of
-// it. If that has no room and no flush is tried any more, frames are given up.
+// Which frames are brought: the active desk is alone, as no other joins; they are brought where all is locked.
+#[derive(Clone, Copy)]
+struct Bounds {
+    alone: bool,
+    anyway: bool,
+}
+
+// Brings the frames in the ring to the active desk, within these bounds; returns whether one came out of it. If that
+// has no room and no flush is tried any more, frames are given up.
 fn bring_all<R: Wait, D: Disk + Drop, G: Guide>(
     rt: &R,
     link: &Link,
     guide: &G,
     back: &mut Back<D, G>,
-    anyway: bool,
+    bounds: Bounds,
 ) -> bool
-    ensures { back.new ≡ record back.old { desks = back.new.desks } }
+    ensures { back.new ≡ record back.old { desks = back.new.desks; end = back.new.end } }
 {
     let mut some = false;
     let most = back.desks().group();
     'frames: for _ in 0..most {
-        match back.bring(anyway) {
+        match back.bring(bounds.alone, bounds.anyway) {
             Brought::Submitted(number) => guide.brought(rt, back, number),
             Brought::GivenUp(_, frame) => guide.gave_up(rt, back, frame),
             Brought::NoRoom => {
@@ -268,12 +275,26 @@ fn join_all<R: Wait, D: Disk + Drop, K: Visits>(rt: &R, door: &Door<D>, back: &m
     }
 }
 
-// Turns to the desk that takes the next block. Where all is locked, it tells the guide, and returns whether frames are
-// brought even so.
-fn turn_for<R: Wait, D: Disk + Drop, G: Guide>(rt: &R, guide: &G, back: &mut Back<D, G>) -> bool
+// Turns to the desk that takes the next block, unless the camera's one desk is alone. Where all is locked, it tells the
+// guide, which says whether frames are brought even so. Returns which are.
+fn turn_for<R: Wait, D: Disk + Drop, G: Guide>(
+    rt: &R,
+    guide: &G,
+    alone: bool,
+    back: &mut Back<D, G>,
+) -> Bounds
     ensures { back.new ≡ record back.old { active = back.new.active } }
 {
-    back.turn() && !guide.all_locked(rt, back)
+    if alone && back.desks().count() < 2 {
+        return Bounds {
+            alone,
+            anyway: false,
+        };
+    }
+    Bounds {
+        alone,
+        anyway: back.turn() && !guide.all_locked(rt, back),
+    }
 }
 
 // Takes desks, turns to the one that takes the next block, brings frames, serves what others ask, and gives memory
@@ -289,8 +310,8 @@ fn serve<R: Wait + Clock, D: Disk + Drop, G: Guide>(
     ensures { Joins (door.now ≡ false) back.old back.new }
 {
     join_all(rt, door, back);
-    let anyway = turn_for(rt, guide, back);
-    let some = bring_all(rt, link, guide, back, anyway);
+    let bounds = turn_for(rt, guide, !door.is_open(), back);
+    let some = bring_all(rt, link, guide, back, bounds);
     if G::VISITED {
         visit(rt, alloc, guide, back);
     }
@@ -722,7 +743,7 @@ pub fn film_desks<
         desk,
     } = camera;
     let desks = if door.is_open() { DESKS } else { 1 };
-    let back = match Back::new(alloc, desks, desk, from) {
+    let back = match Back::new(alloc, desks, desk, from, device.next_sequence()) {
         Ok(back) => back,
         Err((desk, _)) => {
             link.close(rt);

@@ -62,10 +62,10 @@ pub trait Guide: Visits {
     fn flushes_again<R: Wait>(&self, rt: &R, fault: StoreFault) -> bool
         ensures { result ≡ false → Self.gives_up fault };
 
-    /// All is locked: there are several desks, the active one is between two blocks, and no store has a free segment or
-    /// a block that may go. It is called each time round in which that is so. Whether frames wait in the ring
-    /// meanwhile; if not, they are brought to the active desk, where a flush is refused. By default they wait if such a
-    /// flush is tried again.
+    /// All is locked: the active desk is between two blocks, and no store has a free segment or a block that may go. It
+    /// is called each time round in which that is so, but not for one desk that no other joins. Whether frames wait in
+    /// the ring meanwhile; if not, they are brought to the active desk, where a flush is refused. By default they wait
+    /// if such a flush is tried again.
     fn all_locked<R: Wait, D: Disk + Drop>(&self, rt: &R, back: &Back<D, Self>) -> bool
         requires { AllLocked D.medium back.now.desks back.now.active }
     {
@@ -73,7 +73,7 @@ pub trait Guide: Visits {
     }
 
     /// Serves what others ask of the desks, which are lent to it. It is called between flushes, by the desks' own
-    /// thread.
+    /// thread. Where a visit locks, it stores first what waits at the active desk: no other takes those frames.
     fn visit<R: Wait + Clock, D: Disk + Drop>(
         &self,
         rt: &R,

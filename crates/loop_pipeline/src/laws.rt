@@ -1,14 +1,19 @@
 //! What holds of a camera that was filmed. The functions do nothing: their contracts are the laws.
 
-ghost use Rattle.std.specs.Prelude.{◌≡◌, Bool, ℕ, Some, [], slice_get};
+ghost use Rattle.std.specs.Prelude.{◌≡◌, ◌%◌, ◌^◌, Bool, List, ℕ, Some, [], false, slice_get, true};
 ghost use Rattle.loop_desk.specs.Seen.{SeenDesk};
-ghost use Rattle.loop_pipeline.specs.Backs.{calls_at};
+ghost use Rattle.loop_pipeline.specs.Backs.{IsSoAt, calls_at};
 ghost use Rattle.loop_pipeline.specs.Cameras.{CameraKeeps, OneDeskKeeps, desks_of};
+ghost use Rattle.loop_pipeline.specs.Fronts.{GoesOn, TickRecord};
 ghost use Rattle.loop_pipeline.specs.Legal.{IsLegalRun};
 ghost use Rattle.loop_pipeline.specs.Nexts.{OldestGoes};
+ghost use Rattle.loop_pipeline.specs.TickCounts.{CountsTicks};
+ghost use Rattle.loop_pipeline.specs.Turns.{RoomForBlock, TurnsTo};
+ghost use Rattle.loop_record.specs.Recording.{Recording};
+ghost use Rattle.loop_store.specs.Seen.{StandsFor, ring_in};
 
-use crate::{Camera, Guide};
-use loop_capture::FrameSource;
+use crate::{Back, Camera, Guide, Visits};
+use loop_capture::{Device, FrameSource};
 use loop_disk::Disk;
 use loop_plane::PlaneMemory;
 
@@ -41,8 +46,26 @@ pub fn one_desk_has_all<S: FrameSource + Drop, D: Disk + Drop, P: PlaneMemory, G
         → OneDeskKeeps D.medium G.asks G.gives_up before.now.desk after.now kept.came left }
 {}
 
+/// Where the store of any desk of a back has room for a block, a back that turns doesn't tell that all is locked, and
+/// turns to a desk whose store has room.
+pub fn room_is_turned_to<D: Disk + Drop, K: Visits>(back: &Back<D, K>)
+    ensures { (new : ℕ) (locked : Bool) → TurnsTo D.medium back.now.desks back.now.end back.now.active new locked
+        → (place : ℕ) (d : SeenDesk D) (r : Recording) → slice_get back.now.desks place ≡ Some d
+        → StandsFor D.medium d.store r → RoomForBlock (ring_in d.store) d.store.keep r
+        → (locked ≡ false) × IsSoAt new back.now.desks (λ e. (q : Recording) → StandsFor D.medium e.store q
+        → RoomForBlock (ring_in e.store) e.store.keep q) }
+{}
+
+/// Where a device goes on at a start, its ticks that got a frame or lost one are counted: each has the next count, and
+/// its sequence is the count, which goes round.
+pub fn ticks_are_counted<S: FrameSource + Drop>(before: &Device<S>, after: &Device<S>)
+    ensures { (given : List TickRecord) (count : ℕ) → GoesOn S.next_gives before.now given after.now
+        → before.now.goes_on ≡ true → before.now.next ≡ count % 2 ^ 32
+        → (end : ℕ) × CountsTicks count given end × (after.now.next ≡ end % 2 ^ 32) }
+{}
+
 /// Of all stores of a camera, no held frame of a block that may go is older than the first frame of the block that
-/// goes, if in each store the times rise with the numbers.
+/// goes, by their sequences, if in each store these rise with the numbers, up to one past the newest. No time decides.
 pub fn the_oldest_goes()
     ensures { OldestGoes }
 {}

@@ -1,6 +1,7 @@
 //! What follows from the definitions. Each function does nothing: its contract is the law.
 
 ghost use Rattle.loop_record.specs.Laws.{VictimsAreLeast, LegalStepsKeepForm, AppendsAreLegal, ReadingsAreWellFormed, FreshImagesAreEmpty, KeptClipsReadTheSame, WrittenIsRead};
+ghost use Rattle.loop_record.specs.Counts.{NewestIsLast, OneIsOlder, OrderIsTrue, PlacesAreCounts};
 
 /// In a recording whose numbers rise, the victim is the least block of a held frame that no clip meets and that isn't
 /// among the newest that are kept: as many held blocks as are kept are above it. Where there is no victim, there is no
@@ -39,4 +40,20 @@ pub fn kept_clips_read_the_same()
 /// Reading gives back what was written of a slot, a superblock, a header or a clip entry.
 pub fn written_is_read()
     ensures { WrittenIsRead }
+{}
+
+/// Of any two sequences one is older, or they are the same.
+pub fn one_is_older()
+    ensures { OneIsOlder }
+{}
+
+/// The newest comes last.
+pub fn the_newest_is_last()
+    ensures { NewestIsLast }
+{}
+
+/// Frames within 2^32 of the end are in the order in which they were counted.
+pub fn order_is_true()
+    ensures places { PlacesAreCounts }
+    ensures order { OrderIsTrue }
 {}

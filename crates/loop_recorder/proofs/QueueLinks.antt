@@ -19,8 +19,8 @@ module _ {S P : Type 0} (gives : S → Next → List ℕ → S → Type 0) (m : 
   took-stands : (tick : Tick) (d e : SeenDevice S) (before after : Lined P) (table : Fds P) (j : IoctlState)
       → StandsIoctl m before table j → Took gives m now tick d e before after j.queue → StandsPort m after table
   took-stands tick d e before after table j stands took =
-      let stamp : Stamp = record { sequence = sequence_of d.next j.queue; timestamp = now } in
-      let s = after_all after_event j.queue (tick_events now d.next tick took.bytes j.queue) in
+      let stamp : Stamp = record { sequence = sequence_of d j.queue; timestamp = now } in
+      let s = after_all after_event j.queue (tick_events now d tick took.bytes j.queue) in
       record { state = _; stands = moves m before after table j s stands took.queue (tick-linked tick stamp took.bytes j.queue j.out j.names stands.linked) }
 
   same-stands : (before after : Lined P) (table : Fds P) → after ≡ before → StandsPort m before table

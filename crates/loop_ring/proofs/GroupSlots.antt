@@ -8,6 +8,7 @@ use Rattle.loop_disk.specs.Rows.{joined}
 use Rattle.loop_record.specs.Laws.{FitsSlot}
 use Rattle.loop_record.specs.Layout.{slot_bytes}
 use Rattle.loop_record.specs.Recording.{Picture}
+use Rattle.loop_ring.specs.declared.group.SlotStamp.{SlotStamp}
 use Rattle.loop_ring.specs.Groups.{IsGrouped, first_slots}
 use Rattle.loop_ring.proofs.SlotStages.{Gains}
 
@@ -73,13 +74,13 @@ rows_more p rows heads bodies a d low rows_long heads_long bodies_long is so_far
     ∙ sym (slots_on p heads bodies d (omega (arith, heads_long, low)) (omega (arith, bodies_long, low)))
 
 -- a group with one frame more
-pub gained : (n limit first count : ℕ) (heads : List (List ℕ)) (bodies : List (Bor (List ℕ))) (times : List ℕ)
-    (head : List ℕ) (body : Bor (List ℕ)) (p : Picture) → IsGrouped n limit first count heads bodies times
+pub gained : (n limit first count : ℕ) (heads : List (List ℕ)) (bodies : List (Bor (List ℕ))) (stamps : List SlotStamp)
+    (head : List ℕ) (body : Bor (List ℕ)) (p : Picture) → IsGrouped n limit first count heads bodies stamps
     → count < limit → length heads ≡ 64 → length bodies ≡ 64 → FitsSlot (first + count) p → length p.bytes ≡ n
     → head ++ body.now ≡ slot_bytes (first + count) p
     → Gains n first count (first_slots count heads bodies)
     (first_slots (count + 1) (set heads count head) (set bodies count body)) p
-gained n limit first count heads bodies times head body p kept l heads_long bodies_long fits size is = record {
+gained n limit first count heads bodies stamps head body p kept l heads_long bodies_long fits size is = record {
   fits = fits;
   size = size;
   long = kept.long;

@@ -11,7 +11,8 @@ use Rattle.loop_record.specs.Recording.{Picture}
 use Rattle.loop_record.proofs.OwnBytes.{map_range}
 use Rattle.loop_record.proofs.ReadBack.{slot_in-slot_bytes}
 use Rattle.std.specs.Borrow.{Bor}
-use Rattle.loop_ring.specs.Groups.{IsGrouped, first_slots, frames_in}
+use Rattle.loop_ring.specs.declared.group.SlotStamp.{SlotStamp}
+use Rattle.loop_ring.specs.Groups.{IsGrouped, first_slots, frames_in, slot_stamp}
 use Rattle.loop_ring.specs.Writes.{slots_in, slots_of}
 use Rattle.loop_ring.proofs.Bytes.{moved_slot}
 
@@ -108,12 +109,12 @@ gained-frames n first count old new p gains =
     ap (λ (ss : List Slot). map (λ t. t.picture) ss) (gained-slots n first count old new p gains) ∙ map-append (λ t. t.picture) (slots_in n old count) (s ∷ [])
 
 pub gained-kept : (n limit first count : ℕ) (heads heads' : List (List ℕ)) (bodies bodies' : List (Bor (List ℕ)))
-    (times times' : List ℕ) (p : Picture)
+    (stamps stamps' : List SlotStamp) (p : Picture)
     → Gains n first count (first_slots count heads bodies) (first_slots (count + 1) heads' bodies') p
-    → IsGrouped n limit first count heads bodies times → count < limit
-    → take (count + 1) times' ≡ take count times ++ p.timestamp ∷ []
-    → IsGrouped n limit first (count + 1) heads' bodies' times'
-gained-kept n limit first count heads heads' bodies bodies' times times' p gains kept l more = record {
+    → IsGrouped n limit first count heads bodies stamps → count < limit
+    → length stamps' ≡ length stamps → take (count + 1) stamps' ≡ take count stamps ++ slot_stamp p ∷ []
+    → IsGrouped n limit first (count + 1) heads' bodies' stamps'
+gained-kept n limit first count heads heads' bodies bodies' stamps stamps' p gains kept l room more = record {
   few = omega (arith, l);
   most = kept.most;
   fits = kept.fits;
@@ -135,10 +136,11 @@ gained-kept n limit first count heads heads' bodies bodies' times times' p gains
       ∙ (λ i. slots_of n first (frames_in n old count) ++ record { number = sym many i; size = n; picture = p } ∷ [])
       ∙ sym (slots_of-behind n first (frames_in n old count) (p ∷ []))
       ∙ ap (slots_of n first) (sym (gained-frames n first count old new p gains));
+  places = room ∙ kept.places;
   stamps =
-      ap (λ (ps : List Picture). map (λ q. q.timestamp) ps) (gained-frames n first count old new p gains)
-      ∙ map-append (λ (q : Picture). q.timestamp) (frames_in n old count) (p ∷ [])
-      ∙ (λ i. kept.stamps i ++ p.timestamp ∷ []) ∙ sym more;
+      ap (λ (ps : List Picture). map slot_stamp ps) (gained-frames n first count old new p gains)
+      ∙ map-append slot_stamp (frames_in n old count) (p ∷ [])
+      ∙ (λ i. kept.stamps i ++ slot_stamp p ∷ []) ∙ sym more;
 }
   where
     old : List ℕ

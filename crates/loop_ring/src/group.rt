@@ -6,7 +6,7 @@ ghost use Rattle.loop_record.specs.Laws.{FitsSlot};
 ghost use Rattle.loop_record.specs.Layout.{slot_bytes};
 ghost use Rattle.loop_record.specs.Plain.{pictures};
 ghost use Rattle.loop_record.specs.Recording.{Picture, picture};
-ghost use Rattle.loop_ring.specs.Groups.{Grouped, IsGrouped, first_slots, frames_in};
+ghost use Rattle.loop_ring.specs.Groups.{Grouped, IsGrouped, first_slots, frames_in, slot_stamp};
 ghost use Rattle.loop_ring.specs.Writes.{slots_in, slots_of};
 
 use loop_record::{Frame, Geometry, HEAD_SIZE, encode_head};
@@ -19,13 +19,28 @@ pub const MAX_GROUP: usize = 64;
 /// The most rows of a group's slots: for each frame the head and the bytes.
 pub(crate) const MAX_ROWS: usize = 2 * MAX_GROUP;
 
+/// What is known in memory of the frame in a slot.
+#[derive(Clone, Copy, Debug, PartialEq, Eq)]
+pub struct SlotStamp {
+    /// Its time in microseconds.
+    pub time: u64,
+    /// Its number in the source's count, as the source gave it.
+    pub sequence: u32,
+}
+
+/// What is known where no frame is.
+pub const NO_STAMP: SlotStamp = SlotStamp {
+    time: 0,
+    sequence: 0,
+};
+
 /// Frames that are written together, numbered from a first one on. It owns the heads of their slots, and borrows their
 /// bytes: none is copied. In contracts it is the first number and the list of the frames.
 #[derive(Drop)]
 pub struct Group<'a> {
     heads: [[u8; HEAD_SIZE]; MAX_GROUP],
     bodies: [&'a [u8]; MAX_GROUP],
-    times: [u64; MAX_GROUP],
+    stamps: [SlotStamp; MAX_GROUP],
     frame_bytes: usize,
     limit: usize,
     first: u64,
@@ -43,7 +58,7 @@ impl<'a> Model for Group<'a> {
           frames = frames_in g.frame_bytes (first_slots g.count g.heads g.bodies) g.count;
         } };
 
-    ghost invariant = { λ g. IsGrouped g.frame_bytes g.limit g.first g.count g.heads g.bodies g.times };
+    ghost invariant = { λ g. IsGrouped g.frame_bytes g.limit g.first g.count g.heads g.bodies g.stamps };
 }
 
 impl<'a> Group<'a> {
@@ -60,7 +75,7 @@ impl<'a> Group<'a> {
         Group {
             heads: [[0; HEAD_SIZE]; MAX_GROUP],
             bodies: [&[]; MAX_GROUP],
-            times: [0; MAX_GROUP],
+            stamps: [NO_STAMP; MAX_GROUP],
             frame_bytes: geometry.frame_bytes() as usize,
             limit: MAX_GROUP.min(geometry.slots as usize),
             first,
@@ -77,7 +92,10 @@ impl<'a> Group<'a> {
     {
         self.heads[self.count] = head_of(self.first + self.count as u64, frame);
         self.bodies[self.count] = &frame.bytes;
-        self.times[self.count] = frame.timestamp;
+        self.stamps[self.count] = SlotStamp {
+            time: frame.timestamp,
+            sequence: frame.sequence,
+        };
         self.count += 1;
     }
 
@@ -108,13 +126,13 @@ impl<'a> Group<'a> {
         self.first
     }
 
-    /// The time of a frame, by its place in the group.
-    pub fn time(&self, place: usize) -> u64
+    /// The time and the sequence of a frame, by its place in the group.
+    pub fn stamp(&self, place: usize) -> SlotStamp
         requires { place < length self.now.frames }
-        ensures { (d : Picture) → result ≡ (slice_index_or self.now.frames place d).timestamp }
+        ensures { (d : Picture) → result ≡ slot_stamp (slice_index_or self.now.frames place d) }
     {
-        let times: &[u64] = &self.times;
-        times[place]
+        let stamps: &[SlotStamp] = &self.stamps;
+        stamps[place]
     }
 
     /// The rows of the slots: for each frame the head, and then the bytes.

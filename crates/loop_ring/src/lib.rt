@@ -31,6 +31,6 @@ mod victim;
 
 pub use count::clips_on;
 pub use fault::SlotFault;
-pub use group::{Group, MAX_GROUP};
+pub use group::{Group, MAX_GROUP, NO_STAMP, SlotStamp};
 pub use index::SegmentIndex;
 pub use ring::Ring;

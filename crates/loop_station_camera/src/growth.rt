@@ -52,7 +52,7 @@ impl CameraState {
 
     /// Tells of an event that too many go on.
     pub fn tell_too_many(&self, event: u64, lines: &mut Lines) -> io::Result<()> {
-        lines.event_not_whole(event, self.config.name.as_str(), &"TooManyEvents")
+        lines.event_not_whole(event, self.config.name.as_str(), &"TooManyEvents", 0)
     }
 
     /// Clips with which no event goes on are saved by themselves, where the camera has a folder for them.
@@ -90,17 +90,17 @@ impl CameraState {
     ) -> io::Result<()> {
         let (name, keep) = (self.config.name.as_str(), growing.keep);
         tell_clips(self, &keep, found, lines)?;
-        let is_whole = tell_shortfall(self, &keep, keep.until, runs, lines)?;
+        let (is_whole, lost) = tell_shortfall(self, &keep, keep.until, runs, lines)?;
         match (
             event_end(growing.fault().is_some(), is_whole),
             growing.fault(),
         ) {
             (EventEnd::Whole, _) => lines.event_whole(keep.event, name),
             (EventEnd::Refused, Some(fault)) => {
-                lines.event_not_whole(keep.event, name, &fault.name())
+                lines.event_not_whole(keep.event, name, &fault.name(), lost)
             }
             (EventEnd::Refused | EventEnd::Gaps, _) => {
-                lines.event_not_whole(keep.event, name, &"Gaps")
+                lines.event_not_whole(keep.event, name, &"Gaps", lost)
             }
         }
     }
@@ -153,8 +153,8 @@ pub(crate) fn grow<R: Wait + Clock, D: Disk + Drop>(
     ) {
         GrowthTurn::Release => release_covered(rt, state, desks, growing),
         GrowthTurn::End => {
-            let found = times_of(rt, alloc, state, desks, growing.clips());
-            let runs = runs_of(rt, alloc, state, desks, &found);
+            let mut found = times_of(rt, alloc, state, desks, growing.clips());
+            let runs = runs_of(rt, alloc, state, desks, found.as_mut_slice());
             state.end_growing(rt, alloc, growing, &found, &runs);
         }
         GrowthTurn::Leave => {

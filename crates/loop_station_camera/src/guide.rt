@@ -16,12 +16,23 @@ use std::time::{Clock, Duration};
 const LOOK_AGAIN: u64 = 50;
 
 impl Guide for CameraState {
-    /// A tick for each frame of the source, at the time when it came.
+    /// A tick for each frame of the source, at the time when it came. While stores are still to be opened, frames wait
+    /// in memory where one would take the place of another that may not be the oldest; a stop doesn't wait for that.
     fn next_tick<R: Wait + Clock>(&self, rt: &R, _n: u64) -> Option<u64> {
         for _ in rt.forever() {
             let (come, taken) = self.feed.counts(rt);
+            // A frame before which some were lost waits for their ticks.
+            let taken = taken.saturating_sub(u64::from(self.feed.is_ready(rt)));
             if !self.life.camera(rt).films(come, taken) {
                 return None;
+            }
+            if self.stored.is_opening(rt) && !self.is_stopped(rt) {
+                let is_full = self.feed.is_full(rt);
+                if self.stored.holds_back(rt, taken, is_full) {
+                    // What it returns is looked at anew.
+                    let _full = self.feed.wait_full(rt, Duration::from_millis(LOOK_AGAIN));
+                    continue;
+                }
             }
             if let Some(time) = self.feed.make_ready(rt, Duration::from_millis(LOOK_AGAIN)) {
                 return Some(time);
@@ -33,7 +44,7 @@ impl Guide for CameraState {
     fn ticked<R: Wait>(&self, rt: &R, tick: Tick) {
         match tick {
             Tick::Completed(_) | Tick::Failed(_) => {}
-            Tick::Missed => self.give_up(rt),
+            Tick::Missed => self.lose(rt),
             Tick::Idle | Tick::Ended | Tick::WrongSize => {
                 self.life.on(rt, FilmingEvent::Break);
             }
@@ -41,7 +52,7 @@ impl Guide for CameraState {
     }
 
     fn lacked<R: Wait>(&self, rt: &R) {
-        self.give_up(rt);
+        self.lose(rt);
     }
 
     fn brought<R: Wait, D: Disk + Drop>(&self, rt: &R, _back: &Back<D, CameraState>, _number: u64) {
@@ -69,6 +80,15 @@ impl Guide for CameraState {
             _ => FilmingEvent::Break,
         };
         self.life.on(rt, event) == Act::FlushAgain
+    }
+
+    /// While further stores are opened, one of them may have room: the frames wait for it, and nothing is told.
+    fn all_locked<R: Wait, D: Disk + Drop>(&self, rt: &R, _back: &Back<D, CameraState>) -> bool {
+        let camera = self.life.camera(rt);
+        if self.stored.is_opening(rt) && !camera.over && !camera.stopping {
+            return true;
+        }
+        self.flushes_again(rt, StoreFault::AllLocked)
     }
 
     /// Orders are done only while the desk works. Once it is broken the filming ends, and the store is opened again.

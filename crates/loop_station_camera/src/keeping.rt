@@ -8,6 +8,7 @@ ghost use Rattle.loop_station_camera.specs.Keeping.{StoresAll, StoresAndKeepsEac
 use crate::growing::Growing;
 use crate::reading::head_at;
 use crate::state::CameraState;
+use crate::times::shown_at;
 use loop_desk::{Flushed, Kept};
 use loop_disk::Disk;
 use loop_pipeline::Desks;
@@ -32,6 +33,7 @@ pub(crate) fn turn_of<R: Wait + Clock>(
     keep: Keep,
 ) -> (Keep, KeepTurn) {
     let now = state.timeline.now(rt);
+    let now = shown_at(rt, state, now, now.min(keep.since));
     let come = state.feed.come(rt, now.min(keep.until));
     let look = Look {
         tally: state.tally(rt),

@@ -99,9 +99,9 @@ fn unlock_and_tell<R: Wait, D: Disk + Drop>(
     let _ = tell_released(state, id, released, lines);
 }
 
-// Unlocks a clip. Where it is a part of an event that goes on, that part ends; where the time of its last frame can't
-// be read, it stays locked.
-fn unlock_part<R: Wait, D: Disk + Drop>(
+/// Unlocks a clip. Where it is a part of an event that goes on, that part ends; where the time of its last frame can't
+/// be read, it stays locked.
+pub(crate) fn unlock_part<R: Wait, D: Disk + Drop>(
     rt: &R,
     state: &CameraState,
     desks: &mut Desks<D, CameraState>,

@@ -2,13 +2,13 @@
 
 use crate::keeping::KeepPart;
 use crate::state::CameraState;
-use crate::times::gaps_of;
+use crate::times::{clock_of, gaps_of};
 use loop_desk::{Kept, Outline};
 use loop_script::Listing;
 use loop_station_core::{Keep, Run, clip_id, kept_answer, shortfall_of};
 use loop_station_outside::Absent;
 use loop_station_shared::{FoundClip, source_name};
-use loop_station_words::{CameraStatus, Lines, StoresStatus};
+use loop_station_words::{CameraStatus, Lines, StoresStatus, WhenFull};
 use loop_store::StoreFault;
 use std::io;
 use std::sync::Wait;
@@ -68,35 +68,35 @@ pub(crate) fn tell_clips(
         lines.kept(
             state.config.name.as_str(),
             &clip.clip,
-            clip.first,
-            clip.last,
+            (clip.first, clip.last),
             keep.event,
+            clip.lost,
         )?;
     }
     Ok(())
 }
 
 /// Tells how much of a keep's time is held, and where frames are missing, if some are. Returns whether all of it is
-/// held.
+/// held, and how many frames are lost in it.
 pub(crate) fn tell_shortfall(
     state: &CameraState,
     keep: &Keep,
     until: u64,
     runs: &[Run],
     lines: &mut Lines,
-) -> io::Result<bool> {
+) -> io::Result<(bool, u64)> {
     let name = state.config.name.as_str();
     let Ok(missing) = shortfall_of(state.alloc, runs, keep.since, until, least_gap(state)) else {
-        return Ok(false);
+        return Ok((false, 0));
     };
     if missing.gaps.is_empty() {
-        return Ok(true);
+        return Ok((true, 0));
     }
-    lines.held(name, missing.held, missing.asked, keep.event)?;
+    lines.held(name, missing.held, missing.asked, keep.event, missing.lost)?;
     for gap in missing.gaps.as_slice() {
-        lines.gap(name, gap.micros, gap.at, keep.event)?;
+        lines.gap(name, gap.micros, gap.at, keep.event, gap.lost)?;
     }
-    Ok(false)
+    Ok((false, missing.lost))
 }
 
 // The distance of frames of which a gap has more than one and a half.
@@ -156,6 +156,7 @@ pub fn tell_status<R: Wait>(rt: &R, state: &CameraState, lines: &mut Lines) -> i
         None => return lines.absent(name, &Absent::Opening),
     }
     let (tally, camera) = (state.tally(rt), state.life.camera(rt));
+    let losses = state.feed.losses(rt);
     let source = source_name(camera.source_seen());
     let room = state.room(rt);
     let status = CameraStatus {
@@ -164,10 +165,15 @@ pub fn tell_status<R: Wait>(rt: &R, state: &CameraState, lines: &mut Lines) -> i
         waiting: tally.submitted.saturating_sub(tally.left),
         behind: state.behind_micros(rt),
         room: room.free,
+        blocks: room.blocks,
         keeps: Some(room.keeps),
         faults: camera.faults,
         source,
         gaps: gaps_of(rt, state),
+        lost: losses.lost,
+        estimated: losses.estimated,
+        clock: clock_of(rt, state),
+        when_full: state.config.when_full.unwrap_or(WhenFull::Stop),
     };
     match room.extent {
         None => lines.status(name, &status),

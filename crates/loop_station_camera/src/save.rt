@@ -8,10 +8,11 @@ mod frames;
 mod pieces;
 mod written;
 
+use crate::fleet::Fleet;
 use crate::saves::{NotBegun, Save, SaveTarget, Saves};
 use crate::state::CameraState;
-use loop_station_core::{SaveEnd, SaveLine, after_save};
-use loop_station_outside::{NotSaved, Places};
+use loop_station_core::{SaveEnd, SaveLine, after_save, is_saved};
+use loop_station_outside::{NotSaved, PathKind, Places};
 use loop_station_shared::{Answering, FoundClip, KeptClip, SaveOrder};
 use loop_station_words::Lines;
 use loop_store::StoreFault;
@@ -175,15 +176,32 @@ fn save_of(
 pub fn run_saves<R: AllocGlobal + Places + Wait + Clock>(
     rt: &R,
     saves: &Saves,
-    cameras: &[Arc<CameraState>],
+    fleet: &Fleet,
     at: usize,
 ) {
     for _ in rt.forever() {
         if let Some(save) = saves.next(rt, at) {
-            if let Some(state) = cameras.get(save.camera) {
-                run_save(rt, state, at, &save);
+            match fleet.at(rt, save.camera) {
+                Some(state) => run_save(rt, &state, at, &save),
+                None => {
+                    // Its camera has ended, and the save with it, as was told.
+                    let _told = saves.end(rt, at, SaveEnd::Final, false);
+                }
             }
         }
+    }
+}
+
+/// Ends the saves of a camera that ends, and tells so.
+pub fn end_saves_of<R: Wait>(rt: &R, state: &CameraState) {
+    for _ in 0..u64::MAX {
+        let Some(id) = state.saves.next_of(rt, state.place) else {
+            break;
+        };
+        let Some((save, _)) = state.saves.cancel(rt, state.place, id) else {
+            break;
+        };
+        tell_ended(rt, state, &save, NotSaved::Stopped);
     }
 }
 
@@ -202,12 +220,25 @@ fn run_save<R: AllocGlobal + Places + Wait + Clock>(
         }
         Err(why) => (String::new(rt.alloc()), Err(why)),
     };
+    if is_saved(end_of(&came)) && rt.path_kind(path.as_str()) == PathKind::File {
+        note_whole(rt, state, save);
+    }
     let (ours, is_released) = state.saves.end(rt, at, end_of(&came), state.config.release);
     if let Some(ours) = ours {
         tell_save(rt, state, ours, path.as_str(), came);
     }
     if is_released {
         state.release_saved(rt, save.key());
+    }
+}
+
+// The clips of a save are written whole, into a file.
+fn note_whole<R: AllocGlobal + Wait>(rt: &R, state: &CameraState, save: &Save) {
+    // Where memory is refused, they stay locked where every block is.
+    if let Ok(clips) = save.clips(rt.alloc()) {
+        for found in clips.as_slice() {
+            state.whole.add(rt, found.key(state.place));
+        }
     }
 }
 

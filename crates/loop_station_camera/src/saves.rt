@@ -124,27 +124,31 @@ struct Inside {
     retries: Retries,
 }
 
+/// What no clip is written to.
+#[derive(Drop)]
+pub struct TakenPaths {
+    /// The files and pipes of the station.
+    pub files: Vec<String>,
+    /// The paths of the cameras' stores: no clip is written to one with a number either.
+    pub stores: Vec<String>,
+}
+
 /// The saves that are in progress.
 #[derive(Drop)]
 pub struct Saves {
     inside: Mutex<Inside>,
     changed: Condvar,
     pub(crate) stopped: AtomicBool,
-    /// The files and pipes of the station, which no clip is written to.
-    taken: Vec<String>,
-    /// The paths of the cameras' stores: no clip is written to one with a number either.
-    stores: Vec<String>,
+    taken: Mutex<Arc<TakenPaths>>,
     /// The only folder in which orders may write, if there is one.
     pub(crate) folder: Option<String>,
 }
 
 impl Saves {
-    /// No saves yet. No clip is written to these files and pipes and the stores with a number of these, and by orders
-    /// only into this folder, if there is one.
+    /// No saves yet. No clip is written to what is taken, and by orders only into this folder, if there is one.
     pub fn new(
         alloc: Global,
-        taken: Vec<String>,
-        stores: Vec<String>,
+        taken: Arc<TakenPaths>,
         folder: Option<String>,
     ) -> Result<Saves, AllocError> {
         let mut places = Vec::with_capacity(alloc, MOST_SAVES)?;
@@ -165,20 +169,33 @@ impl Saves {
             }),
             changed: Condvar::new(),
             stopped: AtomicBool::new(false),
-            taken,
-            stores,
+            taken: Mutex::new(taken),
             folder,
         })
     }
 
-    /// Whether a path leads to a file or pipe of the station.
-    pub(crate) fn is_taken<R: Places>(&self, rt: &R, path: &str) -> bool {
-        for taken in self.taken.as_slice() {
-            if rt.is_same(path, taken.as_str()) {
+    /// From now on no clip is written to these.
+    pub fn set_taken<R: Wait>(&self, rt: &R, taken: Arc<TakenPaths>) {
+        *self.taken.lock(rt) = taken;
+    }
+
+    /// The id of a clip of a camera that a save which hasn't ended reads, if there is one.
+    pub(crate) fn next_of<R: Wait>(&self, rt: &R, camera: usize) -> Option<u32> {
+        self.inside.lock(rt).next_of(camera)
+    }
+
+    /// Whether a path leads to a file or pipe of the station. A path that hangs delays no other save.
+    pub(crate) fn is_taken<R: Places + Wait>(&self, rt: &R, path: &str) -> bool {
+        let taken = Arc::try_clone(&self.taken.lock(rt));
+        let Ok(taken) = taken else {
+            return true;
+        };
+        for file in taken.files.as_slice() {
+            if rt.is_same(path, file.as_str()) {
                 return true;
             }
         }
-        for store in self.stores.as_slice() {
+        for store in taken.stores.as_slice() {
             if rt.is_numbered(path, store.as_str()) {
                 return true;
             }
@@ -375,6 +392,30 @@ impl Inside {
             .iter()
             .position(|save| save.camera == camera && save.found.clip.id == id)?;
         Some(self.waiting.remove(at))
+    }
+
+    // The id of a clip of a camera that a save which hasn't ended reads.
+    fn next_of(&self, camera: usize) -> Option<u32> {
+        for place in self.places.as_slice() {
+            match &place.save {
+                Some(save) if save.camera == camera && !place.is_told => {
+                    return Some(save.found.clip.id);
+                }
+                _ => {}
+            }
+        }
+        let is_of = |save: &Arc<Save>| save.camera == camera;
+        let next = match self.waiting.iter().position(is_of) {
+            Some(at) => self.waiting.get(at),
+            None => match self.failed.iter().position(is_of) {
+                Some(at) => self.failed.get(at),
+                None => None,
+            },
+        };
+        match next {
+            Some(save) => Some(save.found.clip.id),
+            None => None,
+        }
     }
 
     // Takes a save that failed.

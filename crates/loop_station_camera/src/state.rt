@@ -4,6 +4,7 @@ ghost use Rattle.std.specs.Prelude.{false};
 
 use crate::growing::Ongoing;
 use crate::saves::Saves;
+use crate::whole::WholeClips;
 use loop_desk::Flushed;
 use loop_pipeline::{Link, Noting, Visits};
 use loop_station_core::{FilmingEvent, SaveKey, Tally};
@@ -15,6 +16,7 @@ use loop_station_shared::{
 use loop_station_words::{CameraConfig, Lines, duration_of, numbered};
 use loop_store::{Clip, ReadFrame, StoreFault};
 use std::alloc::{AllocError, Global};
+use std::sync::atomic::{AtomicBool, Ordering};
 use std::sync::{Arc, Wait};
 
 /// What the cameras of a station have in common.
@@ -74,6 +76,10 @@ pub struct CameraState {
     pub reader: Inbox<(u32, u64), Result<ReadFrame, StoreFault>, Absent>,
     /// What its stores held when they were last changed.
     pub stored: Stored,
+    /// Which of its clips may go where every block is locked.
+    pub(crate) whole: WholeClips,
+    // The thread of its source has ended.
+    source_ended: AtomicBool,
 }
 
 impl CameraState {
@@ -106,6 +112,8 @@ impl CameraState {
             saves,
             reader: Inbox::new(),
             stored: Stored::new(alloc),
+            whole: WholeClips::new(alloc),
+            source_ended: AtomicBool::new(false),
         })
     }
 
@@ -163,6 +171,7 @@ impl CameraState {
     /// A clip was released.
     pub fn remove_clip<R: Wait>(&self, rt: &R, id: u32) {
         self.stored.remove(rt, id);
+        self.whole.remove(rt, id);
     }
 
     /// Whether a save reads the clip of an id and with a tag, where that is known: by itself, or as one of an event.
@@ -236,6 +245,16 @@ impl CameraState {
         self.threads.wake(rt);
     }
 
+    /// The thread of its source ends.
+    pub fn end_source(&self) {
+        self.source_ended.store(true, Ordering::SeqCst);
+    }
+
+    /// Whether that thread has ended: until then it may read from the source.
+    pub fn has_source_ended(&self) -> bool {
+        self.source_ended.load(Ordering::SeqCst)
+    }
+
     /// The store was moved away: the filming ends, and a store is made anew.
     pub fn move_away<R: Wait>(&self, rt: &R) {
         self.life.on(rt, FilmingEvent::Move);
@@ -262,6 +281,9 @@ impl CameraState {
     /// taken. Events that went on while the stores were opened again have clips here. `opening`: files of others are
     /// there.
     pub fn begin<R: Wait>(&self, rt: &R, member: Member, wanted: u32, opening: bool) {
+        let (_, taken) = self.feed.counts(rt);
+        let ready = u64::from(self.feed.is_ready(rt));
+        self.stored.count_from(rt, taken.saturating_sub(ready));
         self.stored.begin(rt, member, wanted, opening);
         self.life.on(rt, FilmingEvent::Begin);
         self.jobs.open(rt);
@@ -358,6 +380,13 @@ impl CameraState {
     /// A frame was given up on its way to the desk.
     pub(crate) fn give_up<R: Wait>(&self, rt: &R) {
         self.life.give_up(rt, self.come(rt));
+    }
+
+    /// A tick came to no frame: one was given up on its way to the desk, or the source had lost it.
+    pub(crate) fn lose<R: Wait>(&self, rt: &R) {
+        if !self.feed.was_lost(rt) {
+            self.give_up(rt);
+        }
     }
 
     /// Desk and queue are given up: what was in them and isn't stored is lost, and counted. The camera's thread calls

@@ -14,6 +14,8 @@ pub fn said_of(state: &CameraState, geometry: &Geometry, bits: u32) -> Said {
         time: None,
         by_source: state.config.times_from == TimesFrom::Source,
         period: duration_of(1, geometry),
+        number: None,
+        losses: state.config.losses,
     }
 }
 
@@ -25,7 +27,23 @@ pub(crate) fn gaps_of<R: Wait>(rt: &R, state: &CameraState) -> Option<u64> {
     }
 }
 
-/// Tells that a source's times go back, that it has none, and a gap in them.
+/// How many microseconds a source's clock is ahead, where its times are those of its frames and it has said one.
+pub(crate) fn clock_of<R: Wait>(rt: &R, state: &CameraState) -> Option<i64> {
+    match state.config.times_from {
+        TimesFrom::Source => state.feed.clock(rt),
+        TimesFrom::Arrival => None,
+    }
+}
+
+/// What the clock of a camera's frames shows at a time of the station's; `unknown` where no frame has come yet that says.
+pub fn shown_at<R: Wait>(rt: &R, state: &CameraState, now: u64, unknown: u64) -> u64 {
+    match state.config.times_from {
+        TimesFrom::Source => state.feed.shown(rt, now).unwrap_or(unknown),
+        TimesFrom::Arrival => now,
+    }
+}
+
+/// Tells that a source's times go back, that it has none, a gap in them, and what is wrong with its clock.
 pub fn tell_times<R: Wait>(rt: &R, state: &CameraState, lines: &mut Lines) -> io::Result<()> {
     let (name, tells) = (state.config.name.as_str(), state.feed.tells(rt));
     if tells.back {
@@ -33,6 +51,15 @@ pub fn tell_times<R: Wait>(rt: &R, state: &CameraState, lines: &mut Lines) -> io
     }
     if tells.untimed {
         lines.no_times(name)?;
+    }
+    if tells.anew {
+        lines.numbers_anew(name)?;
+    }
+    if let Some((micros, at)) = tells.wrong {
+        lines.wrong_time(name, micros, at)?;
+    }
+    if let Some((micros, at)) = tells.step {
+        lines.clock_steps(name, micros, at)?;
     }
     match tells.gap {
         Some((micros, at)) => lines.frames_gap(name, micros, at),

@@ -1,24 +1,33 @@
 -- What holds of a source's times, whatever it says.
-use Rattle.std.proofs.Common.{◌≡◌, ℕ, ◌+◌, ◌-◌, ◌^◌, ◌<◌, ◌≤◌, Bool, true, false, List, [], ◌∷◌, Option, Some, None, is_some, min, arith, refl}
-use Rattle.std.specs.Prelude.{IfSome, if◌then◌else◌, nat_le}
+use Rattle.std.proofs.Common.{◌≡◌, ℕ, ◌+◌, ◌-◌, ◌/◌, ◌^◌, ◌<◌, ◌≤◌, Bool, true, false, List, [], ◌∷◌, Option, Some, None, is_some, max, min, arith, refl}
+use Rattle.std.specs.Prelude.{IfSome, if◌then◌else◌, nat_le, nat_lt}
 use Rattle.std.proofs.lemmas.Bool.{leb-false, leb-true}
-use Rattle.loop_station_core.specs.Timing.{EachLater, later, said_or_now, step_timing, tells, LongGapsAreTold, TimesAreTheSources, OddTimesAreToldOnce}
+use Rattle.loop_station_core.specs.Timing.{EachLater, later, said_or_now, step_of, step_since, step_timing, tells, LongGapsAreTold, TimesAreTheSources, OddTimesAreToldOnce}
 use Rattle.loop_station_core.specs.declared.timing.Arrival.{Arrival}
 use Rattle.loop_station_core.specs.declared.timing.Timing.{Timing}
 use Rattle.std.proofs.lemmas.Grind.{common_steps}
 
-later_by : (early : Bool) (last time : ℕ) → nat_le time last ≡ early → last < 2 ^ 64 - 1
-    → last < (if early then min (last + 1) (2 ^ 64 - 1) else time)
-later_by true last time is room = omega (arith, room)
-later_by false last time is room = omega (arith, leb-false time last is)
+later_by : (early : Bool) (last step time : ℕ) → nat_le time last ≡ early → 1 ≤ step → last < 2 ^ 64 - 1
+    → last < (if early then min (last + step) (2 ^ 64 - 1) else time)
+later_by true last step time is some room = omega (arith, some, room)
+later_by false last step time is some room = omega (arith, leb-false time last is)
 
-rises : (last : Option ℕ) (time : ℕ) → IfSome last (λ l. l < 2 ^ 64 - 1 → l < later last time)
-rises None time = tt
-rises (Some last) time = λ room. later_by (nat_le time last) last time refl room
+step-by : (far : Bool) (half : ℕ) → 1 ≤ (if far then max half 1 else 1)
+step-by true half = omega arith
+step-by false half = omega arith
+
+steps : (last said : Option ℕ) (passed : ℕ) → 1 ≤ step_since last said passed
+steps (Some last) (Some said) passed = step-by (nat_lt 1000000 (last - said)) (passed / 2)
+steps (Some last) None passed = omega arith
+steps None said passed = omega arith
+
+rises : (last : Option ℕ) (step time : ℕ) → 1 ≤ step → IfSome last (λ l. l < 2 ^ 64 - 1 → l < later last step time)
+rises None step time some = tt
+rises (Some last) step time some = λ room. later_by (nat_le time last) last step time refl some room
 
 pub rise : (t : Timing) (frames : List Arrival) → EachLater t frames
 rise t [] = tt
-rise t (a ∷ more) = (rises t.last (said_or_now a), rise (step_timing t a).0 more)
+rise t (a ∷ more) = (rises t.last (step_of t a) (said_or_now a) (steps t.last a.said (a.now - t.came)), rise (step_timing t a).0 more)
 
 told_by : (tell : Bool) (gap : Option ℕ) (told now : ℕ) → tells gap (Some told) now ≡ tell
     → is_some (if tell then gap else None) ≡ true → 1000000 ≤ now - told

@@ -1,25 +1,29 @@
 -- What of a time is held, and where one clip lies within others.
-use Rattle.std.specs.Prelude.{◌≡◌, true, ℕ, ◌+◌, ◌-◌, ◌/◌, ◌≤◌, ◌&&◌, Bool, List, [], ◌∷◌, filter, sum_by, nat_lt, nat_le, ◌<◌, ◌*◌}
+use Rattle.std.specs.Prelude.{◌≡◌, true, ℕ, ◌+◌, ◌-◌, ◌/◌, ◌≤◌, ◌&&◌, ◌||◌, ◌⊎◌, Bool, List, [], ◌∷◌, filter, sum_by, nat_lt, nat_le, ◌<◌, ◌*◌}
 use Rattle.loop_station_core.specs.declared.runs.Run.{Run}
 use Rattle.loop_station_core.specs.declared.runs.Gap.{Gap}
 use Rattle.loop_station_core.specs.declared.runs.ClipSpan.{ClipSpan}
 
 -- what lies between the runs of a time that begins at `since` and ends at `until`, long or not
 abbrev pub between : ℕ → List Run → ℕ → List Gap
-between since [] until = record { micros = until - since; at = since } ∷ []
-between since (r ∷ rs) until = record { micros = r.first - since; at = since } ∷ between r.last rs until
+between since [] until = record { micros = until - since; at = since; lost = 0 } ∷ []
+between since (r ∷ rs) until = record { micros = r.first - since; at = since; lost = r.lost } ∷ between r.last rs until
 
--- it is longer than one and a half of these periods
-abbrev pub is_long_gap : ℕ → Gap → Bool
-is_long_gap period g = nat_lt (period + period / 2) g.micros
+-- frames are lost there, or it is longer than one and a half of these periods
+abbrev pub is_gap : ℕ → Gap → Bool
+is_gap period g = nat_lt 0 g.lost || nat_lt (period + period / 2) g.micros
 
--- the gaps of a time: what is long of what lies between its runs
+-- the gaps of a time: those of what lies between its runs
 abbrev pub gaps : ℕ → ℕ → List Run → ℕ → List Gap
-gaps period since runs until = filter (is_long_gap period) (between since runs until)
+gaps period since runs until = filter (is_gap period) (between since runs until)
 
 -- how long gaps are together
 abbrev pub micros_missing : List Gap → ℕ
 micros_missing gs = sum_by (λ g. g.micros) gs
+
+-- how many frames are lost in gaps
+abbrev pub frames_lost : List Gap → ℕ
+frames_lost gs = sum_by (λ g. g.lost) gs
 
 -- the runs lie one after the other within the time
 abbrev pub AreWithin : ℕ → List Run → ℕ → Type 0
@@ -45,7 +49,12 @@ abbrev pub TimesAddUp : Type 0
 TimesAddUp = (since until : ℕ) (runs : List Run) → AreWithin since runs until
     → micros_missing (gaps 0 since runs until) + micros_held runs ≡ until - since
 
--- A gap is long exactly where it is longer than one and a half of a frame's time.
+-- Something is a gap exactly where frames are lost there, or it is longer than one and a half of a frame's time.
 abbrev pub LongGapsAreLong : Type 0
-LongGapsAreLong = (period : ℕ) (g : Gap) → (is_long_gap period g ≡ true → period * 3 < g.micros * 2)
-    × (period * 3 < g.micros * 2 → is_long_gap period g ≡ true)
+LongGapsAreLong = (period : ℕ) (g : Gap) → (is_gap period g ≡ true → (1 ≤ g.lost) ⊎ (period * 3 < g.micros * 2))
+    × (1 ≤ g.lost → is_gap period g ≡ true) × (period * 3 < g.micros * 2 → is_gap period g ≡ true)
+
+-- Each frame that is lost between two runs is in one of the gaps.
+abbrev pub LostAreInGaps : Type 0
+LostAreInGaps = (period since until : ℕ) (runs : List Run)
+    → frames_lost (gaps period since runs until) ≡ sum_by (λ r. r.lost) runs

@@ -1,5 +1,5 @@
 -- What holds over any list of events.
-use Rattle.std.specs.Prelude.{ℕ, ◌+◌, ◌++◌, ◌-◌, ◌*◌, ◌^◌, ◌≡◌, ◌≤◌, ◌<◌, ◌⊎◌, Bool, true, false, List, [], ◌∷◌, zero, suc, Option, Some, None, IfSome, is_some, option_map, if◌then◌else◌}
+use Rattle.std.specs.Prelude.{ℕ, ◌+◌, ◌++◌, ◌-◌, ◌*◌, ◌%◌, ◌^◌, ◌≡◌, ◌≤◌, ◌<◌, ◌⊎◌, Bool, true, false, List, [], ◌∷◌, zero, suc, Option, Some, None, IfSome, is_some, option_map, if◌then◌else◌}
 use Rattle.std.specs.List.{list_any}
 use Rattle.loop_station_core.specs.Answers.{all_answered, answers_of, given_by}
 use Rattle.loop_station_core.specs.Cameras.{lived, step_camera}
@@ -11,7 +11,7 @@ use Rattle.loop_station_core.specs.Orders.{OrderStep, no_orders, orders_after_al
 use Rattle.loop_station_core.specs.Clips.{may_release, may_release_saved}
 use Rattle.loop_station_core.specs.Releases.{SaveStep, clip_released_in, lets_in, no_saves, saves_after_all, saves_ended_in, saves_taken_in}
 use Rattle.loop_station_core.specs.SaveEnds.{waits_in}
-use Rattle.loop_station_core.specs.Search.{has_gap, mark_at, most, told, turn}
+use Rattle.loop_station_core.specs.Search.{ahead, has_gap, lost_counts, mark_at, most, told, turn}
 use Rattle.loop_station_core.specs.Texts.{AllThreeCame, FirstCame, after_steps}
 use Rattle.loop_station_core.specs.Saving.{Places, asked, covers, is_read, is_saving, left_to_others, withdrawn}
 use Rattle.loop_station_core.specs.declared.clips.MayRelease.TheVariants.{Now}
@@ -27,7 +27,9 @@ use Rattle.loop_station_core.specs.declared.keep.Look.{Look}
 use Rattle.loop_station_core.specs.declared.runs.Run.{Run}
 use Rattle.loop_station_core.specs.declared.save_end.SaveEnd.{SaveEnd}
 use Rattle.loop_station_core.specs.declared.saves.Save.{Save}
+use Rattle.loop_station_core.specs.declared.search.Mark.{Mark}
 use Rattle.loop_station_core.specs.declared.search.Search.{Search}
+use Rattle.loop_station_core.specs.declared.search.SearchTurn.{SearchTurn}
 use Rattle.loop_station_core.specs.declared.search.SearchTurn.TheVariants.{Read, Gap as SearchGap, Again, Over}
 use Rattle.loop_station_core.specs.declared.text.TextStep.TheVariants.{SyncText, SyncName, Saved, Unname, NotSaved}
 use Rattle.loop_station_core.specs.declared.changes.SourceSeen.TheVariants.{Missing, Silent, Unusable, On}
@@ -252,36 +254,37 @@ abbrev pub OrdersAreAnsweredOnce : Type 0
 OrdersAreAnsweredOnce = (given : List (Option ℕ)) (answers : List (ℕ × ℕ)) → all_answered given ≡ false
     → answers_of given answers ≡ (if all_answered (given_by given answers) then 1 else 0)
 
--- how a search of a clip goes on, whose frames have these times
-abbrev pub step_search : (ℕ → ℕ) → Search → Search
-step_search time s = elim (turn s).1 [
-  | Read n ↦ told s (time n)
+-- how a search of a clip goes on, whose frames have these times, and these sequences
+abbrev pub step_search : (ℕ → ℕ) → (ℕ → ℕ) → Search → Search
+step_search time count s = elim (turn s).1 [
+  | Read n ↦ told s (time n) (count n % 2 ^ 32)
   | SearchGap from to ↦ (turn s).0
   | Again ↦ (turn s).0
   | Over ↦ s
 ]
 
 -- after so many turns
-abbrev pub searched : (ℕ → ℕ) → ℕ → Search → Search
-searched time zero s = s
-searched time (suc turns) s = searched time turns (step_search time s)
+abbrev pub searched : (ℕ → ℕ) → (ℕ → ℕ) → ℕ → Search → Search
+searched time count zero s = s
+searched time count (suc turns) s = searched time count turns (step_search time count s)
 
 -- a search of the frames from one number to another
-abbrev pub search_of : (ℕ → ℕ) → ℕ → ℕ → ℕ → Search
-search_of time period a b = record {
+abbrev pub search_of : (ℕ → ℕ) → (ℕ → ℕ) → ℕ → ℕ → ℕ → Search
+search_of time count period a b = record {
   period = period;
-  from = mark_at time a;
-  to = mark_at time b;
-  end = mark_at time b;
+  from = mark_at time count a;
+  to = mark_at time count b;
+  end = mark_at time count b;
 }
 
--- A gap that a search finds lies between two frames with consecutive numbers, and more time than that of a frame passes
--- there: by half a period more, and a quarter of a second in all.
+-- A gap that a search finds lies between two frames with consecutive numbers, and their sequences aren't consecutive, or
+-- more time than that of a frame passes there: by half a period more, and a quarter of a second in all.
 abbrev pub FoundGapsAreSo : Type 0
-FoundGapsAreSo = (time : ℕ → ℕ) (period a b turns from to : ℕ) → a ≤ b
-    → let s = searched time turns (search_of time period a b) in
+FoundGapsAreSo = (time count : ℕ → ℕ) (period a b turns : ℕ) (from to : Mark) → a ≤ b
+    → let s = searched time count turns (search_of time count period a b) in
     (turn s).1 ≡ SearchGap from to
-    → (from ≡ time s.from.number) × (to ≡ time (s.from.number + 1)) × (period + most period < to - from)
+    → (from ≡ mark_at time count s.from.number) × (to ≡ mark_at time count (s.from.number + 1))
+    × ((1 ≤ ahead from.sequence to.sequence 1) ⊎ (period + most period < to.time - from.time))
 
 -- A search is over only once no gap is seen up to its end; it leaves no stretch with a gap that isn't told, and goes on
 -- where the last one ended.
@@ -290,12 +293,42 @@ SearchesLookAtAll = (s : Search) → let now = turn s in
     (now.1 ≡ Over → (has_gap s.period s.from s.to ≡ false) × (s.end.number ≤ s.to.number))
     × (now.1 ≡ Again → (has_gap s.period s.from s.to ≡ false) × (now.0.from ≡ s.to) × (now.0.to ≡ s.end))
 
--- A stretch in which a frame is missing is looked into, where no frame comes earlier than a period after the one
+-- A stretch in which no frame came for a while is looked into, where no frame comes earlier than a period after the one
 -- before.
 abbrev pub GapsAreLookedFor : Type 0
-GapsAreLookedFor = (time : ℕ → ℕ) (period a b n : ℕ) → ((k : ℕ) → time k + period ≤ time (suc k))
+GapsAreLookedFor = (time count : ℕ → ℕ) (period a b n : ℕ) → ((k : ℕ) → time k + period ≤ time (suc k))
     → a ≤ n → n < b → time n + period + most period < time (suc n)
-    → has_gap period (mark_at time a) (mark_at time b) ≡ true
+    → has_gap period (mark_at time count a) (mark_at time count b) ≡ true
+
+-- each stored frame is counted later than the one before
+abbrev pub CountRises : (ℕ → ℕ) → Type 0
+CountRises count = (k : ℕ) → count k < count (suc k)
+
+-- how many were counted from one stored frame to another and aren't stored
+abbrev pub lost_from : (ℕ → ℕ) → ℕ → ℕ → ℕ
+lost_from count a b = count b - count a - (b - a)
+
+-- Between two stored frames as many are lost as were counted from one to the other and aren't stored, where these are
+-- fewer than half of all sequences; whatever their times are.
+abbrev pub LostAreCounted : Type 0
+LostAreCounted = (count : ℕ → ℕ) (a b : ℕ) → CountRises count → a ≤ b → lost_from count a b < 2 ^ 31
+    → lost_counts (count a % 2 ^ 32) (count b % 2 ^ 32) (b - a) ≡ lost_from count a b
+
+-- how many frames a turn tells as lost
+abbrev pub lost_at : SearchTurn → ℕ
+lost_at (SearchGap from to) = lost_counts from.sequence to.sequence (to.number - from.number)
+lost_at _ = 0
+
+-- how many so many turns do
+abbrev pub lost_found : (ℕ → ℕ) → (ℕ → ℕ) → ℕ → Search → ℕ
+lost_found time count zero s = 0
+lost_found time count (suc turns) s = lost_at (turn s).1 + lost_found time count turns (step_search time count s)
+
+-- A search that is over has found each lost frame, once, and no other: whatever the times of the frames are.
+abbrev pub LostAreFound : Type 0
+LostAreFound = (time count : ℕ → ℕ) (period a b turns : ℕ) → CountRises count → a ≤ b → lost_from count a b < 2 ^ 31
+    → let s = search_of time count period a b in
+    (turn (searched time count turns s)).1 ≡ Over → lost_found time count turns s ≡ lost_from count a b
 
 -- A text is told to be saved once its three steps came; where a new name can't be kept, it is taken away again, and
 -- where it replaced another, it stays.

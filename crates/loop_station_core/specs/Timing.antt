@@ -1,5 +1,5 @@
 -- The times of frames that their source says, and the gaps between them.
-use Rattle.std.specs.Prelude.{◌≡◌, ◌<◌, ◌≤◌, ℕ, ◌+◌, ◌-◌, ◌/◌, ◌^◌, ◌&&◌, ◌||◌, Bool, true, false, not, List, [], ◌∷◌, Option, Some, None, IfSome, is_none, is_some, min, nat_lt, nat_le, if◌then◌else◌}
+use Rattle.std.specs.Prelude.{◌≡◌, ◌<◌, ◌≤◌, ℕ, ◌+◌, ◌-◌, ◌/◌, ◌^◌, ◌&&◌, ◌||◌, Bool, true, false, not, List, [], ◌∷◌, Option, Some, None, IfSome, is_none, is_some, max, min, nat_lt, nat_le, if◌then◌else◌}
 use Rattle.loop_station_core.specs.declared.timing.Arrival.{Arrival}
 use Rattle.loop_station_core.specs.declared.timing.Stamped.{Stamped}
 use Rattle.loop_station_core.specs.declared.timing.Timing.{Timing}
@@ -11,10 +11,19 @@ said_or_now a = elim a.said [
   | None ↦ a.now
 ]
 
--- a time, or a microsecond after the last one where it isn't later
-abbrev pub later : Option ℕ → ℕ → ℕ
-later None time = time
-later (Some last) time = if nat_le time last then min (last + 1) (2 ^ 64 - 1) else time
+-- how much later than the last time the next one is at least: half of what has passed since that came, where its source
+-- says one more than a second before it
+abbrev pub step_since : Option ℕ → Option ℕ → ℕ → ℕ
+step_since (Some last) (Some said) passed = if nat_lt 1000000 (last - said) then max (passed / 2) 1 else 1
+step_since _ _ passed = 1
+
+abbrev pub step_of : Timing → Arrival → ℕ
+step_of t a = step_since t.last a.said (a.now - t.came)
+
+-- a time, or one so much after the last one where it isn't later
+abbrev pub later : Option ℕ → ℕ → ℕ → ℕ
+later None step time = time
+later (Some last) step time = if nat_le time last then min (last + step) (2 ^ 64 - 1) else time
 
 -- the time that its source says isn't later than the last one
 abbrev pub is_back : Option ℕ → Option ℕ → Bool
@@ -42,6 +51,7 @@ abbrev pub stamped_with : Timing → Arrival → ℕ → Option ℕ → Timing �
 stamped_with t a time gap = (
   record {
     last = Some time;
+    came = a.now;
     streams = true;
     gaps = counted t.gaps gap;
     told = if tells gap t.told a.now then Some a.now else t.told;
@@ -59,7 +69,7 @@ stamped_with t a time gap = (
 -- the same after a frame that has come
 abbrev pub step_timing : Timing → Arrival → Timing × Stamped
 step_timing t a =
-    let time = later t.last (said_or_now a) in
+    let time = later t.last (step_of t a) (said_or_now a) in
     stamped_with t a time (gap_since t.streams t.last time a.period)
 
 -- each frame's time is later than that of the frame before, as long as there are later ones

@@ -1,15 +1,20 @@
 //! What holds over any list of events. Each function does nothing: its contract is the law.
 
-ghost use Rattle.loop_station_core.specs.Laws.{BrokenFilmingsEnd, DisksAreToldOnce, FilmingsGoOn, FoundGapsAreSo, FramesAddUp, GapsAddUp, GapsAreLookedFor, KeepsAreRight, LinesAreSo, LockedLinesAlternate, LockedLinesTellAll, LostAreToldOnce, MovedStoresAreLeft, NothingIsToldTwice, OrdersAreAnsweredOnce, OrdersAreHandedOut, OrdersReleaseUnreadClips, OrdersSpareReadClips, ReleasesAreEarned, ReleasesAreFree, SavedClipsAreReleased, SavedTextsAreThere, SavesWaitOnce, SearchesLookAtAll, SilentSourcesWait, StopsAreForGood, TextsAreSaved, UnreadSavedClipsAreReleased, WithdrawnSavesLeaveNothing};
+ghost use Rattle.loop_station_core.specs.Laws.{BrokenFilmingsEnd, DisksAreToldOnce, FilmingsGoOn, FoundGapsAreSo, FramesAddUp, GapsAddUp, GapsAreLookedFor, KeepsAreRight, LinesAreSo, LockedLinesAlternate, LockedLinesTellAll, LostAreCounted, LostAreFound, LostAreToldOnce, MovedStoresAreLeft, NothingIsToldTwice, OrdersAreAnsweredOnce, OrdersAreHandedOut, OrdersReleaseUnreadClips, OrdersSpareReadClips, ReleasesAreEarned, ReleasesAreFree, SavedClipsAreReleased, SavedTextsAreThere, SavesWaitOnce, SearchesLookAtAll, SilentSourcesWait, StopsAreForGood, TextsAreSaved, UnreadSavedClipsAreReleased, WithdrawnSavesLeaveNothing};
 ghost use Rattle.loop_station_core.specs.Cameras.{CamerasEndWithTheProgram, EndedFilmingsGoOn, LockedBlocksAreKnown, LockedFilmingsWait, OffersAreAnswered, SilenceIsSeen, SourcesAreSeen, StoresAreOpenedAgain};
-ghost use Rattle.loop_station_core.specs.Gaps.{CoveredPartsAreWithin, LongGapsAreLong, TimesAddUp};
+ghost use Rattle.loop_station_core.specs.Gaps.{CoveredPartsAreWithin, LongGapsAreLong, LostAreInGaps, TimesAddUp};
+ghost use Rattle.loop_station_core.specs.Losses.{EstimatesAreRight};
 ghost use Rattle.loop_station_core.specs.Keeps.{KeepsCoverBothEnds, KeepsCoverTheirSeconds, KeepsEnd, KeepsHaveAll, KeepsLockEachBlock, KeepsLockOnce, KeepsTakeTheCamerasSeconds, ProgressIsSeen, StuckKeepsEnd};
 ghost use Rattle.loop_station_core.specs.Marks.{MarksAreRead};
 ghost use Rattle.loop_station_core.specs.Releases.{CancelsFindTheirSave, EarnedClipsAreReleased, SavesAddUp, SavesAreTakenIn, SavesWaitForPlaces};
 ghost use Rattle.loop_station_core.specs.Retries.{CancelsMeanTheirClip, DueRetriesAreTaken, RetriesAreDue};
 ghost use Rattle.loop_station_core.specs.Timing.{FrameTimesRise, GapsAreToldApart, LongGapsAreTold, OddTimesAreToldOnce, TimesAreTheSources};
+ghost use Rattle.loop_station_core.specs.Clocks.{ClocksAreRead, MediansLieAmong, MovedClocksAreTold, RightTimesStay, StepsAreHeard, WrongTimesAreNone};
+ghost use Rattle.loop_station_core.specs.Newest.{NewestIsAhead, OrderedAreCounted, OthersAreTimed};
 ghost use Rattle.loop_station_core.specs.Sets.{ClipsHaveTheirOwnIds, IdsAreThoseOfTheFile, StoresHoldWhatCame};
 ghost use Rattle.loop_station_core.specs.Clips.{KeepsHaveRoom, RefusedReleasesAreSo};
+ghost use Rattle.loop_station_core.specs.Full.{AllowedClipsGo, OldestClipsGo};
+ghost use Rattle.loop_station_core.specs.Reloads.{RefusedReloadsChangeNothing, ReloadsAreFollowed};
 ghost use Rattle.loop_station_core.specs.Orders.{IdleCamerasAreDone, OrdersAreTakenIn};
 ghost use Rattle.loop_station_core.specs.Saving.{BegunSavesAreTold, CancelledSavesAreTheirs, ClipsAreSavedOnce, PlacesTellAll, ReadersAreSo, SavesEarnTheirClip, StopsEndSaves};
 ghost use Rattle.loop_station_core.specs.Frames.{LostFramesWereGivenUp, TalliesAddUp};
@@ -48,14 +53,25 @@ pub fn gaps_add_up()
     ensures { GapsAddUp }
 {}
 
-/// A gap that a search of a clip finds lies between two frames with consecutive numbers, and is long.
+/// A gap that a search of a clip finds lies between two frames with consecutive numbers, and frames are lost there, or
+/// it is long.
 pub fn found_gaps_are_so()
     ensures { FoundGapsAreSo }
 {}
 
-/// A stretch in which a frame is missing is looked into, where frames come no faster than at their rate.
+/// A stretch in which none came for a while is looked into, where frames come no faster than at their rate.
 pub fn gaps_are_looked_for()
     ensures { GapsAreLookedFor }
+{}
+
+/// Between two stored frames as many are lost as were counted there and aren't stored.
+pub fn lost_are_counted()
+    ensures { LostAreCounted }
+{}
+
+/// A search of a clip finds each lost frame, once, and no other, whatever the times of its frames are.
+pub fn lost_are_found()
+    ensures { LostAreFound }
 {}
 
 /// A text is told to be saved only once its bytes, its name and its folder are on the disk, in this order.
@@ -416,9 +432,19 @@ pub fn keeps_lock_once()
     ensures { KeepsLockOnce }
 {}
 
-/// A gap is long exactly where it is longer than one and a half of a frame's time.
+/// A gap is where frames are lost, or where more than one and a half of a frame's time passes, and nowhere else.
 pub fn long_gaps_are_long()
     ensures { LongGapsAreLong }
+{}
+
+/// As many frames are estimated to be lost as the time has too many periods for, and none elsewhere.
+pub fn estimates_are_right()
+    ensures { EstimatesAreRight }
+{}
+
+/// Each frame that is lost between two runs is in one of the gaps that are told.
+pub fn lost_are_in_gaps()
+    ensures { LostAreInGaps }
 {}
 
 /// A clip is read exactly by the saves of its camera that are of its id, or that read each clip with its tag.
@@ -454,4 +480,70 @@ pub fn refused_releases_are_so()
 /// Lost frames are told as soon as they are seen, but no more than once a second, unless the program ends.
 pub fn lost_frames_are_told_soon()
     ensures { LostFramesAreToldSoon }
+{}
+
+/// What a clock shows at the moment by which it was measured is what it said.
+pub fn clocks_are_read()
+    ensures { ClocksAreRead }
+{}
+
+/// A time within a minute of what a source's clock shows, as measured, is the frame's time.
+pub fn right_times_stay()
+    ensures { RightTimesStay }
+{}
+
+/// One that is further off is none, and is told once, unless another clock was heard.
+pub fn wrong_times_are_none()
+    ensures { WrongTimesAreNone }
+{}
+
+/// A clock steps once eight frames in a row over two seconds show it, and not before.
+pub fn steps_are_heard()
+    ensures { StepsAreHeard }
+{}
+
+/// That a clock's measure has moved is told, a minute after the one before or later.
+pub fn moved_clocks_are_told()
+    ensures { MovedClocksAreTold }
+{}
+
+/// A clock's measure lies among what it is measured by.
+pub fn medians_lie_among()
+    ensures { MediansLieAmong }
+{}
+
+/// Of stores whose newest frames are in order, the one that is chosen is ahead of each.
+pub fn newest_is_ahead()
+    ensures { NewestIsAhead }
+{}
+
+/// The newest frames of stores are in order wherever one is less than half of all sequences ahead of each.
+pub fn ordered_are_counted()
+    ensures { OrderedAreCounted }
+{}
+
+/// Of others the one that came last is chosen.
+pub fn others_are_timed()
+    ensures { OthersAreTimed }
+{}
+
+/// Where every block is locked, of the clips that the configuration lets go the oldest one goes.
+pub fn oldest_clips_go()
+    ensures { OldestClipsGo }
+{}
+
+/// No other clip goes: none that a save reads, none that wasn't saved whole where that is asked for, and none with
+/// another tag.
+pub fn allowed_clips_go()
+    ensures { AllowedClipsGo }
+{}
+
+/// A configuration that is refused ends no camera, and begins none.
+pub fn refused_reloads_change_nothing()
+    ensures { RefusedReloadsChangeNothing }
+{}
+
+/// After any other, cameras record by its words, and those whose words are the same weren't touched.
+pub fn reloads_are_followed()
+    ensures { ReloadsAreFollowed }
 {}

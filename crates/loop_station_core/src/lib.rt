@@ -7,10 +7,13 @@
 //! - `growth`: which lines answer a keep, what is done of an event whose end lies ahead, and which clips a start saves;
 //! - `runs`: what of a keep's time is held, and the gaps in it; which clips lie within longer ones;
 //! - `search`: which frames of a clip are looked at to find where some are missing;
+//! - `losses`: how many frames a source lost that doesn't number them;
 //! - `saves`: places of saves: which begins, which waits, and which clips are read meanwhile;
 //! - `save_end`: what is told of a save's end, whether and when it is tried again;
 //! - `retries`: which saves are tried again, and when;
 //! - `clips`: which clips may be released, and how many keeps have room;
+//! - `full`: which clip is released where every block is locked;
+//! - `reload`: which cameras end, begin and go on where the configuration is read anew;
 //! - `text`: the steps by which the text of a save gets its name;
 //! - `orders`: which orders of a camera are taken in, and whether one is being done;
 //! - `replies`: the answers of the cameras that an order means, and when it is answered;
@@ -19,26 +22,34 @@
 //! - `still`: whether the program stood still;
 //! - `marks`: what stands in a frame's flags: its bits, and whether it came late;
 //! - `timing`: the times that a source says of its frames, and the gaps between them;
+//! - `clock`: how far a source's clock is ahead, and which of its times are none;
+//! - `newest`: which of a camera's stores has the newest frame, and which is opened next;
 //! - `changes`: which lines about a camera follow from what is seen of it;
 //! - `laws`: what holds over any list of events, each law the contract of a function that does nothing.
 //!
 //! Each call is a step of the model in `specs`: `Frames` for tallies, `Cameras`, `Keeps`, `Growth`, `Gaps` for runs,
-//! `Search`, `Saving`, `SaveEnds`, `Retries`, `Clips`, `Texts`, `Orders`, `Answers` for replies, `Telling` for lines,
-//! `Spools`, `Stores`, `Still`, `Sets`. `Laws` says what follows of it: frames add up; a keep locks only the times of
-//! its line, and only once each frame that had come before that line is at the desk or lost, or every block is locked,
-//! or no frame has made progress for a minute; what is held of a time and its gaps are all of it; a clip that a save
-//! reads isn't released, and one that a save releases has a whole text; a text is told as saved once it is on the disk;
-//! an order that is taken in waits or is handed out; a line says what was so, and each lost frame is told once.
+//! `Search`, `Losses`, `Saving`, `SaveEnds`, `Retries`, `Clips`, `Texts`, `Orders`, `Answers` for replies, `Telling` for
+//! lines, `Full`, `Reloads`, `Spools`, `Stores`, `Still`, `Sets`, `Clocks`, `Newest`. `Laws` says what follows of it:
+//! frames add up; a keep locks only the times of its line, and only once each frame that had come before that line is at
+//! the desk or lost, or every block is locked, or no frame has made progress for a minute; what is held of a time and its
+//! gaps are all of it; each frame that is lost in a clip is found, and no other; a clip that a save reads isn't released,
+//! and one that a save releases has a whole text; a text is told as saved once it is on the disk; an order that is taken
+//! in waits or is handed out; a line says what was so, and each lost frame is told once.
 #![tactic(auto)]
 
 mod camera;
 mod changes;
 mod clips;
+mod clock;
+mod full;
 mod growth;
 mod keep;
 pub mod laws;
+mod losses;
 mod marks;
+mod newest;
 mod orders;
+mod reload;
 mod replies;
 mod retries;
 mod runs;
@@ -58,6 +69,8 @@ pub use changes::{
     Change, Changes, DiskSeen, KINDS, NOT_THERE_YET, Reported, Seen, SourceSeen, StoreSeen,
 };
 pub use clips::{MayRelease, keeps_in, may_release, may_release_saved};
+pub use clock::{EVEN, Heard, MEASURED, SourceClock, Verdict, ahead_of, by_source, judged, median};
+pub use full::{FullRule, LockedClip};
 pub use growth::{
     EventEnd, GrowthTurn, KeptAnswer, OpenEvent, event_end, is_saved_at_start, kept_answer,
     next_growth,
@@ -65,15 +78,18 @@ pub use growth::{
 pub use keep::{
     Keep, KeepPeriod, KeepTurn, Look, Numbers, asked_time, bounds, is_too_far, next_turn, tag_of,
 };
+pub use losses::{MOST_DISTANCES, lost_by_time};
 pub use marks::{bits_of, came_late, mark};
+pub use newest::{NewestSeen, StoreNewest, holds_back, opens_before};
 pub use orders::{AddedOrder, Attended, MOST_ORDERS, Orders};
+pub use reload::{Fate, fate_of};
 pub use replies::Replies;
 pub use retries::Retries;
 pub use runs::{ClipSpan, Gap, Run, Shortfall, is_covered, shortfall_of};
-pub use save_end::{AfterSave, SaveEnd, SaveLine, after_save};
+pub use save_end::{SaveEnd, SaveLine, after_save, is_saved};
 pub use saves::{Asked, Cancelled, Ended, SaveKey, Saves, StoppedSave};
-pub use search::{Mark, Search, SearchTurn};
-pub use sets::{clip_id, held_after, id_parts, is_written_since};
+pub use search::{Mark, Search, SearchTurn, lost_between};
+pub use sets::{clip_id, held_after, id_parts};
 pub use spool::{MOST_SPOOLED, drops_oldest, says_dropped, takes_line};
 pub use still::stood_still;
 pub use stores::{goes_on, is_moved};

@@ -1,16 +1,18 @@
 //! What of a keep's time is held.
 
-ghost use Rattle.std.specs.Prelude.{◌≡◌, ◌-◌, ◌^◌, [], IfOk, min, option_to_list};
+ghost use Rattle.std.specs.Prelude.{◌≡◌, ◌-◌, ◌^◌, [], ◌∷◌, IfOk, filter, min, option_to_list};
 ghost use Rattle.std.specs.List.{list_any};
-ghost use Rattle.loop_station_core.specs.Gaps.{gaps, lies_within, micros_missing};
+ghost use Rattle.loop_station_core.specs.Gaps.{frames_lost, gaps, is_gap, lies_within, micros_missing};
 
 use std::alloc::{AllocError, Global};
 
-/// When the first and the last frame of a clip came, in microseconds since 1970.
+/// Frames that are held with no gap between them: when the first and the last of them came, in microseconds since 1970.
 #[derive(Clone, Copy)]
 pub struct Run {
     pub first: u64,
     pub last: u64,
+    /// How many frames are lost between the run before and this one.
+    pub lost: u64,
 }
 
 /// A time in which no frame is held.
@@ -20,6 +22,8 @@ pub struct Gap {
     pub micros: u64,
     /// When the last frame before it came, or when the keep's time begins.
     pub at: u64,
+    /// How many frames are lost there.
+    pub lost: u64,
 }
 
 /// How much of a keep's time is held.
@@ -29,17 +33,20 @@ pub struct Shortfall {
     pub held: u64,
     /// How many microseconds were asked for.
     pub asked: u64,
+    /// How many frames are lost in it.
+    pub lost: u64,
     /// The rest, in order.
     pub gaps: Vec<Gap>,
 }
 
-// The gap between two times, if they are that far apart.
-fn gap_between(at: u64, to: u64, period: u64) -> Option<Gap>
-    ensures { option_to_list result ≡ gaps period at [] to }
+// A gap that lasts from one time to another, where frames are lost, or it is long.
+fn gap_between(at: u64, to: u64, lost: u64, period: u64) -> Option<Gap>
+    ensures { option_to_list result
+        ≡ filter (is_gap period) (record { micros = to - at; at = at; lost = lost } ∷ []) }
 {
     let micros = to.saturating_sub(at);
-    if micros > period && micros - period > period / 2 {
-        return Some(Gap { micros, at });
+    if lost > 0 || micros > period && micros - period > period / 2 {
+        return Some(Gap { micros, at, lost });
     }
     None
 }
@@ -55,9 +62,21 @@ fn missing_of(gaps: &[Gap]) -> u64
     micros
 }
 
+// How many frames are lost in gaps, at most the greatest u64.
+fn lost_in(gaps: &[Gap]) -> u64
+    ensures { result ≡ min (frames_lost gaps.now) (2 ^ 64 - 1) }
+{
+    let mut lost = 0u64;
+    for gap in gaps {
+        lost = lost.saturating_add(gap.lost);
+    }
+    lost
+}
+
 /// What is missing of the time from `since` to `until`, where these runs are held, in their order. `period` is how many
-/// microseconds pass from a frame to the next. A gap is where two neighbours are more than one and a half periods
-/// apart: the end of a run and the beginning of the next, or the end of the time and the run beside it.
+/// microseconds pass from a frame to the next. A gap is where frames are lost between two runs, or where two neighbours
+/// are more than one and a half periods apart: the end of a run and the beginning of the next, or the end of the time and
+/// the run beside it.
 pub fn shortfall_of(
     alloc: Global,
     runs: &[Run],
@@ -68,22 +87,24 @@ pub fn shortfall_of(
     ensures gaps { IfOk result (λ s. s.gaps.items ≡ gaps period since runs.now until) }
     ensures held { IfOk result (λ s. (s.asked ≡ until - since)
         × (s.held ≡ s.asked - micros_missing s.gaps.items)) }
+    ensures lost { IfOk result (λ s. s.lost ≡ min (frames_lost s.gaps.items) (2 ^ 64 - 1)) }
 {
     let mut gaps = Vec::new(alloc);
     let mut at = since;
     for run in runs {
-        if let Some(gap) = gap_between(at, run.first, period) {
+        if let Some(gap) = gap_between(at, run.first, run.lost, period) {
             gaps.push(gap)?;
         }
         at = run.last;
     }
-    if let Some(gap) = gap_between(at, until, period) {
+    if let Some(gap) = gap_between(at, until, 0, period) {
         gaps.push(gap)?;
     }
     let asked = until.saturating_sub(since);
     Ok(Shortfall {
         held: asked.saturating_sub(missing_of(&gaps)),
         asked,
+        lost: lost_in(&gaps),
         gaps,
     })
 }

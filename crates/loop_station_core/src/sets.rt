@@ -1,13 +1,10 @@
-//! What a camera's several stores are together: their clips' ids, what they hold, and which is recorded into first.
+//! What a camera's several stores are together: their clips' ids and what they hold.
 
-ghost use Rattle.std.specs.Prelude.{◌≡◌, ◌≤◌, ◌<◌, ◌+◌, ◌*◌, ◌-◌, ◌/◌, ◌%◌, ◌^◌, ◌↔◌, IsTrue, min};
+ghost use Rattle.std.specs.Prelude.{◌≡◌, ◌≤◌, ◌<◌, ◌+◌, ◌*◌, ◌-◌, ◌/◌, ◌%◌, ◌^◌, min};
 ghost use Rattle.loop_station_core.specs.Sets.{clip_id, frames_held_since};
 
 // How many clips a store has at most.
 const CLIPS: u32 = 64;
-
-// How many microseconds the station's clock may be ahead of the system's, by which a file's time is.
-const AHEAD: u64 = 60_000_000;
 
 /// The id by which users know a clip of one of a camera's stores, which has a number below 256 and the id below 64
 /// there. With numbers that are too large for that it is the greatest id.
@@ -34,12 +31,4 @@ pub fn held_after(segments: u32, slots: u32, held: u64, began: u64, next: u64) -
     let newest = next.saturating_add(slots - 1) % slots + 1;
     let most = u64::from(segments.saturating_sub(1)) * slots + newest;
     most.min(next.saturating_sub(began).saturating_add(held))
-}
-
-/// Whether a file that was written last at a time may have frames that are newer than one of another store, in
-/// microseconds since 1970.
-pub fn is_written_since(written: u64, newest: u64) -> bool
-    ensures { IsTrue result ↔ (newest ≤ written + 60000000) }
-{
-    written.saturating_add(AHEAD) >= newest
 }

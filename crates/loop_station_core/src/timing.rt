@@ -1,16 +1,20 @@
 //! The times of frames that their source says, and the gaps between them.
 
 ghost use Rattle.std.specs.Prelude.{◌≡◌, false};
-ghost use Rattle.loop_station_core.specs.Timing.{counted, gap_since, is_back, later, said_or_now, step_timing, tells};
+ghost use Rattle.loop_station_core.specs.Timing.{counted, gap_since, is_back, later, said_or_now, step_of, step_timing, tells};
 
 // A gap is told only where the one before was told so many microseconds earlier.
 const TOLD_AGAIN: u64 = 1_000_000;
 
+// A clock was set back whose time lies so many microseconds before the last one.
+const STEPPED: u64 = 1_000_000;
+
 /// What is known of the times of a source's frames.
 #[derive(Clone, Copy, Debug, PartialEq, Eq, Drop)]
 pub struct Timing {
-    /// The time of the newest frame.
+    /// The time of the newest frame, and when it came.
     pub last: Option<u64>,
+    pub came: u64,
     /// That frame is of the stream that comes now.
     pub streams: bool,
     /// How many gaps were longer than one and a half of a frame's time.
@@ -52,6 +56,7 @@ impl Timing {
     pub fn new() -> Timing {
         Timing {
             last: None,
+            came: 0,
             streams: false,
             gaps: 0,
             told: None,
@@ -70,11 +75,12 @@ impl Timing {
     }
 
     /// A frame has come. Its time is what its source says, or else when it came, but always later than that of the
-    /// frame before.
+    /// frame before: a microsecond later where it isn't. Where its source says one that lies more than a second back,
+    /// times go on half as fast as frames come.
     pub fn on(self, frame: Arrival) -> (Timing, Stamped)
         ensures { result ≡ step_timing self frame }
     {
-        let time = later(self.last, said_or_now(frame));
+        let time = later(self.last, step_of(self, frame), said_or_now(frame));
         let gap = gap_of(self, time, frame.period);
         let told = is_told(self, gap, frame.now);
         let stamped = Stamped {
@@ -85,6 +91,7 @@ impl Timing {
         };
         let timing = Timing {
             last: Some(time),
+            came: frame.now,
             streams: true,
             gaps: counted(self.gaps, gap),
             told: if told { Some(frame.now) } else { self.told },
@@ -105,12 +112,25 @@ fn said_or_now(frame: Arrival) -> u64
     }
 }
 
-// A time, or a microsecond after the last one where it isn't later.
-fn later(last: Option<u64>, time: u64) -> u64
-    ensures { result ≡ later last time }
+// How much later than the last time the next one is at least: half of what has passed since that came, where its source
+// says one more than a second before it.
+fn step_of(timing: Timing, frame: Arrival) -> u64
+    ensures { result ≡ step_of timing frame }
+{
+    match (timing.last, frame.said) {
+        (Some(last), Some(said)) if last.saturating_sub(said) > STEPPED => {
+            (frame.now.saturating_sub(timing.came) / 2).max(1)
+        }
+        _ => 1,
+    }
+}
+
+// A time, or one so much after the last one where it isn't later.
+fn later(last: Option<u64>, step: u64, time: u64) -> u64
+    ensures { result ≡ later last step time }
 {
     match last {
-        Some(last) if time <= last => last.saturating_add(1),
+        Some(last) if time <= last => last.saturating_add(step),
         _ => time,
     }
 }

@@ -3,9 +3,13 @@
 ghost use Rattle.std.specs.Prelude.{◌≡◌, IfSome, None, Some, length};
 ghost use Rattle.loop_capture.specs.declared.source.Next.TheVariants.{More};
 
+use crate::losses::{Losses, Lost, Said};
 use circular_buffer::HeapCircularBuffer;
 use loop_capture::{FrameSource, Next};
-use loop_station_core::{Arrival, Stamped, Timing, came_late, mark};
+use loop_station_core::{
+    Arrival, EVEN, Heard, MEASURED, SourceClock, Stamped, Timing, Verdict, ahead_of, by_source,
+    came_late, judged, mark, median,
+};
 use loop_station_outside::Timeline;
 use std::alloc::{AllocError, Global};
 use std::mem;
@@ -18,27 +22,14 @@ const FEWEST: usize = 2;
 /// A frame of a source.
 #[derive(Drop)]
 pub struct Fed {
-    /// When it came, in microseconds since 1970.
-    came: u64,
-    /// Its time: that, or what its source says.
+    /// Its time, in microseconds since 1970: when it came, or what its source says.
     time: u64,
     /// Its mark, for its flags.
     mark: u32,
+    /// How many frames the source lost before it.
+    lost: u64,
     /// Its bytes.
     bytes: Vec<u8>,
-}
-
-/// What is said of a frame.
-#[derive(Clone, Copy)]
-pub struct Said {
-    /// How many bits a sample has.
-    pub bits: u32,
-    /// The time that its source says, if it says one.
-    pub time: Option<u64>,
-    /// Its time is that which its source says, and not when it came.
-    pub by_source: bool,
-    /// How long a frame lasts at the source's rate.
-    pub period: u64,
 }
 
 /// What is to be told of the times that a source says.
@@ -50,6 +41,12 @@ pub struct ToTell {
     pub untimed: bool,
     /// A gap of so many microseconds, before the frame of a time.
     pub gap: Option<(u64, u64)>,
+    /// That its numbers began anew.
+    pub anew: bool,
+    /// One that is none: how many microseconds it is ahead of what the source's clock shows, and the time in its place.
+    pub wrong: Option<(i64, u64)>,
+    /// That the clock has stepped by so many microseconds, with the frame of a time.
+    pub step: Option<(i64, u64)>,
 }
 
 // Nothing is to be told.
@@ -57,12 +54,33 @@ const NOTHING: ToTell = ToTell {
     back: false,
     untimed: false,
     gap: None,
+    anew: false,
+    wrong: None,
+    step: None,
 };
+
+// How far a clock was ahead at the last frames, and what is measured by that.
+#[derive(Drop)]
+struct Measured {
+    values: [u64; MEASURED],
+    count: usize,
+    measure: Option<u64>,
+    newest: u64,
+}
 
 #[derive(Drop)]
 struct Times {
     timing: Timing,
     tells: ToTell,
+    losses: Losses,
+    // The source has had to wait for a place since the frame before.
+    delayed: bool,
+    // The source's clock: what is known of it, what it says, and what frames got.
+    clock: SourceClock,
+    said: Measured,
+    kept: Measured,
+    // What it was seen to show last.
+    shown: u64,
     // When the program was seen to run last, and until when it was seen to have stood still.
     seen: u64,
     still: Option<u64>,
@@ -72,7 +90,7 @@ struct Times {
 struct WaitingFrames {
     frames: HeapCircularBuffer<Fed>,
     spare: HeapCircularBuffer<Vec<u8>>,
-    // When the frame came that waits for a place in the queue, if one does.
+    // The time of the frame that waits for a place in the queue, if one does.
     coming: Option<u64>,
     // How many frames were taken for the device.
     taken: u64,
@@ -84,8 +102,13 @@ struct WaitingFrames {
 
 #[derive(Drop)]
 struct Ready {
-    // The frame of the next tick.
+    // The frame of the next tick but those for lost frames.
     frame: Option<Fed>,
+    // How many frames were lost before it that no tick has come for yet.
+    owed: u64,
+    // How many ticks came for lost frames, and how many of these are known as such.
+    bad: u64,
+    known: u64,
     // The memory of the frame before the one that is lent, to be used again.
     row: Option<Vec<u8>>,
 }
@@ -118,11 +141,20 @@ impl Feed {
             times: Mutex::new(Times {
                 timing: Timing::new(),
                 tells: NOTHING,
+                losses: Losses::new(alloc),
+                delayed: false,
+                clock: SourceClock::new(),
+                said: Measured::new(),
+                kept: Measured::new(),
+                shown: 0,
                 seen: u64::MAX,
                 still: None,
             }),
             ready: Mutex::new(Ready {
                 frame: None,
+                owed: 0,
+                bad: 0,
+                known: 0,
                 row: None,
             }),
         })
@@ -155,6 +187,12 @@ impl Feed {
     pub fn begin_stream<R: Wait>(&self, rt: &R) {
         let mut times = self.times.lock(rt);
         times.timing = times.timing.begin();
+        times.losses.begin();
+    }
+
+    /// A frame was dropped: what lies before the next one isn't lost.
+    pub fn pass<R: Wait>(&self, rt: &R) {
+        self.times.lock(rt).losses.begin();
     }
 
     /// The program is seen to run at this time, and to have stood still just before, or not.
@@ -171,29 +209,43 @@ impl Feed {
         self.times.lock(rt).timing.gaps
     }
 
+    /// How many frames its source lost.
+    pub fn losses<R: Wait>(&self, rt: &R) -> Lost {
+        self.times.lock(rt).losses.counted()
+    }
+
     /// What is to be told of its source's times, which is told then.
     pub fn tells<R: Wait>(&self, rt: &R) -> ToTell {
         mem::replace(&mut self.times.lock(rt).tells, NOTHING)
     }
 
-    // The time of a frame that came at a time, and its mark.
-    fn stamp<R: Wait>(&self, rt: &R, now: u64, said: Said) -> (u64, u32) {
+    /// How many microseconds the source's clock is ahead of the station's, once it has said a time.
+    pub fn clock<R: Wait>(&self, rt: &R) -> Option<i64> {
+        let measure = self.times.lock(rt).said.measure?;
+        Some(difference(measure, EVEN))
+    }
+
+    /// What the clock of frames' times shows at a time, once a frame has come. It never goes back.
+    pub fn shown<R: Wait>(&self, rt: &R, now: u64) -> Option<u64> {
         let mut guard = self.times.lock(rt);
         let times = &mut *guard;
-        let late = came_late(now, times.seen, times.still);
-        if !said.by_source {
-            return (now, mark(said.bits, late));
-        }
-        let arrival = Arrival {
-            now,
-            said: said.time,
-            period: said.period,
-        };
-        let (timing, stamped) = times.timing.on(arrival);
-        times.timing = timing;
-        note(&mut times.tells, &stamped);
-        let late = late && said.time.is_none();
-        (stamped.time, mark(said.bits, late))
+        let shown = by_source(now, times.kept.measure?);
+        times.shown = times.shown.max(shown).max(times.timing.last.unwrap_or(0));
+        Some(times.shown)
+    }
+
+    // The time of a frame that came at a time, its mark, and how many frames were lost before it. `waits`: there is no
+    // place for it yet.
+    fn stamp<R: Wait>(&self, rt: &R, now: u64, said: Said, waits: bool) -> (u64, u32, u64) {
+        let mut guard = self.times.lock(rt);
+        let times = &mut *guard;
+        let was_still = came_late(now, times.seen, times.still);
+        let (time, late) = times.stamp(now, said, was_still);
+        let delayed = mem::replace(&mut times.delayed, waits);
+        let on_time = said.by_source && said.time.is_some() || !was_still && !delayed;
+        let (lost, anew) = times.losses.on(&said, time, on_time);
+        times.tells.anew = times.tells.anew || anew;
+        (time, mark(said.bits, late), lost)
     }
 
     /// Adds a frame that has come now after the others, once there is room. It is dropped where the frames that waited
@@ -208,14 +260,16 @@ impl Feed {
     ) {
         let mut waiting = self.waiting.lock(rt);
         if waiting.epoch != epoch {
+            self.pass(rt);
             return;
         }
         let came = timeline.now(rt);
-        if waiting.frames.is_full() && waiting.waited.is_none() {
+        let waits = waiting.frames.is_full();
+        if waits && waiting.waited.is_none() {
             waiting.waited = Some(came);
         }
-        waiting.coming = Some(came);
-        let (time, mark) = self.stamp(rt, came, said);
+        let (time, mark, lost) = self.stamp(rt, came, said, waits);
+        waiting.coming = Some(time);
         let mut guard = self
             .changed
             .wait_while(rt, waiting, |waiting| waiting.frames.is_full());
@@ -223,9 +277,9 @@ impl Feed {
         waiting.coming = None;
         if waiting.epoch == epoch {
             waiting.frames.push_back(Fed {
-                came,
                 time,
                 mark,
+                lost,
                 bytes,
             });
         }
@@ -262,8 +316,8 @@ impl Feed {
         since
     }
 
-    /// Takes the first frame that waits as the frame of the next tick, unless there is one already. Returns that
-    /// frame's time; None where no frame comes for so long.
+    /// Takes the first frame that waits as the frame of the next tick, unless there is one already: a tick for each frame
+    /// that was lost before it comes first. Returns that frame's time; None where no frame comes for so long.
     pub fn make_ready<R: Wait + Clock>(&self, rt: &R, most: Duration) -> Option<u64> {
         let mut ready = self.ready.lock(rt);
         if let Some(frame) = &ready.frame {
@@ -280,16 +334,48 @@ impl Feed {
         waiting.taken = waiting.taken.wrapping_add(1);
         self.changed.notify_all();
         let time = frame.time;
+        ready.owed = frame.lost;
         ready.frame = Some(frame);
         Some(time)
     }
 
-    /// How many frames have come from the source up to a time, taken or waiting.
+    /// Whether a tick that had no frame was that of one which the source lost. Each such tick is told so once.
+    pub fn was_lost<R: Wait>(&self, rt: &R) -> bool {
+        let mut ready = self.ready.lock(rt);
+        if ready.known < ready.bad {
+            ready.known = ready.known.saturating_add(1);
+            return true;
+        }
+        false
+    }
+
+    /// How many ticks came for frames that the source lost. All are known as such from then on.
+    pub fn bad_ticks<R: Wait>(&self, rt: &R) -> u64 {
+        let mut ready = self.ready.lock(rt);
+        ready.known = ready.bad;
+        ready.bad
+    }
+
+    /// Whether no further frame may wait.
+    pub fn is_full<R: Wait>(&self, rt: &R) -> bool {
+        self.waiting.lock(rt).frames.is_full()
+    }
+
+    /// Waits until no further frame may wait, for so long at most. Returns whether that is so.
+    pub fn wait_full<R: Wait + Clock>(&self, rt: &R, most: Duration) -> bool {
+        let waiting = self.waiting.lock(rt);
+        let (waiting, _) = self
+            .changed
+            .wait_timeout_while(rt, waiting, most, |waiting| !waiting.frames.is_full());
+        waiting.frames.is_full()
+    }
+
+    /// How many frames have come from the source with times up to this one, taken or waiting.
     pub fn come<R: Wait>(&self, rt: &R, time: u64) -> u64 {
         let waiting = self.waiting.lock(rt);
         let mut come = waiting.taken;
         for frame in waiting.frames.iter() {
-            if frame.came <= time {
+            if frame.time <= time {
                 come = come.wrapping_add(1);
             }
         }
@@ -310,6 +396,113 @@ impl Feed {
     /// Whether a frame was taken and no tick has come for it. Only the device's thread asks.
     pub fn is_ready<R: Wait>(&self, rt: &R) -> bool {
         self.ready.lock(rt).frame.is_some()
+    }
+}
+
+impl Measured {
+    // No frame has come.
+    fn new() -> Measured {
+        Measured {
+            values: [0; MEASURED],
+            count: 0,
+            measure: None,
+            newest: 0,
+        }
+    }
+
+    // It is measured anew.
+    fn begin(&mut self) {
+        self.count = 0;
+        self.measure = None;
+    }
+
+    // Whether it is measured by as many frames as it is to be.
+    fn is_full(&self) -> bool {
+        self.count >= MEASURED
+    }
+
+    // A frame shows a clock that is so far ahead.
+    fn put(&mut self, ahead: u64) {
+        self.values[self.count % MEASURED] = ahead;
+        self.count = self.count.saturating_add(1);
+        self.newest = ahead;
+        let mut values = [0; MEASURED];
+        for place in 0..MEASURED {
+            values[place] = self.values[place];
+        }
+        let (seen, _) = values.split_at_mut(self.count.min(MEASURED));
+        self.measure = median(seen);
+    }
+}
+
+impl Times {
+    // The time of a frame that came at a time, late or not, and whether that makes its time a wrong one.
+    fn stamp(&mut self, now: u64, said: Said, late: bool) -> (u64, bool) {
+        if !said.by_source {
+            return (now, late);
+        }
+        let arrival = Arrival {
+            now,
+            said: self.hear(now, said.time),
+            period: said.period,
+        };
+        let (timing, stamped) = self.timing.on(arrival);
+        self.timing = timing;
+        self.kept.put(ahead_of(stamped.time, now));
+        note(&mut self.tells, &stamped);
+        (stamped.time, late && said.time.is_none())
+    }
+
+    // The time of a frame that came at a time: what its source says, or where that is none, what its clock shows.
+    fn hear(&mut self, now: u64, said: Option<u64>) -> Option<u64> {
+        let said = said?;
+        let frame = Heard {
+            now,
+            said,
+            measure: self.said.measure,
+            newest: self.said.newest,
+        };
+        let (clock, verdict) = self.clock.on(frame);
+        let time = judged(frame, verdict);
+        let ahead = ahead_of(said, now);
+        let off = difference(ahead, frame.measure.unwrap_or(EVEN));
+        match verdict {
+            Verdict::Wrong if !self.clock.told => self.tells.wrong = Some((off, time)),
+            Verdict::Wrong => {}
+            Verdict::Anew => {
+                self.tells.step = Some((off, time));
+                self.said.begin();
+                self.kept.begin();
+                self.said.put(ahead);
+            }
+            Verdict::Right => self.said.put(ahead),
+        }
+        self.clock = clock;
+        self.settle(now, time);
+        Some(time)
+    }
+
+    // What is measured is known once it is measured by enough frames; that it has moved since then is told.
+    fn settle(&mut self, now: u64, time: u64) {
+        let (Some(measure), true) = (self.said.measure, self.said.is_full()) else {
+            return;
+        };
+        let before = self.clock.settled.unwrap_or(measure);
+        let (clock, moved) = self.clock.settle(measure, now);
+        self.clock = clock;
+        if moved {
+            self.tells.step = Some((difference(measure, before), time));
+        }
+    }
+}
+
+/// How much one time is ahead of another.
+pub fn difference(one: u64, other: u64) -> i64 {
+    let apart = i64::try_from(one.abs_diff(other)).unwrap_or(i64::MAX);
+    if one < other {
+        0i64.saturating_sub(apart)
+    } else {
+        apart
     }
 }
 
@@ -364,6 +557,11 @@ impl FrameSource for FeedSource {
         let Some(mut ready) = self.feed.ready.try_lock() else {
             return Some(Next::Bad);
         };
+        if ready.owed > 0 {
+            ready.owed = ready.owed.saturating_sub(1);
+            ready.bad = ready.bad.saturating_add(1);
+            return Some(Next::Bad);
+        }
         let Some(frame) = ready.frame.take() else {
             return Some(Next::Bad);
         };

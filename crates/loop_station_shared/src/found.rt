@@ -12,6 +12,12 @@ pub struct FoundClip {
     pub first: u64,
     /// When its last frame came.
     pub last: u64,
+    /// The sequence of its first frame.
+    pub from: u32,
+    /// The sequence of its last frame.
+    pub to: u32,
+    /// How many frames are lost in it, where that was looked for.
+    pub lost: u64,
 }
 
 impl FoundClip {

@@ -1,8 +1,8 @@
 //! What the threads of a station share. It knows no camera's desk.
 //!
-//! `feed` has the frames that come, `inbox` and `jobs` what a camera is asked for, `answering` orders that are being
-//! answered, `post` what a thread is told. `life` is what is known and counted of a camera under one lock, `stored`
-//! what its stores hold, and `found` a clip with its times.
+//! `feed` has the frames that come, `losses` knows how many its source lost, `inbox` and `jobs` what a camera is asked
+//! for, `answering` orders that are being answered, `post` what a thread is told. `life` is what is known and counted of
+//! a camera under one lock, `stored` what its stores hold, and `found` a clip with its times.
 //!
 //! All lines go through `outlet`, and `tap` copies them to a further file or pipe; `spool` has those that wait for the
 //! threads of `writers`.
@@ -14,6 +14,7 @@ mod found;
 mod inbox;
 mod jobs;
 mod life;
+mod losses;
 mod outlet;
 mod post;
 mod spool;
@@ -24,14 +25,15 @@ mod writers;
 pub use answering::{
     Announcement, Answering, KeptClip, MOST_NOTES, Message, NotTaken, Note, Posts, SaveOrder,
 };
-pub use feed::{Feed, FeedSource, Said};
+pub use feed::{Feed, FeedSource, difference};
 pub use found::FoundClip;
 pub use inbox::Inbox;
 pub use jobs::{AskedKeep, Job, Jobs, Request};
 pub use life::{Life, source_name};
+pub use losses::{Lost, Said};
 pub use outlet::Outlet;
 pub use post::Post;
 pub use spool::LineForm;
-pub use stored::{Extent, Member, Room, Stored, store_of};
+pub use stored::{Elsewhere, Extent, Member, Room, Stored, store_of};
 pub use tap::Tap;
 pub use writers::{run_outlet, run_tap};

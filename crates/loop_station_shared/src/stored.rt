@@ -7,13 +7,24 @@
 ghost use Rattle.std.specs.Prelude.{◌<◌};
 
 use loop_record::Geometry;
-use loop_station_core::{held_after, id_parts, keeps_in};
+use loop_station_core::{held_after, holds_back, id_parts, keeps_in, opens_before};
 use loop_station_words::{MAX_STORES, duration_of, frames_in, free_blocks, newest_block};
 use loop_store::Clip;
 use std::alloc::Global;
 use std::sync::atomic::{AtomicU64, Ordering};
 use std::sync::{Condvar, Mutex, Wait};
 use std::time::{Clock, Duration};
+
+/// What is known of the camera's files that aren't open yet.
+#[derive(Clone, Copy, PartialEq, Eq)]
+pub enum Elsewhere {
+    /// One of them has no frame, so it takes frames before a block goes.
+    Roomy,
+    /// The oldest frame in them has this sequence; `newest` is that of the newest frame of all.
+    From { newest: u32, oldest: u32 },
+    /// No frame is known in any.
+    Nothing,
+}
 
 /// A store that is open.
 #[derive(Drop)]
@@ -28,6 +39,12 @@ pub struct Member {
     /// How many frames it held when it was opened, and its next number then.
     pub held: u64,
     pub began: u64,
+    /// How many frames had room in it before a block goes, when it was opened.
+    pub room: u64,
+    /// The sequences of the first frames of its blocks that may go, the oldest first.
+    pub firsts: Vec<u32>,
+    /// What was known then of the files that weren't open yet.
+    pub elsewhere: Elsewhere,
     pub clips: Vec<Clip>,
 }
 
@@ -41,6 +58,11 @@ struct Inside {
     wanted: u32,
     // Files of the camera are there that aren't open yet.
     opening: bool,
+    // How many frames have room in those that are open before one has to go that isn't the oldest of all, how many were
+    // taken before that, and how many were taken though there was none.
+    room: u64,
+    from: u64,
+    forced: u64,
     // The filming ends: no further store is opened or made.
     closing: bool,
     // The numbers of the stores that failed, and until when each is left alone.
@@ -87,6 +109,9 @@ impl Stored {
                 coming: None,
                 wanted: 1,
                 opening: false,
+                room: 0,
+                from: 0,
+                forced: 0,
                 closing: false,
                 failed: Vec::new(alloc),
             }),
@@ -102,7 +127,10 @@ impl Stored {
         self.period
             .store(duration_of(1, &member.geometry), Ordering::SeqCst);
         inside.members.clear();
+        inside.forced = 0;
+        let elsewhere = member.elsewhere;
         let _untold = inside.members.push(member);
+        inside.room = inside.room_before(elsewhere);
         inside.coming = None;
         inside.wanted = wanted;
         inside.opening = opening;
@@ -123,8 +151,10 @@ impl Stored {
             return None;
         }
         let member = inside.coming.take()?;
+        let elsewhere = member.elsewhere;
         // Where memory is refused, nothing finds the store's clips until the camera is filmed anew.
         let _unfound = inside.members.push(member);
+        inside.room = inside.room_before(elsewhere);
         self.changed.notify_all();
         Some(place)
     }
@@ -141,7 +171,42 @@ impl Stored {
 
     /// Each file of the camera that is there is open, or can't be used.
     pub fn all_open<R: Wait>(&self, rt: &R) {
-        self.inside.lock(rt).opening = false;
+        let mut inside = self.inside.lock(rt);
+        inside.opening = false;
+        for member in inside.members.as_mut_slice() {
+            member.firsts.clear();
+        }
+    }
+
+    /// So many frames were taken before the stores that are open.
+    pub fn count_from<R: Wait>(&self, rt: &R, taken: u64) {
+        self.inside.lock(rt).from = taken;
+    }
+
+    /// Whether frames wait for further stores, of which so many were taken: `is_full`: no more may wait. One that is
+    /// taken then is counted.
+    pub fn holds_back<R: Wait>(&self, rt: &R, taken: u64, is_full: bool) -> bool {
+        let mut inside = self.inside.lock(rt);
+        // Those for which there was no room have taken none.
+        let taken = taken
+            .saturating_sub(inside.from)
+            .saturating_sub(inside.forced);
+        if holds_back(inside.opening, taken, inside.room, is_full) {
+            return true;
+        }
+        if holds_back(inside.opening, taken, inside.room, false) {
+            inside.forced = inside.forced.saturating_add(1);
+        }
+        false
+    }
+
+    /// How many were taken for which there was no room but that of blocks which may not be the oldest. They are
+    /// forgotten then.
+    pub fn take_forced<R: Wait>(&self, rt: &R) -> u64 {
+        let mut inside = self.inside.lock(rt);
+        let forced = inside.forced;
+        inside.forced = 0;
+        forced
     }
 
     /// Whether files of the camera are there that aren't open yet.
@@ -280,6 +345,16 @@ impl Stored {
         None
     }
 
+    /// The clips of all stores that are open. None where memory is refused.
+    pub fn clips<R: Wait>(&self, rt: &R, alloc: Global) -> Option<Vec<Clip>> {
+        let inside = self.inside.lock(rt);
+        let mut clips = Vec::new(alloc);
+        for member in inside.members.as_slice() {
+            clips.extend_from_slice(member.clips.as_slice()).ok()?;
+        }
+        Some(clips)
+    }
+
     /// The clips with a tag, of the store at a place.
     pub fn tagged_at<R: Wait>(&self, rt: &R, alloc: Global, place: usize, tag: u64) -> Vec<Clip> {
         let inside = self.inside.lock(rt);
@@ -339,6 +414,28 @@ impl Stored {
 }
 
 impl Inside {
+    // How many frames have room in the stores that are open before a block goes that isn't the oldest of all, counted
+    // from when each was opened: what was free, and the blocks that are older than all that is elsewhere.
+    fn room_before(&self, elsewhere: Elsewhere) -> u64 {
+        let mut room = 0u64;
+        for member in self.members.as_slice() {
+            let mut blocks = 0u64;
+            for first in member.firsts.as_slice() {
+                let goes = match elsewhere {
+                    Elsewhere::Roomy => false,
+                    Elsewhere::From { newest, oldest } => opens_before(newest, *first, oldest),
+                    Elsewhere::Nothing => true,
+                };
+                blocks = blocks.saturating_add(u64::from(goes));
+            }
+            let slots = u64::from(member.geometry.slots);
+            room = room
+                .saturating_add(member.room)
+                .saturating_add(blocks.saturating_mul(slots));
+        }
+        room
+    }
+
     // How many keeps of so many seconds have room in so many blocks.
     fn keeps(&self, free: u64, seconds: u32) -> u64 {
         let Some(first) = self.members.as_slice().first() else {

@@ -6,9 +6,10 @@ use Rattle.loop_station_words.specs.declared.config.CameraConfig.{CameraConfig}
 use Rattle.loop_station_words.specs.declared.config.Config.{Config}
 use Rattle.loop_station_words.specs.declared.config.Source.{Source}
 use Rattle.loop_station_words.specs.declared.config.Source.TheVariants.{Path, Pattern}
-use Rattle.loop_station_words.specs.Fields.{form_of, memory_of, number_or, path_of, pattern_of, room_of, text_of, times_of, truth_of}
+use Rattle.loop_station_words.specs.Fields.{form_of, losses_of, memory_of, number_or, path_of, pattern_of, room_of, text_of, times_of, truth_of}
 use Rattle.loop_station_words.specs.Files.{share_file}
 use Rattle.loop_station_words.specs.Names.{is_name}
+use Rattle.loop_station_words.specs.Rules.{rule_of}
 
 -- how many buffers a camera may have
 abbrev pub HasBuffers : ℕ → Type 0
@@ -53,6 +54,8 @@ pub record SaysCamera (keys : Members) (camera : CameraConfig) : Type 0 where
   pub save_to : path_of (get_member (codes "save_to") keys) ≡ Some (option_map string_bytes camera.save_to)
   pub release : truth_of false (get_member (codes "release") keys) ≡ Some camera.release
   pub times_from : times_of (get_member (codes "times_from") keys) ≡ Some camera.times_from
+  pub losses : losses_of (get_member (codes "losses") keys) ≡ Some camera.losses
+  pub when_full : rule_of (get_member (codes "when_full") keys) ≡ Some camera.when_full
 
 -- a table describes a camera
 abbrev pub SaysOne : Data → CameraConfig → Type 0
@@ -78,6 +81,7 @@ pub record SaysConfig (keys : Members) (config : Config) : Type 0 where
   pub saves : path_of (get_member (codes "saves") keys) ≡ Some (option_map string_bytes config.saves)
   pub times : truth_of true (get_member (codes "times") keys) ≡ Some config.times
   pub events : truth_of true (get_member (codes "events") keys) ≡ Some config.events
+  pub when_full : rule_of (get_member (codes "when_full") keys) ≡ Some config.when_full
   pub cameras : SaysCameras (get_member (codes "camera") keys) config.cameras.items
 
 -- the configuration is as the text says, read as TOML

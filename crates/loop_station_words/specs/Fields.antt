@@ -8,6 +8,8 @@ use Rattle.toml.specs.Data.{Data, string, integer, float, boolean}
 use Rattle.loop_script.specs.Script.{number}
 use Rattle.loop_station_words.specs.declared.choices.AnswersForm.{AnswersForm}
 use Rattle.loop_station_words.specs.declared.choices.AnswersForm.TheVariants.{Json, Text}
+use Rattle.loop_station_words.specs.declared.choices.LossesFrom.{LossesFrom}
+use Rattle.loop_station_words.specs.declared.choices.LossesFrom.TheVariants.{Either, Nothing, Numbers, Times}
 use Rattle.loop_station_words.specs.declared.choices.MemoryLimit.{MemoryLimit}
 use Rattle.loop_station_words.specs.declared.choices.MemoryLimit.TheVariants.{Bytes, Seconds}
 use Rattle.loop_station_words.specs.declared.choices.StoreSize.{StoreSize}
@@ -42,6 +44,14 @@ times_of None = Some Arrival
 times_of (Some (string from)) = if bytes_eq from (codes "arrival") then Some Arrival
     else if bytes_eq from (codes "source") then Some FromSource else None
 times_of _ = None
+
+-- how lost frames are known: `numbers`, `times` or `none`; where the key is missing, by either of the first two
+abbrev pub losses_of : Option Data → Option LossesFrom
+losses_of None = Some Either
+losses_of (Some (string from)) = if bytes_eq from (codes "numbers") then Some Numbers
+    else if bytes_eq from (codes "times") then Some Times
+    else if bytes_eq from (codes "none") then Some Nothing else None
+losses_of _ = None
 
 -- `true` or `false`, or the other value where the key is missing
 abbrev pub truth_of : Bool → Option Data → Option Bool

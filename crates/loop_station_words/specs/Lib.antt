@@ -7,6 +7,7 @@ pub mod Orders
 pub mod Rings
 pub mod Sets
 pub mod Rooms
+pub mod Rules
 pub mod Shapes
 pub mod Fields
 pub mod Config

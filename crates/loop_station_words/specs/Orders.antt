@@ -4,7 +4,7 @@ use Rattle.std.specs.Str.{bytes_eq}
 use Rattle.loop_script.specs.Script.{number, small_number}
 use Rattle.loop_station_words.specs.declared.order.KeepTimes.{KeepTimes}
 use Rattle.loop_station_words.specs.declared.order.Order.{Order}
-use Rattle.loop_station_words.specs.declared.order.Order.TheVariants.{Cancel, Help, Keep, KeepBetween, Release, List as ListAll, Save, SaveEvent, Status, Stop}
+use Rattle.loop_station_words.specs.declared.order.Order.TheVariants.{Cancel, Help, Keep, KeepBetween, Release, Reload, List as ListAll, Save, SaveEvent, Status, Stop}
 use Rattle.loop_station_words.specs.Cuts.{cut}
 use Rattle.loop_station_words.specs.Names.{is_label, named}
 use Rattle.loop_station_words.specs.Times.{time_said}
@@ -153,6 +153,7 @@ alone_said word =
     if bytes_eq word (codes "keep") then keep_of None (times_said None)
     else if bytes_eq word (codes "help") then Some Help
     else if bytes_eq word (codes "list") then Some ListAll
+    else if bytes_eq word (codes "reload") then Some Reload
     else if bytes_eq word (codes "status") then Some Status
     else if bytes_eq word (codes "stop") then Some Stop else None
 

@@ -1,6 +1,7 @@
 // The status of a camera, what a line begins with, and how the file of a clip is called.
 
 use crate::calendar::civil_time_of;
+use crate::choices::WhenFull;
 use std::io;
 use std::io::Write;
 
@@ -17,6 +18,8 @@ pub struct CameraStatus<'a> {
     pub behind: u64,
     /// How many blocks may still be locked.
     pub room: u64,
+    /// How many may be locked in all.
+    pub blocks: u64,
     /// How many more keeps of the camera's own seconds have room, if that is known.
     pub keeps: Option<u64>,
     /// How often its store was opened again, or couldn't be.
@@ -25,6 +28,14 @@ pub struct CameraStatus<'a> {
     pub source: &'a str,
     /// How many gaps its source's times had, if it says times.
     pub gaps: Option<u64>,
+    /// How many frames its source lost, since the program began.
+    pub lost: u64,
+    /// How many of these were judged by time.
+    pub estimated: u64,
+    /// How many microseconds its source's clock is ahead, if that is known.
+    pub clock: Option<i64>,
+    /// What is done once no further block may be locked.
+    pub when_full: WhenFull,
 }
 
 /// How far a camera's stores are open, where it has several.

@@ -18,6 +18,19 @@ pub enum TimesFrom {
     Source,
 }
 
+/// How it is known which frames a camera's source lost.
+#[derive(Clone, Copy, Debug, PartialEq, Eq)]
+pub enum LossesFrom {
+    /// By the numbers of its frames, and where they have none, by their times.
+    Either,
+    /// By their numbers alone.
+    Numbers,
+    /// By their times alone.
+    Times,
+    /// It isn't: none counts as lost.
+    Nothing,
+}
+
 /// How large the stores of a camera are.
 #[derive(Clone, Copy, Debug, PartialEq, Eq)]
 pub enum StoreSize {
@@ -34,4 +47,15 @@ pub enum MemoryLimit {
     Seconds(u64),
     /// This many bytes.
     Bytes(u64),
+}
+
+/// What is done where every block is locked.
+#[derive(Clone, Copy, Debug, PartialEq, Eq)]
+pub enum WhenFull {
+    /// The recording stands still until a clip is released.
+    Stop,
+    /// The oldest clip that was saved whole is released.
+    ReleaseSaved,
+    /// The oldest clip is released, or the oldest one with this tag.
+    ReleaseOldest(Option<u64>),
 }

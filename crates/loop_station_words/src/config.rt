@@ -8,15 +8,16 @@ ghost use Rattle.loop_station_words.specs.Config.{AreCameras, HasBuffers, IsConf
 ghost use Rattle.loop_station_words.specs.Files.{share_file};
 ghost use Rattle.loop_station_words.specs.Names.{is_name};
 
-use crate::choices::{AnswersForm, MemoryLimit, StoreSize, TimesFrom};
+use crate::choices::{AnswersForm, LossesFrom, MemoryLimit, StoreSize, TimesFrom, WhenFull};
 use crate::fault::{CameraFault, ConfigFault};
 use crate::fields::{
-    after_at, buffers_at, check_keys, form_at, memory_at, number_at, path_at, room_at, shape_at,
-    small_at, text_at, times_at, truth_at, value_at,
+    after_at, buffers_at, check_keys, form_at, losses_at, memory_at, number_at, path_at, room_at,
+    shape_at, small_at, text_at, times_at, truth_at, value_at,
 };
 use crate::files::share_file;
 use crate::key::unknown_key;
 use crate::name::is_name;
+use crate::rule::rule_at;
 use crate::shape::FrameShape;
 use std::alloc::{AllocError, Global};
 use toml::{Table, Value};
@@ -25,13 +26,14 @@ use toml::{Table, Value};
 pub const MAX_CAMERAS: usize = 16;
 
 // The keys of the file.
-const KEYS: [&str; 7] = [
+const KEYS: [&str; 8] = [
     "orders",
     "answers",
     "answers_form",
     "saves",
     "times",
     "events",
+    "when_full",
     "camera",
 ];
 
@@ -50,6 +52,8 @@ pub struct Config {
     pub times: bool,
     /// Events are printed: what happens without an order.
     pub events: bool,
+    /// What a camera does where every block is locked, unless it says so itself.
+    pub when_full: Option<WhenFull>,
     /// The cameras, in their order.
     pub cameras: Vec<CameraConfig>,
 }
@@ -81,6 +85,10 @@ pub struct CameraConfig {
     pub release: bool,
     /// Where the times of its frames come from.
     pub times_from: TimesFrom,
+    /// How it is known which frames its source lost.
+    pub losses: LossesFrom,
+    /// What is done where every block is locked, if that is said.
+    pub when_full: Option<WhenFull>,
 }
 
 /// Where a camera's frames come from.
@@ -139,6 +147,7 @@ fn config_of(alloc: Global, table: &Table) -> Result<Config, ConfigFault>
         saves: copied(alloc, saves)?,
         times: truth_at(table, "times", true).ok_or(ConfigFault::BadTimes)?,
         events: truth_at(table, "events", true).ok_or(ConfigFault::BadEvents)?,
+        when_full: rule_at(table).ok_or(ConfigFault::BadWhenFull)?,
         cameras,
     })
 }
@@ -262,6 +271,8 @@ fn camera_of(alloc: Global, table: &Value) -> Result<CameraConfig, CameraFault>
         save_to: copied(alloc, save_to)?,
         release,
         times_from: times_at(table).ok_or(CameraFault::BadTimesFrom)?,
+        losses: losses_at(table).ok_or(CameraFault::BadLosses)?,
+        when_full: rule_at(table).ok_or(CameraFault::BadWhenFull)?,
     })
 }
 

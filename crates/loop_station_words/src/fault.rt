@@ -37,6 +37,9 @@ pub enum ConfigFault {
     /// `events` is neither true nor false.
     #[error("events is true or false")]
     BadEvents,
+    /// `when_full` is none of the rules.
+    #[error("when_full is \"stop\", \"release saved\", \"release oldest\" or \"release oldest tag 9\"")]
+    BadWhenFull,
     /// `camera` isn't an array of tables.
     #[error("cameras are written below [[camera]]")]
     BadCameras,
@@ -120,6 +123,12 @@ pub enum CameraFault {
     /// `times_from` is neither `arrival` nor `source`.
     #[error("times_from is \"arrival\" or \"source\"")]
     BadTimesFrom,
+    /// `losses` is neither `numbers` nor `times` nor `none`.
+    #[error("losses is \"numbers\", \"times\" or \"none\"")]
+    BadLosses,
+    /// `when_full` is none of the rules.
+    #[error("when_full is \"stop\", \"release saved\", \"release oldest\" or \"release oldest tag 9\"")]
+    BadWhenFull,
     /// `pattern` can't be read, or no store may have such frames.
     #[error("pattern is a size, a format and a rate, as 640x480 YM12 25:1")]
     BadPattern,

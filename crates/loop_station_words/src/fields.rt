@@ -4,9 +4,9 @@ ghost use Rattle.toml.specs.Data.{get_member, integer};
 ghost use Rattle.toml.specs.View.{table_view, view};
 ghost use Rattle.loop_station_words.specs.Config.{HasBuffers};
 ghost use Rattle.loop_station_words.specs.Cuts.{cut};
-ghost use Rattle.loop_station_words.specs.Fields.{SaysShape, bytes_of, duration_cut, form_of, memory_of, number_or, part_seconds, path_of, positive, room_of, seconds_of, shape_text, whole_float, text_of, times_of, truth_of};
+ghost use Rattle.loop_station_words.specs.Fields.{SaysShape, bytes_of, duration_cut, form_of, losses_of, memory_of, number_or, part_seconds, path_of, positive, room_of, seconds_of, shape_text, whole_float, text_of, times_of, truth_of};
 
-use crate::choices::{AnswersForm, MemoryLimit, StoreSize, TimesFrom};
+use crate::choices::{AnswersForm, LossesFrom, MemoryLimit, StoreSize, TimesFrom};
 use crate::cut::cut;
 use crate::fault::CameraFault;
 use crate::key::unknown_key;
@@ -17,7 +17,7 @@ use std::num::saturating_f64_to_u64;
 use toml::{Table, Value};
 
 // The keys of a camera.
-const KEYS: [&str; 15] = [
+const KEYS: [&str; 17] = [
     "name",
     "source",
     "store",
@@ -33,6 +33,8 @@ const KEYS: [&str; 15] = [
     "save_to",
     "release",
     "times_from",
+    "losses",
+    "when_full",
 ];
 
 // The most seconds after an order that a keep may lock.
@@ -139,6 +141,22 @@ pub(crate) fn times_at(table: &Table) -> Option<TimesFrom>
         Some(Value::String(from)) => match from.as_str() {
             "arrival" => Some(TimesFrom::Arrival),
             "source" => Some(TimesFrom::Source),
+            _ => None,
+        },
+        Some(_) => None,
+    }
+}
+
+/// How lost frames are known; `None` where it is neither `numbers` nor `times` nor `none`.
+pub(crate) fn losses_at(table: &Table) -> Option<LossesFrom>
+    ensures { result ≡ losses_of (get_member (codes "losses") (table_view table.now)) }
+{
+    match value_at(table, "losses") {
+        None => Some(LossesFrom::Either),
+        Some(Value::String(from)) => match from.as_str() {
+            "numbers" => Some(LossesFrom::Numbers),
+            "times" => Some(LossesFrom::Times),
+            "none" => Some(LossesFrom::Nothing),
             _ => None,
         },
         Some(_) => None,

@@ -5,8 +5,10 @@ ghost use Rattle.std.specs.Prelude.{◌≡◌, [], codes, false, true};
 ghost use Rattle.loop_record.specs.Geometry.{disk_size, frame_bytes};
 ghost use Rattle.loop_station_words.specs.Orders.{order_said};
 ghost use Rattle.loop_station_words.specs.Rings.{file_size};
+ghost use Rattle.loop_station_words.specs.Rules.{rule_said};
 ghost use Rattle.loop_station_words.specs.Shapes.{shape_geometry};
 ghost use Rattle.loop_station_words.specs.Times.{time_said};
+ghost use Rattle.loop_station_words.specs.declared.choices.WhenFull.{WhenFull};
 ghost use Rattle.loop_station_words.specs.declared.order.Order.{Order};
 
 use crate::ring::RingSize;
@@ -33,6 +35,7 @@ pub fn each_order_has_a_line()
         ≡ Some (Order.SaveEvent (codes "left") 7 (codes "my clip.y4m") false) }
     ensures replace_event { order_said (codes "save! left #7 a")
         ≡ Some (Order.SaveEvent (codes "left") 7 (codes "a") true) }
+    ensures reload { order_said (codes "reload") ≡ Some Order.Reload }
     ensures help { order_said (codes "help") ≡ Some Order.Help }
     ensures status { order_said (codes "status") ≡ Some Order.Status }
     ensures stop { order_said (codes "stop") ≡ Some Order.Stop }
@@ -58,6 +61,20 @@ pub fn other_lines_have_no_order()
     ensures large_tag { order_said (codes "save left #18446744073709551616 a") ≡ None }
     ensures event_out { order_said (codes "save left #7 ") ≡ None }
     ensures space { order_said (codes "list ") ≡ None }
+    ensures reload { order_said (codes "reload left") ≡ None }
+{}
+
+/// Each rule for a camera whose blocks are all locked has a text.
+#[tactic(auto, unfolding(crate::proofs::OnLiterals::orders_on_literals))]
+pub fn each_rule_has_a_text()
+    ensures stop { rule_said (codes "stop") ≡ Some WhenFull.Stop }
+    ensures saved { rule_said (codes "release saved") ≡ Some WhenFull.ReleaseSaved }
+    ensures oldest { rule_said (codes "release oldest") ≡ Some (WhenFull.ReleaseOldest None) }
+    ensures tag { rule_said (codes "release oldest tag 9") ≡ Some (WhenFull.ReleaseOldest (Some 9)) }
+    ensures no_tag { rule_said (codes "release oldest tag") ≡ None }
+    ensures no_number { rule_said (codes "release oldest tag x") ≡ None }
+    ensures saved_tag { rule_said (codes "release saved tag 9") ≡ None }
+    ensures word { rule_said (codes "release") ≡ None }
 {}
 
 /// These texts are these times, in microseconds since 1970.

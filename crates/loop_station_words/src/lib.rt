@@ -7,8 +7,9 @@
 //!   how many stores a camera has where one isn't enough; `room` for what the configuration asks, how much of a store
 //!   is free, and how many frames may wait before it;
 //! - `config` reads the configuration file, which says which cameras there are. `fields` reads the value at a key
-//!   there, `choices` has what such a value chooses, `shape` reads what the pattern's frames look like, `key` names the
-//!   known key that is nearest to an unknown one, and `fault` says what is wrong with that file;
+//!   there, `choices` has what such a value chooses, `rule` reads what is done where every block is locked, `shape` what
+//!   the pattern's frames look like, `key` names the known key that is nearest to an unknown one, and `fault` says what
+//!   is wrong with that file; `settings` compares what two such files say;
 //! - `lines` has the lines of the program's output, as text and as JSON, each of parts (`part`); `answers` has the
 //!   status of a camera, what a line begins with, and what the file of a clip is called.
 //!
@@ -35,13 +36,15 @@ mod order;
 mod part;
 mod ring;
 mod room;
+mod rule;
 mod sets;
+mod settings;
 mod shape;
 mod time;
 
 pub use answers::{CameraStatus, StoresStatus, print_clip_path};
 pub use calendar::{CivilTime, civil_time_of};
-pub use choices::{AnswersForm, MemoryLimit, StoreSize, TimesFrom};
+pub use choices::{AnswersForm, LossesFrom, MemoryLimit, StoreSize, TimesFrom, WhenFull};
 pub use config::{CameraConfig, Config, MAX_CAMERAS, Source, read_config};
 pub use fault::{CameraFault, ConfigFault};
 pub use files::{number_of, numbered};
@@ -55,5 +58,6 @@ pub use room::{
     newest_block, size_of,
 };
 pub use sets::{MAX_STORES, SetSize, set_for, set_within, stores_for, stores_within};
+pub use settings::{SETTINGS, Settings};
 pub use shape::{FrameShape, read_shape};
 pub use time::read_time;

@@ -1,11 +1,13 @@
 //! The lines that are printed, as text and as JSON. docs/station.md says what each is. Here are the answers to orders;
-//! `told` has what happens without one, and `listed` what a store holds.
+//! `told` has what happens without one, `reloaded` a configuration that is read anew, and `listed` what a store holds.
 
 mod listed;
+mod reloaded;
 mod told;
 
 use crate::answers::{CameraStatus, StoresStatus, print_head};
-use crate::part::Part::{Lasting, Maybe, Number, Seconds, Text, Time, Words};
+use crate::choices::WhenFull;
+use crate::part::Part::{Ahead, Count, Lasting, Maybe, Number, Seconds, Text, Time, Words};
 use crate::part::{Part, UtcTime, json_line, text_line};
 use json::Writer;
 use listed::camera_json;
@@ -20,7 +22,7 @@ use std::io::Write;
 const MOST_OF_LINE: usize = 200;
 
 // The orders, as `help` lists them.
-const ORDERS: [&str; 13] = [
+const ORDERS: [&str; 14] = [
     "keep [CAMERA] [SECONDS] [+AFTER] [TAG]",
     "keep [CAMERA] from T to T [TAG]",
     "release CAMERA ID [FIRST]",
@@ -31,6 +33,7 @@ const ORDERS: [&str; 13] = [
     "save! CAMERA #TAG OUT",
     "cancel CAMERA ID",
     "status",
+    "reload",
     "help",
     "stop",
     "@LABEL ORDER",
@@ -215,17 +218,18 @@ impl Lines {
 
     // ---- answers
 
-    /// `kept CAMERA ID A..B from T to T event N`, followed by ` tag T` where the clip has a tag other than 0 and N: the
-    /// frames A to B of an event are locked as clip ID. `from` and `to` are the times of the first and the last one.
+    /// `kept CAMERA ID A..B from T to T event N`, followed by ` tag T` where the clip has a tag other than 0 and N, and by
+    /// ` lost L` where frames are lost in it: the frames A to B of an event are locked as clip ID. `from` and `to` are the
+    /// times of the first and the last one.
     ///
-    /// JSON: `camera`, `id`, `first`, `last`, `from`, `to`, `event`, and `tag` as above.
+    /// JSON: `camera`, `id`, `first`, `last`, `from`, `to`, `event`, `tag` as above, and `lost`.
     pub fn kept(
         &mut self,
         camera: &str,
         clip: &Clip,
-        from: u64,
-        to: u64,
+        (from, to): (u64, u64),
         event: u64,
+        lost: u64,
     ) -> io::Result<()> {
         let tag = if clip.tag == 0 || clip.tag == event {
             None
@@ -250,6 +254,7 @@ impl Lines {
                 Words(" event "),
                 Number("event", event),
                 Maybe(" tag ", "tag", tag),
+                Count(" lost ", "lost", lost),
             ],
         )
     }
@@ -269,11 +274,18 @@ impl Lines {
         )
     }
 
-    /// `held CAMERA 10.6 s of 60.0 s event N`: less is held of an event's time than was asked for. Both are in
-    /// microseconds.
+    /// `held CAMERA 10.6 s of 60.0 s event N`, followed by ` lost L` where frames are lost: not all is held of an event's
+    /// time. Both are in microseconds.
     ///
-    /// JSON: `camera`, `held_micros`, `asked_micros`, `event`.
-    pub fn held(&mut self, camera: &str, held: u64, asked: u64, event: u64) -> io::Result<()> {
+    /// JSON: `camera`, `held_micros`, `asked_micros`, `event`, `lost`.
+    pub fn held(
+        &mut self,
+        camera: &str,
+        held: u64,
+        asked: u64,
+        event: u64,
+        lost: u64,
+    ) -> io::Result<()> {
         self.line(
             "held",
             &[
@@ -285,14 +297,23 @@ impl Lines {
                 Seconds("asked_micros", asked),
                 Words(" s event "),
                 Number("event", event),
+                Count(" lost ", "lost", lost),
             ],
         )
     }
 
-    /// `gap CAMERA 720.0 s at T event N`: so many microseconds of an event's time have no frame, from T on.
+    /// `gap CAMERA 720.0 s at T event N`, followed by ` lost L` where frames are lost there: so many microseconds of an
+    /// event's time have no frame, from T on.
     ///
-    /// JSON: `camera`, `micros`, `at`, `event`.
-    pub fn gap(&mut self, camera: &str, micros: u64, at: u64, event: u64) -> io::Result<()> {
+    /// JSON: `camera`, `micros`, `at`, `event`, `lost`.
+    pub fn gap(
+        &mut self,
+        camera: &str,
+        micros: u64,
+        at: u64,
+        event: u64,
+        lost: u64,
+    ) -> io::Result<()> {
         self.line(
             "gap",
             &[
@@ -304,6 +325,7 @@ impl Lines {
                 Time("at", at),
                 Words(" event "),
                 Number("event", event),
+                Count(" lost ", "lost", lost),
             ],
         )
     }
@@ -325,9 +347,9 @@ impl Lines {
         )
     }
 
-    /// `event N CAMERA whole`: each frame of the event that came from the camera is locked.
+    /// `event N CAMERA whole`: each frame of the event that came from the camera is locked, and none is lost.
     ///
-    /// JSON: `event`, `camera`.
+    /// JSON: `event`, `camera`, `lost`, which is 0.
     pub fn event_whole(&mut self, event: u64, camera: &str) -> io::Result<()> {
         self.line(
             "event_whole",
@@ -337,25 +359,34 @@ impl Lines {
                 Words(" "),
                 Text("camera", camera),
                 Words(" whole"),
+                Count("", "lost", 0),
             ],
         )
     }
 
-    /// `event N CAMERA not whole WHY`: the event has ended before all its frames were locked.
+    /// `event N CAMERA not whole WHY`, followed by ` lost L` where frames are lost: the event has ended before all its
+    /// frames were locked.
     ///
-    /// JSON: `event`, `camera`, `why`.
+    /// JSON: `event`, `camera`, `why`, `lost`.
     pub fn event_not_whole<Y: Display>(
         &mut self,
         event: u64,
         camera: &str,
         why: &Y,
+        lost: u64,
     ) -> io::Result<()> {
         let why = why.to_string(self.alloc)?;
-        self.line_of_end(event, camera, why.as_str())
+        self.line_of_end(event, camera, why.as_str(), lost)
     }
 
     // The same, of the words of why.
-    fn line_of_end<'a>(&mut self, event: u64, camera: &'a str, why: &'a str) -> io::Result<()> {
+    fn line_of_end<'a>(
+        &mut self,
+        event: u64,
+        camera: &'a str,
+        why: &'a str,
+        lost: u64,
+    ) -> io::Result<()> {
         self.line(
             "event_not_whole",
             &[
@@ -365,6 +396,7 @@ impl Lines {
                 Text("camera", camera),
                 Words(" not whole "),
                 Text("why", why),
+                Count(" lost ", "lost", lost),
             ],
         )
     }
@@ -588,11 +620,13 @@ impl Lines {
         self.append(&text, &json)
     }
 
-    /// `status CAMERA stored N given up G waiting W behind S room R keeps K faults X source WORDS gaps N`, without
-    /// ` keeps K` and ` gaps N` where that isn't known.
+    /// `status CAMERA stored N given up G waiting W behind S room R of B keeps K faults X source WORDS gaps N lost L
+    /// estimated M clock +1.9 s full RULE`, without ` keeps K`, ` gaps N` and ` clock +1.9 s` where that isn't known.
+    /// RULE says what is done once R is 0.
     ///
-    /// JSON: `camera`, `stored`, `given_up`, `waiting`, `behind_micros`, `room`, `keeps` where it is known, `faults`,
-    /// `source`, `gaps` where they are known.
+    /// JSON: `camera`, `stored`, `given_up`, `waiting`, `behind_micros`, `room`, `blocks`, `keeps` where it is known,
+    /// `faults`, `source`, `gaps` where they are known, `lost`, `estimated`, `clock_micros` where it is known (below 0
+    /// where the clock is behind), `when_full`, and `full_tag` where that has a tag.
     pub fn status<'a>(&mut self, camera: &'a str, status: &CameraStatus<'a>) -> io::Result<()> {
         self.line("status", &status_parts(camera, status))
     }
@@ -716,7 +750,8 @@ fn printable(byte: u8) -> u8 {
 }
 
 // The parts of a camera's status.
-fn status_parts<'a>(camera: &'a str, status: &CameraStatus<'a>) -> [Part<'a>; 18] {
+fn status_parts<'a>(camera: &'a str, status: &CameraStatus<'a>) -> [Part<'a>; 28] {
+    let (rule, tag) = rule_words(status.when_full);
     [
         Words("status "),
         Text("camera", camera),
@@ -730,11 +765,30 @@ fn status_parts<'a>(camera: &'a str, status: &CameraStatus<'a>) -> [Part<'a>; 18
         Seconds("behind_micros", status.behind),
         Words(" room "),
         Number("room", status.room),
+        Words(" of "),
+        Number("blocks", status.blocks),
         Maybe(" keeps ", "keeps", status.keeps),
         Words(" faults "),
         Number("faults", status.faults),
         Words(" source "),
         Text("source", status.source),
         Maybe(" gaps ", "gaps", status.gaps),
+        Words(" lost "),
+        Number("lost", status.lost),
+        Words(" estimated "),
+        Number("estimated", status.estimated),
+        Ahead(" clock ", "clock_micros", status.clock),
+        Words(" full "),
+        Text("when_full", rule),
+        Maybe(" tag ", "full_tag", tag),
     ]
+}
+
+// The words of what is done where every block is locked, and its tag, if it has one.
+fn rule_words(rule: WhenFull) -> (&'static str, Option<u64>) {
+    match rule {
+        WhenFull::Stop => ("stop", None),
+        WhenFull::ReleaseSaved => ("release saved", None),
+        WhenFull::ReleaseOldest(tag) => ("release oldest", tag),
+    }
 }

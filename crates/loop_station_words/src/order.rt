@@ -62,6 +62,8 @@ pub enum Order<'a> {
     },
     /// `status`: the status of each camera.
     Status,
+    /// `reload`: the configuration is read anew.
+    Reload,
     /// `help`: what may be asked for.
     Help,
     /// `stop`: the program ends.
@@ -211,6 +213,7 @@ fn read_alone<'a>(word: &str) -> Option<Order<'a>>
         "keep" => keep_of(None, read_times(None)),
         "help" => Some(Order::Help),
         "list" => Some(Order::List),
+        "reload" => Some(Order::Reload),
         "status" => Some(Order::Status),
         "stop" => Some(Order::Stop),
         _ => None,

@@ -22,6 +22,8 @@ pub(crate) enum Part<'a> {
     Number(&'a str, u64),
     /// A key, and the number there, if there is one. As text these words stand before it.
     Maybe(&'a str, &'a str, Option<u64>),
+    /// A key, and a number. As text these words stand before it, where it isn't 0, and else it is left out.
+    Count(&'a str, &'a str, u64),
     /// A key, and a time in microseconds since 1970. It is printed as `2026-11-22T15:38:00.123Z`.
     Time(&'a str, u64),
     /// A key, and a duration in microseconds. As text it has seconds with one decimal.
@@ -30,6 +32,9 @@ pub(crate) enum Part<'a> {
     Millis(&'a str, u64),
     /// A key, and a duration in microseconds. As text it has hours and minutes.
     Lasting(&'a str, u64),
+    /// A key, and how many microseconds something is ahead, if that is known. As text it has these words before it, a
+    /// sign, and seconds with one decimal.
+    Ahead(&'a str, &'a str, Option<i64>),
 }
 
 impl Part<'_> {
@@ -39,11 +44,16 @@ impl Part<'_> {
             Part::Words(text) | Part::Text(_, text) => out.write_all(text.as_bytes()),
             Part::Number(_, number) => write!(out, "{number}"),
             Part::Maybe(_, _, None) => Ok(()),
-            Part::Maybe(words, _, Some(number)) => write!(out, "{words}{number}"),
+            Part::Count(_, _, 0) => Ok(()),
+            Part::Maybe(words, _, Some(number)) | Part::Count(words, _, number) => {
+                write!(out, "{words}{number}")
+            }
             Part::Time(_, micros) => write!(out, "{}", UtcTime(micros)),
             Part::Seconds(_, micros) => write!(out, "{}", Seconds(micros)),
             Part::Millis(_, micros) => write!(out, "{}", micros / 1_000),
             Part::Lasting(_, micros) => write!(out, "{}", Lasting(micros)),
+            Part::Ahead(_, _, None) => Ok(()),
+            Part::Ahead(words, _, Some(micros)) => write!(out, "{words}{} s", Ahead(micros)),
         }
     }
 
@@ -53,18 +63,23 @@ impl Part<'_> {
             × (out.new.tokens ≡ out.old.tokens ++ tokens)) }
     {
         match *self {
-            Part::Words(_) | Part::Maybe(_, _, None) => Ok(()),
+            Part::Words(_) | Part::Maybe(_, _, None) | Part::Ahead(_, _, None) => Ok(()),
             Part::Text(key, text) => {
                 out.key(key)?;
                 out.string(text)
             }
             Part::Number(key, number)
             | Part::Maybe(_, key, Some(number))
+            | Part::Count(_, key, number)
             | Part::Seconds(key, number)
             | Part::Millis(key, number)
             | Part::Lasting(key, number) => {
                 out.key(key)?;
                 out.u64(number)
+            }
+            Part::Ahead(_, key, Some(micros)) => {
+                out.key(key)?;
+                out.i64(micros)
             }
             Part::Time(key, micros) => {
                 let time = UtcTime(micros).to_string(alloc)?;
@@ -152,5 +167,21 @@ impl Display for Seconds {
     fn fmt<W: fmt::Write>(&self, f: &mut Formatter<W>) -> fmt::Result {
         let tenths = self.0 / 100_000;
         write!(f, "{}.{}", tenths / 10, tenths % 10)
+    }
+}
+
+// Microseconds that something is ahead, printed as seconds with a sign and one decimal.
+#[derive(Clone, Copy)]
+struct Ahead(i64);
+
+impl Display for Ahead {
+    fn fmt<W: fmt::Write>(&self, f: &mut Formatter<W>) -> fmt::Result {
+        let micros = self.0.unsigned_abs();
+        let sign = if self.0 < 0 && micros >= 100_000 {
+            '-'
+        } else {
+            '+'
+        };
+        write!(f, "{sign}{}", Seconds(micros))
     }
 }

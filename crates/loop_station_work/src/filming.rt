@@ -3,7 +3,8 @@
 
 use crate::notes::read_events;
 use crate::opening::{
-    OpenStore, Opened, Unopened, member_of, open_first, open_others, tell_layout,
+    OpenStore, Opened, Unopened, elsewhere, member_of, open_first, open_others, tell_layout,
+    tell_order,
 };
 use crate::stores::{limits_for, tell_clips};
 use loop_capture::Device;
@@ -13,7 +14,7 @@ use loop_pipeline::{
     Camera, CameraEnd, Door, GuidedCamera, Unfilmed, film_desks, heap_start, new_queue, start_queue,
 };
 use loop_plane::HeapPlane;
-use loop_station_camera::CameraState;
+use loop_station_camera::{CameraState, shown_at};
 use loop_station_core::{Act, FilmingEvent, Keep, OpenEvent, bits_of};
 use loop_station_outside::{Absent, Places};
 use loop_station_shared::{FeedSource, Outlet};
@@ -38,6 +39,9 @@ const ALONE: u64 = 60_000_000;
 // How many milliseconds pass before a store is made in the place of one that was moved away.
 const MOVED_AGAIN: u64 = 250;
 
+// A sequence no further than that from another one is ahead of it.
+const HALF: u32 = 2_147_483_648;
+
 // How many desks may wait to join a camera.
 const DESKS: usize = 256;
 
@@ -57,6 +61,8 @@ pub(crate) fn run_camera<
     W: Write + Drop + Send,
 >(rt: &R, state: &CameraState, outlet: &Outlet<W>) {
     let mut printed = false;
+    // The sequence of the next frame, once one was filmed.
+    let mut next: Option<u32> = None;
     for _ in rt.forever() {
         if state.is_stopped(rt) {
             break;
@@ -64,7 +70,7 @@ pub(crate) fn run_camera<
         let why = match open_first(rt, state) {
             Ok(opened) => {
                 measure(rt, state);
-                film_into(rt, state, outlet, opened)
+                film_into(rt, state, outlet, opened, &mut next)
             }
             Err(why) => why,
         };
@@ -134,20 +140,27 @@ fn film_into<R: AllocGlobal + Places + Threads + Wait + Clock + Sync, W: Write +
     state: &CameraState,
     outlet: &Outlet<W>,
     opened: Opened,
+    next: &mut Option<u32>,
 ) -> Absent {
     let Opened {
         first: OpenStore { number, mut store },
         others,
         there,
         wanted,
+        newest,
+        in_order,
     } = opened;
     let geometry = store.geometry();
     let is_start = !state.has_gone_on(rt);
     if is_start {
         tell_layout(rt, state, outlet, number, store.version());
     }
+    if is_start && !in_order {
+        tell_order(rt, state, outlet);
+    }
     take_store(rt, state, &mut store);
-    let member = match member_of(rt, state, number, &store) {
+    let rest = elsewhere(others.as_slice(), newest);
+    let member = match member_of(rt, state, number, &store, rest) {
         Ok(member) => member,
         Err(why) => return why,
     };
@@ -159,15 +172,17 @@ fn film_into<R: AllocGlobal + Places + Threads + Wait + Clock + Sync, W: Write +
         member.clips.as_slice(),
         events.as_slice(),
     );
-    let Some(camera) = camera_before(rt.alloc(), state, store) else {
+    let first = first_of(newest, *next);
+    let Some(camera) = camera_before(rt.alloc(), state, store, first) else {
         return Absent::NoBuffers;
     };
     state.begin(rt, member, wanted, there.len() > 1);
     go_on_with(rt, state, events.as_slice());
-    let before = state.tally(rt).lost();
+    let before = (state.tally(rt).lost(), state.feed.bad_ticks(rt));
     let rest = Unopened {
         geometry,
         number,
+        newest,
         others,
         there,
         events,
@@ -175,10 +190,23 @@ fn film_into<R: AllocGlobal + Places + Threads + Wait + Clock + Sync, W: Write +
         is_start,
     };
     let filmed = film(rt, state, outlet, camera, rest);
+    if let Ok(ended) = &filmed {
+        *next = Some(ended.device.next_sequence());
+    }
     count_lost(rt, state, before, &filmed);
     state.lose_rest(rt);
     leave_failed(rt, state, outlet, &filmed);
     why_ended(rt, state, filmed)
+}
+
+// The sequence of the first frame of a filming: that after the newest stored one, or the one at which the last filming
+// ended where that is ahead of it.
+fn first_of(newest: Option<u32>, next: Option<u32>) -> u32 {
+    match (newest, next) {
+        (None, next) => next.unwrap_or(0),
+        (Some(newest), Some(next)) if next.wrapping_sub(newest) <= HALF => next,
+        (Some(newest), _) => newest.wrapping_add(1),
+    }
 }
 
 // A camera has its store. Frames that came before it was there and that it doesn't take are lost.
@@ -215,6 +243,7 @@ fn go_on_with<R: AllocGlobal + Wait + Clock>(rt: &R, state: &CameraState, events
         // Where memory for the line is refused, it isn't printed.
         let _ = lines.event_begun(event.event, event.since, event.until);
         let now = state.timeline.now(rt);
+        let now = shown_at(rt, state, now, now.min(event.since));
         let come = state.feed.come(rt, now.min(event.until));
         let keep = Keep::new(*event, now, come, &state.tally(rt));
         let clips = state.clips_tagged(rt, alloc, 0, event.event);
@@ -228,9 +257,9 @@ fn go_on_with<R: AllocGlobal + Wait + Clock>(rt: &R, state: &CameraState, events
     }
 }
 
-// Counts what a filming says that it lost on the way to the desk; `before` frames were lost before it. What waits at
-// the desk and in the queue is counted by `lose_rest`.
-fn count_lost<R: Wait>(rt: &R, state: &CameraState, before: u64, filmed: &Filmed) {
+// Counts what a filming says that it lost on the way to the desk, but for what its source had lost; `before` frames were
+// lost before it, and so many by the source. What waits at the desk and in the queue is counted by `lose_rest`.
+fn count_lost<R: Wait>(rt: &R, state: &CameraState, (before, bad): (u64, u64), filmed: &Filmed) {
     let Ok(ended) = filmed else {
         return;
     };
@@ -238,8 +267,11 @@ fn count_lost<R: Wait>(rt: &R, state: &CameraState, before: u64, filmed: &Filmed
     let lost = lost
         .saturating_add(ended.missed)
         .saturating_add(ended.failed);
+    let by_source = state.feed.bad_ticks(rt).saturating_sub(bad);
     let (come, _) = state.feed.counts(rt);
-    state.life.settle(rt, come, before, lost);
+    state
+        .life
+        .settle(rt, come, before, lost.saturating_sub(by_source));
 }
 
 // Of several stores those that failed are left alone for a while: the others go on. It is told.
@@ -306,14 +338,21 @@ fn why_ended<R: Wait>(rt: &R, state: &CameraState, filmed: Filmed) -> Absent {
     }
 }
 
-// A camera in front of a store: its queue streams, and nothing waits at its desk. None where memory was refused.
-fn camera_before(alloc: Global, state: &CameraState, store: Store<FileDisk>) -> Option<FileCamera> {
+// A camera in front of a store: its queue streams, and nothing waits at its desk. Its first frame has this sequence. None
+// where memory was refused.
+fn camera_before(
+    alloc: Global,
+    state: &CameraState,
+    store: Store<FileDisk>,
+    first: u32,
+) -> Option<FileCamera> {
     let geometry = store.geometry();
     let (mut queue, mut table) = new_queue(alloc, &geometry);
     let start = heap_start(alloc, &queue, state.config.buffers).ok()?;
     start_queue(&mut queue, &mut table, start).ok()?;
     let feed = Arc::try_clone(&state.feed).ok()?;
-    let device = Device::new(alloc, FeedSource::new(alloc, feed), size_of(&geometry)?).ok()?;
+    let source = FeedSource::new(alloc, feed);
+    let device = Device::from_number(alloc, source, size_of(&geometry)?, first).ok()?;
     match Desk::new(alloc, store, limits_for(geometry.frame_bytes())) {
         Ok(desk) => Some(Camera::new(device, queue, table, desk)),
         Err(_) => None,
@@ -342,9 +381,16 @@ fn film<R: AllocGlobal + Places + Threads + Wait + Clock + Sync, W: Write + Drop
     let door = door_for(rt.alloc(), rest.number.is_some());
     let door = &door;
     thread::scope(thread::scope_env(), rt, move |scope| -> Filmed {
-        if door.is_open() {
-            // Where a thread is refused, the camera is filmed into the one store that is open.
-            let _alone = scope.spawn(move || open_others(rt, state, outlet, door, rest));
+        let opener = if door.is_open() {
+            scope
+                .spawn(move || open_others(rt, state, outlet, door, rest))
+                .is_ok()
+        } else {
+            false
+        };
+        if !opener {
+            // Where a thread is refused, the camera is filmed into the one store that is open, and waits for no other.
+            state.stored.all_open(rt);
         }
         let guided = GuidedCamera {
             link: &state.threads,

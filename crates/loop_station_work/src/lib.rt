@@ -4,7 +4,8 @@
 //! (`filming`): the store is opened or made, and `film_desks` of loop_pipeline brings the frames to it. Where a camera
 //! has several stores, one more thread opens and makes the others meanwhile (`opening`); `stores` says what they are.
 //!
-//! `run` starts all that. `orders` reads orders and asks the cameras, `printer` prints what they answer and begins
+//! `run` starts all that; `crew` has the threads of one camera, `paths` what the configuration names, and `reload` reads
+//! that anew: then cameras end and others begin while the rest record. `orders` reads orders and asks the cameras, `printer` prints what they answer and begins
 //! saves, and `notes` writes down what goes on at the next start. `events` prints what happens without an order,
 //! and `watch` sees that a source is silent, that a store was moved away, and that the program stood still. What the
 //! threads share stands in loop_station_shared, and what a camera does of its orders in loop_station_camera.
@@ -16,16 +17,20 @@
 //! docs/station.md says why it is so.
 #![tactic(auto)]
 
+mod crew;
 mod events;
 mod filming;
 mod notes;
 mod opening;
 mod orders;
+mod paths;
 mod printer;
+mod reload;
 mod run;
 mod source;
 mod stores;
 mod watch;
 
 pub use loop_station_outside::Places;
-pub use run::{NotBegun, run_station};
+pub use paths::NotBegun;
+pub use run::run_station;

@@ -3,7 +3,6 @@
 //! answered once its line is on the disk, and told as over once the file without it is. A file that can't be written is
 //! told once, and tried again each second: stores have their room, but a disk may have none for this file.
 
-use crate::orders::Station;
 use loop_script::number::number;
 use loop_script::print_parts;
 use loop_station_camera::CameraState;
@@ -13,52 +12,13 @@ use loop_station_shared::Note;
 use std::alloc::{AllocGlobal, Global};
 use std::io::Write;
 use std::sync::Wait;
-use std::thread::{JoinHandle, Scope, Threads};
 use std::time::{Clock, Duration};
 
 // How many milliseconds pass before a file that couldn't be written is tried again.
 const TRY_AGAIN: u64 = 1_000;
 
-/// Starts a thread for the file of each camera's events: a disk that stands still delays no other camera's. Returns
-/// whether all could be started.
-pub(crate) fn start_notes<
-    's,
-    E,
-    R: AllocGlobal + Places + Threads + Wait + Clock + Sync + 'static,
-    W: Write + Drop + Send + 'static,
->(
-    rt: &'s R,
-    scope: &Scope<'s, E>,
-    station: &'s Station<W>,
-    handles: &mut Vec<JoinHandle<()>>,
-) -> bool {
-    for state in station.cameras.as_slice() {
-        let Ok(handle) = scope.spawn(move || run_notes(rt, state)) else {
-            return false;
-        };
-        if handles.push(handle).is_err() {
-            return false;
-        }
-    }
-    true
-}
-
-/// Ends these threads.
-pub(crate) fn end_notes<R: Wait + Threads, W: Write + Drop>(
-    rt: &R,
-    station: &Station<W>,
-    handles: Vec<JoinHandle<()>>,
-) {
-    for state in station.cameras.as_slice() {
-        state.notes.put(rt, Note::End);
-    }
-    for handle in handles {
-        handle.join(rt);
-    }
-}
-
-// Writes the file of a camera's events, until the program ends.
-fn run_notes<R: AllocGlobal + Places + Wait + Clock>(rt: &R, state: &CameraState) {
+/// The thread that writes the file of a camera's events, until the camera has ended.
+pub(crate) fn run_notes<R: AllocGlobal + Places + Wait + Clock>(rt: &R, state: &CameraState) {
     // The events that couldn't be written.
     let mut unwritten: Option<Vec<OpenEvent>> = None;
     for _ in rt.forever() {

@@ -1,14 +1,16 @@
 //! Orders: they are read line by line, and handed to the cameras that they mean. The thread that reads them waits for
 //! no camera, no disk and no reader: what a line says of time is said of the moment at which it was read.
 
+use crate::paths::Fixed;
 use loop_script::{MAX_LINE, next_line};
-use loop_station_camera::{CameraState, Saves, tell_status};
+use loop_station_camera::{CameraState, Fleet, Saves, shown_at, tell_status};
 use loop_station_core::{KeepPeriod, Numbers, asked_time, is_too_far, tag_of};
 use loop_station_outside::{Places, Timeline};
-use loop_station_shared::{Answering, AskedKeep, Job, NotTaken, Outlet, Posts, Request};
+use loop_station_shared::{Answering, AskedKeep, Job, NotTaken, Outlet, Post, Posts, Request};
 use loop_station_words::{Lines, Name, Order, label_of, read_order};
 use std::alloc::{AllocError, AllocGlobal, Global};
 use std::io::{BufRead, Write};
+use std::sync::atomic::{AtomicBool, AtomicU64, Ordering};
 use std::sync::{Arc, Mutex, Wait};
 use std::time::Clock;
 use std::{io, str};
@@ -18,7 +20,7 @@ use std::{io, str};
 pub(crate) struct Station<W: Write + Drop> {
     pub alloc: Global,
     pub timeline: Timeline,
-    pub cameras: Vec<Arc<CameraState>>,
+    pub cameras: Arc<Fleet>,
     pub outlet: Arc<Outlet<W>>,
     pub saves: Arc<Saves>,
     pub posts: Arc<Posts>,
@@ -30,6 +32,26 @@ pub(crate) struct Station<W: Write + Drop> {
     pub numbers: Mutex<Numbers>,
     /// The label of the order that ends the program.
     pub last: Mutex<Option<String>>,
+    /// What doesn't change where the configuration is read anew.
+    pub fixed: Fixed,
+    /// The orders to read it anew, and how many of them aren't answered.
+    pub reloads: Post<Reload>,
+    pub reloading: AtomicU64,
+    /// Whether the first cameras could be started, once that is known.
+    pub started: Post<bool>,
+    /// The program ends.
+    pub over: AtomicBool,
+    /// How often the cameras were looked at for what is told of them.
+    pub looks: AtomicU64,
+}
+
+/// What the thread is told that reads the configuration anew.
+#[derive(Drop)]
+pub(crate) enum Reload {
+    /// An order asks for it.
+    Asked(Arc<Answering>),
+    /// The program ends.
+    End,
 }
 
 impl<W: Write + Drop> Station<W> {
@@ -83,14 +105,9 @@ impl<W: Write + Drop> Station<W> {
         }
     }
 
-    // The camera of a name.
-    fn camera_named(&self, name: &str) -> Option<&Arc<CameraState>> {
-        for state in self.cameras.as_slice() {
-            if state.config.name.as_str() == name {
-                return Some(state);
-            }
-        }
-        None
+    /// Whether the program ends.
+    pub fn is_over(&self) -> bool {
+        self.over.load(Ordering::SeqCst)
     }
 }
 
@@ -217,6 +234,7 @@ fn hand_out<R: AllocGlobal + Places + Wait + Clock, W: Write + Drop>(
             keep(rt, station, read, label, asked)
         }
         Order::List => list(rt, station, label),
+        Order::Reload => ask_reload(rt, station, label),
         Order::Status | Order::Help | Order::Stop => {
             tell_all(rt, station, label, matches!(order, Order::Help));
             Ok(())
@@ -267,6 +285,18 @@ fn hand_out_for_clip<R: Wait, W: Write + Drop>(
     }
 }
 
+// Lets the configuration be read anew.
+fn ask_reload<R: Wait, W: Write + Drop>(
+    rt: &R,
+    station: &Station<W>,
+    label: Option<&str>,
+) -> Result<(), AllocError> {
+    let answering = station.answering(label, 0, 1)?;
+    station.reloading.fetch_add(1, Ordering::SeqCst);
+    station.reloads.put(rt, Reload::Asked(answering));
+    Ok(())
+}
+
 // Answers with the status of each camera, or with each order's line.
 fn tell_all<R: Wait, W: Write + Drop>(
     rt: &R,
@@ -295,9 +325,9 @@ fn is_meant(state: &CameraState, camera: Option<&str>) -> bool {
 }
 
 // How many cameras an order means that names one, or none.
-fn count_meant<W: Write + Drop>(station: &Station<W>, camera: Option<&str>) -> usize {
+fn count_meant(cameras: &[Arc<CameraState>], camera: Option<&str>) -> usize {
     let mut count = 0usize;
-    for state in station.cameras.as_slice() {
+    for state in cameras {
         if is_meant(state, camera) {
             count = count.saturating_add(1);
         }
@@ -314,7 +344,13 @@ fn asked_keep<R: Wait + Clock>(
     period: KeepPeriod,
     tag: Option<u64>,
 ) -> AskedKeep {
-    let (since, until) = asked_time(period, read, state.config.seconds, state.config.after);
+    let shown = shown_at(rt, state, read, read);
+    let (since, until) = asked_time(period, shown, state.config.seconds, state.config.after);
+    let read = match period {
+        // A time that the station's clock has passed isn't waited for.
+        KeepPeriod::Between(_, _) if until <= read => shown.max(until),
+        _ => shown,
+    };
     AskedKeep {
         event,
         since,
@@ -349,11 +385,12 @@ fn keep<R: Wait + Clock, W: Write + Drop>(
         Some(name) => Some(name.text()),
         None => None,
     };
-    let meant = count_meant(station, name);
+    let cameras = station.cameras.all(rt, station.alloc)?;
+    let meant = count_meant(&cameras, name);
     if meant == 0 {
         return no_camera(rt, station, label, name.unwrap_or(""));
     }
-    if is_far(station, name, read, period) {
+    if is_far(rt, &cameras, name, read, period) {
         let mut lines = station.lines();
         // Where memory for the line is refused, nothing is printed.
         if lines.too_far().is_ok() {
@@ -364,7 +401,7 @@ fn keep<R: Wait + Clock, W: Write + Drop>(
     let event = station.numbers.lock(rt).next(read);
     let answering = station.answering(label, event, meant)?;
     let mut place = 0usize;
-    for state in station.cameras.as_slice() {
+    for state in cameras.as_slice() {
         if is_meant(state, name) {
             let asked = asked_keep(rt, state, event, read, period, tag);
             hand(
@@ -381,16 +418,22 @@ fn keep<R: Wait + Clock, W: Write + Drop>(
 }
 
 // Whether a keep ends too far ahead for one of the cameras that it means.
-fn is_far<W: Write + Drop>(
-    station: &Station<W>,
+fn is_far<R: Wait>(
+    rt: &R,
+    cameras: &[Arc<CameraState>],
     name: Option<&str>,
     read: u64,
     period: KeepPeriod,
 ) -> bool {
-    for state in station.cameras.as_slice() {
+    for state in cameras {
         if is_meant(state, name) {
-            let (_, until) = asked_time(period, read, state.config.seconds, state.config.after);
-            if is_too_far(read, until) {
+            let shown = shown_at(rt, state, read, read);
+            let (_, until) = asked_time(period, shown, state.config.seconds, state.config.after);
+            let seen = match period {
+                KeepPeriod::Between(_, _) => shown.max(read),
+                KeepPeriod::Around(_, _) => shown,
+            };
+            if is_too_far(seen, until) {
                 return true;
             }
         }
@@ -434,11 +477,11 @@ fn ask_one<R: Wait, W: Write + Drop>(
     name: &str,
     request: Request,
 ) -> Result<(), AllocError> {
-    let Some(state) = station.camera_named(name) else {
+    let Some(state) = station.cameras.named(rt, name) else {
         return no_camera(rt, station, label, name);
     };
     let answering = station.answering(label, 0, 1)?;
-    hand(rt, state, answering, 0, request);
+    hand(rt, &state, answering, 0, request);
     Ok(())
 }
 
@@ -465,7 +508,7 @@ fn cancel<R: Wait, W: Write + Drop>(
     name: &str,
     id: u32,
 ) -> Result<(), AllocError> {
-    let Some(state) = station.camera_named(name) else {
+    let Some(state) = station.cameras.named(rt, name) else {
         return no_camera(rt, station, label, name);
     };
     if !state.cancel_save(rt, id) {
@@ -485,9 +528,10 @@ fn list<R: Wait, W: Write + Drop>(
     station: &Station<W>,
     label: Option<&str>,
 ) -> Result<(), AllocError> {
-    let answering = station.answering(label, 0, station.cameras.len())?;
+    let cameras = station.cameras.all(rt, station.alloc)?;
+    let answering = station.answering(label, 0, cameras.len())?;
     let mut place = 0usize;
-    for state in station.cameras.as_slice() {
+    for state in cameras.as_slice() {
         hand(rt, state, Arc::try_clone(&answering)?, place, Request::List);
         place = place.saturating_add(1);
     }
@@ -500,7 +544,8 @@ pub(crate) fn status<R: Wait, W: Write + Drop>(
     station: &Station<W>,
     lines: &mut Lines,
 ) -> io::Result<()> {
-    for state in station.cameras.as_slice() {
+    let cameras = station.cameras.all(rt, station.alloc)?;
+    for state in cameras.as_slice() {
         tell_status(rt, state, lines)?;
     }
     Ok(())

@@ -61,8 +61,8 @@ fn save_all<R: AllocGlobal + Wait + Clock, W: Write + Drop>(
     for clip in kept {
         // Where memory is refused, the clip is saved at the next start.
         if let Ok(save) = automatic(station.alloc, *clip, may_be_saved) {
-            if let Some(state) = station.cameras.get(clip.camera) {
-                begin(rt, state, save);
+            if let Some(state) = station.cameras.at(rt, clip.camera) {
+                begin(rt, &state, save);
             }
         }
     }
@@ -78,8 +78,8 @@ pub(crate) fn stop_saves<R: AllocGlobal + Wait + Clock, W: Write + Drop>(
         let Some(save) = station.saves.next_stopped(rt) else {
             break;
         };
-        if let Some(state) = station.cameras.get(save.camera()) {
-            tell_ended(rt, state, &save, NotSaved::Stopped);
+        if let Some(state) = station.cameras.at(rt, save.camera()) {
+            tell_ended(rt, &state, &save, NotSaved::Stopped);
         }
     }
 }

@@ -1,23 +1,22 @@
 //! The program: threads for each camera, and orders meanwhile.
 
 use crate::events::LastReported;
-use crate::filming::run_camera;
-use crate::notes::{end_notes, start_notes};
-use crate::opening::has_stores;
-use crate::orders::{Station, status, take_orders};
+use crate::orders::{Reload, Station, status, take_orders};
+use crate::paths::{Fixed, NotBegun};
 use crate::printer::{run_printer, stop_saves};
-use crate::source::{known_frames, run_source};
+use crate::reload::run_crews;
 use crate::watch::run_watch;
 use loop_script::MAX_LINE;
-use loop_station_camera::{CameraState, Common, MOST_SAVES, Saves, begin, run_saves};
+use loop_station_camera::{CameraState, Common, Fleet, MOST_SAVES, Saves, begin, run_saves};
 use loop_station_core::Numbers;
 use loop_station_outside::{PathKind, Places, Timeline};
-use loop_station_shared::{LineForm, Message, Outlet, Posts, Tap, run_outlet, run_tap};
-use loop_station_words::{AnswersForm, CameraConfig, Config, Lines, NoRing, Source, asked_set};
-use std::alloc::{AllocError, AllocGlobal, Global};
+use loop_station_shared::{LineForm, Message, Outlet, Post, Posts, Tap, run_outlet, run_tap};
+use loop_station_words::{AnswersForm, CameraConfig, Config, Lines, WhenFull};
+use std::alloc::{AllocGlobal, Global};
 use std::fs::OpenFile;
 use std::io::{BufReader, Read, Write};
 use std::os::unix::fs::{FileTypeExt, MetadataExt};
+use std::sync::atomic::{AtomicBool, AtomicU64, Ordering};
 use std::sync::{Arc, Mutex, Wait};
 use std::thread;
 use std::thread::{JoinHandle, Scope, Threads};
@@ -31,31 +30,14 @@ const FINISH_STEPS: u32 = 12_000;
 
 const FINISH_AGAIN: u64 = 5;
 
+// How many orders to read the configuration anew may wait.
+const MOST_RELOADS: usize = 256;
+
 // How many milliseconds pass before a pipe of orders without a writer is read again.
 const NEXT_WRITER: u64 = 5;
 
 // After so many such reads it is looked whether the pipe still has its name.
 const ORDER_ENDS: u32 = 100;
-
-/// Why the program couldn't begin.
-#[derive(Drop)]
-pub enum NotBegun {
-    /// Memory or a thread was refused.
-    NoMemory,
-    /// The clock can't be read.
-    NoClock,
-    /// This path of `answers` is one of a store, a source, the configuration or the pipe of orders.
-    AnswersInUse(String),
-    /// No 256 stores hold as many frames as come in the hours or minutes of this camera. So many tenths of a minute
-    /// fit.
-    TooManyMinutes(String, u64),
-}
-
-impl From<AllocError> for NotBegun {
-    fn from(_: AllocError) -> Self {
-        NotBegun::NoMemory
-    }
-}
 
 /// Records from each camera of a configuration into its store, and does orders until one says `stop`. `path` is the
 /// path of the configuration's file. Orders come from the input, or from the pipe or file that the configuration names;
@@ -67,13 +49,12 @@ pub fn run_station<
     W: Write + Drop + Send + 'static,
 >(rt: &R, path: &str, config: Config, input: I, out: W, watched: bool) -> Result<bool, NotBegun> {
     let alloc = rt.alloc();
-    check_answers(rt, path, &config)?;
-    check_minutes(rt, &config)?;
-    let (station, tap, orders) = station_of(rt, path, config, out)?;
+    let fixed = Fixed::of(alloc, path, &config)?;
+    fixed.check(rt, config.cameras.as_slice())?;
+    let (station, tap, orders) = station_of(rt, fixed, config, out)?;
     start_saves(rt, &station)?;
     start_outlet(rt, &station)?;
     start_tap(rt, &station, &tap)?;
-    start_sources(rt, &station)?;
     let line = Vec::with_capacity(alloc, MAX_LINE + 1)?;
     let Ok(input) = BufReader::new(alloc, input) else {
         return Err(NotBegun::NoMemory);
@@ -83,7 +64,7 @@ pub fn run_station<
         input,
         line,
     };
-    if !run_behind(rt, &station, reader, Vec::new(alloc), watched) {
+    if !run_behind(rt, &station, reader, watched) {
         return Err(NotBegun::NoMemory);
     }
     station.tell_end(rt);
@@ -95,13 +76,12 @@ pub fn run_station<
 // its orders.
 fn station_of<R: AllocGlobal + Places + Wait + Clock, W: Write + Drop>(
     rt: &R,
-    path: &str,
+    fixed: Fixed,
     config: Config,
     out: W,
 ) -> Result<(Station<W>, Option<Arc<Tap>>, Option<String>), NotBegun> {
     let alloc = rt.alloc();
-    let taken = taken_paths(alloc, path, &config)?;
-    let stores = store_paths(alloc, &config)?;
+    let taken = fixed.taken(alloc, config.cameras.as_slice())?;
     let Config {
         orders,
         answers,
@@ -109,11 +89,12 @@ fn station_of<R: AllocGlobal + Places + Wait + Clock, W: Write + Drop>(
         saves,
         times,
         events,
+        when_full,
         cameras,
     } = config;
     let json = answers.is_some() && answers_form == AnswersForm::Json;
     let timeline = timeline_of(rt)?;
-    let saves = shared(alloc, Saves::new(alloc, taken, stores, saves)?)?;
+    let saves = shared(alloc, Saves::new(alloc, taken, saves)?)?;
     let posts = shared(alloc, Posts::new(alloc)?)?;
     let common = Common {
         json,
@@ -121,14 +102,14 @@ fn station_of<R: AllocGlobal + Places + Wait + Clock, W: Write + Drop>(
         posts,
         saves,
     };
-    let cameras = states_of(alloc, cameras, &common)?;
+    let cameras = states_of(alloc, cameras, when_full, &common)?;
     let times = times.then_some(timeline);
     let tap = tap_of(rt, answers, LineForm { json, times })?;
     let outlet = outlet_of(alloc, out, times, &tap, json)?;
     let station = Station {
         alloc,
         timeline,
-        cameras,
+        cameras: shared(alloc, Fleet::new(alloc, cameras))?,
         outlet: shared(alloc, outlet)?,
         saves: common.saves,
         posts: common.posts,
@@ -136,6 +117,12 @@ fn station_of<R: AllocGlobal + Places + Wait + Clock, W: Write + Drop>(
         events,
         numbers: Mutex::new(Numbers::after(0)),
         last: Mutex::new(None),
+        fixed,
+        reloads: Post::new(alloc, MOST_RELOADS)?,
+        reloading: AtomicU64::new(0),
+        started: Post::new(alloc, 1)?,
+        over: AtomicBool::new(false),
+        looks: AtomicU64::new(0),
     };
     Ok((station, tap, orders))
 }
@@ -163,15 +150,17 @@ fn timeline_of<R: Clock>(rt: &R) -> Result<Timeline, NotBegun> {
     }
 }
 
-// What the threads of each camera share.
+// What the threads of each camera share; `when_full`: what those do where every block is locked that don't say.
 fn states_of(
     alloc: Global,
     cameras: Vec<CameraConfig>,
+    when_full: Option<WhenFull>,
     common: &Common,
 ) -> Result<Vec<Arc<CameraState>>, NotBegun> {
     let mut states = Vec::new(alloc);
     let mut place = 0usize;
-    for camera in cameras {
+    for mut camera in cameras {
+        camera.when_full = camera.when_full.or(when_full);
         let state = CameraState::new(alloc, place, camera, common.share()?)?;
         if states.push(shared(alloc, state)?).is_err() {
             return Err(NotBegun::NoMemory);
@@ -188,116 +177,17 @@ fn start_saves<
     W: Write + Drop + Send + 'static,
 >(rt: &R, station: &Station<W>) -> Result<(), NotBegun> {
     for at in 0..MOST_SAVES {
-        let mut cameras = Vec::new(station.alloc);
-        for state in station.cameras.as_slice() {
-            if cameras.push(Arc::try_clone(state)?).is_err() {
-                return Err(NotBegun::NoMemory);
-            }
-        }
+        let fleet = Arc::try_clone(&station.cameras)?;
         let saves = Arc::try_clone(&station.saves)?;
         let Ok(theirs) = rt.clone() else {
             return Err(NotBegun::NoMemory);
         };
-        let work = move || run_saves(&theirs, &saves, cameras.as_slice(), at);
+        let work = move || run_saves(&theirs, &saves, &fleet, at);
         if thread::spawn(rt, work).is_err() {
             return Err(NotBegun::NoMemory);
         }
     }
     Ok(())
-}
-
-// The files and pipes that no clip may be written to: the configuration and all that it names.
-fn taken_paths(alloc: Global, path: &str, config: &Config) -> Result<Vec<String>, NotBegun> {
-    let mut taken = own_paths(alloc, path, config)?;
-    if let Some(answers) = &config.answers {
-        add_path(alloc, &mut taken, answers.as_str())?;
-    }
-    Ok(taken)
-}
-
-// The paths of the cameras' stores.
-fn store_paths(alloc: Global, config: &Config) -> Result<Vec<String>, NotBegun> {
-    let mut stores = Vec::new(alloc);
-    for camera in config.cameras.as_slice() {
-        add_path(alloc, &mut stores, camera.store.as_str())?;
-    }
-    Ok(stores)
-}
-
-// The configuration, and what it names to be read or recorded into.
-fn own_paths(alloc: Global, path: &str, config: &Config) -> Result<Vec<String>, NotBegun> {
-    let mut taken = Vec::new(alloc);
-    add_path(alloc, &mut taken, path)?;
-    if let Some(orders) = &config.orders {
-        add_path(alloc, &mut taken, orders.as_str())?;
-    }
-    for camera in config.cameras.as_slice() {
-        add_store(alloc, &mut taken, camera.store.as_str())?;
-        if let Source::Path(source) = &camera.source {
-            add_path(alloc, &mut taken, source.as_str())?;
-        }
-    }
-    Ok(taken)
-}
-
-// Adds the path of a store to others, and those of the files beside it: while it is made, and of its open events.
-fn add_store(alloc: Global, paths: &mut Vec<String>, store: &str) -> Result<(), NotBegun> {
-    add_path(alloc, paths, store)?;
-    let made = format!(in alloc; "{store}.new")?;
-    add_path(alloc, paths, made.as_str())?;
-    let events = format!(in alloc; "{store}.events")?;
-    add_path(alloc, paths, events.as_str())?;
-    let unfinished = format!(in alloc; "{store}.events.part")?;
-    add_path(alloc, paths, unfinished.as_str())
-}
-
-// Refuses `answers` that lead to what the station reads or records into.
-fn check_answers<R: AllocGlobal + Places>(
-    rt: &R,
-    path: &str,
-    config: &Config,
-) -> Result<(), NotBegun> {
-    let Some(answers) = &config.answers else {
-        return Ok(());
-    };
-    let taken = own_paths(rt.alloc(), path, config)?;
-    let cameras = config.cameras.as_slice();
-    if taken
-        .iter()
-        .any(|other| rt.is_same(answers.as_str(), other.as_str()))
-        || cameras.iter().any(|camera| rt.is_numbered(answers.as_str(), camera.store.as_str()))
-    {
-        let path = String::from_str(rt.alloc(), answers.as_str())?;
-        return Err(NotBegun::AnswersInUse(path));
-    }
-    Ok(())
-}
-
-// Refuses a camera whose stores would have to be made for more frames than 256 of them hold, where its frames are known
-// already.
-fn check_minutes<R: AllocGlobal + Places>(rt: &R, config: &Config) -> Result<(), NotBegun> {
-    for camera in config.cameras.as_slice() {
-        if has_stores(rt, camera.store.as_str()) {
-            continue;
-        }
-        let Some(frames) = known_frames(rt, &camera.source) else {
-            continue;
-        };
-        if let Err(NoRing::TooManyFrames(tenths)) = asked_set(&frames, camera.room) {
-            let name = String::from_str(rt.alloc(), camera.name.as_str())?;
-            return Err(NotBegun::TooManyMinutes(name, tenths));
-        }
-    }
-    Ok(())
-}
-
-// Adds a path to others.
-fn add_path(alloc: Global, paths: &mut Vec<String>, path: &str) -> Result<(), NotBegun> {
-    let path = String::from_str(alloc, path)?;
-    match paths.push(path) {
-        Ok(()) => Ok(()),
-        Err(_) => Err(NotBegun::NoMemory),
-    }
 }
 
 // The tap for the file or pipe of a path, if there is one.
@@ -355,25 +245,6 @@ fn shared<T: Drop>(alloc: Global, value: T) -> Result<Arc<T>, NotBegun> {
     }
 }
 
-// Starts a thread for each source. A source may keep its thread waiting for ever, so these threads aren't joined: they
-// end with the program.
-fn start_sources<
-    R: AllocGlobal + Places + Threads + Wait + Clock + Clone + Drop + Send + Sync + 'static,
-    W: Write + Drop + Send + 'static,
->(rt: &R, station: &Station<W>) -> Result<(), NotBegun> {
-    for state in station.cameras.as_slice() {
-        let state = Arc::try_clone(state)?;
-        let outlet = Arc::try_clone(&station.outlet)?;
-        let Ok(theirs) = rt.clone() else {
-            return Err(NotBegun::NoMemory);
-        };
-        if thread::spawn(rt, move || run_source(&theirs, &state, &outlet)).is_err() {
-            return Err(NotBegun::NoMemory);
-        }
-    }
-    Ok(())
-}
-
 // Where orders come from: the pipe or file of a path, or else the input; and the memory of a line.
 #[derive(Drop)]
 struct OrderReader<I: Read + Drop> {
@@ -387,16 +258,10 @@ fn run_behind<
     R: AllocGlobal + Places + Threads + Wait + Clock + Clone + Drop + Send + Sync + 'static,
     I: Read + Drop,
     W: Write + Drop + Send + 'static,
->(
-    rt: &R,
-    station: &Station<W>,
-    reader: OrderReader<I>,
-    handles: Vec<JoinHandle<()>>,
-    watched: bool,
-) -> bool {
+>(rt: &R, station: &Station<W>, reader: OrderReader<I>, watched: bool) -> bool {
     let (rt, station) = (&*rt, &*station);
     thread::scope(thread::scope_env(), rt, move |scope| -> bool {
-        run_in(rt, scope, station, reader, handles, watched)
+        run_in(rt, scope, station, reader, watched)
     })
 }
 
@@ -413,27 +278,29 @@ fn run_in<
     scope: &Scope<'s, E>,
     station: &'s Station<W>,
     reader: OrderReader<I>,
-    handles: Vec<JoinHandle<()>>,
     watched: bool,
 ) -> bool {
-    let mut handles = handles;
+    let mut handles = Vec::new(station.alloc);
     let Ok(printer) = scope.spawn(move || run_printer(rt, station)) else {
         return false;
     };
-    let mut notes = Vec::new(station.alloc);
-    let all = start_notes(rt, scope, station, &mut notes)
-        && start_cameras(rt, scope, station, &mut handles, watched);
+    let Ok(crews) = scope.spawn(move || run_crews(rt, station)) else {
+        station.posts.printer.put(rt, Message::End);
+        printer.join(rt);
+        return false;
+    };
+    let all = station.started.take(rt) == Some(true)
+        && start_watches(rt, scope, station, &mut handles, watched);
     if !all || serve(rt, station, reader) {
         finish_orders(rt, station);
         stop_saves(rt, station);
-        for state in station.cameras.as_slice() {
-            state.stop(rt);
-        }
+        station.over.store(true, Ordering::SeqCst);
+        station.reloads.put(rt, Reload::End);
     }
+    crews.join(rt);
     for handle in handles {
         handle.join(rt);
     }
-    end_notes(rt, station, notes);
     station.posts.printer.put(rt, Message::End);
     printer.join(rt);
     all
@@ -442,16 +309,20 @@ fn run_in<
 // Waits until the orders that came before a `stop` are done, but no longer than a keep waits for frames.
 fn finish_orders<R: Wait + Clock, W: Write + Drop>(rt: &R, station: &Station<W>) {
     for _ in 0..FINISH_STEPS {
-        let is_idle = station.cameras.iter().all(|state| state.is_idle(rt));
-        if is_idle && station.posts.printer.is_empty(rt) {
+        let is_idle = match station.cameras.all(rt, station.alloc) {
+            Ok(cameras) => cameras.iter().all(|state| state.is_idle(rt)),
+            Err(_) => false,
+        };
+        let is_read = station.reloading.load(Ordering::SeqCst) == 0;
+        if is_idle && is_read && station.posts.printer.is_empty(rt) {
             break;
         }
         thread::sleep(rt, Duration::from_millis(FINISH_AGAIN));
     }
 }
 
-// Starts a thread for each camera, and one that prints what happens to them. Returns whether all could be started.
-fn start_cameras<
+// Starts the threads that look at the cameras, and print what happens to them. Returns whether all could be started.
+fn start_watches<
     's,
     E,
     R: AllocGlobal + Places + Threads + Wait + Clock + Sync + 'static,
@@ -463,14 +334,6 @@ fn start_cameras<
     handles: &mut Vec<JoinHandle<()>>,
     watched: bool,
 ) -> bool {
-    for state in station.cameras.as_slice() {
-        let Ok(handle) = scope.spawn(move || run_camera(rt, state, &station.outlet)) else {
-            return false;
-        };
-        if handles.push(handle).is_err() {
-            return false;
-        }
-    }
     let Ok(handle) = scope.spawn(move || run_watch(rt, station)) else {
         return false;
     };
@@ -491,51 +354,80 @@ fn watch<R: AllocGlobal + Wait + Clock, W: Write + Drop>(
     watched: bool,
 ) {
     let mut reported = Vec::new(rt.alloc());
-    for state in station.cameras.as_slice() {
-        if reported
-            .push(LastReported::new(state.timeline.now(rt)))
-            .is_err()
-        {
-            return;
-        }
-    }
     for _ in rt.forever() {
         for _ in 0..STATUS_STEPS {
-            let over = station.cameras.iter().all(|state| state.is_stopped(rt));
-            look(rt, station, reported.as_mut_slice());
+            let over = station.is_over();
+            look(rt, station, &mut reported);
+            station.looks.fetch_add(1, Ordering::SeqCst);
             if over {
                 return;
             }
             thread::sleep(rt, Duration::from_millis(100));
         }
-        let over = station.cameras.iter().all(|state| state.is_stopped(rt));
-        if watched && !over {
+        if watched && !station.is_over() {
             show(rt, station);
         }
     }
 }
 
-// Looks at each camera once.
+// Looks at each camera once. Where memory is refused, it is looked at the next time.
 fn look<R: AllocGlobal + Wait + Clock, W: Write + Drop>(
     rt: &R,
     station: &Station<W>,
-    reported: &mut [LastReported],
+    reported: &mut Vec<(usize, LastReported)>,
 ) {
-    let mut place = 0usize;
-    for state in station.cameras.as_slice() {
+    let Ok(cameras) = station.cameras.watched(rt, station.alloc) else {
+        return;
+    };
+    for state in cameras.as_slice() {
         state.wake_to_go_on(rt);
-        if let Some(reported) = reported.get_mut(place) {
+        if station.events {
+            tell_events(rt, station, state, &mut *reported);
+        }
+    }
+    forget_ended(&mut *reported, &cameras);
+    if let Some(save) = station.saves.due(rt, station.timeline.now(rt)) {
+        if let Some(state) = station.cameras.at(rt, save.camera()) {
+            begin(rt, &state, save);
+        }
+    }
+}
+
+// Tells what has changed of a camera since it was last looked at.
+fn tell_events<R: AllocGlobal + Wait + Clock, W: Write + Drop>(
+    rt: &R,
+    station: &Station<W>,
+    state: &CameraState,
+    reported: &mut Vec<(usize, LastReported)>,
+) {
+    if !reported.iter().any(|known| known.0 == state.place) {
+        let first = LastReported::new(state.timeline.now(rt));
+        if reported.push((state.place, first)).is_err() {
+            return;
+        }
+    }
+    for known in reported.as_mut_slice() {
+        if known.0 == state.place {
             let mut lines = station.lines();
             // Where memory for the lines is refused, they aren't printed.
-            if station.events && reported.tell_changes(rt, state, &mut lines).is_ok() {
+            if known.1.tell_changes(rt, state, &mut lines).is_ok() {
                 station.outlet.put(rt, &lines);
             }
         }
-        place = place.saturating_add(1);
     }
-    if let Some(save) = station.saves.due(rt, station.timeline.now(rt)) {
-        if let Some(state) = station.cameras.get(save.camera()) {
-            begin(rt, state, save);
+}
+
+// Forgets what was told of cameras that have ended.
+fn forget_ended(reported: &mut Vec<(usize, LastReported)>, cameras: &[Arc<CameraState>]) {
+    for _ in 0..reported.len() {
+        let gone = reported.iter().position(|known| !cameras
+            .iter()
+            .any(|state| state.place == known.0));
+        match gone {
+            Some(at) if at < reported.len() => {
+                reported.remove(at);
+            }
+            _ => break,
         }
     }
 }

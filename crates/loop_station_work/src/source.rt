@@ -6,6 +6,9 @@
 //! with a header. A frame that isn't whole is dropped, also where the next writer's header stands in the place of its
 //! rest.
 //!
+//! A header may also follow in the line of a frame, or after a frame whose end has its first bytes: then the next frames
+//! aren't lost.
+//!
 //! A writer that went on while the program was begun anew gives no header again. Then its frames are read from their
 //! next line on, as the store has them. Where that can't be, the pipe is closed: its writer ends, and comes again.
 
@@ -18,13 +21,13 @@ use loop_station_camera::{CameraState, said_of, tell_other};
 use loop_station_core::{Act, SourceEvent};
 use loop_station_outside::{Input, Joined, PathKind, Places, find_header, has_frame_line};
 use loop_station_shared::{Outlet, Said};
-use loop_station_words::{RingSize, Source, frames_before, size_of};
+use loop_station_words::{LossesFrom, RingSize, Source, frames_before, size_of};
 use loop_y4m::{Depth, FrameLine, GeometryFault, Y4mFault, Y4mReader, write_deep_header};
-use std::alloc::AllocGlobal;
-use std::fs::OpenFile;
+use std::alloc::{AllocGlobal, Global};
+use std::fs::{File, OpenFile};
 use std::io::{Read, Write};
 use std::os::unix::fs::{FileTypeExt, MetadataExt};
-use std::sync::Wait;
+use std::sync::{Arc, Wait};
 use std::time::{Clock, Duration};
 use std::{io, thread};
 
@@ -34,6 +37,9 @@ const OPEN_AGAIN: u64 = 200;
 // A pipe that was closed so that its writer ends is opened again after twice as many milliseconds each time, and so
 // many at most: a writer of few frames has to meet it closed.
 const CLOSED_MOST: u64 = 60_000;
+
+// How many milliseconds pass before it is looked again whether an ended camera still reads from the source.
+const NEXT_READER: u64 = 5;
 
 // How many milliseconds pass before it is looked again whether the store is open, whose frames a source may go on with.
 const STORE_AGAIN: u64 = 20;
@@ -52,6 +58,9 @@ const READS: u32 = 10;
 
 // Where a frame ends with so many bytes of a header's beginning, or more, it isn't whole. Fewer may be pixels.
 const BEGUN: usize = 6;
+
+// How many bytes tell that a frame's bytes begin with the line of another one.
+const LINE_BEGUN: usize = 6;
 
 /// A ring of any size: the store's own is chosen elsewhere.
 const ANY_RING: RingSize = RingSize {
@@ -84,12 +93,56 @@ fn frames_of_file<R: AllocGlobal + Places>(rt: &R, path: &str) -> Option<Geometr
     reader.geometry(ANY_RING.segments, ANY_RING.slots).ok()
 }
 
-/// Gives a source's frames to a camera's feed, and opens it again where it ends or breaks, until the camera is stopped.
-pub(crate) fn run_source<R: AllocGlobal + Places + Wait + Clock, W: Write + Drop>(
+/// The pipe of a camera's source, opened at once, where one of these cameras reads from it: none of its writers ends as
+/// long as it is open.
+pub(crate) fn held_pipe<R: AllocGlobal + Places>(
+    rt: &R,
+    state: &CameraState,
+    readers: &[Arc<CameraState>],
+) -> Option<File> {
+    let Source::Path(path) = &state.config.source else {
+        return None;
+    };
+    let is_read = readers
+        .iter()
+        .any(|other| other.config.source.is_that(&state.config.source));
+    if !is_read || rt.path_kind(path.as_str()) != PathKind::Pipe {
+        return None;
+    }
+    rt.open_orders(path.as_str()).ok()
+}
+
+/// The thread of a source: it gives its frames to a camera's feed once none of these ended cameras reads from the same
+/// source any more. `held`: its pipe, which was held open so that its writer doesn't end meanwhile.
+pub(crate) fn run_source_after<R: AllocGlobal + Places + Wait + Clock, W: Write + Drop>(
     rt: &R,
     state: &CameraState,
     outlet: &Outlet<W>,
+    before: Vec<Arc<CameraState>>,
+    held: Option<File>,
 ) {
+    let is_read = |other: &Arc<CameraState>| {
+        !other.has_source_ended() && other.config.source.is_that(&state.config.source)
+    };
+    for _ in rt.forever() {
+        if state.is_stopped(rt) || !before.iter().any(is_read) {
+            break;
+        }
+        thread::sleep(rt, Duration::from_millis(NEXT_READER));
+    }
+    drop(before);
+    run_source(rt, state, outlet, held);
+    state.end_source();
+}
+
+// Gives a source's frames to a camera's feed, and opens it again where it ends or breaks, until the camera is stopped.
+fn run_source<R: AllocGlobal + Places + Wait + Clock, W: Write + Drop>(
+    rt: &R,
+    state: &CameraState,
+    outlet: &Outlet<W>,
+    held: Option<File>,
+) {
+    let mut held = held;
     let mut rest = OPEN_AGAIN;
     for _ in rt.forever() {
         if state.is_stopped(rt) {
@@ -100,7 +153,7 @@ pub(crate) fn run_source<R: AllocGlobal + Places + Wait + Clock, W: Write + Drop
                 play_pattern(rt, state, outlet, &shape.geometry(ANY_RING));
                 false
             }
-            Source::Path(path) => play_file(rt, state, outlet, path.as_str()),
+            Source::Path(path) => play_file(rt, state, outlet, path.as_str(), held.take()),
         };
         rest = if is_broken {
             rest.saturating_mul(2).min(CLOSED_MOST)
@@ -163,6 +216,7 @@ fn play_pattern<R: AllocGlobal + Wait + Clock, W: Write + Drop>(
     let mut beat = beat_of(rt, state, geometry);
     let said = Said {
         by_source: false,
+        losses: LossesFrom::Nothing,
         ..said_of(state, geometry, 8)
     };
     for _ in rt.forever() {
@@ -211,15 +265,20 @@ fn offer<R: AllocGlobal + Wait + Clock, W: Write + Drop>(
     }
 }
 
-// Gives the frames of a file or pipe: those of a file each when it is due, those of a pipe as they come. Returns
-// whether it is closed so that its writer ends.
+// Gives the frames of a file or pipe, which may be open already: those of a file each when it is due, those of a pipe as
+// they come. Returns whether it is closed so that its writer ends.
 fn play_file<R: AllocGlobal + Places + Wait + Clock, W: Write + Drop>(
     rt: &R,
     state: &CameraState,
     outlet: &Outlet<W>,
     path: &str,
+    held: Option<File>,
 ) -> bool {
-    let Ok(file) = rt.open_input(path) else {
+    let opened = match held {
+        Some(file) => Ok(file),
+        None => rt.open_input(path),
+    };
+    let Ok(file) = opened else {
         state.life.on_source(rt, SourceEvent::Missing);
         return false;
     };
@@ -293,6 +352,19 @@ fn begin_read<R: Wait + Clock>(rt: &R, state: &CameraState) {
     state.life.on_source(rt, SourceEvent::Wait(now));
 }
 
+// The bytes of a header's beginning with which a frame ended, which were too few to say that it wasn't whole: so many.
+#[derive(Clone, Copy)]
+struct Begun {
+    bytes: [u8; BEGUN - 1],
+    count: usize,
+}
+
+// None.
+const NOT_BEGUN: Begun = Begun {
+    bytes: [0; BEGUN - 1],
+    count: 0,
+};
+
 // How a stream of frames ended.
 #[derive(Drop)]
 enum StreamEnd {
@@ -304,8 +376,11 @@ enum StreamEnd {
     Unusable(&'static str),
     // It doesn't begin with a header, of a pipe.
     NoHeader,
-    // A line isn't a frame's, and may be the next header.
-    OtherLine,
+    // A line isn't a frame's, and may be the next header, or its rest: the last frame ended with these bytes of one.
+    OtherLine(Begun),
+    // In the place of a frame the line of another one begins, whose header is in the line before: a header like this
+    // stream's, and what came there.
+    OtherFrame(Vec<u8>),
     // In the place of a frame's rest the next header begins: what came there.
     OtherHeader(Vec<u8>),
 }
@@ -339,8 +414,19 @@ fn goes_on<R: AllocGlobal + Wait + Clock, I: Read + Drop>(
             state.life.set_unusable(rt, why);
             input.return_rest_of_line();
         }
-        StreamEnd::OtherLine => {
+        StreamEnd::OtherFrame(text) => {
+            if input.give_back(&text) {
+                return Next::Joined;
+            }
+            return Next::End;
+        }
+        StreamEnd::OtherLine(begun) => {
             input.return_line();
+            let bytes = begun.bytes.get(..begun.count).unwrap_or(&[]);
+            let is_whole = begun.count == 0 || input.begins_with().ok() == Some(Joined::Header);
+            if !is_whole && !input.give_back(bytes) {
+                return Next::End;
+            }
             if joined && input.begins_with().ok() != Some(Joined::Header) {
                 // Its frames aren't as the store has them.
                 state.life.set_unusable(rt, fault_name(Y4mFault::NotY4m));
@@ -471,9 +557,11 @@ fn play_stream<R: AllocGlobal + Wait + Clock, I: Read + Drop, W: Write + Drop>(
     };
     let mut beat = beat_of(rt, state, &geometry);
     let said = said_of(state, &geometry, depth.bits());
+    let said = if paced { paced_of(said) } else { said };
     state.feed.begin_stream(rt);
     // Its first frame may be one of another size.
     let mut is_doubted = joined;
+    let mut begun = NOT_BEGUN;
     for _ in rt.forever() {
         if state.is_stopped(rt) {
             return StreamEnd::Ended;
@@ -484,20 +572,37 @@ fn play_stream<R: AllocGlobal + Wait + Clock, I: Read + Drop, W: Write + Drop>(
         let epoch = state.feed.epoch(rt);
         let fits = offer(rt, state, outlet, &geometry, depth.bits());
         match next_of(rt, state, &mut reader, paced) {
-            Ok((bytes, _)) if is_doubted && has_frame_line(&bytes) => return StreamEnd::OtherLine,
+            Ok((bytes, _)) if is_doubted && has_frame_line(&bytes) => {
+                return StreamEnd::OtherLine(begun);
+            }
             Ok((bytes, line)) if fits => {
                 is_doubted = false;
+                begun = header_begun(&bytes);
                 let said = Said {
                     time: line.time,
+                    number: line.number,
                     ..said
                 };
                 state.feed.give(rt, &state.timeline, bytes, said, epoch);
             }
-            Ok(_dropped) => {}
-            Err(end) => return end,
+            Ok((bytes, _)) => {
+                begun = header_begun(&bytes);
+                state.feed.pass(rt);
+            }
+            Err(end) => return ended(rt.alloc(), &geometry, depth, begun, end),
         }
     }
     unreachable!()
+}
+
+// The same of a source whose pace is set here: when its frames come says nothing of those that are lost.
+fn paced_of(said: Said) -> Said {
+    let losses = match said.losses {
+        _ if said.by_source => said.losses,
+        LossesFrom::Either | LossesFrom::Numbers => LossesFrom::Numbers,
+        LossesFrom::Times | LossesFrom::Nothing => LossesFrom::Nothing,
+    };
+    Said { losses, ..said }
 }
 
 // Memory for a frame of so many bytes: that of an earlier one, or new. Where new memory is refused, it waits for that
@@ -518,6 +623,46 @@ fn row_for<R: AllocGlobal + Wait + Clock>(rt: &R, state: &CameraState, size: u32
     unreachable!()
 }
 
+// How a stream with this header ends, the last frame of which ended so.
+fn ended(
+    alloc: Global,
+    geometry: &Geometry,
+    depth: Depth,
+    begun: Begun,
+    end: StreamEnd,
+) -> StreamEnd {
+    match end {
+        StreamEnd::OtherLine(_) => StreamEnd::OtherLine(begun),
+        StreamEnd::OtherFrame(bytes) => {
+            let mut text = Vec::new(alloc);
+            // Where memory is refused, what follows is lost up to the next header.
+            if write_deep_header(geometry, depth, &mut text).is_ok() {
+                let _kept = text.extend_from_slice(&bytes);
+            }
+            StreamEnd::OtherFrame(text)
+        }
+        end => end,
+    }
+}
+
+// The bytes of a header's beginning with which a frame ends.
+fn header_begun(bytes: &[u8]) -> Begun {
+    let mut begun = NOT_BEGUN;
+    let end = bytes
+        .get(bytes.len().saturating_sub(BEGUN - 1)..)
+        .unwrap_or(&[]);
+    if let Some(at) = find_header(end, 1) {
+        let rest = end.get(at..).unwrap_or(&[]);
+        for place in 0..BEGUN - 1 {
+            if let Some(byte) = rest.get(place) {
+                begun.bytes[place] = *byte;
+                begun.count = place + 1;
+            }
+        }
+    }
+    begun
+}
+
 // Reads a frame, with what its line says, or how the stream ends instead.
 fn next_of<R: AllocGlobal + Wait + Clock, I: Read + Drop>(
     rt: &R,
@@ -535,12 +680,15 @@ fn next_of<R: AllocGlobal + Wait + Clock, I: Read + Drop>(
         Ok(Some(line)) => line,
         // A frame that breaks off is dropped.
         Ok(None) | Err(Y4mFault::Truncated) => return Err(StreamEnd::Ended),
-        Err(Y4mFault::BadHeader) => return Err(StreamEnd::OtherLine),
+        Err(Y4mFault::BadHeader) => return Err(StreamEnd::OtherLine(NOT_BEGUN)),
         Err(_) => return Err(StreamEnd::Failed),
     };
     // Several writers are of a pipe alone.
     if paced {
         return Ok((bytes, line));
+    }
+    if has_frame_line(bytes.get(..LINE_BEGUN).unwrap_or(&[])) {
+        return Err(StreamEnd::OtherFrame(bytes));
     }
     match find_header(&bytes, BEGUN) {
         None => Ok((bytes, line)),

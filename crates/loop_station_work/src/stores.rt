@@ -79,6 +79,9 @@ pub(crate) fn tell_clips<R: AllocGlobal + Wait>(
             clip: *clip,
             first: first.timestamp,
             last: last.timestamp,
+            from: first.sequence,
+            to: last.sequence,
+            lost: 0,
         };
         // Where memory is refused, the clip is saved at the next start.
         let _ = found.push(clip);

@@ -1,10 +1,11 @@
 //! A thread that looks ten times a second whether the program stood still and whether a source is silent, and once a
-//! second whether each store is still where it belongs.
+//! second whether the computer's clock was set and whether each store is still where it belongs.
 
 use crate::orders::Station;
 use loop_station_camera::CameraState;
-use loop_station_core::{is_moved, stood_still};
+use loop_station_core::{EVEN, SourceClock, ahead_of, is_moved, stood_still};
 use loop_station_outside::Places;
+use loop_station_shared::difference;
 use std::alloc::AllocGlobal;
 use std::io::Write;
 use std::sync::Wait;
@@ -17,18 +18,16 @@ const LOOK_AGAIN: u64 = 100;
 // After so many looks it is looked for the stores.
 const LOOKS: u32 = 10;
 
-/// Looks at the program, the sources and the stores until each camera is stopped.
+/// Looks at the program, the sources and the stores until the program ends.
 pub(crate) fn run_watch<R: AllocGlobal + Places + Wait + Clock, W: Write + Drop>(
     rt: &R,
     station: &Station<W>,
 ) {
-    let Some(first) = station.cameras.as_slice().first() else {
-        return;
-    };
-    let timeline = first.timeline;
+    let timeline = station.timeline;
     let mut looks = 0u32;
+    let (mut clock, _) = SourceClock::new().settle(EVEN, 0);
     for _ in rt.forever() {
-        if station.cameras.iter().all(|state| state.is_stopped(rt)) {
+        if station.is_over() {
             break;
         }
         let (began, up) = (timeline.now(rt), rt.uptime().unwrap_or(0));
@@ -41,14 +40,48 @@ pub(crate) fn run_watch<R: AllocGlobal + Places + Wait + Clock, W: Write + Drop>
             tell_still(rt, station, micros, began);
         }
         looks = looks.wrapping_add(1);
-        for state in station.cameras.as_slice() {
-            state.life.look(rt, now);
-            state.feed.look(rt, now, still.is_some());
-            if looks % LOOKS == 0 {
-                look_for_store(rt, state);
+        if looks % LOOKS == 0 {
+            clock = look_at_clock(rt, station, clock);
+        }
+        // Where memory is refused, it is looked the next time.
+        if let Ok(cameras) = station.cameras.all(rt, station.alloc) {
+            for state in cameras.as_slice() {
+                state.life.look(rt, now);
+                state.feed.look(rt, now, still.is_some());
+                if looks % LOOKS == 0 {
+                    look_for_store(rt, state);
+                }
             }
         }
     }
+}
+
+// Compares the computer's clock with the one of frames, which began with it. Tells that it was set since it was looked at
+// or since that was told, once a minute at most.
+fn look_at_clock<R: Wait + Clock, W: Write + Drop>(
+    rt: &R,
+    station: &Station<W>,
+    clock: SourceClock,
+) -> SourceClock {
+    let Ok(since) = rt.since_1970() else {
+        return clock;
+    };
+    let real = u64::try_from(since.as_micros()).unwrap_or(u64::MAX);
+    let now = station.timeline.now(rt);
+    let measure = ahead_of(real, now);
+    let before = clock.settled.unwrap_or(measure);
+    let (clock, moved) = clock.settle(measure, now);
+    let mut lines = station.lines();
+    // Where memory for the line is refused, it isn't printed.
+    if moved
+        && station.events
+        && lines
+            .system_clock_steps(difference(measure, before), now)
+            .is_ok()
+    {
+        station.outlet.put(rt, &lines);
+    }
+    clock
 }
 
 // Prints that the program stood still.

@@ -29,7 +29,7 @@ failed-told {D} old new r failed told =
       numbers_are = told.numbers_are;
       count_is =
           told.count_is;
-      times_are = told.times_are;
+      stamps_are = told.stamps_are;
       clips_are = told.clips_are;
     })
 

@@ -28,11 +28,11 @@ use Rattle.loop_store.specs.Store.{IsKept}
 use Rattle.loop_store.specs.Seen.{StandsFor, Tells, seen_with}
 use Rattle.loop_record.proofs.Bounds.{limits}
 use Rattle.loop_store.proofs.Alike.{appended-same, place-same}
-use Rattle.loop_store.specs.Times.{AreTimes, HasTimes, time_under}
-use Rattle.loop_store.proofs.Looks.{alike-by, known-by, times-in, times-known, told-as}
+use Rattle.loop_store.specs.Times.{AreStamps, HasStamps, stamp_under}
+use Rattle.loop_store.proofs.Looks.{alike-by, known-by, stamps-in, stamps-known, told-as}
 use Rattle.loop_store.proofs.Room.{one-recording}
 use Rattle.loop_store.proofs.Same.{IsSame, itself}
-use Rattle.loop_store.proofs.TimeNotes.{grown-times}
+use Rattle.loop_store.proofs.TimeNotes.{grown-stamps}
 use Rattle.loop_record.proofs.Form.{reading-well_formed}
 use Rattle.loop_store.proofs.AppendImages.{Regrown, known-drawn, regrown}
 use Rattle.loop_record.proofs.Names.{stores_after}
@@ -173,9 +173,9 @@ pub record Grew {D : Type 0} (medium : D → Medium) (g : Geometry) (keep : ℕ)
 pub noted-at : {A : Type 0} (old new : Index A) (i j n : ℕ) → i ≡ j → IsNoted old new i n → IsNoted old new j n
 noted-at old new i j n at noted = subst (λ (k : ℕ). IsNoted old new k n) at noted
 
--- the times of the group are those in the slots from the next number on
+-- the stamps of the group are those in the slots from the next number on
 abbrev pub IsPut : {A : Type 0} → Index A → Index A → ℕ → List Picture → Type 0
-IsPut was now j ps = HasTimes was.times.items now.times.items (j * was.ring.geometry.slots + was.next % was.ring.geometry.slots) ps
+IsPut was now j ps = HasStamps was.stamps.items now.stamps.items (j * was.ring.geometry.slots + was.next % was.ring.geometry.slots) ps
 
 pub put-at : {A : Type 0} (old new : Index A) (i j : ℕ) (ps : List Picture) → i ≡ j → IsPut old new i ps → IsPut old new j ps
 put-at old new i j ps at put = subst (λ (k : ℕ). IsPut old new k ps) at put
@@ -200,7 +200,7 @@ grown-known medium old new was now n j ps r noted grew honest known =
 
 grown-index : {A : Type 0} (was now : Index A) (n j : ℕ) → IsNoted was now j n → IsIndex was
     → 1 ≤ was.ring.geometry.slots → was.next ≢ last_number (ring_of was.ring.geometry)
-    → was.next % was.ring.geometry.slots + n ≤ was.ring.geometry.slots → length now.times.items ≡ length was.times.items
+    → was.next % was.ring.geometry.slots + n ≤ was.ring.geometry.slots → length now.stamps.items ≡ length was.stamps.items
     → IsIndex now
 grown-index was now n j noted whole some unspent room long =
     let g = was.ring.geometry in
@@ -261,19 +261,19 @@ has-grown was now place n known whole noted placed =
     (known.known.clips_are ∙ sym (appended-clips g keep r back.pictures)) in
     record { pictures = back.pictures; size = back.size; known = all }
 
-times-grown : {A : Type 0} (was now : Index A) (r0 r1 r : Recording) (image image' : List ℕ) (ps : List Picture) (n j : ℕ)
+stamps-grown : {A : Type 0} (was now : Index A) (r0 r1 r : Recording) (image image' : List ℕ) (ps : List Picture) (n j : ℕ)
     → IsIndexOf was r0 image → IsIndexOf now r1 image' → IsNoted was now j n → n ≡ length ps
     → j < was.ring.geometry.segments → was.next % was.ring.geometry.slots + n ≤ was.ring.geometry.slots → IsSame r0 r
     → IsSame r1 (plain (ring_of was.ring.geometry) r (steps_before was.ring.geometry was.table.keep r ++ map store ps))
-    → IsWellFormed r → was.next ≡ r.next → IsPut was now j ps → AreTimes (times-in was) r
-    → AreTimes (times-in now) (plain (ring_of was.ring.geometry) r (steps_before was.ring.geometry was.table.keep r ++ map store ps))
-times-grown was now r0 r1 r image image' ps n j known known' noted count low room same same' formed next put times =
+    → IsWellFormed r → was.next ≡ r.next → IsPut was now j ps → AreStamps (stamps-in was) r
+    → AreStamps (stamps-in now) (plain (ring_of was.ring.geometry) r (steps_before was.ring.geometry was.table.keep r ++ map store ps))
+stamps-grown was now r0 r1 r image image' ps n j known known' noted count low room same same' formed next put times =
     let g = was.ring.geometry in
     let keep = was.table.keep in
     let t = plain (ring_of g) r (steps_before g keep r ++ map store ps) in
     let geometry : now.ring.geometry ≡ g = ap (λ (x : LoopRing). x.geometry) noted.ring in
-    subst (λ (h : Geometry). AreTimes (time_under h.slots now.table.heads now.times.items) t) (sym geometry)
-    (grown-times g keep was.table.heads now.table.heads was.times.items now.times.items j r0 r1 r image image' ps (record {
+    subst (λ (h : Geometry). AreStamps (stamp_under h.slots now.table.heads now.stamps.items) t) (sym geometry)
+    (grown-stamps g keep was.table.heads now.table.heads was.stamps.items now.stamps.items j r0 r1 r image image' ps (record {
       some = (limits g was.ring.good).slots.0;
       low = low;
       room = subst (λ (k : ℕ). k % g.slots + length ps ≤ g.slots) next (subst (λ (k : ℕ). was.next % g.slots + k ≤ g.slots) count room);
@@ -285,7 +285,7 @@ times-grown was now r0 r1 r image image' ps n j known known' noted count low roo
       noted = noted.heads ∙ (λ i. set was.table.heads j (Some (head_after g (next i) (count i))));
       same = same;
       same' = same';
-      put = subst (λ (k : ℕ). HasTimes was.times.items now.times.items (j * g.slots + k % g.slots) ps) next put;
+      put = subst (λ (k : ℕ). HasStamps was.stamps.items now.stamps.items (j * g.slots + k % g.slots) ps) next put;
       known = times;
     }))
 
@@ -310,7 +310,7 @@ kept-grown medium old new was now place n j ps must kept fine at placed noted si
         version = (grew.grown back).version ∙ (kept.present fine back).version ∙ sym noted.version;
         settled = grew.settled back;
         unstray = subst (λ (h : Geometry). HasNoneStray h (medium new).bytes) (sym (ap (λ (x : LoopRing). x.geometry) noted.ring)) (grew.grown back).unstray;
-        timed = record { each = λ r held. timed honest r held };
+        stamped = record { each = λ r held. timed honest r held };
       };
 }
   where
@@ -323,17 +323,17 @@ kept-grown medium old new was now place n j ps must kept fine at placed noted si
           known = grown-known medium old new was now n j ps there.recording noted grew back there.known;
         }
 
-    timed : (medium new).honest → (r : Recording) → Holds now.ring.geometry r (medium new).bytes → AreTimes (times-in now) r
+    timed : (medium new).honest → (r : Recording) → Holds now.ring.geometry r (medium new).bytes → AreStamps (stamps-in now) r
     timed honest r held =
         let back = grew.back honest in
         let there = (kept.present fine back).recorded in
         let g = was.ring.geometry in
         let t = plain (ring_of g) there.recording (steps_before g was.table.keep there.recording ++ map store ps) in
-        subst (AreTimes (times-in now)) (one-recording now.ring.geometry t r (medium new).bytes (recorded honest).known.held held)
-        (times-grown was now there.recording t there.recording (medium old).bytes (medium new).bytes ps n j there.known
+        subst (AreStamps (stamps-in now)) (one-recording now.ring.geometry t r (medium new).bytes (recorded honest).known.held held)
+        (stamps-grown was now there.recording t there.recording (medium old).bytes (medium new).bytes ps n j there.known
         (recorded honest).known noted grew.count (subst (λ (k : ℕ). k < g.segments) (sym at) placed.within) placed.room
         (itself there.recording) (itself t) (reading-well_formed g there.recording (medium old).bytes there.known.held) there.known.next_is put
-        ((kept.present fine back).timed.each there.recording there.known.held))
+        ((kept.present fine back).stamped.each there.recording there.known.held))
 
 -- each recording that the store reported before, with the steps of the append
 pub told-grown : {D A : Type 0} (medium : D → Medium) (old new : D) (was now : Index A) (place : AppendPlace) (n j : ℕ)
@@ -360,9 +360,9 @@ told-grown medium old new was now place n j ps must r kept told_before at placed
     subst (λ (l : List Step). Tells (seen_with new now must) (plain (ring_of g) r l)) steps_are
     (told-as new now must t0 t (drawn_image now.ring.geometry now.table.heads now.clips) slots
     (grown-index was now n j noted kept.fits.whole some placed.unspent placed.room put.long).within grown.known numbers
-    (times-grown was now r0 t0 r (drawn_image g was.table.heads was.clips) (drawn_image now.ring.geometry now.table.heads now.clips)
+    (stamps-grown was now r0 t0 r (drawn_image g was.table.heads was.clips) (drawn_image now.ring.geometry now.table.heads now.clips)
     ps n j kept.known.known grown.known noted count (subst (λ (k : ℕ). k < g.segments) (sym at) placed.within) placed.room same numbers
-    told_before.formed told_before.next_is put (times-known old was must r told_before)))
+    told_before.formed told_before.next_is put (stamps-known old was must r told_before)))
 
 -- it stands for that one, and an honest disk holds it
 pub stands-grown : {D A : Type 0} (medium : D → Medium) (old new : D) (was now : Index A) (place : AppendPlace) (n j : ℕ)

@@ -16,7 +16,7 @@ use Rattle.loop_store.specs.Index.{IsIndexOf}
 use Rattle.loop_store.specs.Look.{AnswersFrame, ReadsHeld}
 use Rattle.loop_store.specs.Seen.{seen_with}
 use Rattle.loop_store.specs.Store.{IsKept}
-use Rattle.loop_store.proofs.Looks.{alike-by, known-by, one-kept, there-alike, times-in, times-known}
+use Rattle.loop_store.proofs.Looks.{alike-by, known-by, one-kept, there-alike, stamps-in, stamps-known}
 use Rattle.loop_store.proofs.FrameReads.{goes-looked, goes-unread, look-read, look-sought, read-answered, read-failed, read-late, read-missing}
 use Rattle.std.specs.List.{filter}
 use Rattle.loop_record.specs.declared.clip.Span.{Span}
@@ -69,7 +69,7 @@ module _ {D A : Type 0} (medium : D → Medium) (disk : D) (index : Index A) (mu
   -- of the frames of a time
   pub goes-sought : (times : Times) (runs : List Span)
       → ((r : Recording) (image : List ℕ) → IsIndexOf index r image
-      → AreRuns (filter (λ n. is_in times (times-in index n)) (map (λ f. f.0) r.frames)) runs)
+      → AreRuns (filter (λ n. is_in times (stamps-in index n).time) (map (λ f. f.0) r.frames)) runs)
       → Goes medium (seen_with disk index must) (seen_with disk index must) (sought times (Ok runs) ∷ [])
   goes-sought times runs are =
       goes-unread medium (seen_with disk index must) (sought times (Ok runs)) (look-sought times (Ok runs))
@@ -79,8 +79,8 @@ module _ {D A : Type 0} (medium : D → Medium) (disk : D) (index : Index A) (mu
       let found = are known.recording (drawn_image index.ring.geometry index.table.heads index.clips) known.known in
       answer-given H index.ring.geometry t (sought times (Ok runs)) (sym told.must_reopen ∙ fine) refl
       (subst (λ (ns : List ℕ). AreRuns ns runs)
-      (sought-numbers times (times-in index) t.recording told.recording.formed (times-known disk index must t.recording told.recording))
-      (subst (λ (ns : List ℕ). AreRuns (filter (λ n. is_in times (times-in index n)) ns) runs) same.numbers found)))
+      (sought-numbers times (stamps-in index) t.recording told.recording.formed (stamps-known disk index must t.recording told.recording))
+      (subst (λ (ns : List ℕ). AreRuns (filter (λ n. is_in times (stamps-in index n).time) ns) runs) same.numbers found)))
 
   -- and where memory was refused
   pub goes-crammed : (times : Times)

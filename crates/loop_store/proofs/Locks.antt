@@ -30,6 +30,7 @@ use Rattle.loop_record.proofs.Parts.{reading-stages, version-outside, within_beh
 use Rattle.loop_record.proofs.Readings.{get_or-map_range, length-range}
 use Rattle.loop_clips.specs.Table.{ShowsClipOrNot}
 use Rattle.loop_ring.specs.declared.ring.Ring.{Ring as LoopRing}
+use Rattle.loop_ring.specs.declared.group.SlotStamp.{SlotStamp}
 use Rattle.loop_ring.specs.Heads.{clip_counts, has_number, heads_of}
 use Rattle.loop_ring.proofs.Heads.{head_of, heads-are, heads-length}
 use Rattle.loop_store.specs.declared.index.Index.{Index}
@@ -47,13 +48,13 @@ use Rattle.loop_store.specs.Found.{IsHeadIn}
 use Rattle.loop_store.specs.Store.{IsKept, IsPresent}
 use Rattle.loop_store.specs.Seen.{Seen, StandsFor, Tells, seen_with}
 use Rattle.loop_store.specs.Numbers.{is_among}
-use Rattle.loop_store.specs.Times.{AreTimes, time_under}
+use Rattle.loop_store.specs.Times.{AreStamps, stamp_under}
 use Rattle.loop_store.proofs.Room.{one-recording}
 use Rattle.loop_store.proofs.BlockImages.{held-some}
 use Rattle.loop_store.proofs.SlotLooks.{missing-behind}
 use Rattle.loop_store.proofs.Alike.{clip-same, free-same, locked-same, span-same, unlocked-same}
 use Rattle.loop_store.proofs.IndexImages.{FitsDrawn}
-use Rattle.loop_store.proofs.Looks.{alike-by, known-by, one-kept, there-held, times-in, times-known, told-as}
+use Rattle.loop_store.proofs.Looks.{alike-by, known-by, one-kept, there-held, stamps-in, stamps-known, told-as}
 use Rattle.loop_store.proofs.UnheldNumbers.{fits-legal}
 use Rattle.loop_store.proofs.ImageChanges.{drawn-clip}
 use Rattle.loop_store.proofs.AppendImages.{known-drawn}
@@ -231,14 +232,14 @@ index-noted was now id clip noted whole =
       few = subst (λ (h : Geometry). now.next ≤ last_number (ring_of h)) (sym same)
           (subst (λ (k : ℕ). k ≤ last_number (ring_of was.ring.geometry)) (sym noted.next) whole.few);
       counted = noted.counted ∙ (λ i. clip_counts (ring_of (sym same i)) now.clips (sym noted.heads i));
-      places = ap (λ (ts : List ℕ). length ts) noted.times ∙ whole.places ∙ (λ i. (sym same i).segments * (sym same i).slots);
+      places = ap (λ (ts : List SlotStamp). length ts) noted.stamps ∙ whole.places ∙ (λ i. (sym same i).segments * (sym same i).slots);
     }
 
--- the times are those from before
-times-noted : {A : Type 0} (was now : Index A) (id : ℕ) (clip : Option Span) (r t : Recording)
-    → IsClipNoted was now id clip → t.frames ≡ r.frames → AreTimes (times-in was) r → AreTimes (times-in now) t
-times-noted was now id clip r t noted same times = λ n p there.
-    (λ i. time_under (geometry-same was now id clip noted i).slots (noted.heads i) (noted.times i) n)
+-- the stamps are those from before
+stamps-noted : {A : Type 0} (was now : Index A) (id : ℕ) (clip : Option Span) (r t : Recording)
+    → IsClipNoted was now id clip → t.frames ≡ r.frames → AreStamps (stamps-in was) r → AreStamps (stamps-in now) t
+stamps-noted was now id clip r t noted same times = λ n p there.
+    (λ i. stamp_under (geometry-same was now id clip noted i).slots (noted.heads i) (noted.stamps i) n)
     ∙ times n p (ap (λ (fs : List (ℕ × Picture)). frame_under fs n) (sym same) ∙ there)
 
 -- with made-up frames, the index describes the recording with the step
@@ -286,7 +287,7 @@ kept-noted {A = A} medium old new was now id clip IsOne step must kept fine one 
             version = (n.segments back).version ∙ (kept.present fine back).version ∙ sym n.noted.version;
             settled = n.settled back;
             unstray = subst (λ (h : Geometry). HasNoneStray h (medium new).bytes) (sym same) (n.segments back).unstray;
-            timed = record { each = λ r held. timed honest r held };
+            stamped = record { each = λ r held. timed honest r held };
           };
     }
   where
@@ -298,14 +299,14 @@ kept-noted {A = A} medium old new was now id clip IsOne step must kept fine one 
           known = known-noted medium old new was now id clip IsOne step there.recording n (one there.recording (medium old).bytes there.known) back there.known;
         }
 
-    timed : (medium new).honest → (r : Recording) → Holds now.ring.geometry r (medium new).bytes → AreTimes (times-in now) r
+    timed : (medium new).honest → (r : Recording) → Holds now.ring.geometry r (medium new).bytes → AreStamps (stamps-in now) r
     timed honest r held =
         let back = n.called.honest.1 honest in
         let there = (kept.present fine back).recorded in
         let t = after_step (ring_of was.ring.geometry) there.recording step in
-        subst (AreTimes (times-in now)) (one-recording now.ring.geometry t r (medium new).bytes (recorded honest).known.held held)
-        (times-noted was now id clip there.recording t n.noted (n.redrawn.frames there.recording)
-        ((kept.present fine back).timed.each there.recording there.known.held))
+        subst (AreStamps (stamps-in now)) (one-recording now.ring.geometry t r (medium new).bytes (recorded honest).known.held held)
+        (stamps-noted was now id clip there.recording t n.noted (n.redrawn.frames there.recording)
+        ((kept.present fine back).stamped.each there.recording there.known.held))
 
 -- each recording that the store reported before, with the step
 pub told-noted : {D A : Type 0} (medium : D → Medium) (old new : D) (was now : Index A) (id : ℕ) (clip : Option Span)
@@ -325,7 +326,7 @@ told-noted medium old new was now id clip IsOne step must r kept told one n =
     (drawn_image now.ring.geometry now.table.heads now.clips) slots
     (index-noted was now id clip n.noted kept.fits.whole).within drawn_on
     (n.redrawn.stepped r0 r (alike-by medium old was must r kept told))
-    (times-noted was now id clip r (after_step (ring_of g) r step) n.noted (n.redrawn.frames r) (times-known old was must r told))
+    (stamps-noted was now id clip r (after_step (ring_of g) r step) n.noted (n.redrawn.frames r) (stamps-known old was must r told))
 
 pub stands-noted : {D A : Type 0} (medium : D → Medium) (old new : D) (was now : Index A) (id : ℕ)
     (clip : Option Span) (IsOne : Recording → Type 0) (step : Step) (must : Bool) (r : Recording)

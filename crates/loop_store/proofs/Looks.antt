@@ -13,6 +13,7 @@ use Rattle.loop_record.specs.Recording.{Picture, Recording, holds}
 use Rattle.loop_record.proofs.Bounds.{limits}
 use Rattle.loop_record.proofs.TestFacts.{clash, equal}
 use Rattle.loop_record.proofs.Form.{reading-well_formed}
+use Rattle.loop_ring.specs.declared.group.SlotStamp.{SlotStamp}
 use Rattle.loop_ring.specs.Heads.{has_number, heads_of}
 use Rattle.loop_ring.proofs.HeldBlocks.{held-number}
 pub use Rattle.loop_ring.proofs.SlotReads.{stays_on}
@@ -24,7 +25,7 @@ use Rattle.loop_store.specs.Found.{IsHeadIn}
 use Rattle.loop_store.specs.Numbers.{is_among, numbers_under}
 use Rattle.std.specs.Prelude.{◌||◌}
 use Rattle.loop_store.specs.Reopen.{TellsOne}
-use Rattle.loop_store.specs.Times.{AreTimes, IsTimed, time_told, time_under}
+use Rattle.loop_store.specs.Times.{AreStamps, KnowsStamps, no_stamp, stamp_told, stamp_under}
 use Rattle.loop_store.specs.Store.{IsKept, IsPresent}
 use Rattle.loop_store.specs.Seen.{Seen, StandsFor, Tells, seen_with}
 use Rattle.loop_store.proofs.HeldCount.{count-held}
@@ -32,7 +33,7 @@ use Rattle.loop_store.proofs.SlotLooks.{held-slot}
 use Rattle.loop_store.proofs.Numbers.{among-under}
 use Rattle.loop_store.proofs.Room.{one-recording}
 use Rattle.loop_store.proofs.Same.{IsSame, count-same, formed-same, held-same, holds-same, itself, then}
-use Rattle.loop_store.proofs.TimeNotes.{retimed, retimed-same, retimed-times}
+use Rattle.loop_store.proofs.TimeNotes.{restamped, restamped-same, restamped-known}
 
 pub stays-settled : (old new : Medium) → Stays old new → IsSettled old → IsSettled new
 stays-settled old new stays settled = λ c left. settled c (stays.images c left) ∙ sym stays.bytes
@@ -44,7 +45,7 @@ looked-present index old new stays present = record {
   version = ap version_in stays.bytes ∙ present.version;
   settled = stays-settled old new stays present.settled;
   unstray = subst (λ (image : List ℕ). HasNoneStray index.ring.geometry image) (sym stays.bytes) present.unstray;
-  timed = subst (λ (image : List ℕ). IsTimed index.ring.geometry index.table.heads index.times.items image) (sym stays.bytes) present.timed;
+  stamped = subst (λ (image : List ℕ). KnowsStamps index.ring.geometry index.table.heads index.stamps.items image) (sym stays.bytes) present.stamped;
 }
 
 pub looked-kept : {D A : Type 0} (medium : D → Medium) (old new : D) (index : Index A) (must_reopen : Bool)
@@ -63,7 +64,7 @@ looked-told old disk r told = record {
   next_is = told.next_is;
   numbers_are = told.numbers_are;
   count_is = told.count_is;
-  times_are = told.times_are;
+  stamps_are = told.stamps_are;
   clips_are = told.clips_are;
 }
 
@@ -87,36 +88,36 @@ there-held g r image heads j n held same l has =
     subst (λ (hs : List (Option SegmentHead)). has_number g.slots n (get_or hs j None) ≡ true) same has in
     ap (λ (o : Option Picture). is_some o) (held-slot g r image j n held l at).held
 
--- the times that an index has, by number
-abbrev pub times-in : {A : Type 0} → Index A → ℕ → ℕ
-times-in index = time_under index.ring.geometry.slots index.table.heads index.times.items
+-- the stamps that an index has, by number
+abbrev pub stamps-in : {A : Type 0} → Index A → ℕ → SlotStamp
+stamps-in index = stamp_under index.ring.geometry.slots index.table.heads index.stamps.items
 
--- the time that is reported for a number
-time-beside : (f : ℕ → ℕ) (ns : List ℕ) (n : ℕ) → is_among ns n ≡ true → time_told ns (map f ns) n ≡ f n
-time-beside f [] n e = absurd cc
-time-beside f (m ∷ ms) n e = go (eqb m n) refl (λ r. time-beside f ms n r) e
+-- the stamp that is reported for a number
+stamp-beside : (f : ℕ → SlotStamp) (ns : List ℕ) (n : ℕ) → is_among ns n ≡ true → stamp_told ns (map f ns) n ≡ f n
+stamp-beside f [] n e = absurd cc
+stamp-beside f (m ∷ ms) n e = go (eqb m n) refl (λ r. stamp-beside f ms n r) e
   where
-    go : (b : Bool) → eqb m n ≡ b → (is_among ms n ≡ true → time_told ms (map f ms) n ≡ f n) → (b || is_among ms n) ≡ true
-        → option_map_or (λ beside. beside.1) (cond b (Some (m, f m)) (find (λ beside. beside.0 == n) (zip ms (map f ms)))) 0 ≡ f n
+    go : (b : Bool) → eqb m n ≡ b → (is_among ms n ≡ true → stamp_told ms (map f ms) n ≡ f n) → (b || is_among ms n) ≡ true
+        → option_map_or (λ beside. beside.1) (cond b (Some (m, f m)) (find (λ beside. beside.0 == n) (zip ms (map f ms)))) no_stamp ≡ f n
     go true same ih e = ap f (equal m n same)
     go false same ih e = ih e
 
-times-told : (f : ℕ → ℕ) (ns : List ℕ) (r : Recording) → AreTimes f r → ((n : ℕ) → is_among ns n ≡ holds r n)
-    → AreTimes (time_told ns (map f ns)) r
-times-told f ns r times are = λ n p there.
-    time-beside f ns n (are n ∙ ap (λ (o : Option Picture). is_some o) there) ∙ times n p there
+stamps-told : (f : ℕ → SlotStamp) (ns : List ℕ) (r : Recording) → AreStamps f r → ((n : ℕ) → is_among ns n ≡ holds r n)
+    → AreStamps (stamp_told ns (map f ns)) r
+stamps-told f ns r times are = λ n p there.
+    stamp-beside f ns n (are n ∙ ap (λ (o : Option Picture). is_some o) there) ∙ times n p there
 
--- the times that a store reported are those that its index has
-pub times-known : {D A : Type 0} (disk : D) (index : Index A) (must_reopen : Bool) (r : Recording)
-    → Tells (seen_with disk index must_reopen) r → AreTimes (times-in index) r
-times-known disk index must_reopen r told = λ n p there.
-    sym (time-beside (times-in index) (numbers_under index.ring.geometry.slots index.table.heads) n
-    (told.numbers_are n ∙ ap (λ (o : Option Picture). is_some o) there)) ∙ told.times_are n p there
+-- the stamps that a store reported are those that its index has
+pub stamps-known : {D A : Type 0} (disk : D) (index : Index A) (must_reopen : Bool) (r : Recording)
+    → Tells (seen_with disk index must_reopen) r → AreStamps (stamps-in index) r
+stamps-known disk index must_reopen r told = λ n p there.
+    sym (stamp-beside (stamps-in index) (numbers_under index.ring.geometry.slots index.table.heads) n
+    (told.numbers_are n ∙ ap (λ (o : Option Picture). is_some o) there)) ∙ told.stamps_are n p there
 
--- what a store reports is what its index says of an image, except pictures: of these the times alone
+-- what a store reports is what its index says of an image, except pictures: of these the stamps alone
 pub told-as : {D A : Type 0} (disk : D) (index : Index A) (must_reopen : Bool) (r t : Recording) (image : List ℕ)
     → 1 ≤ index.ring.geometry.slots → All (IsHeadIn index.ring.geometry) index.table.heads → IsIndexOf index r image
-    → IsSame r t → AreTimes (times-in index) t → Tells (seen_with disk index must_reopen) t
+    → IsSame r t → AreStamps (stamps-in index) t → Tells (seen_with disk index must_reopen) t
 told-as disk index must_reopen r t image some within known same times = record {
   formed = formed-same r t same (reading-well_formed index.ring.geometry r image known.held);
   next_is = known.next_is ∙ same.next;
@@ -125,7 +126,7 @@ told-as disk index must_reopen r t image some within known same times = record {
       ∙ held-number index.ring.geometry r image n known.held ∙ holds-same r t n same;
   count_is = ap (λ (hs : List (Option SegmentHead)). length (numbers_under index.ring.geometry.slots hs))
       known.heads_are ∙ count-held index.ring.geometry r image known.held ∙ count-same r t same;
-  times_are = times-told (times-in index) (numbers_under index.ring.geometry.slots index.table.heads) t times
+  stamps_are = stamps-told (stamps-in index) (numbers_under index.ring.geometry.slots index.table.heads) t times
       (λ n. among-under index.ring.geometry n index.table.heads some within
       ∙ ap (list_any (has_number index.ring.geometry.slots n)) known.heads_are
       ∙ held-number index.ring.geometry r image n known.held ∙ holds-same r t n same);
@@ -134,12 +135,12 @@ told-as disk index must_reopen r t image some within known same times = record {
 
 pub told-by : {D A : Type 0} (disk : D) (index : Index A) (must_reopen : Bool) (r : Recording) (image : List ℕ)
     → 1 ≤ index.ring.geometry.slots → All (IsHeadIn index.ring.geometry) index.table.heads → IsIndexOf index r image
-    → AreTimes (times-in index) r → Tells (seen_with disk index must_reopen) r
+    → AreStamps (stamps-in index) r → Tells (seen_with disk index must_reopen) r
 told-by disk index must_reopen r image some within known times = told-as disk index must_reopen r r image some within known (itself r) times
 
--- the recording of made-up frames, with the times that the index has
+-- the recording of made-up frames, with the stamps that the index has
 abbrev pub drawn-of : {A : Type 0} (index : Index A) → SaysRecording index → Recording
-drawn-of index says = retimed (times-in index) says.recording
+drawn-of index says = restamped (stamps-in index) says.recording
 
 -- what the store reports of it
 pub tells-drawn : {D A : Type 0} (disk : D) (index : Index A) (must_reopen : Bool) (says : SaysRecording index)
@@ -148,7 +149,7 @@ tells-drawn disk index must_reopen says within =
     told-as disk index must_reopen says.recording (drawn-of index says)
     (drawn_image index.ring.geometry index.table.heads index.clips)
     (limits index.ring.geometry index.ring.good).slots.0 within says.known
-    (retimed-same (times-in index) says.recording) (retimed-times (times-in index) says.recording)
+    (restamped-same (stamps-in index) says.recording) (restamped-known (stamps-in index) says.recording)
 
 pub told-drawn : {D A : Type 0} (medium : D → Medium) (disk : D) (index : Index A) (must_reopen : Bool)
     → (kept : IsKept medium disk index must_reopen) → Tells (seen_with disk index must_reopen) (drawn-of index kept.known)
@@ -171,7 +172,7 @@ pub alike-by : {D A : Type 0} (medium : D → Medium) (disk : D) (index : Index 
     → (kept : IsKept medium disk index must_reopen) → Tells (seen_with disk index must_reopen) r
     → IsSame kept.known.recording r
 alike-by medium disk index must_reopen r kept told =
-    then kept.known.recording (drawn-of index kept.known) r (retimed-same (times-in index) kept.known.recording)
+    then kept.known.recording (drawn-of index kept.known) r (restamped-same (stamps-in index) kept.known.recording)
     (tells-same (seen_with disk index must_reopen) (drawn-of index kept.known) r
     (told-drawn medium disk index must_reopen kept) told)
 

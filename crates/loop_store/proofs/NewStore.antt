@@ -65,7 +65,7 @@ pub record IsNew {A : Type 0} (index : Index A) (s : SuperHead) : Type 0 where
   pub closed : index.table.heads ≡ replicate s.geometry.segments None
   pub none : index.clips ≡ replicate 64 None
   pub counts : index.table.clips ≡ replicate s.geometry.segments 0
-  pub places : length index.times.items ≡ s.geometry.segments * s.geometry.slots
+  pub places : length index.stamps.items ≡ s.geometry.segments * s.geometry.slots
 
 fresh-known : {A : Type 0} (index : Index A) (s : SuperHead) (image : List ℕ) → IsNew index s
     → IsVersion s.version → IsTrue (is_good s.geometry) → IsFreshImage s image → IsIndexOf index empty image
@@ -122,7 +122,7 @@ fresh-kept medium s disk index new version good size fresh = record {
     settled = (fresh now).1;
     unstray = subst (λ (h : Geometry). HasNoneStray h (medium disk).bytes) (sym new.geometry)
         (λ j l there. absurd (there (closed_none s.geometry (medium disk).bytes j ((fresh now).0.segments j l))));
-    timed = record {
+    stamped = record {
       each = λ r there n p held.
           let is = one-recording index.ring.geometry r empty (medium disk).bytes there
           (fresh-known index s (medium disk).bytes new version good (fresh now).0).held in
@@ -145,7 +145,7 @@ fresh-tells s disk index new = record {
   numbers_are = λ n. ap (λ (ns : List ℕ). is_among ns n) (ap (numbers_under index.ring.geometry.slots) new.closed
       ∙ none-under index.ring.geometry.slots s.geometry.segments);
   count_is = ap length (ap (numbers_under index.ring.geometry.slots) new.closed ∙ none-under index.ring.geometry.slots s.geometry.segments);
-  times_are = λ n p there. absurd (nothing p there);
+  stamps_are = λ n p there. absurd (nothing p there);
   clips_are = new.none;
 }
 

@@ -40,7 +40,7 @@ use Rattle.loop_store.specs.Reopen.{IsBadKeep, IsOpened, IsReadOf, IsRefusedOpen
 use Rattle.loop_store.specs.Found.{IsHeadIn}
 use Rattle.loop_store.specs.Index.{IsFitting, IsRecovered, IsRecoveredIn, keeping}
 use Rattle.loop_store.specs.Store.{IsPresent}
-use Rattle.loop_store.specs.Times.{IsTimed}
+use Rattle.loop_store.specs.Times.{KnowsStamps}
 use Rattle.loop_store.specs.Seen.{seen_with}
 use Rattle.loop_store.proofs.Looks.{told-by}
 use Rattle.loop_store.proofs.AppendPlaces.{found-of}
@@ -241,8 +241,8 @@ pub found-present : {A : Type 0} (index : Index A) (j : ℕ) (old : List ℕ) (n
     (heads_of index.ring.geometry old) ≡ Some j
     → ShowsSegment index.ring.geometry j (segment_in index.ring.geometry old j) old now.bytes
     → HasNoStray index.ring.geometry j now.bytes → IsSettled now
-    → IsTimed index.ring.geometry index.table.heads index.times.items old → IsPresent index now
-found-present index j old now told version found shows clean settled timed =
+    → KnowsStamps index.ring.geometry index.table.heads index.stamps.items old → IsPresent index now
+found-present index j old now told version found shows clean settled knows =
     let g = index.ring.geometry in
     let r = told.recording in
     let within = (newest-found g r old j told.known.held found).within in
@@ -256,7 +256,7 @@ found-present index j old now told version found shows clean settled timed =
       version = version-outside (segment_at g j) (segment_size g) old now.bytes (omega arith) shows.outside ∙ version;
       settled = settled;
       unstray = unstray-found g r now.bytes j held (ap (λ (hs : List (Option SegmentHead)). position (is_of (r.next / g.slots)) hs) same ∙ found) clean;
-      timed = record { each = λ t there. timed.each t (sym (alike-same g r j old now.bytes told.known.held within shows).0 ∙ there) };
+      stamped = record { each = λ t there. knows.each t (sym (alike-same g r j old now.bytes told.known.held within shows).0 ∙ there) };
     }
 
 -- ---- the store
@@ -273,7 +273,7 @@ present-opened medium disk index before some within present alike =
       held = sym alike.0 ∙ known.held;
       version_is = sym alike.1 ∙ present.version;
       stands = record {
-        told = told-by disk index false r (medium disk).bytes some within known (present.timed.each r known.held);
+        told = told-by disk index false r (medium disk).bytes some within known (present.stamped.each r known.held);
         settled = λ fine now. present.settled;
         held = λ fine now. known.held;
         version_is = λ fine now. present.version;

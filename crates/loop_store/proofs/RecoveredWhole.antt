@@ -83,7 +83,7 @@ recovered index g image fs heads clips next is a right q after are =
 pub fitting : {A : Type 0} (index : Index A) (g : Geometry) (heads : List (Option SegmentHead))
     (clips : List (Option Span)) (next size : ℕ) → IsOf index g heads clips next → size ≡ disk_size g
     → length heads ≡ g.segments → All (IsHeadIn g) heads → next ≤ last_number (ring_of g)
-    → length index.times.items ≡ g.segments * g.slots → IsFitting index size
+    → length index.stamps.items ≡ g.segments * g.slots → IsFitting index size
 fitting index g heads clips next size is size_is count within few places = record {
   size_is = size_is ∙ ap disk_size (sym is.geometry);
   whole = record {

@@ -1,4 +1,4 @@
--- The times of what is recorded: made up, and after an append.
+-- The times and sequences of what is recorded: made up, and after an append.
 use Rattle.std.proofs.Common.{◌≡◌, ◌⊎◌, inl, inr, ℕ, suc, ◌+◌, ◌*◌, ◌/◌, ◌%◌, ◌<◌, ◌≤◌, Bool, true, false, not, cond, eqb, is_some, Option, Some, None, List, [], ◌∷◌, ◌++◌, get_or, length, map, set, refl, sym, ap, ◌∙◌, subst, arith}
 use Rattle.std.proofs.Math.Nat.{add-mul, div-add-mod', mod-lt, mul-le-mul_right}
 use Rattle.std.proofs.lemmas.Bool.{cases_eq, cases_lt}
@@ -13,11 +13,13 @@ use Rattle.loop_record.proofs.TestFacts.{equal}
 use Rattle.loop_record.proofs.NumberOrder.{held-among, numbers_of}
 use Rattle.loop_record.proofs.NumberOrder.{among-range as rising-range}
 use Rattle.loop_record.proofs.Steps.{plain-append, plain-stores}
+use Rattle.loop_ring.specs.declared.group.SlotStamp.{SlotStamp}
+use Rattle.loop_ring.specs.Groups.{slot_stamp}
 use Rattle.loop_ring.specs.Heads.{heads_of, is_of}
 use Rattle.loop_ring.proofs.Heads.{heads-length, one-entry}
 use Rattle.loop_store.specs.Index.{head_after}
 use Rattle.loop_store.specs.AppendPlace.{steps_before}
-use Rattle.loop_store.specs.Times.{AreTimes, HasTimes, time_in, time_under}
+use Rattle.loop_store.specs.Times.{AreStamps, HasStamps, no_stamp, stamp_at, stamp_under}
 use Rattle.loop_store.proofs.Room.{before-next}
 use Rattle.loop_store.proofs.Same.{IsSame, holds-same}
 use Rattle.loop_store.proofs.TimeReads.{HeldAt, held-at}
@@ -29,40 +31,40 @@ some-picture p q e = cc
 none-some : (p : Picture) → let x : Option Picture = None in x ≡ Some p → ⊥
 none-some p e = cc
 
--- ---- frames with other times
+-- ---- frames with other stamps
 
-with_time : (ℕ → ℕ) → ℕ × Picture → ℕ × Picture
-with_time times f = (f.0, record f.1 { timestamp = times f.0 })
+with_stamp : (ℕ → SlotStamp) → ℕ × Picture → ℕ × Picture
+with_stamp stamps f = (f.0, record f.1 { timestamp = (stamps f.0).time; sequence = (stamps f.0).sequence })
 
--- the recording whose frames have these times
-pub retimed : (ℕ → ℕ) → Recording → Recording
-unfolding with_time
-retimed times r = record r { frames = map (with_time times) r.frames }
+-- the recording whose frames have these stamps
+pub restamped : (ℕ → SlotStamp) → Recording → Recording
+unfolding with_stamp
+restamped stamps r = record r { frames = map (with_stamp stamps) r.frames }
 
-retimed-numbers : (times : ℕ → ℕ) (fs : List (ℕ × Picture)) → numbers_of fs ≡ numbers_of (map (with_time times) fs)
-unfolding with_time
-retimed-numbers times [] = refl
-retimed-numbers times (f ∷ fs) = ap (λ (ns : List ℕ). f.0 ∷ ns) (retimed-numbers times fs)
+restamped-numbers : (stamps : ℕ → SlotStamp) (fs : List (ℕ × Picture)) → numbers_of fs ≡ numbers_of (map (with_stamp stamps) fs)
+unfolding with_stamp
+restamped-numbers stamps [] = refl
+restamped-numbers stamps (f ∷ fs) = ap (λ (ns : List ℕ). f.0 ∷ ns) (restamped-numbers stamps fs)
 
-pub retimed-same : (times : ℕ → ℕ) (r : Recording) → IsSame r (retimed times r)
-unfolding retimed
-retimed-same times r = record { numbers = retimed-numbers times r.frames; next = refl; clips = refl }
+pub restamped-same : (stamps : ℕ → SlotStamp) (r : Recording) → IsSame r (restamped stamps r)
+unfolding restamped
+restamped-same stamps r = record { numbers = restamped-numbers stamps r.frames; next = refl; clips = refl }
 
-retimed-under : (times : ℕ → ℕ) (fs : List (ℕ × Picture)) (n : ℕ) (p : Picture)
-    → frame_under (map (with_time times) fs) n ≡ Some p → times n ≡ p.timestamp
-unfolding with_time
-retimed-under times [] n p e = absurd (none-some p e)
-retimed-under times (f ∷ fs) n p e = go (eqb f.0 n) refl (λ r. retimed-under times fs n p r) e
+restamped-under : (stamps : ℕ → SlotStamp) (fs : List (ℕ × Picture)) (n : ℕ) (p : Picture)
+    → frame_under (map (with_stamp stamps) fs) n ≡ Some p → stamps n ≡ slot_stamp p
+unfolding with_stamp
+restamped-under stamps [] n p e = absurd (none-some p e)
+restamped-under stamps (f ∷ fs) n p e = go (eqb f.0 n) refl (λ r. restamped-under stamps fs n p r) e
   where
-    go : (b : Bool) → eqb f.0 n ≡ b → (frame_under (map (with_time times) fs) n ≡ Some p → times n ≡ p.timestamp)
-        → cond b (Some (record f.1 { timestamp = times f.0 })) (frame_under (map (with_time times) fs) n) ≡ Some p
-        → times n ≡ p.timestamp
-    go true is ih e = sym (ap times (equal f.0 n is)) ∙ ap (λ (q : Picture). q.timestamp) (some-picture _ p e)
+    go : (b : Bool) → eqb f.0 n ≡ b → (frame_under (map (with_stamp stamps) fs) n ≡ Some p → stamps n ≡ slot_stamp p)
+        → cond b (Some (record f.1 { timestamp = (stamps f.0).time; sequence = (stamps f.0).sequence })) (frame_under (map (with_stamp stamps) fs) n) ≡ Some p
+        → stamps n ≡ slot_stamp p
+    go true is ih e = sym (ap stamps (equal f.0 n is)) ∙ ap slot_stamp (some-picture _ p e)
     go false is ih e = ih e
 
-pub retimed-times : (times : ℕ → ℕ) (r : Recording) → AreTimes times (retimed times r)
-unfolding retimed
-retimed-times times r = λ n p e. retimed-under times r.frames n p e
+pub restamped-known : (stamps : ℕ → SlotStamp) (r : Recording) → AreStamps stamps (restamped stamps r)
+unfolding restamped
+restamped-known stamps r = λ n p e. restamped-under stamps r.frames n p e
 
 -- ---- frames under numbers
 
@@ -176,7 +178,7 @@ grown-frame g keep r ps n p e = go (under-append mid.frames (enumerate_from mid.
 -- ---- an append
 
 -- what is known of an index and its recordings before and after an append
-pub record Retimes (g : Geometry) (keep : ℕ) (heads heads' : List (Option SegmentHead)) (times times' : List ℕ) (j : ℕ)
+pub record Restamps (g : Geometry) (keep : ℕ) (heads heads' : List (Option SegmentHead)) (stamps stamps' : List SlotStamp) (j : ℕ)
     (r0 r1 r : Recording) (image image' : List ℕ) (ps : List Picture) : Type 0 where
   pub some : 1 ≤ g.slots
   pub low : j < g.segments
@@ -189,17 +191,17 @@ pub record Retimes (g : Geometry) (keep : ℕ) (heads heads' : List (Option Segm
   pub noted : heads' ≡ set heads j (Some (head_after g r.next (length ps)))
   pub same : IsSame r0 r
   pub same' : IsSame r1 (plain (ring_of g) r (steps_before g keep r ++ map store ps))
-  pub put : HasTimes times times' (j * g.slots + r.next % g.slots) ps
-  pub known : AreTimes (time_under g.slots heads times) r
+  pub put : HasStamps stamps stamps' (j * g.slots + r.next % g.slots) ps
+  pub known : AreStamps (stamp_under g.slots heads stamps) r
 
 some-head : (h k : SegmentHead) → let x : Option SegmentHead = Some h in let y : Option SegmentHead = Some k in x ≡ y → h ≡ k
 some-head h k e = cc
 
-pub grown-times : (g : Geometry) (keep : ℕ) (heads heads' : List (Option SegmentHead)) (times times' : List ℕ) (j : ℕ)
+pub grown-stamps : (g : Geometry) (keep : ℕ) (heads heads' : List (Option SegmentHead)) (stamps stamps' : List SlotStamp) (j : ℕ)
     (r0 r1 r : Recording) (image image' : List ℕ) (ps : List Picture)
-    → Retimes g keep heads heads' times times' j r0 r1 r image image' ps
-    → AreTimes (time_under g.slots heads' times') (plain (ring_of g) r (steps_before g keep r ++ map store ps))
-grown-times g keep heads heads' times times' j r0 r1 r image image' ps k = λ n p there.
+    → Restamps g keep heads heads' stamps stamps' j r0 r1 r image image' ps
+    → AreStamps (stamp_under g.slots heads' stamps') (plain (ring_of g) r (steps_before g keep r ++ map store ps))
+grown-stamps g keep heads heads' stamps stamps' j r0 r1 r image image' ps k = λ n p there.
     is n p (held-at g r1 image' n k.held'
     (holds-same r1 (plain (ring_of g) r (steps_before g keep r ++ map store ps)) n k.same' ∙ ap (λ (o : Option Picture). is_some o) there))
     (grown-frame g keep r ps n p there)
@@ -222,17 +224,17 @@ grown-times g keep heads heads' times times' j r0 r1 r image image' ps k = λ n 
     other i apart = ap (λ (hs : List (Option SegmentHead)). get_or hs i None) (sym k.heads_are' ∙ k.noted)
         ∙ get_or-set_other heads j i (Some after) None apart ∙ ap (λ (hs : List (Option SegmentHead)). get_or hs i None) k.heads_are
 
-    -- the time of a number, where its segment is known
+    -- the stamp of a number, where its segment is known
     read : (n i : ℕ) → position (is_of (n / g.slots)) (heads_of g image') ≡ Some i
-        → time_under g.slots heads' times' n ≡ get_or times' (i * g.slots + n % g.slots) 0
-    read n i found = ap (time_in g.slots times' n) (ap (position (is_of (n / g.slots))) k.heads_are' ∙ found)
+        → stamp_under g.slots heads' stamps' n ≡ get_or stamps' (i * g.slots + n % g.slots) no_stamp
+    read n i found = ap (stamp_at g.slots stamps' n) (ap (position (is_of (n / g.slots))) k.heads_are' ∙ found)
 
     read-old : (n i : ℕ) → position (is_of (n / g.slots)) (heads_of g image) ≡ Some i
-        → time_under g.slots heads times n ≡ get_or times (i * g.slots + n % g.slots) 0
-    read-old n i found = ap (time_in g.slots times n) (ap (position (is_of (n / g.slots))) k.heads_are ∙ found)
+        → stamp_under g.slots heads stamps n ≡ get_or stamps (i * g.slots + n % g.slots) no_stamp
+    read-old n i found = ap (stamp_at g.slots stamps n) (ap (position (is_of (n / g.slots))) k.heads_are ∙ found)
 
     -- a frame of the group
-    new : (n : ℕ) (p : Picture) → HeldAt g image' n → StoredAt r.next ps n p → time_under g.slots heads' times' n ≡ p.timestamp
+    new : (n : ℕ) (p : Picture) → HeldAt g image' n → StoredAt r.next ps n p → stamp_under g.slots heads' stamps' n ≡ slot_stamp p
     new n p now stored =
         let slot = r.next % g.slots + stored.place in
         let less : slot < g.slots = omega (arith, k.room, stored.low) in
@@ -242,14 +244,14 @@ grown-times g keep heads heads' times times' j r0 r1 r image image' ps k = λ n 
         let same : now.segment ≡ j = one-entry g r1 image' now.segment j now.header after k.held' now.head here (now.block ∙ block) in
         let place : now.segment * g.slots + n % g.slots ≡ at + stored.place =
         ap (λ (x : ℕ). x * g.slots + n % g.slots) same ∙ omega (arith, rest) in
-        read n now.segment now.found ∙ ap (λ (x : ℕ). get_or times' x 0) place ∙ k.put.there stored.place p stored.low
-        ∙ ap (λ (q : Picture). q.timestamp) (stored.is p)
+        read n now.segment now.found ∙ ap (λ (x : ℕ). get_or stamps' x no_stamp) place ∙ k.put.there stored.place p stored.low
+        ∙ ap slot_stamp (stored.is p)
 
     -- one that was held
     old : (n : ℕ) (p : Picture) → HeldAt g image' n → HeldAt g image n → frame_under r.frames n ≡ Some p
-        → time_under g.slots heads' times' n ≡ p.timestamp
+        → stamp_under g.slots heads' stamps' n ≡ slot_stamp p
     old n p now was there =
-        read n now.segment now.found ∙ ap (λ (x : ℕ). get_or times' (x * g.slots + n % g.slots) 0) where_is
+        read n now.segment now.found ∙ ap (λ (x : ℕ). get_or stamps' (x * g.slots + n % g.slots) no_stamp) where_is
         ∙ k.put.others (was.segment * g.slots + n % g.slots) untouched ∙ sym (read-old n was.segment was.found)
         ∙ k.known n p there
       where
@@ -300,6 +302,6 @@ grown-times g keep heads heads' times times' j r0 r1 r image image' ps k = λ n 
             go (inr apart) = sides apart (cases_lt was.segment j)
 
     is : (n : ℕ) (p : Picture) → HeldAt g image' n → (frame_under r.frames n ≡ Some p) ⊎ StoredAt r.next ps n p
-        → time_under g.slots heads' times' n ≡ p.timestamp
+        → stamp_under g.slots heads' stamps' n ≡ slot_stamp p
     is n p now (inl there) = old n p now (held-at g r0 image n k.held (holds-same r0 r n k.same ∙ ap (λ (o : Option Picture). is_some o) there)) there
     is n p now (inr stored) = new n p now stored

@@ -13,10 +13,11 @@ use Rattle.loop_record.proofs.Gates.{range_append}
 use Rattle.loop_record.proofs.NumberOrder.{held-among, numbers_of}
 use Rattle.loop_record.proofs.NumberOrder.{among-range as rising-range}
 use Rattle.loop_record.proofs.Bounds.{limits}
+use Rattle.loop_ring.specs.declared.group.SlotStamp.{SlotStamp}
 use Rattle.loop_ring.specs.Heads.{is_of}
 use Rattle.loop_store.specs.declared.index.Index.{Index}
 use Rattle.loop_store.specs.Index.{IsIndex}
-use Rattle.loop_store.specs.Times.{AreTimes, EndsBelow, Rise, added, time_in, time_under}
+use Rattle.loop_store.specs.Times.{AreStamps, EndsBelow, Rise, added, no_stamp, stamp_at, stamp_under}
 use Rattle.loop_store.proofs.TimeReads.{place-within}
 
 -- ---- one number more
@@ -175,26 +176,28 @@ filter-times times f low high (x ∷ fs) rise are =
     go true false e more = absurd cc
     go false true e more = absurd cc
 
--- those whose time lies in the span, by the times that are known
-pub sought-numbers : (times : Times) (f : ℕ → ℕ) (r : Recording) → IsWellFormed r → AreTimes f r
-    → filter (λ n. is_in times (f n)) (numbers_of r.frames) ≡ numbers_in_time times r
-sought-numbers times f r formed are = filter-times times f 0 r.next r.frames formed.rising are
+-- those whose time lies in the span, by the stamps that are known
+pub sought-numbers : (times : Times) (f : ℕ → SlotStamp) (r : Recording) → IsWellFormed r → AreStamps f r
+    → filter (λ n. is_in times (f n).time) (numbers_of r.frames) ≡ numbers_in_time times r
+sought-numbers times f r formed are =
+    filter-times times (λ n. (f n).time) 0 r.next r.frames formed.rising
+    (λ n p there. ap (λ (s : SlotStamp). s.time) (are n p there))
 
 -- ---- the code
 
--- the time at the slot of a number
-pub time-read : {A : Type 0} (index : Index A) (number from j value : ℕ) → IsIndex index → from ≡ index.ring.geometry.slots
+-- the stamp at the slot of a number
+pub stamp-read : {A : Type 0} (index : Index A) (number from j : ℕ) (value : SlotStamp) → IsIndex index → from ≡ index.ring.geometry.slots
     → j < length index.table.heads → position (is_of (number / index.ring.geometry.slots)) index.table.heads ≡ Some j
-    → value ≡ get_or index.times.items (j * from + number % from) value
-    → value ≡ time_under index.ring.geometry.slots index.table.heads index.times.items number
-time-read index number from j value whole same l found read =
+    → value ≡ get_or index.stamps.items (j * from + number % from) value
+    → value ≡ stamp_under index.ring.geometry.slots index.table.heads index.stamps.items number
+stamp-read index number from j value whole same l found read =
     let slots = index.ring.geometry.slots in
     let some = (limits index.ring.geometry index.ring.good).slots.0 in
     let low : j < index.ring.geometry.segments = omega (arith, l, whole.count) in
     let bound = place-within index.ring.geometry.segments slots j (number % slots) low (mod-lt number (omega (arith, some))) in
-    get_or_read index.times.items (j * slots + number % slots) value (omega (arith, bound, whole.places))
-    (read ∙ (λ i. get_or index.times.items (j * same i + number % same i) value)) 0
-    ∙ sym (ap (time_in slots index.times.items number) found)
+    get_or_read index.stamps.items (j * slots + number % slots) value (omega (arith, bound, whole.places))
+    (read ∙ (λ i. get_or index.stamps.items (j * same i + number % same i) value)) no_stamp
+    ∙ sym (ap (stamp_at slots index.stamps.items number) found)
 
 -- a run that has become longer, and one of its own
 pub added-longer : (old front new : List Span) (s : Span) (n : ℕ) → old ≡ front ++ s ∷ [] → s.to + 1 ≡ n

@@ -24,11 +24,11 @@ use Rattle.loop_store.specs.Goes.{Goes, Stands}
 use Rattle.loop_store.specs.Grow.{HasNoneStray}
 use Rattle.loop_store.specs.Seen.{StandsFor, Tells, seen_with}
 use Rattle.loop_store.specs.Store.{IsKept}
-use Rattle.loop_store.specs.Times.{AreTimes}
+use Rattle.loop_store.specs.Times.{AreStamps}
 use Rattle.loop_store.proofs.Room.{one-recording}
 use Rattle.loop_store.proofs.CheckAnswers.{answer-given}
 use Rattle.loop_store.proofs.BlockImages.{held-some}
-use Rattle.loop_store.proofs.Looks.{one-kept, times-in}
+use Rattle.loop_store.proofs.Looks.{one-kept, stamps-in}
 use Rattle.loop_store.proofs.Once.{goes-done, goes-failed, goes-refused}
 use Rattle.loop_store.proofs.Names.{HoldsSome}
 
@@ -105,11 +105,11 @@ kept-upgraded medium old new index must kept fine up =
             version = (up.such back).version;
             settled = up.settled back;
             unstray = kept-unstray g (medium old).bytes (medium new).bytes few k present.unstray;
-            timed = record {
-              each = λ r held. subst (AreTimes (times-in index))
+            stamped = record {
+              each = λ r held. subst (AreStamps (stamps-in index))
                   (one-recording g present.recorded.recording r (medium new).bytes
                   (kept-held g present.recorded.recording (medium old).bytes (medium new).bytes known.held k) held)
-                  (present.timed.each present.recorded.recording known.held);
+                  (present.stamped.each present.recorded.recording known.held);
             };
           };
     }
@@ -166,7 +166,7 @@ goes-upgraded medium old new index must kept fine differs up =
       next_is = told.next_is;
       numbers_are = told.numbers_are;
       count_is = told.count_is;
-      times_are = told.times_are;
+      stamps_are = told.stamps_are;
       clips_are = told.clips_are;
     }
 

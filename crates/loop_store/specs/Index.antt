@@ -11,7 +11,7 @@ use Rattle.loop_ring.specs.Heads.{clip_counts, heads_of}
 use Rattle.loop_store.specs.declared.index.Index.{Index}
 use Rattle.loop_store.specs.Drawn.{drawn_image}
 use Rattle.loop_store.specs.Found.{IsHeadIn}
-use Rattle.loop_store.specs.Times.{IsTimed}
+use Rattle.loop_store.specs.Times.{KnowsStamps}
 
 -- an image holds the recording, and the index says what the image says
 pub record IsIndexOf {A : Type 0} (index : Index A) (r : Recording) (image : List ℕ) : Type 0 where
@@ -35,10 +35,10 @@ pub record IsRecovered {A : Type 0} (index : Index A) (image : List ℕ) : Type 
   pub recording : Recording
   pub known : IsIndexOf index recording image
 
--- the same, and the index has the version of the image's layout and the times of the frames
+-- the same, and the index has the version of the image's layout and the stamps of the frames
 abbrev pub IsRecoveredIn : {A : Type 0} → Index A → List ℕ → Type 0
 IsRecoveredIn index image = IsRecovered index image
-    × ((version_in image ≡ index.version) × IsTimed index.ring.geometry index.table.heads index.times.items image)
+    × ((version_in image ≡ index.version) × KnowsStamps index.ring.geometry index.table.heads index.stamps.items image)
 
 -- with made-up frames, the index describes a whole recording
 abbrev pub SaysRecording : {A : Type 0} → Index A → Type 0
@@ -49,13 +49,13 @@ abbrev pub keeping : {A : Type 0} → ℕ → Index A → Index A
 keeping keep index = record index { table = record index.table { keep = keep } }
 
 -- Whatever a disk holds: there is a header for each segment, and each is a possible one; no block of the numbers below
--- the next one is too high; the clips that meet each segment's block are counted; and there is a time for each slot.
+-- the next one is too high; the clips that meet each segment's block are counted; and there is a stamp for each slot.
 pub record IsIndex {A : Type 0} (index : Index A) : Type 0 where
   pub count : length index.table.heads ≡ index.ring.geometry.segments
   pub within : All (IsHeadIn index.ring.geometry) index.table.heads
   pub few : index.next ≤ last_number (ring_of index.ring.geometry)
   pub counted : index.table.clips ≡ clip_counts (ring_of index.ring.geometry) index.clips index.table.heads
-  pub places : length index.times.items ≡ index.ring.geometry.segments * index.ring.geometry.slots
+  pub places : length index.stamps.items ≡ index.ring.geometry.segments * index.ring.geometry.slots
 
 -- the same, for a disk of this size
 pub record IsFitting {A : Type 0} (index : Index A) (size : ℕ) : Type 0 where
@@ -85,4 +85,4 @@ pub record IsClipNoted {A : Type 0} (old new : Index A) (id : ℕ) (clip : Optio
   pub heads : new.table.heads ≡ old.table.heads
   pub clips : new.clips ≡ slice_set old.clips id clip
   pub counted : new.table.clips ≡ clip_counts (ring_of old.ring.geometry) new.clips old.table.heads
-  pub times : new.times.items ≡ old.times.items
+  pub stamps : new.stamps.items ≡ old.stamps.items

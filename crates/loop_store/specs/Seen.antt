@@ -6,14 +6,15 @@ use Rattle.loop_record.specs.declared.geometry.Geometry.{Geometry}
 use Rattle.loop_record.specs.Layout.{version_in}
 use Rattle.loop_record.specs.Recording.{IsWellFormed, Recording, Ring, holds, ring_of}
 use Rattle.loop_record.specs.Reading.{Holds}
+use Rattle.loop_ring.specs.declared.group.SlotStamp.{SlotStamp}
 use Rattle.loop_store.specs.declared.fault.StoreFault.{StoreFault}
 use Rattle.loop_store.specs.declared.fault.StoreFault.TheVariants.{Disk}
 use Rattle.loop_store.specs.declared.index.Index.{Index}
 use Rattle.loop_store.specs.Numbers.{is_among, numbers_under}
-use Rattle.loop_store.specs.Times.{AreTimes, time_told, time_under}
+use Rattle.loop_store.specs.Times.{AreStamps, stamp_told, stamp_under}
 
 -- the disk; the geometry and the version of the layout; how many of the newest blocks are kept; what a store reports
--- of its recording: the next number, the held numbers, the time of each, the clip of each id; and whether a call that
+-- of its recording: the next number, the held numbers, the time and sequence of each, the clip of each id; and whether a call that
 -- writes has failed
 pub record Seen (D : Type 0) : Type 0 where
   pub disk : D
@@ -22,7 +23,7 @@ pub record Seen (D : Type 0) : Type 0 where
   pub keep : ℕ
   pub next : ℕ
   pub numbers : List ℕ
-  pub times : List ℕ
+  pub stamps : List SlotStamp
   pub clips : List (Option Span)
   pub must_reopen : Bool
 
@@ -39,7 +40,7 @@ seen_with disk index must_reopen = record {
   keep = index.table.keep;
   next = index.next;
   numbers = numbers_under index.ring.geometry.slots index.table.heads;
-  times = map (time_under index.ring.geometry.slots index.table.heads index.times.items)
+  stamps = map (stamp_under index.ring.geometry.slots index.table.heads index.stamps.items)
       (numbers_under index.ring.geometry.slots index.table.heads);
   clips = index.clips;
   must_reopen = must_reopen;
@@ -51,7 +52,7 @@ pub record Tells {D : Type 0} (s : Seen D) (r : Recording) : Type 0 where
   pub next_is : s.next ≡ r.next
   pub numbers_are : (n : ℕ) → is_among s.numbers n ≡ holds r n
   pub count_is : length s.numbers ≡ length r.frames
-  pub times_are : AreTimes (time_told s.numbers s.times) r
+  pub stamps_are : AreStamps (stamp_told s.numbers s.stamps) r
   pub clips_are : s.clips ≡ r.clips
 
 -- The store stands for a recording: it reports that recording, after a failed call too. Where it needn't be reopened,

@@ -5,16 +5,16 @@ use Rattle.loop_record.specs.Layout.{version_in}
 use Rattle.loop_store.specs.declared.index.Index.{Index}
 use Rattle.loop_store.specs.Grow.{HasNoneStray}
 use Rattle.loop_store.specs.Index.{IsFitting, IsRecovered, IsRecoveredIn, SaysRecording}
-use Rattle.loop_store.specs.Times.{IsTimed}
+use Rattle.loop_store.specs.Times.{KnowsStamps}
 
--- the disk holds a recording of which the index says everything, its version and the times too; no gate is stray, and
+-- the disk holds a recording of which the index says everything, its version and the stamps too; no gate is stray, and
 -- a crash leaves nothing else
 pub record IsPresent {A : Type 0} (index : Index A) (m : Medium) : Type 0 where
   pub recorded : IsRecovered index m.bytes
   pub version : version_in m.bytes ≡ index.version
   pub settled : IsSettled m
   pub unstray : HasNoneStray index.ring.geometry m.bytes
-  pub timed : IsTimed index.ring.geometry index.table.heads index.times.items m.bytes
+  pub stamped : KnowsStamps index.ring.geometry index.table.heads index.stamps.items m.bytes
 
 -- there was a disk once all had been read, and the index is of each image that agrees with what it gave
 pub record IsLookedUp {D A : Type 0} (medium : D → Medium) (disk : D) (index : Index A) : Type 0 where

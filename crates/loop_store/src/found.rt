@@ -14,6 +14,7 @@ ghost use Rattle.loop_record.specs.Layout.{header_at, is_slot_of, is_too_high, s
 ghost use Rattle.loop_record.specs.Plain.{AreIn, IsSomeHigh, IsTagFit, lacks_number, segment_of, segments_of};
 ghost use Rattle.loop_record.specs.Reading.{by_block, is_bad_slot, open_segments, reading};
 ghost use Rattle.loop_record.specs.Parts.{is_high, parts_of};
+ghost use Rattle.loop_ring.specs.Groups.{slot_stamp};
 ghost use Rattle.loop_ring.specs.Heads.{heads_of};
 ghost use Rattle.loop_store.specs.Fresh.{FitsDisk};
 ghost use Rattle.loop_store.specs.Found.{Finds, IsHeadIn, clips_of, refusal, some_bad_clip};
@@ -25,6 +26,7 @@ use loop_record::{
     Damage, Found, Geometry, HEAD_SIZE, HEADER_SIZE, LayoutFault, SUPER_SIZE, SegmentHead, Span,
     SuperHead, TABLE_SIZE, decode_head, decode_header, decode_super, read_clips,
 };
+use loop_ring::SlotStamp;
 use std::alloc::Allocator;
 
 impl From<LayoutFault> for StoreFault {
@@ -101,7 +103,7 @@ pub(crate) fn read_heads<D: Disk, A: Allocator>(
     Ok(heads)
 }
 
-// The time of frame `number` where the slot holds it, otherwise `SlotHead`: one read of the slot's first `HEAD_SIZE`
+// The stamp of frame `number` where the slot holds it, otherwise `SlotHead`: one read of the slot's first `HEAD_SIZE`
 // bytes.
 fn check_slot<D: Disk>(
     disk: &mut D,
@@ -109,77 +111,80 @@ fn check_slot<D: Disk>(
     segment: u32,
     slot: u32,
     number: u64,
-) -> Result<u64, StoreFault>
+) -> Result<SlotStamp, StoreFault>
     requires fits { FitsDisk geometry.now (D.medium disk.old).size }
     requires segment { segment < geometry.now.segments }
     requires slot { slot < geometry.now.slots }
     ensures { let n = frame_bytes geometry.now in
         let there = λ (image : List ℕ). slot_in n image (slot_at geometry.now segment slot) in
         let said = λ (image : List ℕ). is_slot_of n number (there image) in
-        Finds (λ image time. (said image ≡ true) × (time ≡ (there image).picture.timestamp))
+        Finds (λ image stamp. (said image ≡ true) × (stamp ≡ slot_stamp (there image).picture))
         (λ image fault. (fault ≡ LayoutFault.Damaged Damage.SlotHead) × (said image ≡ false))
         (D.medium disk.old) (D.medium disk.new) result }
 {
     let mut head = [0; HEAD_SIZE];
     disk.read(geometry.slot_at(segment, slot), &mut head)?;
     let head = decode_head(&head, number, geometry.frame_bytes())?;
-    Ok(head.timestamp)
+    Ok(SlotStamp {
+        time: head.timestamp,
+        sequence: head.sequence,
+    })
 }
 
 // Checks that the slots of a segment's whole frames hold these frames, otherwise `SlotHead`: one read each. Notes
-// their times.
+// their stamps.
 fn check_segment<D: Disk>(
     disk: &mut D,
     geometry: &Geometry,
     found: Found,
-    times: &mut [u64],
+    stamps: &mut [SlotStamp],
 ) -> Result<(), StoreFault>
-    requires room { length times.old ≡ geometry.now.segments * geometry.now.slots }
+    requires room { length stamps.old ≡ geometry.now.segments * geometry.now.slots }
     requires fits { FitsDisk geometry.now (D.medium disk.old).size }
     requires segment { found.segment < geometry.now.segments }
     requires few { found.frames ≤ geometry.now.slots }
     requires low { is_too_high geometry.now found.block ≡ false }
     ensures finds { let g = geometry.now in let bad = λ (image : List ℕ). is_bad_slot g (segment_of g image found) in
-        Finds (λ image _. (bad image ≡ false) × (AreStamped g image times.new found.segment found.frames
-        × KeepsStamps g image times.old times.new))
+        Finds (λ image _. (bad image ≡ false) × (AreStamped g image stamps.new found.segment found.frames
+        × KeepsStamps g image stamps.old stamps.new))
         (λ image fault. (fault ≡ LayoutFault.Damaged Damage.SlotHead) × (bad image ≡ true))
         (D.medium disk.old) (D.medium disk.new) result }
-    ensures room { length times.new ≡ length times.old }
+    ensures room { length stamps.new ≡ length stamps.old }
 {
     let first = found.block * u64::from(geometry.slots);
     let at = found.segment as usize * geometry.slots as usize;
     for slot in 0..found.frames {
         let number = first + u64::from(slot);
-        let time = check_slot(disk, geometry, found.segment, slot, number)?;
-        times[at + slot as usize] = time;
+        let stamp = check_slot(disk, geometry, found.segment, slot, number)?;
+        stamps[at + slot as usize] = stamp;
     }
     Ok(())
 }
 
 /// Checks that the slots of all segments' whole frames hold these frames, otherwise `SlotHead`: one read each. Notes
-/// their times.
+/// their stamps.
 pub(crate) fn check_slots<D: Disk>(
     disk: &mut D,
     geometry: &Geometry,
     open: &[Found],
-    times: &mut [u64],
+    stamps: &mut [SlotStamp],
 ) -> Result<(), StoreFault>
-    requires room { length times.old ≡ geometry.now.segments * geometry.now.slots }
+    requires room { length stamps.old ≡ geometry.now.segments * geometry.now.slots }
     requires fits { FitsDisk geometry.now (D.medium disk.old).size }
     requires within { AreIn geometry.now open.now }
     ensures finds { let g = geometry.now in
         let bad = λ (image : List ℕ). list_any (is_bad_slot g) (segments_of g image open.now) in
-        Finds (λ image _. (bad image ≡ false) × (AllStamped g image times.new open.now
-        × KeepsStamps g image times.old times.new))
+        Finds (λ image _. (bad image ≡ false) × (AllStamped g image stamps.new open.now
+        × KeepsStamps g image stamps.old stamps.new))
         (λ image fault. (fault ≡ LayoutFault.Damaged Damage.SlotHead) × (bad image ≡ true))
         (D.medium disk.old) (D.medium disk.new) result }
-    ensures room { length times.new ≡ length times.old }
+    ensures room { length stamps.new ≡ length stamps.old }
 {
     let Some((first, others)) = open.split_first() else {
         return Ok(());
     };
-    check_segment(disk, geometry, *first, times)?;
-    check_slots(disk, geometry, others, times)
+    check_segment(disk, geometry, *first, stamps)?;
+    check_slots(disk, geometry, others, stamps)
 }
 
 /// The clip of each id, in this version of the layout. `ClipRange` where a clip is empty or has a number whose frame

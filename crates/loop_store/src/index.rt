@@ -7,17 +7,18 @@ ghost use Rattle.loop_record.specs.Recording.{Recording, last_number, ring_of, v
 ghost use Rattle.loop_ring.specs.Heads.{IsPlaceOf, clip_counts, has_frame, heads_of, is_of};
 ghost use Rattle.loop_store.specs.AppendPlace.{AnswersPlace, IsPlace, place_segment};
 ghost use Rattle.loop_store.specs.Index.{IsClipNoted, IsIndex, IsIndexOf, IsNoted, IsOf};
-ghost use Rattle.loop_store.specs.Times.{HasTimes};
+ghost use Rattle.loop_store.specs.Times.{HasStamps};
 
 use crate::StoreFault;
 use crate::place::AppendPlace;
 use loop_clips::ClipTable;
 use loop_record::{Geometry, NUMBERS_END, SegmentHead, Span, SuperHead};
-use loop_ring::{Group, Ring, SegmentIndex, clips_on};
+use loop_ring::{Group, NO_STAMP, Ring, SegmentIndex, SlotStamp, clips_on};
 use std::alloc::{AllocError, Allocator};
 
 /// The geometry and the version of the layout; what the header of each segment says, and how many clips meet its
-/// block; the clip of each id; the number that the next frame gets; and the time at each slot of the ring.
+/// block; the clip of each id; the number that the next frame gets; and the time and
+/// the sequence at each slot of the ring.
 #[derive(Drop)]
 pub(crate) struct Index<A: Allocator> {
     pub(crate) ring: Ring,
@@ -25,19 +26,19 @@ pub(crate) struct Index<A: Allocator> {
     pub(crate) table: SegmentIndex<A>,
     pub(crate) clips: ClipTable,
     pub(crate) next: u64,
-    /// The times, segment by segment. Where a slot has no whole frame, the value means nothing.
-    pub(crate) times: Vec<u64, A>,
+    /// The stamps, segment by segment. Where a slot has no whole frame, the value means nothing.
+    pub(crate) stamps: Vec<SlotStamp, A>,
 }
 
-/// Memory for the time of each slot of a ring.
-pub(crate) fn times_for<A: Allocator>(
+/// Memory for the stamp of each slot of a ring.
+pub(crate) fn stamps_for<A: Allocator>(
     alloc: A,
     geometry: &Geometry,
-) -> Result<Vec<u64, A>, AllocError>
+) -> Result<Vec<SlotStamp, A>, AllocError>
     requires { IsTrue (is_good geometry.now) }
-    ensures { IfOk result (λ times. length times.items ≡ geometry.now.segments * geometry.now.slots) }
+    ensures { IfOk result (λ stamps. length stamps.items ≡ geometry.now.segments * geometry.now.slots) }
 {
-    vec![in alloc; 0u64; geometry.segments as usize * geometry.slots as usize]
+    vec![in alloc; NO_STAMP; geometry.segments as usize * geometry.slots as usize]
 }
 
 /// The number that no frame gets: the first of a block whose frames would reach 2^62.
@@ -62,13 +63,13 @@ pub(crate) fn index_of<A: Allocator>(
     table: SegmentIndex<A>,
     clips: [Option<Span>; 64],
     next: u64,
-    times: Vec<u64, A>,
+    stamps: Vec<SlotStamp, A>,
 ) -> Index<A>
     requires good { IsTrue (is_good head.geometry) }
     requires keep { table.keep ≡ 1 }
     ensures of { IsOf result head.geometry table.heads clips next }
     ensures version { result.version ≡ head.version }
-    ensures times { result.times ≡ times }
+    ensures stamps { result.stamps ≡ stamps }
 {
     let mut table = table;
     let clips = ClipTable::of(clips);
@@ -79,7 +80,7 @@ pub(crate) fn index_of<A: Allocator>(
         table,
         clips,
         next,
-        times,
+        stamps,
     }
 }
 
@@ -169,15 +170,15 @@ impl<A: Allocator> Index<A> {
         requires room { self.old.next % self.old.ring.geometry.slots + length group.now.frames
             ≤ self.old.ring.geometry.slots }
         ensures noted { IsNoted self.old self.new segment (length group.now.frames) }
-        ensures times { let slots = self.old.ring.geometry.slots in
-            HasTimes self.old.times.items self.new.times.items (segment * slots + self.old.next % slots)
+        ensures stamps { let slots = self.old.ring.geometry.slots in
+            HasStamps self.old.stamps.items self.new.stamps.items (segment * slots + self.old.next % slots)
             group.now.frames }
     {
         let slots = u64::from(self.ring.geometry.slots);
         let block = self.next / slots;
         let slot = (self.next % slots) as u32;
         let at = segment as usize * self.ring.geometry.slots as usize + slot as usize;
-        put_times(self.times.as_mut_slice(), at, group);
+        put_stamps(self.stamps.as_mut_slice(), at, group);
         let count = group.len() as u32;
         let frames = slot + count;
         let head = SegmentHead { block, frames };
@@ -204,13 +205,13 @@ impl<A: Allocator> Index<A> {
     }
 }
 
-// Writes the times of a group's frames into a row of times, from a place on.
-fn put_times(times: &mut [u64], at: usize, group: &Group<'_>)
-    requires { at + length group.now.frames ≤ length times.old }
-    ensures { HasTimes times.old times.new at group.now.frames }
+// Writes the stamps of a group's frames into a row of stamps, from a place on.
+fn put_stamps(stamps: &mut [SlotStamp], at: usize, group: &Group<'_>)
+    requires { at + length group.now.frames ≤ length stamps.old }
+    ensures { HasStamps stamps.old stamps.new at group.now.frames }
 {
     for place in 0..group.len() {
-        times[at + place] = group.time(place);
+        stamps[at + place] = group.stamp(place);
     }
 }
 

@@ -6,7 +6,7 @@ ghost use Rattle.loop_record.specs.Layout.{IsVersion};
 ghost use Rattle.loop_store.specs.Make.{Formats};
 
 use crate::fresh::lay_out;
-use crate::index::{Index, times_for};
+use crate::index::{Index, stamps_for};
 use crate::{OpenRefused, Store, StoreFault};
 use loop_clips::ClipTable;
 use loop_disk::Disk;
@@ -46,7 +46,7 @@ fn format_as<D: Disk + Drop, A: Allocator + Copy>(
             disk,
         });
     };
-    let Ok(times) = times_for(alloc, &head.geometry) else {
+    let Ok(stamps) = stamps_for(alloc, &head.geometry) else {
         return Err(OpenRefused {
             fault: StoreFault::NoMemory,
             disk,
@@ -61,7 +61,7 @@ fn format_as<D: Disk + Drop, A: Allocator + Copy>(
                 table,
                 clips: ClipTable::empty(),
                 next: 0,
-                times,
+                stamps,
             },
             must_reopen: false,
         }),

@@ -9,7 +9,7 @@ ghost use Rattle.loop_store.specs.Index.{IsFitting, IsRecoveredIn, SaysRecording
 
 use crate::StoreFault;
 use crate::found::{check_slots, read_heads, read_super, read_table};
-use crate::index::{Index, index_of, times_for};
+use crate::index::{Index, index_of, stamps_for};
 use loop_disk::Disk;
 use loop_record::{Damage, SuperHead, lacks_frame, next_after, repeats};
 use loop_ring::SegmentIndex;
@@ -37,18 +37,18 @@ fn recover_parts<D: Disk, A: Allocator + Copy>(
     if lacks_frame(&geometry, open) {
         return Err(StoreFault::Damaged(Damage::ClosedGate));
     }
-    let mut times = times_for(alloc, &geometry)?;
-    check_slots(disk, &geometry, open, times.as_mut_slice())?;
+    let mut stamps = stamps_for(alloc, &geometry)?;
+    check_slots(disk, &geometry, open, stamps.as_mut_slice())?;
     let clips = read_table(disk, &geometry, head.version, open)?;
     let next = next_after(&geometry, open);
-    Ok(index_of(head, table, clips, next, times))
+    Ok(index_of(head, table, clips, next, stamps))
 }
 
 /// The index of what a disk's image reads as: the geometry, the header of each segment, the clips and the next number.
 ///
 /// It reads the superblock, each header, the first `HEAD_SIZE` bytes of each slot before the first closed gate of an
 /// open segment, and the clip table. It writes nothing. It takes memory four times: for the headers, for the counts of
-/// clips, for the open segments by block, which it sorts once, and for the times.
+/// clips, for the open segments by block, which it sorts once, and for the stamps.
 ///
 /// `NotFormatted` where the disk has no open superblock; `Damaged` with the first damage in the layout's order; `Disk`
 /// where a read failed; `NoMemory`. After each of these the disk is as it was.

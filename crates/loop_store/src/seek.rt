@@ -5,24 +5,25 @@ ghost use Rattle.std.specs.List.{filter};
 ghost use Rattle.loop_record.specs.Recording.{Recording};
 ghost use Rattle.loop_record.specs.Times.{AreRuns, is_in};
 ghost use Rattle.loop_store.specs.Index.{IsIndex, IsIndexOf};
-ghost use Rattle.loop_store.specs.Times.{Rise, added, time_under};
+ghost use Rattle.loop_store.specs.Times.{Rise, added, stamp_under};
 
 use crate::index::Index;
 use crate::look::held_numbers;
 use loop_record::{Span, Times};
+use loop_ring::{NO_STAMP, SlotStamp};
 use std::alloc::{AllocError, Allocator};
 
-/// The time at the slot of a number, in the segment that has its block; 0 where no segment has it.
-pub(crate) fn time_of<A: Allocator>(index: &Index<A>, number: u64) -> u64
+/// The stamp at the slot of a number, in the segment that has its block; zeros where no segment has it.
+pub(crate) fn stamp_under<A: Allocator>(index: &Index<A>, number: u64) -> SlotStamp
     requires { IsIndex index.now }
-    ensures { result ≡ time_under index.now.ring.geometry.slots index.now.table.heads index.now.times.items number }
+    ensures { result ≡ stamp_under index.now.ring.geometry.slots index.now.table.heads index.now.stamps.items number }
 {
     let slots = u64::from(index.ring.geometry.slots);
     match index.find(number / slots) {
         Some(segment) => {
-            index.times[segment as usize * slots as usize + (number % slots) as usize]
+            index.stamps[segment as usize * slots as usize + (number % slots) as usize]
         }
-        None => 0,
+        None => NO_STAMP,
     }
 }
 
@@ -71,12 +72,12 @@ fn runs_of<A: Allocator, B: Allocator>(
 ) -> Result<Vec<Span, B>, AllocError>
     requires { IsIndex index.now }
     ensures { Rise numbers.now → IfOk result (λ runs. AreRuns (filter (λ n.
-        is_in times (time_under index.now.ring.geometry.slots index.now.table.heads index.now.times.items n))
+        is_in times (stamp_under index.now.ring.geometry.slots index.now.table.heads index.now.stamps.items n).time)
         numbers.now) runs.items) }
 {
     let mut runs = Vec::new(alloc);
     for number in numbers {
-        if times.has(time_of(index, *number)) {
+        if times.has(stamp_under(index, *number).time) {
             add_number(&mut runs, *number)?;
         }
     }
@@ -92,7 +93,7 @@ pub(crate) fn seek<A: Allocator, B: Allocator + Copy>(
     requires { IsIndex index.now }
     ensures { (r : Recording) (image : List ℕ) → IsIndexOf index.now r image
         → IfOk result (λ runs. AreRuns (filter (λ n. is_in times
-        (time_under index.now.ring.geometry.slots index.now.table.heads index.now.times.items n))
+        (stamp_under index.now.ring.geometry.slots index.now.table.heads index.now.stamps.items n).time)
         (map (λ f. f.0) r.frames)) runs.items) }
 {
     let numbers = held_numbers(alloc, index)?;

@@ -1,6 +1,6 @@
 //! A store: a disk that holds a recording, and what is known of it in memory.
 
-ghost use Rattle.std.specs.Prelude.{◌≡◌, ◌≢◌, ◌+◌, ◌-◌, ◌%◌, ◌≤◌, ◌↔◌, ◌⊎◌, ◌∷◌, [], All, Ok, Err, List, ℕ, IfErr, IfOk, IsTrue, false, length, map, ◌<◌, IfSome, Some};
+ghost use Rattle.std.specs.Prelude.{◌≡◌, ◌≢◌, ◌+◌, ◌-◌, ◌%◌, ◌≤◌, ◌↔◌, ◌⊎◌, ◌∷◌, [], All, Ok, Err, List, ℕ, IfErr, IfOk, IsTrue, false, length, map, option_map, ◌<◌, IfSome, Some};
 ghost use Rattle.loop_clips.specs.Table.{clip_list};
 ghost use Rattle.loop_disk.specs.Calls.{Stays};
 ghost use Rattle.loop_record.specs.Geometry.{frame_bytes, is_good};
@@ -19,7 +19,7 @@ use crate::look::{
     count_held, held_numbers, next_held, read_held, read_held_head, read_held_part, segment_with,
 };
 use crate::put::put;
-use crate::seek::{seek, time_of};
+use crate::seek::{seek, stamp_under};
 use crate::upgrade::upgrade_layout;
 use loop_clips::Clip;
 use loop_disk::Disk;
@@ -149,7 +149,19 @@ impl<D: Disk + Drop, A: Allocator> Store<D, A> {
         ensures { (r : Recording) → StandsFor D.medium self.now r → (p : Picture)
             → frame_under r.frames number ≡ Some p → result ≡ p.timestamp }
     {
-        time_of(&self.index, number)
+        stamp_under(&self.index, number).time
+    }
+
+    /// The sequence of a held frame, from memory: its number in its source's count. None where no frame has this
+    /// number.
+    pub fn sequence(&self, number: u64) -> Option<u32>
+        ensures { (r : Recording) → StandsFor D.medium self.now r
+            → result ≡ option_map (λ p. p.sequence) (frame_under r.frames number) }
+    {
+        if !self.holds(number) {
+            return None;
+        }
+        Some(stamp_under(&self.index, number).sequence)
     }
 
     /// The disk, as the calls left it.

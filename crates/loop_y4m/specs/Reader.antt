@@ -6,7 +6,7 @@ use Rattle.loop_y4m.specs.declared.header.Header.{Header}
 use Rattle.loop_y4m.specs.Header.{size_of_frame}
 use Rattle.loop_y4m.specs.declared.depth.Depth.{Depth}
 use Rattle.loop_y4m.specs.declared.frame.FrameLine.{FrameLine}
-use Rattle.loop_y4m.specs.Stream.{Frames, before, ends, frame_time, frames_within_input, line, parse, parse_deep}
+use Rattle.loop_y4m.specs.Stream.{Frames, before, ends, frame_number, frame_time, frames_within_input, line, parse, parse_deep}
 
 -- an open reader: what its header says, the fault that it met, and what is still to be read, where that is known: as
 -- frames, and as bytes
@@ -46,11 +46,14 @@ gave_frame (Err fault) = Err fault
 gave_frame (Ok None) = Ok false
 gave_frame (Ok (Some line)) = Ok true
 
--- where a frame came, its time is what the first line of these bytes says
-abbrev pub SaysTime : List ℕ → Result (Option FrameLine) Y4mFault → Type 0
-SaysTime bytes (Ok (Some said)) =
-    (l : List ℕ × List ℕ) × (line bytes ≡ Ok l) × (said.time ≡ frame_time l.0)
-SaysTime bytes _ = ⊤
+-- the time and the number are those that this line says
+abbrev pub SaysWords : FrameLine → List ℕ → Type 0
+SaysWords said text = (said.time ≡ frame_time text) × (said.number ≡ frame_number text)
+
+-- where a frame came, its time and its number are what the first line of these bytes says
+abbrev pub SaysLine : List ℕ → Result (Option FrameLine) Y4mFault → Type 0
+SaysLine bytes (Ok (Some said)) = (l : List ℕ × List ℕ) × (line bytes ≡ Ok l) × SaysWords said l.0
+SaysLine bytes _ = ⊤
 
 -- the answer to a call for a frame, and what is left to be read: the first of the frames and those after it, the end,
 -- or the fault, except where the reader failed

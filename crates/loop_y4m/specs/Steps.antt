@@ -12,8 +12,8 @@ use Rattle.loop_y4m.specs.Header.{size_of_frame}
 use Rattle.loop_y4m.specs.declared.depth.Colours.{Colours}
 use Rattle.loop_y4m.specs.declared.depth.Depth.{Depth}
 use Rattle.loop_y4m.specs.declared.frame.FrameLine.{FrameLine}
-use Rattle.loop_y4m.specs.Reader.{SaysTime, gave_frame}
-use Rattle.loop_y4m.specs.Stream.{frame_start, frame_time, header_and_rest, next_frame}
+use Rattle.loop_y4m.specs.Reader.{SaysLine, SaysWords, gave_frame}
+use Rattle.loop_y4m.specs.Stream.{frame_start, header_and_rest, next_frame}
 use Rattle.loop_y4m.specs.Text.{frame}
 
 -- each side that is given has its limit
@@ -51,11 +51,11 @@ StartIs bytes (Err Read) left = ⊤
 StartIs bytes (Err fault) left = frame_start bytes ≡ Err fault
 StartIs bytes (Ok None) left = (frame_start bytes ≡ Ok None) × (left ≡ Some bytes)
 StartIs bytes (Ok (Some said)) left = (first : List ℕ) × (rest : List ℕ)
-    × (frame_start bytes ≡ Ok (Some (first, rest))) × (left ≡ Some rest) × (said.time ≡ frame_time first)
+    × (frame_start bytes ≡ Ok (Some (first, rest))) × (left ≡ Some rest) × SaysWords said first
 
--- the answer is the next frame, with the time that its line says
+-- the answer is the next frame, with what its line says
 abbrev pub TimedIs : List ℕ → Result (Option FrameLine) Y4mFault → List ℕ → Option (List ℕ) → Type 0
-TimedIs bytes result out left = FrameIs bytes (gave_frame result) out left × SaysTime bytes result
+TimedIs bytes result out left = FrameIs bytes (gave_frame result) out left × SaysLine bytes result
 
 -- the answer is the header, where these colours are read
 abbrev pub HeaderIs : Colours → List ℕ → Result (Header × Depth) Y4mFault → Option (List ℕ) → Type 0

@@ -35,23 +35,31 @@ header_and_rest colours bytes =
 abbrev pub is_frame_line : List ℕ → Bool
 is_frame_line text = bytes_eq (take 5 text) (codes "FRAME") && (length text == 5 || slice_index text 5 == 32)
 
--- the microseconds that a word `Xt=MICROSECONDS` says, below 2^64
-abbrev pub word_time : List ℕ → Option ℕ
-word_time word =
-    if bytes_eq (take 3 word) (codes "Xt=") then number_at_most 18446744073709551615 (drop 3 word) else None
+-- the number that a word says after a name of three bytes, below 2^64
+abbrev pub word_says : List ℕ → List ℕ → Option ℕ
+word_says name word =
+    if bytes_eq (take 3 word) name then number_at_most 18446744073709551615 (drop 3 word) else None
 
 -- the first of these, or else the other
 abbrev pub or_else : Option ℕ → Option ℕ → Option ℕ
 or_else (Some n) other = Some n
 or_else None other = other
 
-abbrev pub words_time : List (List ℕ) → Option ℕ
-words_time [] = None
-words_time (w ∷ ws) = or_else (word_time w) (words_time ws)
+abbrev pub words_say : List ℕ → List (List ℕ) → Option ℕ
+words_say name [] = None
+words_say name (w ∷ ws) = or_else (word_says name w) (words_say name ws)
 
--- the time that a frame's line says: its first word that is one
+-- what a frame's line says after a name: its first word that says it
+abbrev pub line_says : List ℕ → List ℕ → Option ℕ
+line_says name text = words_say name (header_words text)
+
+-- the microseconds of a frame, by its line: `Xt=MICROSECONDS`
 abbrev pub frame_time : List ℕ → Option ℕ
-frame_time text = words_time (header_words text)
+frame_time text = line_says (codes "Xt=") text
+
+-- the source's own number of a frame, by its line: `Xn=NUMBER`
+abbrev pub frame_number : List ℕ → Option ℕ
+frame_number text = line_says (codes "Xn=") text
 
 -- the line of the next frame, and what follows it; None at the end
 abbrev pub frame_start : List ℕ → Result (Option (List ℕ × List ℕ)) Y4mFault

@@ -2,7 +2,7 @@
 
 ghost use Rattle.std.specs.Prelude.{◌≡◌, IfSome};
 ghost use Rattle.loop_y4m.specs.Steps.{FrameIs, FillsWith, StartIs, TimedIs};
-ghost use Rattle.loop_y4m.specs.Stream.{frame_time, is_frame_line, word_time};
+ghost use Rattle.loop_y4m.specs.Stream.{is_frame_line, line_says, word_says};
 
 use crate::Y4mFault;
 use crate::input::{MAX_LINE, next_byte, next_line, read_some};
@@ -14,6 +14,8 @@ use std::io::Read;
 pub struct FrameLine {
     /// The microseconds of its first word `Xt=MICROSECONDS`, if it has one.
     pub time: Option<u64>,
+    /// The source's own number of the frame, of its first word `Xn=NUMBER`, if it has one.
+    pub number: Option<u64>,
 }
 
 // Whether a line is a frame's.
@@ -42,26 +44,26 @@ pub(crate) fn fill<R: Read>(reader: &mut R, out: &mut [u8], cut: Y4mFault) -> Re
     Ok(())
 }
 
-// The microseconds that a word says.
-fn word_time(word: &[u8]) -> Option<u64>
-    ensures { result ≡ word_time word.now }
+// The number that a word says after a name of three bytes.
+fn word_says(name: &[u8], word: &[u8]) -> Option<u64>
+    ensures { result ≡ word_says name.now word.now }
 {
     let three = word.len().min(3);
-    if &word[..three] != b"Xt=".as_slice() {
+    if &word[..three] != name {
         return None;
     }
     wide_number(u64::MAX, &word[three..])
 }
 
-// The time that a frame's line says.
-fn frame_time(line: &[u8]) -> Option<u64>
-    ensures { result ≡ frame_time line.now }
+// The number that a frame's line says after a name: that of its first word that says one.
+fn line_says(name: &[u8], line: &[u8]) -> Option<u64>
+    ensures { result ≡ line_says name.now line.now }
 {
     let mut rest = line;
     loop {
         let end = find(rest, b' ');
-        if let Some(time) = word_time(&rest[..end]) {
-            return Some(time);
+        if let Some(number) = word_says(name, &rest[..end]) {
+            return Some(number);
         }
         if end == rest.len() {
             return None;
@@ -116,6 +118,7 @@ fn frame_start<R: Read>(reader: &mut R) -> Result<Option<FrameLine>, Y4mFault>
     if !is_frame_line(&line[..n]) {
         return Err(Y4mFault::BadHeader);
     }
-    let time = frame_time(&line[..n]);
-    Ok(Some(FrameLine { time }))
+    let time = line_says(b"Xt=".as_slice(), &line[..n]);
+    let number = line_says(b"Xn=".as_slice(), &line[..n]);
+    Ok(Some(FrameLine { time, number }))
 }

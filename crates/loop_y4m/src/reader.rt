@@ -3,7 +3,7 @@
 ghost use Rattle.std.specs.Prelude.{◌≡◌, ◌<◌, ◌≤◌, IfErr, IfOk, IfSome, IsTrue, None, OnOk, Some, length};
 ghost use Rattle.loop_record.specs.Geometry.{is_good};
 ghost use Rattle.loop_y4m.specs.Header.{geometry_for, size_of_frame};
-ghost use Rattle.loop_y4m.specs.Reader.{GivesNext, OpenReader, OpensAs, OpensDeepAs, SaysTime, gave_frame, opened_with};
+ghost use Rattle.loop_y4m.specs.Reader.{GivesNext, OpenReader, OpensAs, OpensDeepAs, SaysLine, gave_frame, opened_with};
 ghost use Rattle.loop_y4m.specs.Steps.{HeaderIs, IsSmall, LineIs};
 ghost use Rattle.loop_y4m.specs.Stream.{ends, header_line};
 
@@ -142,7 +142,7 @@ impl<R: Read + Drop> Y4mReader<R> {
         requires size { length out.old ≡ size_of_frame self.old.header }
         ensures frame { IfSome self.old.rest
             (λ frames. GivesNext frames (gave_frame result) out.new self.new.rest) }
-        ensures time { IfSome self.old.left (λ bytes. SaysTime bytes result) }
+        ensures line { IfSome self.old.left (λ bytes. SaysLine bytes result) }
         ensures kept { OnOk result (self.new ≡ record self.old { rest = self.new.rest; left = self.new.left }) }
         ensures failed { IfErr result
             (λ f. self.new ≡ record self.old { fault = Some f; rest = Some (ends (Some f)); left = None }) }

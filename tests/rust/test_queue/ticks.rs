@@ -148,6 +148,31 @@ fn frames_are_numbered_from_the_start_and_those_without_a_buffer_are_missed(
 }
 
 #[test]
+fn a_device_goes_on_from_a_number_over_starts_and_goes_round(rt: HostRuntime) -> Result<(), Fail> {
+    let alloc = rt.alloc();
+    let mut queue = one_pixel(&rt, alloc)?;
+    let Ok(mut device) = Device::from_number(alloc, Pattern::new(), 1, u32::MAX - 1) else {
+        return Err("memory for a frame".into());
+    };
+    let steps = [
+        Ticks(2, Tick::Idle),
+        Starts,
+        Ticks(10, Tick::Completed(0)),
+        Ticks(20, Tick::Missed),
+        Takes(Some((0, u32::MAX - 1, 10, 0x2000, 0))),
+        Ticks(30, Tick::Completed(0)),
+        Takes(Some((0, 0, 30, 0x2000, 2))),
+        Stops,
+        Ticks(40, Tick::Idle),
+        Starts,
+        Ticks(50, Tick::Completed(0)),
+        Takes(Some((0, 1, 50, 0x2000, 3))),
+    ];
+    plays(&rt, &mut device, &mut queue, &steps);
+    Ok(())
+}
+
+#[test]
 fn a_bad_frame_takes_a_number_and_an_end_takes_none(rt: HostRuntime) -> Result<(), Fail> {
     let alloc = rt.alloc();
     let mut queue = one_pixel(&rt, alloc)?;

@@ -387,7 +387,7 @@ fn tick<R: Wait + Clock>(rt: &R, front: &mut TestFront, told: &Guided) -> Option
 
 // The outcome of bringing a frame, in a word.
 fn bring(back: &mut TestBack) -> &'static str {
-    match back.bring(false) {
+    match back.bring(true, false) {
         Brought::Nothing => "nothing",
         Brought::NoRoom => "no room",
         Brought::Submitted(_number) => "submitted",
@@ -478,7 +478,7 @@ fn back_before(
     desk: Desk<MemDisk>,
     from: Consumer<Frame>,
 ) -> TestBack {
-    match Back::new(alloc, 1, Seat::alone(desk), from) {
+    match Back::new(alloc, 1, Seat::alone(desk), from, 0) {
         Ok(back) => back,
         Err(_) => panic!(rt; "memory for a back"),
     }
@@ -505,7 +505,7 @@ fn desks_of_four(rt: &impl Abort, alloc: Global) -> TestDesks {
         let taken = seat.submit_from(&mut from);
         assert!(rt; matches!(taken, Taken::Asked(_, Ok(_))), "{number:?}");
     }
-    match Desks::new(alloc, 1, seat) {
+    match Desks::new(alloc, 1, seat, 0) {
         Ok(desks) => desks,
         Err(_) => panic!(rt; "memory for desks"),
     }

@@ -5,7 +5,7 @@ use crate::judge::Judge;
 use crate::saving::{Saving, tag_in};
 use crate::store::{Clip, MOST_CLIPS, Pieces};
 use loop_station_core::{
-    ClipSpan, EventEnd, GrowthTurn, Keep, KeepTurn, Look, OpenEvent, Run, event_end, is_covered,
+    ClipSpan, EventEnd, Gap, GrowthTurn, Keep, KeepTurn, Look, OpenEvent, Run, event_end, is_covered,
     kept_answer, next_growth, next_turn, shortfall_of,
 };
 use std::alloc::Global;
@@ -349,11 +349,16 @@ pub fn judge_shortfall(
         short.asked == until.saturating_sub(since),
         "what was asked for is the time",
     );
-    let mut missing = 0u64;
+    let (mut missing, mut lost) = (0u64, 0u64);
     for gap in short.gaps.as_slice() {
         missing = missing.saturating_add(gap.micros);
-        judge_gap(judge, runs, gap.at, gap.micros, period);
+        lost = lost.saturating_add(gap.lost);
+        judge_gap(judge, runs, gap, period);
     }
+    judge.holds(
+        short.lost == lost && lost == lost_of(runs),
+        "each lost frame is told",
+    );
     judge.holds(
         short.held.saturating_add(missing) == short.asked,
         "what is held and what is missing is all",
@@ -363,28 +368,37 @@ pub fn judge_shortfall(
     count
 }
 
-// Nothing is held within a gap, and it is long.
-fn judge_gap(judge: &mut Judge, runs: &[Run], at: u64, micros: u64, period: u64) {
+// How many frames are lost between runs.
+fn lost_of(runs: &[Run]) -> u64 {
+    let mut lost = 0u64;
+    for run in runs {
+        lost = lost.saturating_add(run.lost);
+    }
+    lost
+}
+
+// Nothing is held within a gap, and frames are lost in it, or it is long.
+fn judge_gap(judge: &mut Judge, runs: &[Run], gap: &Gap, period: u64) {
     judge.holds(
-        micros > period.saturating_add(period / 2),
-        "a gap is longer than a period and a half",
+        gap.lost > 0 || gap.micros > period.saturating_add(period / 2),
+        "a gap is longer than a period and a half, or frames are lost in it",
     );
-    let end = at.saturating_add(micros);
+    let end = gap.at.saturating_add(gap.micros);
     for run in runs {
         judge.holds(
-            run.last <= at || end <= run.first,
+            run.last <= gap.at || end <= run.first,
             "nothing is held within a gap",
         );
     }
 }
 
-// How many places there are where nothing is held for long.
+// How many places there are where frames are lost, or nothing is held for long.
 fn count_gaps(runs: &[Run], since: u64, until: u64, period: u64) -> u64 {
     let most = period.saturating_add(period / 2);
     let mut at = since;
     let mut gaps = 0u64;
     for run in runs {
-        if run.first.saturating_sub(at) > most {
+        if run.lost > 0 || run.first.saturating_sub(at) > most {
             gaps = gaps.saturating_add(1);
         }
         at = run.last;

@@ -2,7 +2,7 @@
 
 use crate::judge::Judge;
 use crate::random::Random;
-use loop_station_core::{Mark, Search, SearchTurn};
+use loop_station_core::{Mark, Search, SearchTurn, lost_between};
 use std::alloc::Global;
 
 // How many turns a search has at most.
@@ -30,55 +30,94 @@ fn times(alloc: Global, random: &mut Random, judge: &mut Judge, period: u64) -> 
     times
 }
 
-// When the frame of a number came.
-fn time_at(times: &[u64], number: u64) -> u64 {
-    match times.get(number as usize) {
-        Some(time) => *time,
-        None => 0,
+// The sequences of frames that came at these times: some are lost before one, here and there, and they go round.
+fn sequences(alloc: Global, judge: &mut Judge, times: &[u64]) -> Vec<u32> {
+    let mut sequences = Vec::new(alloc);
+    let mut next = u32::MAX - 20;
+    for time in times {
+        judge.put(&mut sequences, next);
+        let lost = if time % 5 == 0 { time % 64 } else { 0 };
+        next = next.wrapping_add(1).wrapping_add(lost as u32);
     }
+    sequences
 }
 
-// A mark of the frame of a number.
-fn mark(times: &[u64], number: u64) -> Mark {
-    Mark {
-        number,
-        time: time_at(times, number),
-    }
+// A clip: when its frames came, and their sequences.
+#[derive(Drop)]
+struct Held {
+    times: Vec<u64>,
+    sequences: Vec<u32>,
+    period: u64,
 }
 
-// The number of the first frame from a place on that comes too late, if one does.
-fn next_gap(times: &[u64], from: u64, period: u64) -> Option<u64> {
-    for number in from.saturating_add(1)..times.len() as u64 {
-        let passed = time_at(times, number).saturating_sub(time_at(
-            times,
-            number.saturating_sub(1),
-        ));
-        if passed > most(period) {
-            return Some(number);
+impl Held {
+    // The frame of a number.
+    fn mark(&self, number: u64) -> Mark {
+        let place = number as usize;
+        Mark {
+            number,
+            time: self.times.get(place).map_or(0, |time| *time),
+            sequence: self.sequences.get(place).map_or(0, |sequence| *sequence),
         }
     }
-    None
+
+    // How many frames are lost before the frame of a number.
+    fn lost(&self, number: u64) -> u64 {
+        let (one, other) = (self.mark(number.saturating_sub(1)), self.mark(number));
+        u64::from(other.sequence.wrapping_sub(one.sequence)).saturating_sub(1)
+    }
+
+    // The number of the first frame from a place on that comes too late, or before which some are lost, if one is so.
+    fn next_gap(&self, from: u64) -> Option<u64> {
+        for number in from.saturating_add(1)..self.times.len() as u64 {
+            let (one, other) = (self.mark(number.saturating_sub(1)), self.mark(number));
+            if other.time.saturating_sub(one.time) > most(self.period) || self.lost(number) > 0 {
+                return Some(number);
+            }
+        }
+        None
+    }
+
+    // How many frames are lost in it.
+    fn all_lost(&self) -> u64 {
+        let mut lost = 0u64;
+        for number in 1..self.times.len() as u64 {
+            lost = lost.saturating_add(self.lost(number));
+        }
+        lost
+    }
 }
 
 /// Searches the clip of a seed: each gap is found, in their order, and nothing else is. How many.
 pub fn search(alloc: Global, random: &mut Random, judge: &mut Judge) -> u64 {
     let period = random.between(5_000, 400_000);
     let times = times(alloc, random, judge, period);
-    let last = (times.len() as u64).saturating_sub(1);
-    let mut search = Search::new(mark(&times, 0), mark(&times, last), period);
-    let (mut at, mut count) = (0u64, 0u64);
+    let sequences = sequences(alloc, judge, &times);
+    let held = Held {
+        times,
+        sequences,
+        period,
+    };
+    let last = (held.times.len() as u64).saturating_sub(1);
+    let mut search = Search::new(held.mark(0), held.mark(last), period);
+    let (mut at, mut count, mut lost) = (0u64, 0u64, 0u64);
     for _ in 0..MOST_TURNS {
         let (next, turn) = search.turn();
         search = next;
         match turn {
-            SearchTurn::Read(number) => search = search.told(time_at(&times, number)),
+            SearchTurn::Read(number) => {
+                let mark = held.mark(number);
+                search = search.told(mark.time, mark.sequence);
+            }
             SearchTurn::Gap { from, to } => {
-                at = judge_gap(judge, &times, at, period, from, to);
+                lost = lost.saturating_add(lost_between(from.sequence, to.sequence, 1));
+                at = judge_gap(judge, &held, at, from, to);
                 count = count.saturating_add(1);
             }
             SearchTurn::Again => {}
             SearchTurn::Over => {
-                judge.holds(next_gap(&times, at, period).is_none(), "each gap is found");
+                judge.holds(held.next_gap(at).is_none(), "each gap is found");
+                judge.holds(lost == held.all_lost(), "each lost frame is found");
                 return count;
             }
         }
@@ -88,13 +127,17 @@ pub fn search(alloc: Global, random: &mut Random, judge: &mut Judge) -> u64 {
 }
 
 // The gap that is found is the next one. The number of the frame after it.
-fn judge_gap(judge: &mut Judge, times: &[u64], at: u64, period: u64, from: u64, to: u64) -> u64 {
-    let Some(number) = next_gap(times, at, period) else {
+fn judge_gap(judge: &mut Judge, held: &Held, at: u64, from: Mark, to: Mark) -> u64 {
+    let Some(number) = held.next_gap(at) else {
         judge.holds(false, "only gaps are found");
         return at;
     };
+    let (one, other) = (held.mark(number.saturating_sub(1)), held.mark(number));
     judge.holds(
-        from == time_at(times, number.saturating_sub(1)) && to == time_at(times, number),
+        from.time == one.time
+            && from.sequence == one.sequence
+            && to.time == other.time
+            && to.sequence == other.sequence,
         "gaps are found in their order, each between its two frames",
     );
     number

@@ -52,6 +52,7 @@ impl Pieces {
         let run = Run {
             first: time,
             last: time,
+            lost: number % 3,
         };
         judge.put(&mut self.spans, span);
         judge.put(&mut self.runs, run);

@@ -311,6 +311,22 @@ const TIMES: [(&[u8], Option<u64>); 14] = [
     (b"FRAME XXt=1\na", None),
 ];
 
+// The same of a frame's own number, beside its time.
+const NUMBERS: [(&[u8], Option<u64>, Option<u64>); 12] = [
+    (b"FRAME Xn=0\na", None, Some(0)),
+    (b"FRAME Xt=8 Xn=4294967295\na", Some(8), Some(4_294_967_295)),
+    (b"FRAME Xn=4294967296 Xt=8\na", Some(8), Some(4_294_967_296)),
+    (b"FRAME Ip Xn=007 Xn=8\na", None, Some(7)),
+    (b"FRAME Xn=x Xn=8\na", None, Some(8)),
+    (b"FRAME Xn=18446744073709551615\na", None, Some(u64::MAX)),
+    (b"FRAME Xn=18446744073709551616\na", None, None),
+    (b"FRAME Xn=\na", None, None),
+    (b"FRAME Xn=-1 Xt=8\na", Some(8), None),
+    (b"FRAME xn=1\na", None, None),
+    (b"FRAME XXn=1\na", None, None),
+    (b"FRAME Xt=Xn=1\na", None, None),
+];
+
 // What the line of the first frame says, of frames of one byte.
 fn first_line(
     rt: &impl Abort,
@@ -334,10 +350,24 @@ fn first_line(
 #[test]
 fn a_frames_line_says_its_time(rt: HostRuntime) {
     for (frames, time) in &TIMES {
-        let said = Ok(Some(FrameLine { time: *time }));
+        let said = Ok(Some(FrameLine {
+            time: *time,
+            number: None,
+        }));
         assert_eq!(rt; first_line(&rt, rt.alloc(), *frames), said, "{frames:?}");
     }
     assert_eq!(rt; first_line(&rt, rt.alloc(), b""), Ok(None));
     let bad = first_line(&rt, rt.alloc(), b"FRAMEXt=1\na");
     assert_eq!(rt; bad, Err(Y4mFault::BadHeader));
+}
+
+#[test]
+fn a_frames_line_says_its_own_number(rt: HostRuntime) {
+    for (frames, time, number) in &NUMBERS {
+        let said = Ok(Some(FrameLine {
+            time: *time,
+            number: *number,
+        }));
+        assert_eq!(rt; first_line(&rt, rt.alloc(), *frames), said, "{frames:?}");
+    }
 }

@@ -8,6 +8,7 @@
 //!   layout; `tables`: the segments and the clips in memory;
 //! - `common`: a geometry, frames of a pattern, images, and calls that look first at what they need;
 //! - `looks`: a store over a disk that is never written to;
+//! - `sequences`: the sequence of each held frame;
 //! - `memory`: each growth is refused in turn;
 //! - `names`: the numbers, the names and the sentences of the refusals;
 //! - YUV4MPEG2: `reading` and `writing` have the worked rows of the format, with inputs and outputs that are cut,
@@ -25,6 +26,7 @@ mod names;
 mod reading;
 mod real;
 mod ring;
+mod sequences;
 mod tables;
 mod upgrade;
 mod writing;

@@ -1,7 +1,7 @@
 //! The lines of what happens without an order.
 
 use super::Lines;
-use crate::part::Part::{Maybe, Millis, Number, Seconds, Text, Time, Words};
+use crate::part::Part::{Ahead, Maybe, Millis, Number, Seconds, Text, Time, Words};
 use loop_record::Geometry;
 use std::fmt::Display;
 use std::{io, str};
@@ -121,6 +121,90 @@ impl Lines {
     /// JSON: `camera`.
     pub fn no_times(&mut self, camera: &str) -> io::Result<()> {
         self.camera_line("no_times", "no times of ", camera, "")
+    }
+
+    /// `numbers of CAMERA began anew`: a frame's own number doesn't follow that of the frame before.
+    ///
+    /// JSON: `camera`.
+    pub fn numbers_anew(&mut self, camera: &str) -> io::Result<()> {
+        self.camera_line("numbers_anew", "numbers of ", camera, " began anew")
+    }
+
+    /// `wrong time CAMERA +90.0 s at T`: a frame's own time is so far ahead of what the source's clock shows, as
+    /// measured, and isn't used; the frame has T.
+    ///
+    /// JSON: `camera`, `micros`, `at`.
+    pub fn wrong_time(&mut self, camera: &str, micros: i64, at: u64) -> io::Result<()> {
+        self.clock_line("wrong_time", "wrong time ", camera, micros, at)
+    }
+
+    /// `clock steps CAMERA -3600.0 s at T`: a source's clock, measured anew, is so far ahead of what was measured
+    /// before; T is the time of the frame.
+    ///
+    /// JSON: `camera`, `micros`, `at`.
+    pub fn clock_steps(&mut self, camera: &str, micros: i64, at: u64) -> io::Result<()> {
+        self.clock_line("clock_steps", "clock steps ", camera, micros, at)
+    }
+
+    /// `system clock steps -3600.0 s at T`: the computer's own clock was set, and is so far ahead of where it was. Times
+    /// of frames and orders stay on the clock that it had at the start, by which T is.
+    ///
+    /// JSON: `micros`, `at`.
+    pub fn system_clock_steps(&mut self, micros: i64, at: u64) -> io::Result<()> {
+        self.line(
+            "system_clock_steps",
+            &[
+                Words("system clock steps"),
+                Ahead(" ", "micros", Some(micros)),
+                Words(" at "),
+                Time("at", at),
+            ],
+        )
+    }
+
+    // Adds a line of a camera, how far its source's clock is ahead, and when.
+    fn clock_line<'a>(
+        &mut self,
+        kind: &str,
+        words: &'a str,
+        camera: &'a str,
+        micros: i64,
+        at: u64,
+    ) -> io::Result<()> {
+        self.line(
+            kind,
+            &[
+                Words(words),
+                Text("camera", camera),
+                Ahead(" ", "micros", Some(micros)),
+                Words(" at "),
+                Time("at", at),
+            ],
+        )
+    }
+
+    /// `not in order CAMERA`: the newest frames of a camera's stores are too far apart to be in order by their
+    /// sequences, so they are by their times.
+    ///
+    /// JSON: `camera`.
+    pub fn not_in_order(&mut self, camera: &str) -> io::Result<()> {
+        self.camera_line("not_in_order", "not in order ", camera, "")
+    }
+
+    /// `removed out of order CAMERA 128`: so many frames were removed though older ones are there, in stores that
+    /// weren't open yet, since memory was full.
+    ///
+    /// JSON: `camera`, `frames`.
+    pub fn removed_out_of_order(&mut self, camera: &str, frames: u64) -> io::Result<()> {
+        self.line(
+            "removed_out_of_order",
+            &[
+                Words("removed out of order "),
+                Text("camera", camera),
+                Words(" "),
+                Number("frames", frames),
+            ],
+        )
     }
 
     /// `gap CAMERA 120 ms at T`: so long before the frame of a time no frame came.

@@ -2,8 +2,8 @@
 
 use loop_record::PixelFormat;
 use loop_station_words::{
-    AnswersForm, CameraConfig, Config, FrameShape, MemoryLimit, Source, StoreSize, TimesFrom,
-    read_config,
+    AnswersForm, CameraConfig, Config, FrameShape, LossesFrom, MemoryLimit, SETTINGS, Settings, Source,
+    StoreSize, TimesFrom, WhenFull, read_config,
 };
 use std::alloc::Global;
 use std::process::Abort;
@@ -48,11 +48,11 @@ fn minutes_are_seconds_rounded_up(rt: HostRuntime) {
 
 // Every word of the file, each with a value of its own.
 const WHOLE: &str =
-    "orders='from'\nanswers='to'\nanswers_form='json'\nsaves='here'\ntimes=false\nevents=false\n\
+    "orders='from'\nanswers='to'\nanswers_form='json'\nsaves='here'\ntimes=false\nevents=false\nwhen_full='release saved'\n\
 [[camera]]\nname='left'\nsource='pattern'\npattern='4x2 GREY 30:7'\nstore='l.loop'\nminutes=3\nkeep=11\nafter=20\ntag=12\n\
-buffers=13\nmemory=14\nsave_to='clips'\nrelease=true\n\
+buffers=13\nmemory=14\nsave_to='clips'\nrelease=true\nwhen_full='release oldest tag 22'\n\
 [[camera]]\nname='right'\nsource='r.y4m'\nstore='r.loop'\nbytes=15\nkeep=16\nafter=21\ntag=17\nbuffers=18\nmemory='19 s'\nsave_to='more'\n\
-times_from='source'\n";
+times_from='source'\nlosses='none'\n";
 
 // The shape of the first camera's pattern.
 const SHAPE: FrameShape = FrameShape {
@@ -91,6 +91,8 @@ fn is_left(camera: &CameraConfig) -> bool {
         && camera.save_to.as_deref() == Some("clips")
         && camera.release
         && camera.times_from == TimesFrom::Arrival
+        && camera.losses == LossesFrom::Either
+        && camera.when_full == Some(WhenFull::ReleaseOldest(Some(22)))
 }
 
 fn is_right(camera: &CameraConfig) -> bool {
@@ -104,6 +106,8 @@ fn is_right(camera: &CameraConfig) -> bool {
         && camera.save_to.as_deref() == Some("more")
         && !camera.release
         && camera.times_from == TimesFrom::Source
+        && camera.losses == LossesFrom::Nothing
+        && camera.when_full.is_none()
 }
 
 // Whether there is just one camera, with no word that may be left out.
@@ -122,6 +126,8 @@ fn says_least(config: &Config) -> bool {
                 && camera.save_to.is_none()
                 && !camera.release
                 && camera.times_from == TimesFrom::Arrival
+                && camera.when_full.is_none()
+                && config.when_full.is_none()
                 && camera.room == StoreSize::Bytes(77)
         }
         _ => false,
@@ -137,4 +143,62 @@ fn each_word_of_a_configuration_is_read(rt: HostRuntime) {
         "[[camera]]\nname='a'\nsource='p'\nstore='s'\nbytes=77\n",
     );
     assert!(rt; matches!(&least, Ok(config) if says_least(config)));
+}
+
+// Words of the file, each with another value than in `WHOLE`, and the word that needs a restart, if it does.
+const OTHERS: [(&str, &str, Option<&str>); 6] = [
+    ("orders='from'", "orders='of'", Some("orders")),
+    ("answers='to'", "answers='too'", Some("answers")),
+    ("answers_form='json'", "answers_form='text'", Some("answers_form")),
+    ("saves='here'\n", "", Some("saves")),
+    ("times=false", "times=true", Some("times")),
+    ("events=false", "events=true", Some("events")),
+];
+
+// Words of the first camera, each with another value.
+const CHANGES: [(&str, &str); 13] = [
+    ("name='left'", "name='lift'"),
+    ("4x2 GREY 30:7", "4x2 GREY 30:1"),
+    ("store='l.loop'", "store='m.loop'"),
+    ("minutes=3", "bytes=180"),
+    ("keep=11", "keep=10"),
+    ("after=20", "after=2"),
+    ("tag=12", "tag=1"),
+    ("buffers=13", "buffers=12"),
+    ("memory=14", "memory='14 s'"),
+    ("save_to='clips'", "save_to='clip'"),
+    ("release=true", "release=false"),
+    ("release=true", "release=true\ntimes_from='source'"),
+    ("oldest tag 22", "oldest"),
+];
+
+// What a text of a configuration says where a part of it is another one.
+fn changed(rt: &impl Abort, alloc: Global, old: &str, new: &str) -> Config {
+    let (before, after) = WHOLE.split_once(old).expect(rt, "a text that has the old one");
+    let text = format!(in alloc; "{before}{new}{after}");
+    let text = text.expect(rt, "memory for a text");
+    match read_config(alloc, text.as_str()) {
+        Ok(config) => config,
+        Err(fault) => panic!(*rt; "{new}: {fault}"),
+    }
+}
+
+#[test]
+fn each_word_that_changes_is_seen(rt: HostRuntime) {
+    let alloc = rt.alloc();
+    let before = changed(&rt, alloc, "orders", "orders");
+    let settings = Settings::of(alloc, &before).expect(&rt, "memory for settings");
+    for place in 0..SETTINGS {
+        assert_eq!(rt; settings.changed(&before, place), None);
+    }
+    for (place, (old, new, word)) in OTHERS.iter().enumerate() {
+        let after = changed(&rt, alloc, old, new);
+        assert_eq!(rt; settings.changed(&after, place), *word);
+        assert!(rt; after.cameras[0].has_words_of(&before.cameras[0]));
+    }
+    for (old, new) in &CHANGES {
+        let after = changed(&rt, alloc, old, new);
+        assert!(rt; !after.cameras[0].has_words_of(&before.cameras[0]), "{new}");
+        assert!(rt; after.cameras[1].has_words_of(&before.cameras[1]), "{new}");
+    }
 }

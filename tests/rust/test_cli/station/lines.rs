@@ -2,7 +2,9 @@
 
 use loop_record::{Damage, Geometry, PixelFormat};
 use loop_script::{Likeness, Listing, compare_frames, print_other_rate};
-use loop_station_words::{CameraStatus, Lines, RingSize, print_clip_path, ring_for, ring_within};
+use loop_station_words::{
+    CameraStatus, Lines, RingSize, WhenFull, print_clip_path, ring_for, ring_within,
+};
 use loop_store::{Clip, StoreFault};
 use std::alloc::Global;
 use std::process::Abort;
@@ -12,18 +14,23 @@ const ANSWERS: &str =
     "kept left 63 3..9 from 2026-11-22T15:38:00.123Z to 2026-11-22T15:38:04.123Z event 1795361880123456\n\
 kept left 63 3..9 from 2026-11-22T15:38:00.123Z to 2026-11-22T15:38:04.123Z event 5 tag 1795361880123456\n\
 kept left 0 3..3 from 1970-01-01T00:00:00.000Z to 1970-01-01T00:00:00.000Z event 7\n\
+kept left 1 3..9 from 1970-01-01T00:00:00.000Z to 1970-01-01T00:00:00.000Z event 7 tag 4 lost 65535\n\
 kept left none event 7\n\
 held left 10.6 s of 60.0 s event 7\n\
 gap left 720.0 s at 2026-11-22T15:38:00.123Z event 7\n\
+held left 59.9 s of 60.0 s event 7 lost 3\n\
+gap left 0.1 s at 2026-11-22T15:38:00.123Z event 7 lost 2\n\
 event 7 from 2026-11-22T15:38:00.123Z to 2026-11-22T15:38:04.123Z\n\
 event 7 left whole\n\
 event 7 left not whole Disk\n\
+event 7 left not whole Gaps lost 1\n\
 refused too far: a keep ends within an hour\n\
 refused left 10 ClipNotHeld 5\n\
 refused left 5 Damaged 7\n\
 refused left 6 AllLocked\n\
 released left 3\n\
 refused left other clip 3 90\n\
+released left 3 full\n\
 refused left saving\n\
 refused left too many saves\n\
 saved left 3 a \"clip\".y4m 7\n\
@@ -39,31 +46,41 @@ frames 9..9\n\
 frames 11..11\n\
 clip 0 3..5\n\
 clip 63 9..9 tag 18446744073709551615\n\
-status left stored 1 given up 2 waiting 3 behind 12.3 room 4 faults 5 source on\n\
-status left stored 1 given up 2 waiting 3 behind 12.3 room 4 keeps 6 faults 5 source other geometry gaps 8\n\
+status left stored 1 given up 2 waiting 3 behind 12.3 room 4 of 9 faults 5 source on lost 0 estimated 0 full stop\n\
+status left stored 1 given up 2 waiting 3 behind 12.3 room 4 of 9 keeps 6 faults 5 source other geometry gaps 8 lost 10 estimated 9 clock +1.9 s full release oldest tag 7\n\
 status left making a store.loop 40 %\n\
 no camera left\n\
 bad order: ke?p \"??\n\
+camera left ended removed\n\
+camera left started changed\n\
+not changed answers: it needs a restart\n\
+reloaded a.toml 3 cameras 2 ended 1 started\n\
+not reloaded a.toml: there is no camera\n\
 done\n\
 stopped\n";
 
 // The same as JSON.
 const ANSWERS_JSON: &str =
-    "\"kind\":\"kept\",\"camera\":\"left\",\"id\":63,\"first\":3,\"last\":9,\"from\":\"2026-11-22T15:38:00.123Z\",\"to\":\"2026-11-22T15:38:04.123Z\",\"event\":1795361880123456}\n\
-\"kind\":\"kept\",\"camera\":\"left\",\"id\":63,\"first\":3,\"last\":9,\"from\":\"2026-11-22T15:38:00.123Z\",\"to\":\"2026-11-22T15:38:04.123Z\",\"event\":5,\"tag\":1795361880123456}\n\
-\"kind\":\"kept\",\"camera\":\"left\",\"id\":0,\"first\":3,\"last\":3,\"from\":\"1970-01-01T00:00:00.000Z\",\"to\":\"1970-01-01T00:00:00.000Z\",\"event\":7}\n\
+    "\"kind\":\"kept\",\"camera\":\"left\",\"id\":63,\"first\":3,\"last\":9,\"from\":\"2026-11-22T15:38:00.123Z\",\"to\":\"2026-11-22T15:38:04.123Z\",\"event\":1795361880123456,\"lost\":0}\n\
+\"kind\":\"kept\",\"camera\":\"left\",\"id\":63,\"first\":3,\"last\":9,\"from\":\"2026-11-22T15:38:00.123Z\",\"to\":\"2026-11-22T15:38:04.123Z\",\"event\":5,\"tag\":1795361880123456,\"lost\":0}\n\
+\"kind\":\"kept\",\"camera\":\"left\",\"id\":0,\"first\":3,\"last\":3,\"from\":\"1970-01-01T00:00:00.000Z\",\"to\":\"1970-01-01T00:00:00.000Z\",\"event\":7,\"lost\":0}\n\
+\"kind\":\"kept\",\"camera\":\"left\",\"id\":1,\"first\":3,\"last\":9,\"from\":\"1970-01-01T00:00:00.000Z\",\"to\":\"1970-01-01T00:00:00.000Z\",\"event\":7,\"tag\":4,\"lost\":65535}\n\
 \"kind\":\"kept_none\",\"camera\":\"left\",\"event\":7}\n\
-\"kind\":\"held\",\"camera\":\"left\",\"held_micros\":10600000,\"asked_micros\":60000000,\"event\":7}\n\
-\"kind\":\"gap\",\"camera\":\"left\",\"micros\":720000000,\"at\":\"2026-11-22T15:38:00.123Z\",\"event\":7}\n\
+\"kind\":\"held\",\"camera\":\"left\",\"held_micros\":10600000,\"asked_micros\":60000000,\"event\":7,\"lost\":0}\n\
+\"kind\":\"gap\",\"camera\":\"left\",\"micros\":720000000,\"at\":\"2026-11-22T15:38:00.123Z\",\"event\":7,\"lost\":0}\n\
+\"kind\":\"held\",\"camera\":\"left\",\"held_micros\":59900000,\"asked_micros\":60000000,\"event\":7,\"lost\":3}\n\
+\"kind\":\"gap\",\"camera\":\"left\",\"micros\":100000,\"at\":\"2026-11-22T15:38:00.123Z\",\"event\":7,\"lost\":2}\n\
 \"kind\":\"event_begun\",\"event\":7,\"from\":\"2026-11-22T15:38:00.123Z\",\"to\":\"2026-11-22T15:38:04.123Z\"}\n\
-\"kind\":\"event_whole\",\"event\":7,\"camera\":\"left\"}\n\
-\"kind\":\"event_not_whole\",\"event\":7,\"camera\":\"left\",\"why\":\"Disk\"}\n\
+\"kind\":\"event_whole\",\"event\":7,\"camera\":\"left\",\"lost\":0}\n\
+\"kind\":\"event_not_whole\",\"event\":7,\"camera\":\"left\",\"why\":\"Disk\",\"lost\":0}\n\
+\"kind\":\"event_not_whole\",\"event\":7,\"camera\":\"left\",\"why\":\"Gaps\",\"lost\":1}\n\
 \"kind\":\"too_far\"}\n\
 \"kind\":\"refused\",\"camera\":\"left\",\"number\":10,\"name\":\"ClipNotHeld\",\"frame\":5}\n\
 \"kind\":\"refused\",\"camera\":\"left\",\"number\":5,\"name\":\"Damaged\",\"damage\":7}\n\
 \"kind\":\"refused\",\"camera\":\"left\",\"number\":6,\"name\":\"AllLocked\"}\n\
 \"kind\":\"released\",\"camera\":\"left\",\"id\":3}\n\
 \"kind\":\"not_released\",\"camera\":\"left\",\"id\":3,\"first\":90}\n\
+\"kind\":\"released\",\"camera\":\"left\",\"id\":3,\"why\":\"full\"}\n\
 \"kind\":\"saving\",\"camera\":\"left\"}\n\
 \"kind\":\"too_many_saves\",\"camera\":\"left\"}\n\
 \"kind\":\"saved\",\"camera\":\"left\",\"id\":3,\"path\":\"a \\\"clip\\\".y4m\",\"frames\":7}\n\
@@ -73,11 +90,16 @@ const ANSWERS_JSON: &str =
 \"kind\":\"not_saving\",\"camera\":\"left\",\"id\":3}\n\
 \"kind\":\"absent\",\"camera\":\"left\",\"why\":\"NoStore\"}\n\
 \"kind\":\"camera\",\"camera\":\"left\",\"next\":12,\"frames\":[{\"first\":3,\"last\":5},{\"first\":9,\"last\":9},{\"first\":11,\"last\":11}],\"clips\":[{\"id\":0,\"first\":3,\"last\":5,\"tag\":0},{\"id\":63,\"first\":9,\"last\":9,\"tag\":18446744073709551615}]}\n\
-\"kind\":\"status\",\"camera\":\"left\",\"stored\":1,\"given_up\":2,\"waiting\":3,\"behind_micros\":12399999,\"room\":4,\"faults\":5,\"source\":\"on\"}\n\
-\"kind\":\"status\",\"camera\":\"left\",\"stored\":1,\"given_up\":2,\"waiting\":3,\"behind_micros\":12399999,\"room\":4,\"keeps\":6,\"faults\":5,\"source\":\"other geometry\",\"gaps\":8}\n\
+\"kind\":\"status\",\"camera\":\"left\",\"stored\":1,\"given_up\":2,\"waiting\":3,\"behind_micros\":12399999,\"room\":4,\"blocks\":9,\"faults\":5,\"source\":\"on\",\"lost\":0,\"estimated\":0,\"when_full\":\"stop\"}\n\
+\"kind\":\"status\",\"camera\":\"left\",\"stored\":1,\"given_up\":2,\"waiting\":3,\"behind_micros\":12399999,\"room\":4,\"blocks\":9,\"keeps\":6,\"faults\":5,\"source\":\"other geometry\",\"gaps\":8,\"lost\":10,\"estimated\":9,\"clock_micros\":1900000,\"when_full\":\"release oldest\",\"full_tag\":7}\n\
 \"kind\":\"status_making\",\"camera\":\"left\",\"path\":\"a store.loop\",\"percent\":40}\n\
 \"kind\":\"no_camera\",\"camera\":\"left\"}\n\
 \"kind\":\"bad_order\",\"line\":\"ke?p \\\"??\"}\n\
+\"kind\":\"camera_ended\",\"camera\":\"left\",\"why\":\"removed\"}\n\
+\"kind\":\"camera_started\",\"camera\":\"left\",\"why\":\"changed\"}\n\
+\"kind\":\"not_changed\",\"word\":\"answers\"}\n\
+\"kind\":\"reloaded\",\"path\":\"a.toml\",\"cameras\":3,\"ended\":2,\"started\":1}\n\
+\"kind\":\"not_reloaded\",\"path\":\"a.toml\",\"why\":\"there is no camera\"}\n\
 \"kind\":\"done\"}\n\
 \"kind\":\"stopped\"}\n";
 
@@ -113,6 +135,7 @@ no answers a pipe: what is printed doesn't go there\n\
 dropped 12 lines\n\
 times of left go back\n\
 no times of left\n\
+numbers of left began anew\n\
 gap left 120 ms at 2026-11-22T15:38:00.123Z\n";
 
 // The same as JSON.
@@ -148,6 +171,7 @@ const EVENTS_JSON: &str =
 \"kind\":\"dropped_lines\",\"lines\":12}\n\
 \"kind\":\"times_back\",\"camera\":\"left\"}\n\
 \"kind\":\"no_times\",\"camera\":\"left\"}\n\
+\"kind\":\"numbers_anew\",\"camera\":\"left\"}\n\
 \"kind\":\"frames_gap\",\"camera\":\"left\",\"micros\":120999,\"at\":\"2026-11-22T15:38:00.123Z\"}\n";
 
 // What lines begin with, and the names of a clip's file.
@@ -188,34 +212,47 @@ const STATUS: CameraStatus<'static> = CameraStatus {
     waiting: 3,
     behind: 12_399_999,
     room: 4,
+    blocks: 9,
     keeps: None,
     faults: 5,
     source: "on",
     gaps: None,
+    lost: 0,
+    estimated: 0,
+    clock: None,
+    when_full: WhenFull::Stop,
 };
 
 const FULL_STATUS: CameraStatus<'static> = CameraStatus {
     keeps: Some(6),
     source: "other geometry",
     gaps: Some(8),
+    lost: 10,
+    estimated: 9,
+    clock: Some(1_900_000),
+    when_full: WhenFull::ReleaseOldest(Some(7)),
     ..STATUS
 };
 
 // Adds what is told of an event.
 fn tells_event(lines: &mut Lines) -> bool {
     lines
-        .kept("left", &clip(63, 9, NOVEMBER), NOVEMBER, LATER, NOVEMBER)
+        .kept("left", &clip(63, 9, NOVEMBER), (NOVEMBER, LATER), NOVEMBER, 0)
         .is_ok()
         && lines
-            .kept("left", &clip(63, 9, NOVEMBER), NOVEMBER, LATER, 5)
+            .kept("left", &clip(63, 9, NOVEMBER), (NOVEMBER, LATER), 5, 0)
             .is_ok()
-        && lines.kept("left", &clip(0, 3, 0), 0, 0, 7).is_ok()
+        && lines.kept("left", &clip(0, 3, 0), (0, 0), 7, 0).is_ok()
+        && lines.kept("left", &clip(1, 9, 4), (0, 0), 7, 65_535).is_ok()
         && lines.kept_none("left", 7).is_ok()
-        && lines.held("left", 10_600_000, 60_000_000, 7).is_ok()
-        && lines.gap("left", 720_000_000, NOVEMBER, 7).is_ok()
+        && lines.held("left", 10_600_000, 60_000_000, 7, 0).is_ok()
+        && lines.gap("left", 720_000_000, NOVEMBER, 7, 0).is_ok()
+        && lines.held("left", 59_900_000, 60_000_000, 7, 3).is_ok()
+        && lines.gap("left", 100_000, NOVEMBER, 7, 2).is_ok()
         && lines.event_begun(7, NOVEMBER, LATER).is_ok()
         && lines.event_whole(7, "left").is_ok()
-        && lines.event_not_whole(7, "left", &"Disk").is_ok()
+        && lines.event_not_whole(7, "left", &"Disk", 0).is_ok()
+        && lines.event_not_whole(7, "left", &"Gaps", 1).is_ok()
         && lines.too_far().is_ok()
 }
 
@@ -227,6 +264,7 @@ fn tells_clips(lines: &mut Lines) -> bool {
         && lines.refused("left", StoreFault::AllLocked).is_ok()
         && lines.released("left", 3).is_ok()
         && lines.not_released("left", 3, 90).is_ok()
+        && lines.released_full("left", 3).is_ok()
         && lines.saving("left").is_ok()
         && lines.too_many_saves("left").is_ok()
         && lines.saved("left", 3, "a \"clip\".y4m", 7).is_ok()
@@ -252,6 +290,11 @@ fn tells_answers(lines: &mut Lines, listing: &Listing<Global>) -> bool {
         && lines.status_making("left", "a store.loop", 40).is_ok()
         && lines.no_camera("left").is_ok()
         && lines.bad_order(b"ke\x7fp \"\n\xff").is_ok()
+        && lines.camera_ended("left", "removed").is_ok()
+        && lines.camera_started("left", "changed").is_ok()
+        && lines.not_changed("answers").is_ok()
+        && lines.reloaded("a.toml", (3, 2, 1)).is_ok()
+        && lines.not_reloaded("a.toml", &"there is no camera").is_ok()
         && lines.done().is_ok()
         && lines.stopped().is_ok()
 }
@@ -295,6 +338,7 @@ fn tells_frames(lines: &mut Lines) -> bool {
         && lines.dropped_lines(12).is_ok()
         && lines.times_back("left").is_ok()
         && lines.no_times("left").is_ok()
+        && lines.numbers_anew("left").is_ok()
         && lines.frames_gap("left", 120_999, NOVEMBER).is_ok()
 }
 

@@ -5,7 +5,7 @@ use std::alloc::{AllocError, Global};
 use std::process::Abort;
 
 // A line, and the order that it is, written out. Lines that can't be read stand in tests/rows/BadOrder.rows.
-const ROWS: [(&str, &str); 39] = [
+const ROWS: [(&str, &str); 40] = [
     ("keep", "keep all - - -"),
     ("keep 60", "keep all 60 - -"),
     ("keep 60 7", "keep all 60 - 7"),
@@ -38,6 +38,7 @@ const ROWS: [(&str, &str); 39] = [
     ("cancel left 3", "cancel left 3"),
     ("list", "list"),
     ("status", "status"),
+    ("reload", "reload"),
     ("stop", "stop"),
     ("save left 3 a clip.y4m", "save left 3 a clip.y4m"),
     ("help", "help"),
@@ -124,6 +125,7 @@ fn written(alloc: Global, line: &str) -> Result<String, AllocError> {
         }
         Some(Order::Help) => String::from_str(alloc, "help"),
         Some(Order::Status) => String::from_str(alloc, "status"),
+        Some(Order::Reload) => String::from_str(alloc, "reload"),
         Some(Order::Stop) => String::from_str(alloc, "stop"),
     }
 }

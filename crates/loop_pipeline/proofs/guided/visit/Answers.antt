@@ -11,6 +11,6 @@ invariant_of-back g c =
 
 pub returns : goal.returns
 returns g c =
-    back-but-desks _ _ c.visit.new.desks.desks _ c.back.view_is
-    (ap (λ (l : Lent g.row.D.Denot). l.active)
-    (c.visit.ensures ∙ ap (λ (s : SeenDesks g.row.D.Denot). s.lent) c.lend.ensures))
+    let same = c.visit.ensures ∙ ap (λ (s : SeenDesks g.row.D.Denot). s.lent) c.lend.ensures in
+    back-but-desks _ _ c.visit.new.desks.desks _ _ c.back.view_is (ap (λ (l : Lent g.row.D.Denot). l.active) same)
+    (ap (λ (l : Lent g.row.D.Denot). l.end) same)

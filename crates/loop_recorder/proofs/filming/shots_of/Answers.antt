@@ -30,6 +30,7 @@ loop-device-preserved g c =
           ∙ c.lend.ensures.source) i;
       size = (ap (λ (d : SeenDevice (Loan g.row.S.Denot)). d.size) c.shot_of.ensures.device ∙ c.lend.ensures.size) i;
       next = (ap (λ (d : SeenDevice (Loan g.row.S.Denot)). d.next) c.shot_of.ensures.device ∙ c.lend.ensures.next) i;
+      goes_on = (ap (λ (d : SeenDevice (Loan g.row.S.Denot)). d.goes_on) c.shot_of.ensures.device ∙ c.lend.ensures.goes_on) i;
     } in
     let at : slice_get devices number ≡ Some item =
     subst (λ n. slice_get devices n ≡ Some item) (sym so.number)

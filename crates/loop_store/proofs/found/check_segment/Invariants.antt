@@ -14,8 +14,8 @@ invariant-loop-slot g l = record {
   gives : (image : List ℕ) → MayBe (g.D.Disk.medium l.disk) image → MayBe (g.D.Disk.medium l.fn.disk) image;
   hold : (image : List ℕ) → MayBe (g.D.Disk.medium l.disk) image → hold_from (frame_bytes l.geometry)
       (l.found.block * l.geometry.slots) (read_slots l.geometry image l.found.segment l.slot) ≡ true;
-  room : length l.times ≡ length l.fn.times;
+  room : length l.stamps ≡ length l.fn.stamps;
   stamped : (image : List ℕ) → MayBe (g.D.Disk.medium l.disk) image
-      → AreStamped l.geometry image l.times l.found.segment l.slot;
-  keeps : (image : List ℕ) → MayBe (g.D.Disk.medium l.disk) image → KeepsStamps l.geometry image l.fn.times l.times;
+      → AreStamped l.geometry image l.stamps l.found.segment l.slot;
+  keeps : (image : List ℕ) → MayBe (g.D.Disk.medium l.disk) image → KeepsStamps l.geometry image l.fn.stamps l.stamps;
 }

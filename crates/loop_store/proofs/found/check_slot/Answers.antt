@@ -2,7 +2,7 @@ use Rattle.loop_record.specs.Geometry.{frame_bytes, slot_at}
 use Rattle.loop_record.specs.Layout.{slot_in}
 use Rattle.loop_record.proofs.FoundSegments.{slot-wrong}
 use Rattle.loop_store.proofs.RecoveredParts.{finds-err, slot-read, slot-right}
-use Rattle.loop_store.proofs.TimeReads.{slot-time}
+use Rattle.loop_store.proofs.TimeReads.{slot-stamp}
 use Rattle.loop_store.specs.declared.fault.StoreFault.{StoreFault}
 use Rattle.loop_store.proofs.found.check_slot.Goals as goal
 
@@ -25,7 +25,7 @@ returns g c =
           let is = slot-read h c.args.segment c.args.slot c.args.number c.slot_at.result c.frame_bytes.result image
           c.read.new.buf _ c.slot_at.ensures c.frame_bytes.ensures (c.in_ok-read.ensures.gives image may).1
           c.in_ok-head.ensures.head in
-          (slot-right (frame_bytes h) c.args.number there _ is, slot-time (frame_bytes h) c.args.number there _ is);
+          (slot-right (frame_bytes h) c.args.number there _ is, slot-stamp (frame_bytes h) c.args.number there _ is);
       gives = λ image may. (c.in_ok-read.ensures.gives image may).0;
       stays = c.in_ok-read.ensures.disk;
       called = c.in_ok-read.ensures.called;

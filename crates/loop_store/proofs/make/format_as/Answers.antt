@@ -21,7 +21,7 @@ index g c = record {
   table = c.in-Ok.table;
   clips = c.empty.result;
   next = 0;
-  times = c.in-Ok-times_for.times;
+  stamps = c.in-Ok-stamps_for.stamps;
 }
 
 new : (g : Over) (c : goal.After-empty g) → IsNew (index g c) c.args.head
@@ -32,7 +32,7 @@ new g c = record {
   closed = ap (λ (s : Segments). s.heads) c.in-Ok.ensures;
   none = c.empty.ensures;
   counts = ap (λ (s : Segments). s.clips) c.in-Ok.ensures;
-  places = c.in-Ok-times_for.ensures;
+  places = c.in-Ok-stamps_for.ensures;
 }
 
 pub invariant_of-result : goal.invariant_of-result
@@ -71,8 +71,8 @@ returns-in_default g c =
     (λ is. absurd cc, λ bad. absurd (clash _ (sym c.fits.ensures ∙ c.if-not-fits.false) bad)) (inr refl) refl
     (λ honest. g.met.D.Disk.sound c.args.disk honest)
 
-pub returns-in_default-times_for : goal.returns-in_default-times_for
-returns-in_default-times_for g c =
+pub returns-in_default-stamps_for : goal.returns-in_default-stamps_for
+returns-in_default-stamps_for g c =
     refused-formats g.D.Disk.medium c.args.head c.args.disk NoMemory
     (λ is. absurd cc, λ bad. absurd (clash _ (sym c.fits.ensures ∙ c.if-not-fits.false) bad)) (inr refl) refl
     (λ honest. g.met.D.Disk.sound c.args.disk honest)

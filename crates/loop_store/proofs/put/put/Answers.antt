@@ -78,7 +78,7 @@ returns-in-Ok-clause-kept g c =
     } in
     let grew = grew-by medium h i.table.keep c.args.disk.now c.append_group.new.disk c.args.group.now.first i.next n j ps c.requires.first refl first in
     let noted = noted-at i c.note.new.self c.segment.result j n c.segment.ensures c.note.ensures.noted in
-    let put = put-at i c.note.new.self c.segment.result j ps c.segment.ensures c.note.ensures.times in
+    let put = put-at i c.note.new.self c.segment.result j ps c.segment.ensures c.note.ensures.stamps in
     let placed : IsPlaced i c.in_ok-place.place n = record {
       within = c.in_ok-place.ensures.within;
       at = c.in_ok-place.ensures.answers;
@@ -108,7 +108,7 @@ returns-in-Ok-clause-goes g c =
     } in
     let grew = grew-by medium h i.table.keep c.args.disk.now c.append_group.new.disk c.args.group.now.first i.next n j ps c.requires.first refl first in
     let noted = noted-at i c.note.new.self c.segment.result j n c.segment.ensures c.note.ensures.noted in
-    let put = put-at i c.note.new.self c.segment.result j ps c.segment.ensures c.note.ensures.times in
+    let put = put-at i c.note.new.self c.segment.result j ps c.segment.ensures c.note.ensures.stamps in
     let placed : IsPlaced i c.in_ok-place.place n = record {
       within = c.in_ok-place.ensures.within;
       at = c.in_ok-place.ensures.answers;

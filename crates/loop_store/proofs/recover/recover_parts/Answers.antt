@@ -7,10 +7,11 @@ use Rattle.loop_record.proofs.Parts.{super-parts}
 use Rattle.loop_record.proofs.FoundSegments.{AreFull, read-lacks, read-repeats}
 use Rattle.loop_disk.proofs.Moments.{called_on}
 use Rattle.loop_ring.proofs.SlotReads.{stays_on}
+use Rattle.loop_ring.specs.declared.group.SlotStamp.{SlotStamp}
 use Rattle.loop_ring.specs.Heads.{Segments, in_order}
 use Rattle.loop_store.specs.Index.{IsOf}
 use Rattle.loop_store.proofs.SegmentOrder.{order-within}
-use Rattle.loop_store.proofs.TimeReads.{timed-index}
+use Rattle.loop_store.proofs.TimeReads.{stamped-index}
 use Rattle.loop_store.proofs.IndexOpenings.{says-recording}
 use Rattle.loop_store.proofs.AnswerPairs.{called-none}
 use Rattle.loop_store.proofs.CallRuns.{stays-still}
@@ -109,12 +110,12 @@ returns-in_err-clips-clause-finds g c = finds-on _ c.in_err-clips.field-0.0 _ _ 
     (called_on _ _ _ None c.in_ok-heads.ensures.finds.called c.in_ok-check_slots.ensures.finds.called)
     c.from_residual-in_err-clips.ensures.1 c.in_err-clips.ensures.finds
 
-times-are : (g : Over) (c : goal.After-index_of g) → c.index_of.result.times.items ≡ c.check_slots.new.times
-times-are g c =
+stamps-are : (g : Over) (c : goal.After-index_of g) → c.index_of.result.stamps.items ≡ c.check_slots.new.stamps
+stamps-are g c =
     let room = c.in_ok-check_slots.ensures.room in
-    let long = ap (λ (ts : List ℕ). length ts) c.as_mut_slice.ensures.value in
-    ap (λ v. v.items) c.index_of.ensures.times
-    ∙ with_items_is c.in_ok-times.times c.check_slots.new.times (omega (arith, room, long, c.in_ok-times.times.ok.0))
+    let long = ap (λ (ts : List SlotStamp). length ts) c.as_mut_slice.ensures.value in
+    ap (λ v. v.items) c.index_of.ensures.stamps
+    ∙ with_items_is c.in_ok-stamps.stamps c.check_slots.new.stamps (omega (arith, room, long, c.in_ok-stamps.stamps.ok.0))
 
 index-is : (g : Over) (c : goal.After-index_of g)
     → IsOf c.index_of.result c.args.head.geometry c.in_ok-heads.heads.items c.in_ok-clips.clips c.next_after-next.result
@@ -148,8 +149,8 @@ returns-clause-finds g c = record {
             (c.in_ok-heads.ensures.finds.found image may),
         (
           version ∙ sym c.index_of.ensures.version,
-          timed-index c.index_of.result h heads c.in_ok-clips.clips c.next_after-next.result c.check_slots.new.times image fs
-              (index-is g c) (times-are g c) (c.in_ok-heads.ensures.finds.found image may) (open-is g c) checked.1.0,
+          stamped-index c.index_of.result h heads c.in_ok-clips.clips c.next_after-next.result c.check_slots.new.stamps image fs
+              (index-is g c) (stamps-are g c) (c.in_ok-heads.ensures.finds.found image may) (open-is g c) checked.1.0,
         ),
       );
   gives = λ image end. c.in_ok-heads.ensures.finds.gives image
@@ -173,8 +174,8 @@ returns-clause-known g c =
           (index-is g c) c.requires.fits.1 c.in_ok-heads.ensures.count c.in_ok-heads.ensures.within
           (subst (λ (n : ℕ). n ≤ last_number (ring_of h)) (sym (c.next_after-next.ensures []))
           (next-few h [] fs (limits h c.requires.fits.0).slots.0 (open-within g c)))
-          (ap (λ (ts : List ℕ). length ts) (times-are g c) ∙ c.in_ok-check_slots.ensures.room
-          ∙ ap (λ (ts : List ℕ). length ts) c.as_mut_slice.ensures.value ∙ c.in_ok-times.ensures),
+          (ap (λ (ts : List SlotStamp). length ts) (stamps-are g c) ∙ c.in_ok-check_slots.ensures.room
+          ∙ ap (λ (ts : List SlotStamp). length ts) c.as_mut_slice.ensures.value ∙ c.in_ok-stamps.ensures),
       says-recording c.index_of.result h heads c.in_ok-clips.clips fs c.next_after-next.result (index-is g c) (record {
         good = c.requires.fits.0;
         count = c.in_ok-heads.ensures.count;

@@ -50,7 +50,7 @@ returns-in-None g c = record {
         unstray = unstray-missing h told.recording image told.known.held
             (found-place c.args.index.now c.from-slots.result image c.find.result None told c.from-slots.ensures
             c.in-None.is c.find.ensures.place);
-        timed = (c.requires.told honest).1.1;
+        stamped = (c.requires.told honest).1.1;
       };
   called = called-none _;
 }

@@ -1,8 +1,7 @@
-use Rattle.std.proofs.Common.{◌≡◌, cond, true, List, length, rules, refl, sym, ◌∙◌, ap, subst}
+use Rattle.std.proofs.Common.{◌≡◌, true, List, length, rules, refl, subst}
 use Rattle.loop_capture.specs.Ticks.{SeenDevice, Ends, Ticks}
 use Rattle.loop_vb2.specs.Planes.{frame_size}
 use Rattle.loop_capture.proofs.SourceTick.{took}
-use Rattle.loop_capture.proofs.device.Device.tick.Goals.{then-take_fresh, else-take_fresh}
 use Rattle.loop_capture.proofs.device.Device.tick.Goals as goal
 
 pub returns-in-Some-clause-tick : goal.returns-in-Some-clause-tick
@@ -10,25 +9,19 @@ returns-in-Some-clause-tick g c =
     let gives = g.S.FrameSource.next_gives in
     let m = g.P.PlaneMemory.plane in
     let size = length c.self.inside.frame.items in
-    let d : SeenDevice g.row.S.Denot = record { source = c.self.inside.source; size = size; next = c.self.inside.next } in
+    let d : SeenDevice g.row.S.Denot = record { source = c.self.inside.source; size = size; next = c.self.inside.next; goes_on = c.self.inside.goes_on } in
     let e : SeenDevice g.row.S.Denot =
-    record { source = c.make_ready.new.self; size = size; next = c.sequence_after-self-inside.result } in
+    record { source = c.make_ready.new.self; size = size; next = c.sequence_after-self-inside.result; goes_on = c.self.inside.goes_on } in
     let fits : size ≡ frame_size c.args.queue.now.body.shape = search rules in
     let started : c.args.queue.now.body.started ≡ true = search rules in
-    let is : c.if-take_fresh.sequence ≡ cond c.take_fresh.result 0 d.next =
-    elim c.if-take_fresh.branch [
-      | then-take_fresh w ↦ w.sequence-is
-          ∙ sym (ap (λ b. cond b 0 d.next) w.if-take_fresh.true)
-      | else-take_fresh w ↦ w.sequence-is
-          ∙ sym (ap (λ b. cond b 0 d.next) w.if-take_fresh.false)
-    ] in
+    let is = c.sequence_at-sequence.ensures in
     let ends = subst (λ (l : List _). Ends m c.in-Some.answer
-    (record { sequence = c.if-take_fresh.sequence; timestamp = c.args.now }) l c.end_frame.result
+    (record { sequence = c.sequence_at-sequence.result; timestamp = c.args.now }) l c.end_frame.result
     c.take_fresh.new.self c.end_frame.new.queue) c.lent.ensures c.end_frame.ensures.ends in
     subst (λ x. Ticks gives m c.args.now c.end_frame.result x e c.args.queue.now c.end_frame.new.queue) c.self.view_is
-    (took gives m c.args.now c.if-take_fresh.sequence c.take_fresh.result c.in-Some.answer c.end_frame.result
+    (took gives m c.args.now c.sequence_at-sequence.result c.take_fresh.result c.in-Some.answer c.end_frame.result
     (g.S.FrameSource.lends c.make_ready.new.self) d e c.args.queue.now c.take_fresh.new.self c.end_frame.new.queue fits started
-    c.take_fresh.ensures.step is (λ more. search rules) c.in-Some.ensures.gives refl
+    c.take_fresh.ensures.step is (λ more. search rules) c.in-Some.ensures.gives refl refl
     c.sequence_after-self-inside.ensures ends)
 
 pub returns-in-None-clause-tick : goal.returns-in-None-clause-tick
@@ -36,28 +29,23 @@ returns-in-None-clause-tick g c =
     let gives = g.S.FrameSource.next_gives in
     let m = g.P.PlaneMemory.plane in
     let size = length c.self.inside.frame.items in
-    let d : SeenDevice g.row.S.Denot = record { source = c.self.inside.source; size = size; next = c.self.inside.next } in
+    let d : SeenDevice g.row.S.Denot = record { source = c.self.inside.source; size = size; next = c.self.inside.next; goes_on = c.self.inside.goes_on } in
     let e : SeenDevice g.row.S.Denot =
     record {
       source = c.ask-answer.new.source;
       size = length c.ask-answer.new.frame.items;
       next = c.sequence_after-self-inside-in-None.result;
+      goes_on = c.self.inside.goes_on;
     } in
     let fits : size ≡ frame_size c.args.queue.now.body.shape = search rules in
     let started : c.args.queue.now.body.started ≡ true = search rules in
-    let is : c.if-take_fresh.sequence ≡ cond c.take_fresh.result 0 d.next =
-    elim c.if-take_fresh.branch [
-      | then-take_fresh w ↦ w.sequence-is
-          ∙ sym (ap (λ b. cond b 0 d.next) w.if-take_fresh.true)
-      | else-take_fresh w ↦ w.sequence-is
-          ∙ sym (ap (λ b. cond b 0 d.next) w.if-take_fresh.false)
-    ] in
+    let is = c.sequence_at-sequence.ensures in
     let ends = subst (λ l. Ends m c.ask-answer.result
-    (record { sequence = c.if-take_fresh.sequence; timestamp = c.args.now }) l c.end_frame-in-None.result
+    (record { sequence = c.sequence_at-sequence.result; timestamp = c.args.now }) l c.end_frame-in-None.result
     c.take_fresh.new.self c.end_frame-in-None.new.queue) c.deref.ensures.value c.end_frame-in-None.ensures.ends in
     subst (λ x. Ticks gives m c.args.now c.end_frame-in-None.result x e c.args.queue.now c.end_frame-in-None.new.queue) c.self.view_is
-    (took gives m c.args.now c.if-take_fresh.sequence c.take_fresh.result c.ask-answer.result c.end_frame-in-None.result
+    (took gives m c.args.now c.sequence_at-sequence.result c.take_fresh.result c.ask-answer.result c.end_frame-in-None.result
     c.ask-answer.new.frame.items d e c.args.queue.now c.take_fresh.new.self c.end_frame-in-None.new.queue fits started
     c.take_fresh.ensures.step is (λ more. c.ask-answer.ensures.size)
     (subst (λ s. gives s c.ask-answer.result c.ask-answer.new.frame.items c.ask-answer.new.source) (c.in-None.ensures.none refl)
-    c.ask-answer.ensures.gives) c.ask-answer.ensures.size c.sequence_after-self-inside-in-None.ensures ends)
+    c.ask-answer.ensures.gives) c.ask-answer.ensures.size refl c.sequence_after-self-inside-in-None.ensures ends)

@@ -1,4 +1,4 @@
-use Rattle.std.proofs.Common.{◌≤◌, ◌*◌, ◌-◌, ◌^◌, min, Some, sym, ap, ◌∙◌, subst}
+use Rattle.std.proofs.Common.{◌≤◌, ◌*◌, ◌-◌, ◌^◌, min, sym, ap, ◌∙◌, subst}
 use Rattle.loop_record.specs.declared.geometry.Geometry.{Geometry}
 use Rattle.loop_record.specs.Recording.{Recording}
 use Rattle.loop_record.proofs.Bounds.{limits}
@@ -34,8 +34,8 @@ returns g c =
     let start-is = c.saturating_mul.ensures ∙ ap (λ n. min (c.in_ok-block.block * n) (2 ^ 64 - 1))
     (c.from-slots.ensures ∙ ap (λ (geometry : Geometry). geometry.slots) c.geometry.ensures.geometry) in
     subst (λ (v : SeenDesk g.row.D.Denot). (r : Recording) → StandsFor medium v.store r
-    → TellsOldest (ring_in v.store) v.store.keep r (Some c.time.result)) c.self.view_is
+    → TellsOldest (ring_in v.store) v.store.keep r c.sequence.result) c.self.view_is
     (λ r stands. tells-first ring s.store.keep r c.in_ok-block.block some stands.told.formed
     (sym (c.in_ok-block.ensures r stands)) (is_among s.store.numbers) stands.told.numbers_are
-    c.saturating_mul.result start-is c.in_ok-first.first c.time.result c.in_ok-first.ensures.low
-    c.in_ok-first.ensures.least (λ p there. c.time.ensures r stands p there))
+    c.saturating_mul.result start-is c.in_ok-first.first c.sequence.result c.in_ok-first.ensures.low
+    c.in_ok-first.ensures.least (c.sequence.ensures r stands))

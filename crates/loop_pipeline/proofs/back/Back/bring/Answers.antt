@@ -2,9 +2,10 @@ use Rattle.std.proofs.Common.{◌≤◌, Err, ap, length, slice_get, subst, sym,
 use Rattle.loop_record.specs.Recording.{picture}
 use Rattle.loop_pipeline.specs.declared.entry.FrameInfo.{FrameInfo}
 use Rattle.loop_pipeline.specs.Backs.{FitsBlock, HasRoom, IsSoAt, SeenBack}
+use Rattle.loop_pipeline.specs.Nexts.{end_past}
 use Rattle.loop_pipeline.specs.Turns.{MayBegin}
 use Rattle.loop_pipeline.proofs.BackRuns.{accepted, brought, last, nothing}
-use Rattle.loop_pipeline.proofs.DeskPlaces.{answered, changed, same-desk, still-fits, unchanged}
+use Rattle.loop_pipeline.proofs.DeskPlaces.{answered, brought-to, same-desk, still-fits, unchanged-end}
 use Rattle.loop_pipeline.proofs.Places.{get-set-same, set-got}
 use Rattle.loop_pipeline.proofs.Visiting.{kept-as, last-as}
 use Rattle.loop_pipeline.proofs.back.Back.bring.Goals as goal
@@ -42,6 +43,7 @@ pub returns-in-Asked-default-Ok-clause-told : goal.returns-in-Asked-default-Ok-c
 returns-in-Asked-default-Ok-clause-told g c =
     let s = c.in-Asked-default-Ok.ensures in (
       picture s.takes.frame,
+      s.end ∙ ap (λ (i : FrameInfo). end_past i.sequence) s.takes.is,
       last-as g.D.Disk.medium _ _ _ _ c.submit_from.new.self s.desks s.active
           (last g.D.Disk.medium g.K.Visits.asks g.K.Visits.gives_up _ _ _ _ c.self.inside.from c.self.inside.from _ _ c.self.invariant
           _ _ _ s.at (answered _ _ _ _ _ _ _ c.in-Asked-default-Ok.field-1-is s.takes.goes)),
@@ -53,6 +55,7 @@ returns-in-Asked-default-Err-clause-told g c =
       picture s.takes.frame,
       c.in-Asked-default-Err.fault,
       ap (λ (i : FrameInfo). record { sequence = i.sequence; timestamp = i.timestamp }) s.takes.is,
+      s.end ∙ ap (λ (i : FrameInfo). end_past i.sequence) s.takes.is,
       last-as g.D.Disk.medium _ _ _ _ c.submit_from.new.self s.desks s.active
           (last g.D.Disk.medium g.K.Visits.asks g.K.Visits.gives_up _ _ _ _ c.self.inside.from c.self.inside.from _ _ c.self.invariant
           _ _ _ s.at (answered _ _ _ _ _ _ _ c.in-Asked-default-Err.field-1-is s.takes.goes)),
@@ -62,7 +65,7 @@ pub returns-in-Asked-default-Ok-clause-fits : goal.returns-in-Asked-default-Ok-c
 returns-in-Asked-default-Ok-clause-fits g c n is several =
     let s = c.in-Asked-default-Ok.ensures in
     let room = c.has_room.ensures.frame c.if-not-has_room.false
-    (subst (λ (b : SeenBack g.row.D.Denot g.row.A.Denot). 2 ≤ length b.desks) (sym c.self.view_is) several) in
+    (λ a. subst (λ (b : SeenBack g.row.D.Denot g.row.A.Denot). 2 ≤ length b.desks) (sym c.self.view_is) (several a)) in
     subst (λ (b : SeenBack g.row.D.Denot g.row.A.Denot). IsSoAt b.active c.submit_from.new.self.desks FitsBlock)
     c.self.view_is (
       s.after,
@@ -73,29 +76,37 @@ returns-in-Asked-default-Ok-clause-fits g c n is several =
     )
 
 pub returns-then-self-clause-same : goal.returns-then-self-clause-same
-returns-then-self-clause-same g c = unchanged _ _ c.self.view_is c.self.invariant.inside
+returns-then-self-clause-same g c = unchanged-end _ _ c.self.view_is c.self.invariant.inside
 
 pub returns-then-not-has_room-clause-same : goal.returns-then-not-has_room-clause-same
-returns-then-not-has_room-clause-same g c = unchanged _ _ c.self.view_is c.self.invariant.inside
+returns-then-not-has_room-clause-same g c = unchanged-end _ _ c.self.view_is c.self.invariant.inside
 
 pub returns-in-Nothing-clause-same : goal.returns-in-Nothing-clause-same
 returns-in-Nothing-clause-same g c =
-    let s = c.in-Nothing.ensures in changed _ _ s.after _ _ c.self.view_is s.desks s.active
+    let s = c.in-Nothing.ensures in brought-to _ _ s.after _ _ c.self.view_is s.desks s.active
 
 pub returns-in-Unnoted-clause-same : goal.returns-in-Unnoted-clause-same
 returns-in-Unnoted-clause-same g c =
-    let s = c.in-Unnoted.ensures in changed _ _ s.after _ _ c.self.view_is s.desks s.active
+    let s = c.in-Unnoted.ensures in brought-to _ _ s.after _ _ c.self.view_is s.desks s.active
 
 pub returns-in-Asked-default-Ok-clause-same : goal.returns-in-Asked-default-Ok-clause-same
 returns-in-Asked-default-Ok-clause-same g c =
-    let s = c.in-Asked-default-Ok.ensures in changed _ _ s.after _ _ c.self.view_is s.desks s.active
+    let s = c.in-Asked-default-Ok.ensures in brought-to _ _ s.after _ _ c.self.view_is s.desks s.active
 
 pub returns-in-Asked-default-Err-clause-same : goal.returns-in-Asked-default-Err-clause-same
 returns-in-Asked-default-Err-clause-same g c =
-    let s = c.in-Asked-default-Err.ensures in changed _ _ s.after _ _ c.self.view_is s.desks s.active
+    let s = c.in-Asked-default-Err.ensures in brought-to _ _ s.after _ _ c.self.view_is s.desks s.active
 
 pub returns-in-Asked-default-Ok-clause-begins : goal.returns-in-Asked-default-Ok-clause-begins
 returns-in-Asked-default-Ok-clause-begins g c n is usual several =
     subst (λ (b : SeenBack g.row.D.Denot g.row.A.Denot). IsSoAt b.active b.desks (MayBegin g.D.Disk.medium)) c.self.view_is
     (c.has_room.ensures.block c.if-not-has_room.false usual
-    (subst (λ (b : SeenBack g.row.D.Denot g.row.A.Denot). 2 ≤ length b.desks) (sym c.self.view_is) several))
+    (λ a. subst (λ (b : SeenBack g.row.D.Denot g.row.A.Denot). 2 ≤ length b.desks) (sym c.self.view_is) (several a)))
+
+pub returns-in-Nothing-clause-told : goal.returns-in-Nothing-clause-told
+returns-in-Nothing-clause-told g c =
+    c.in-Nothing.ensures.end ∙ ap (λ (b : SeenBack g.row.D.Denot g.row.A.Denot). b.end) c.self.view_is
+
+pub returns-in-Unnoted-clause-told : goal.returns-in-Unnoted-clause-told
+returns-in-Unnoted-clause-told g c =
+    c.in-Unnoted.ensures.end ∙ ap (λ (b : SeenBack g.row.D.Denot g.row.A.Denot). b.end) c.self.view_is

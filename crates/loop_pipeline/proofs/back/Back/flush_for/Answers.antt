@@ -64,14 +64,20 @@ returns-in-None-clause-same g c =
 pub returns-in-Some-Ok-clause-same : goal.returns-in-Some-Ok-clause-same
 returns-in-Some-Ok-clause-same g c =
     let goes = c.in-Some-Ok.ensures.asked in
-    changed _ _ goes.after _ _ c.self.view_is goes.same (ap (λ (l : Lent g.row.D.Denot). l.active) c.in-Some-Ok.ensures.lent)
+    changed _ _ goes.after _ _ _ c.self.view_is goes.same
+    (ap (λ (l : Lent g.row.D.Denot). l.active) c.in-Some-Ok.ensures.lent)
+    (ap (λ (l : Lent g.row.D.Denot). l.end) c.in-Some-Ok.ensures.lent)
 
 pub returns-then-not-flushes_again-clause-same : goal.returns-then-not-flushes_again-clause-same
 returns-then-not-flushes_again-clause-same g c =
     let goes = c.in-Some-Err.ensures.asked in
-    changed _ _ goes.after _ _ c.self.view_is goes.same (ap (λ (l : Lent g.row.D.Denot). l.active) c.in-Some-Err.ensures.lent)
+    changed _ _ goes.after _ _ _ c.self.view_is goes.same
+    (ap (λ (l : Lent g.row.D.Denot). l.active) c.in-Some-Err.ensures.lent)
+    (ap (λ (l : Lent g.row.D.Denot). l.end) c.in-Some-Err.ensures.lent)
 
 pub returns-else-not-flushes_again-clause-same : goal.returns-else-not-flushes_again-clause-same
 returns-else-not-flushes_again-clause-same g c =
     let goes = c.in-Some-Err.ensures.asked in
-    changed _ _ goes.after _ _ c.self.view_is goes.same (ap (λ (l : Lent g.row.D.Denot). l.active) c.in-Some-Err.ensures.lent)
+    changed _ _ goes.after _ _ _ c.self.view_is goes.same
+    (ap (λ (l : Lent g.row.D.Denot). l.active) c.in-Some-Err.ensures.lent)
+    (ap (λ (l : Lent g.row.D.Denot). l.end) c.in-Some-Err.ensures.lent)

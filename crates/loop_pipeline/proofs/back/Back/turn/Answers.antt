@@ -1,7 +1,7 @@
 use Rattle.std.proofs.Common.{◌<◌, ap, length, refl, subst}
-use Rattle.loop_pipeline.specs.Backs.{SeenBack}
+use Rattle.loop_pipeline.specs.Backs.{IsSoAt, SeenBack}
 use Rattle.loop_pipeline.specs.Desks.{SeenDesks}
-use Rattle.loop_pipeline.specs.Turns.{MayTurn, TurnsTo}
+use Rattle.loop_pipeline.specs.Turns.{IsBetween, TurnsTo}
 use Rattle.loop_pipeline.proofs.BackRuns.{turned-to}
 use Rattle.loop_pipeline.proofs.Visiting.{back-but-active, back-stays, kept-as}
 use Rattle.loop_pipeline.proofs.back.Back.turn.Goals as goal
@@ -16,21 +16,23 @@ invariant_of-self g c =
 
 pub returns-clause-turns : goal.returns-clause-turns
 returns-clause-turns g c =
-    subst (λ (b : SeenBack g.row.D.Denot g.row.A.Denot). MayTurn b.desks b.active
-    → TurnsTo g.D.Disk.medium b.desks b.active c.turn-is_locked.new.self.lent.active c.turn-is_locked.result) c.self.view_is
+    subst (λ (b : SeenBack g.row.D.Denot g.row.A.Denot). IsSoAt b.active b.desks IsBetween
+    → TurnsTo g.D.Disk.medium b.desks b.end b.active c.turn-is_locked.new.self.lent.active c.turn-is_locked.result) c.self.view_is
     c.turn-is_locked.ensures.turns
 
 pub returns-clause-stays : goal.returns-clause-stays
 returns-clause-stays g c =
     let new = c.turn-is_locked.new.self in
-    back-stays _ _ new.desks new.lent.active c.turn-is_locked.result c.self.view_is
+    back-stays _ _ new.desks new.lent.active new.lent.end c.turn-is_locked.result c.self.view_is
     (λ never. let both = c.turn-is_locked.ensures.stays never in (
       ap (λ (b : SeenDesks g.row.D.Denot). b.desks) both.0,
       ap (λ (b : SeenDesks g.row.D.Denot). b.lent.active) both.0,
+      ap (λ (b : SeenDesks g.row.D.Denot). b.lent.end) both.0,
       both.1,
     ))
 
 pub returns-clause-same : goal.returns-clause-same
 returns-clause-same g c =
-    back-but-active _ _ _ c.turn-is_locked.new.self.lent.active c.self.view_is
+    back-but-active _ _ _ c.turn-is_locked.new.self.lent.active _ c.self.view_is
     (ap (λ (b : SeenDesks g.row.D.Denot). b.desks) c.turn-is_locked.ensures.same)
+    (ap (λ (b : SeenDesks g.row.D.Denot). b.lent.end) c.turn-is_locked.ensures.same)

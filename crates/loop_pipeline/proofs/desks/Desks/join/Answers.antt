@@ -16,4 +16,5 @@ returns-clause-done g c = (
   c.len-place.ensures ∙ (c.self.inside.seats.ok.0 ∙ ap (λ (b : SeenDesks g.row.D.Denot). length b.desks) c.self.view_is),
   c.push_reserved.ensures.items ∙ ap (λ (b : SeenDesks g.row.D.Denot). b.desks ++ c.args.desk ∷ []) c.self.view_is,
   ap (λ (b : SeenDesks g.row.D.Denot). b.lent.active) c.self.view_is,
+  ap (λ (b : SeenDesks g.row.D.Denot). b.lent.end) c.self.view_is,
 )

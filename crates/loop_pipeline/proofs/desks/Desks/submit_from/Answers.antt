@@ -19,4 +19,5 @@ returns g c =
       takes = c.submit_from-taken.ensures.takes;
       desks = refl;
       active = refl;
+      end = c.end_with-self-inside.ensures;
     })

@@ -5,7 +5,7 @@ use Rattle.loop_pipeline.proofs.next.Search.with.Goals as goal
 
 pub returns : goal.returns
 returns c spaces count is =
-    search-more c.args.active c.args.place spaces c.args.space c.args.self _ _ _ count is
+    search-more c.args.end c.args.active c.args.place spaces c.args.space c.args.self _ _ _ count is
     (elim c.if-self.branch [
       | then-self w ↦ here-was c.args.self.here c.args.space.free c.args.place c.args.active _ w.if-self.true (w.result-is ∙ w.if-self.true)
       | else-self+then-space w ↦
@@ -13,4 +13,4 @@ returns c spaces count is =
       | else-self+else-space w ↦
           here-never c.args.self.here c.args.space.free c.args.place c.args.active _ w.if-self.false w.if-space.false (w.result-is ∙ w.if-space.false)
     ])
-    c.first_free.ensures (c.earlier.ensures spaces count)
+    c.first_free.ensures (c.older.ensures spaces count)

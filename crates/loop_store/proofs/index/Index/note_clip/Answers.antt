@@ -20,5 +20,5 @@ returns g c =
       counted =
           c.count_clip.ensures.counted ∙ (λ i. clip_counts ring (set (c.as_slice-2.ensures.clips i) id clip) (c.uncount_clip.ensures.heads i))
           ∙ ap (λ (l : List (Option Span)). clip_counts ring l old.table.heads) (sym c.set-2.ensures);
-      times = refl;
+      stamps = refl;
     }
