@@ -39,7 +39,7 @@ _loop_page() {
 _loop_camera() {
     local word=${COMP_WORDS[COMP_CWORD]}
     case $word in
-        -*) mapfile -t COMPREPLY < <(compgen -W "--list --fake --to --frames --chunks --log --help --version" -- "$word") ;;
+        -*) mapfile -t COMPREPLY < <(compgen -W "--list --fake --to --frames --chunks --set --state --log --help --version" -- "$word") ;;
         *) _loop_files "$word" ;;
     esac
 }

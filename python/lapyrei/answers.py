@@ -292,6 +292,7 @@ CLIP = both(
             "to": TEXT,
             "fetched": flag,
             "archived": flag,
+            "lost": COUNT,
         },
     ),
     in_order,
@@ -300,10 +301,13 @@ CLIPS_SAID = table({"clips": each(CLIP, CLIPS)})
 
 # An event, as `/api/events` has it, and its clips.
 CLIP_OF_EVENT = both(
-    table({**CLIP_WORDS, "camera": CAMERA, "frames": COUNT}, {"last": COUNT}), in_order
+    table({**CLIP_WORDS, "camera": CAMERA, "frames": COUNT}, {"last": COUNT, "lost": COUNT}),
+    in_order,
 )
 # Why an event was kept: what gave the order, who, and when.
 CAUSE = table({"kind": text(r"[a-z]{1,20}", "a kind of cause"), "who": TEXT, "at_us": MOMENT})
+# That a camera was set otherwise: what of it, by whom, and when.
+CHANGE = table({"camera": CAMERA, "text": TEXT, "who": TEXT, "at_us": MOMENT})
 LACK = table(
     {"camera": CAMERA}, {"held_us": maybe(COUNT), "asked_us": maybe(COUNT), "why": maybe(TEXT)}
 )
@@ -324,7 +328,7 @@ EVENT = both(
             "lacks": each(LACK, CAMERAS),
             "clips": each(CLIP_OF_EVENT, CLIPS, 1),
         },
-        {"archived": flag, "cause": maybe(CAUSE), "lost": COUNT},
+        {"archived": flag, "cause": maybe(CAUSE), "lost": COUNT, "changes": each(CHANGE, CLIPS)},
     ),
     in_order,
 )
@@ -352,6 +356,12 @@ CAMERA_STANDING = table(
         "keep": maybe(COUNT),
         "after": maybe(COUNT),
         "given_up": maybe(COUNT),
+        "lost": maybe(COUNT),
+        "estimated": maybe(COUNT),
+        "clock_us": maybe(whole(-(2**63), 2**64)),
+        "full": maybe(TEXT),
+        "blocks": maybe(COUNT),
+        "holes": each(NUMBERS, CLIPS),
         "behind": maybe(SECONDS),
         "room": maybe(COUNT),
         "keeps": maybe(COUNT),
@@ -475,7 +485,7 @@ KEPT = table(
                     "asked_us": maybe(COUNT),
                     "why": maybe(TEXT),
                 },
-                {"lack": maybe(TEXT), "remark": maybe(TEXT)},
+                {"lack": maybe(TEXT), "remark": maybe(TEXT), "lost": COUNT},
             ),
             CAMERAS,
         ),

@@ -128,6 +128,7 @@ class Job:
             "rate": [it.num, it.den],
             "time_unit": "microseconds since 1970-01-01T00:00:00Z, or of another clock",
             "first_time": times.utc(int(frames.times[0])),
+            "lost": frames.lost_within,
             "made_by": f"lapyrei {__version__}",
         }
         if self.divided and self.colour == "rgb":
@@ -147,6 +148,7 @@ class Job:
             "time_us": frames.times,
             "number": frames.numbers,
             "sequence": frames.sequences,
+            "lost": frames.lost,
             "bits": frames.bits,
         }
 

@@ -12,9 +12,10 @@ from typing import Any, overload
 import numpy as np
 from numpy.typing import NDArray
 
-from . import colour, events, layout, moments, regions, times
+from . import colour, events, layout, losses, moments, regions, times
 from .errors import Gone, MixedDepths, NoSuchEvent, Unlike
 from .files import Path, camera_of, files_of
+from .losses import Hole
 from .moments import Time
 from .parts import HEADS, Array, Form, Part, Picture, Planes, form_of, places_of
 from .regions import Region
@@ -91,10 +92,33 @@ class Frames:
 
     @property
     def lost(self) -> NDArray[np.int64]:
-        """How many frames the camera's own count skips right before each frame: those that the
-        camera, or what read it, lost. 0 where the frame before it isn't held, or the count began
-        anew: then nothing says whether any was lost."""
+        """How many frames were lost right before each frame, by the camera's own count: those that
+        the camera, or what read it, lost. Frames that the ring has removed since aren't among them.
+        0 where nothing says it: before the first frame, and where the count began anew."""
         return self._lost.copy()
+
+    @property
+    def lost_within(self) -> int:
+        """How many frames were lost between the first and the last of these; 0 where they are
+        whole. Of chosen frames (`frames[::10]`) it counts what `lost` says of them."""
+        return int(self._lost[1:].sum())
+
+    @property
+    def holes(self) -> list[Hole]:
+        """The places within where frames were lost: the numbers and times of the frames beside
+        each, and how many."""
+        places = np.flatnonzero(self._lost[1:]) + 1
+        numbers, moments = self.numbers, self.times
+        return [
+            Hole(
+                int(numbers[it - 1]),
+                int(numbers[it]),
+                int(moments[it - 1]),
+                int(moments[it]),
+                int(self._lost[it]),
+            )
+            for it in places
+        ]
 
     @property
     def flags(self) -> NDArray[np.uint32]:
@@ -461,7 +485,7 @@ class Store(Frames):
         keys = [np.maximum.accumulate(it["time"]) for it in heads]
         order = np.argsort(np.concatenate(keys), kind="stable")
         self._of, self._heads = of[order], np.concatenate(heads)[order]
-        self._lost = np.concatenate([lost_of(it) for it in heads])[order]
+        self._lost = lost_of(self._heads, self._of, self._known())
         self._clips: dict[tuple[int, int], tuple[Array, Clip, events.Span]] = {}
         for index, part in enumerate(self._parts):
             places = np.flatnonzero(self._of == index)
@@ -480,6 +504,25 @@ class Store(Frames):
             chosen = np.unique(np.concatenate(inside))
             clips = [self._clips[span.part, span.id][1] for span in spans]
             self._events.append(Event(self.take(chosen), clips))
+
+    def _known(self) -> NDArray[np.bool_]:
+        """Before which frames it is known that the ring has removed none since the one before them.
+        In one file the numbers say it. Of several, the oldest goes first, so it is known but behind
+        a frame of a clip, unless the next one is of that clip's event too."""
+        known = np.ones(len(self._heads), np.bool_)
+        if len(self._parts) == 1:
+            return known
+        tags = np.full(len(self._heads), -1, np.int64)
+        for index, part in enumerate(self._parts):
+            places = np.flatnonzero(self._of == index)
+            numbers, slots = self._heads["number"][places], part.geometry.slots
+            for _, first, last, tag in part.reading.clips:
+                # The ring keeps whole blocks.
+                ends = [first // slots * slots, (last // slots + 1) * slots]
+                start, end = np.searchsorted(numbers, np.array(ends, "u8"))
+                tags[places[start:end]] = tag % (1 << 62)
+        known[1:] = (tags[:-1] < 0) | (tags[:-1] == tags[1:])
+        return known
 
     @property
     def clips(self) -> list[Clip]:
@@ -566,11 +609,17 @@ def check_alike(one: Part, other: Part) -> None:
         raise Unlike(f"has frames of {texts[1]}, and {one.path} of {texts[0]}", other.path)
 
 
-def lost_of(heads: Array) -> NDArray[np.int64]:
-    """How many frames the camera's count skips right before each of a file's frames, by rising
-    number. The count is of 32 bits, and begins anew where the camera does."""
+def lost_of(
+    heads: Array, of: NDArray[np.int64], known: NDArray[np.bool_]
+) -> NDArray[np.int64]:
+    """How many frames the camera's count skips right before each frame, in time's order, of files
+    `of`. Within a file what its numbers skip was removed by the ring; between two files nothing
+    says that but `known`. The count is of 32 bits and goes round; what skips half of it began
+    anew."""
     lost = np.zeros(len(heads), np.int64)
-    step = np.diff(heads["sequence"]).astype(np.int64)
-    goes_on = (np.diff(heads["number"]) == 1) & (step > 1) & (step < 1 << 31)
-    lost[1:] = np.where(goes_on, step - 1, 0)
+    steps = np.diff(heads["sequence"].astype(np.int64))
+    numbers = np.diff(heads["number"].astype(np.int64))
+    is_turn = np.diff(of) != 0
+    skipped = (steps - np.where(is_turn, 1, numbers)) % losses.CYCLE
+    lost[1:] = np.where(known[1:] & (skipped < losses.MOST), skipped, 0)
     return lost

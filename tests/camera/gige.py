@@ -310,7 +310,10 @@ class Camera:
         kind, data = packet
         head = struct.pack(">HHI", 0, self.id if id_ is None else id_, kind << 24 | number)
         there = socket.inet_ntoa(struct.pack(">I", self.memory.get(ADDRESS)))
-        self.out.sendto(head + data, (there, self.memory.get(STREAM_PORT) & 0xFFFF))
+        port = self.memory.get(STREAM_PORT) & 0xFFFF
+        # A program that ends closes its stream by a port of 0, also in the middle of a frame.
+        if port:
+            self.out.sendto(head + data, (there, port))
 
     def send_again(self, body):
         """Sends packets again that are asked for, unless they are lost for good."""

@@ -9,7 +9,8 @@ import pytest
 from test_setup import laboratory  # noqa: F401
 
 from lapyrei import layout
-from station_camera import check, disk, orders, services, setup
+from station_camera import check, disk, needed, orders, services, setup, stands
+from station_camera.faults import Failed
 
 STATION = """orders = "ROOT/run/loop_station/orders"
 saves = "ROOT/var/lib/loop_station/clips"
@@ -24,17 +25,21 @@ release = true
 """
 
 
-def store_of(rate=25.0, ago=0.1, version=2, bits=8, count=100, segments=48, last=None):
-    """A store of 64x48 in grey for two minutes, whose newest frames came so often."""
+def store_of(rate=25.0, ago=0.1, version=2, bits=8, count=100, segments=48, last=None, lost=0):
+    """A store of 64x48 in grey for two minutes, whose newest frames came so often; so many were
+    lost before the last one."""
     wide = 64 * (1 if bits == 8 else 2)
     it = layout.Geometry(wide, 48, b"GREY", 25, 1, segments, 64, wide * 48)
     newest = time.time() - ago if last is None else last
     frames = [
-        layout.Frame(number, number, bits << 24 if bits > 8 else 0,
+        layout.Frame(number, number + lost * (number == count - 1), bits << 24 if bits > 8 else 0,
                      int((newest - (count - 1 - number) / rate) * 1e6), it.size)
         for number in range(count)
     ]
     return SimpleNamespace(geometry=it, version=version, frames=frames, next=count)
+
+
+PROTOCOL_OF = check.protocol_of
 
 
 class Bench:
@@ -48,7 +53,7 @@ class Bench:
         (self.etc / "station.toml").write_text(STATION.replace("ROOT", str(lab.root)))
         (self.etc / "left.camera").write_text("GENICAM=Fake_1\nRATE=25\n")
         lab.runs |= {"loop_station.service", "loop_camera@left.service"}
-        self.sets(store=store_of(), synced=True, protocol="Fake", member=True)
+        self.sets(store=store_of(), synced=True, protocol="Fake", member=True, said={})
         monkeypatch.setenv("SUDO_USER", "anna")
         monkeypatch.setattr(disk, "measured", lambda _: disk.Disk(1e9, 1.0, 1.0, 10**12))
 
@@ -58,7 +63,7 @@ class Bench:
             place, word = {
                 "store": (services, "store_at"), "synced": (check, "is_synced"),
                 "protocol": (check, "protocol_of"), "member": (orders, "is_member"),
-                "room": (check, "number_in"),
+                "room": (check, "number_in"), "said": (stands, "status"),
             }[name]
             self.patch.setattr(place, word, lambda *_, value=value: value)
 
@@ -107,6 +112,7 @@ def test_services_that_do_not_run_are_told(bench):
     [
         ("GigEVision", 212992, "sudo sysctl net.core.rmem_max=33554432"),
         ("GigEVision", 33554432, None),
+        ("GigEVision", 4_194_304, None),
         ("USB3Vision", 16, f"echo 1000 | sudo tee {check.USBFS}"),
         ("USB3Vision", 1000, None),
         ("GigEVision", None, None),
@@ -118,6 +124,75 @@ def test_buffers_that_are_too_small_are_told(bench, protocol, room, says):
         bench.finds("left", f"{room} ", says)
     else:
         assert bench.says()[0] == 0
+
+
+def test_a_camera_that_is_not_found_is_told(bench):
+    bench.sets(protocol="")
+    bench.finds("left", "no camera Fake_1 is found", "loop_setup --list")
+
+
+def test_packages_that_are_missing_are_told(bench):
+    def missing():
+        raise Failed("GenICam cameras need some packages: sudo apt install python3-gi")
+
+    bench.patch.setattr(check, "protocol_of", PROTOCOL_OF)
+    bench.patch.setattr(needed, "genicam", missing)
+    bench.finds("left", "GenICam cameras need some packages", "sudo apt install python3-gi")
+
+
+@pytest.mark.parametrize("lost, says", [(1, "1 frame was lost"), (13, "13 frames were lost")])
+def test_lost_frames_are_told(bench, lost, says):
+    bench.sets(store=store_of(lost=lost))
+    bench.finds("left", f"{says} between the 100 that its store holds",
+                "journalctl -u loop_camera@left -n 20")
+
+
+LINE = "stored 9 given up 0 waiting 0 behind 0.1 room 3 of 4 keeps 1 faults 0 source on gaps 0 lost"
+
+
+@pytest.mark.parametrize(
+    "ahead, says",
+    [("+1.9", "1.9 s ahead of"), ("-3600.0", "3600.0 s behind"), ("+0.9", None), (None, None)])
+def test_a_clock_that_is_off_is_told(bench, ahead, says):
+    clock = f" clock {ahead} s" if ahead else ""
+    bench.sets(said={"left": f"{LINE} 0 estimated 0{clock} full stop"})
+    if not says:
+        assert bench.says()[0] == 0
+        return
+    bench.finds("left", f"its clock is {says} the station's",
+                "sudo systemctl restart loop_camera@left")
+    file = bench.etc / "station.toml"
+    file.write_text(file.read_text().replace("loop_camera/left", "another/left"))
+    bench.finds("left", says, f"sudoedit {file}")
+
+
+def test_the_station_is_asked_how_its_cameras_stand(bench):
+    """A station that stands in reads the order, and its journal has the answer."""
+    pipe, said = bench.lab.root / "orders", []
+    os.mkfifo(pipe)
+    bench.patch.undo()
+    assert stands.status(pipe) == {}
+    with open(os.open(pipe, os.O_RDONLY | os.O_NONBLOCK)) as read:
+
+        def journal(_):
+            said.extend(read.readlines())
+            (order,) = said
+            label = order.removesuffix(" status\n")
+            return (f"2026-11-22T15:40:31.907Z {label} status left {LINE} 0\n"
+                    f"@another status right {LINE} 0\n{label} done\n")
+
+        bench.patch.setattr(stands, "journal", journal)
+        assert stands.status(pipe) == {"left": f"{LINE} 0"}
+
+
+@pytest.mark.parametrize("pixels, is_told", [(1_000_000, False), (1_100_000, True)])
+def test_the_networks_buffer_has_to_take_what_loop_camera_takes(bench, pixels, is_told):
+    it = store_of()
+    it.geometry = it.geometry._replace(width=pixels, height=1, size=pixels)
+    bench.sets(protocol="GigEVision", room=4_194_304, store=it)
+    what = f"the network's buffer has 4194304 bytes, of {4 * pixels}"
+    said = "\n".join(bench.says()[1])
+    assert (f"left: {what}: sudo sysctl net.core.rmem_max=33554432" in said) == is_told, said
 
 
 @pytest.mark.parametrize(

@@ -1,12 +1,14 @@
 """loop_camera over Aravis' camera without hardware, whose pixels are known by the frame's
 number."""
+import json
 import os
+import signal
 import subprocess
 import zlib
 
 import numpy as np
 import pytest
-from conftest import PATIENCE, PROGRAM, parsed
+from conftest import PATIENCE, PROGRAM, parsed, until
 
 from station_camera import genicam, program, text, words
 
@@ -51,6 +53,35 @@ def test_arrival_gives_no_times(camera):
     )
     assert it.wait() == 0, it.told()
     assert [time for time, _ in it.text()[1]] == [None] * 3
+
+
+def test_what_is_changed_while_it_films_is_taken_at_once_or_by_opening_it_anew(camera, tmp_path):
+    words = ["--set", "set", "--state", "state.json"]
+    it = camera(HEAD + "FORMAT=Mono8\nEXPOSURE=5000\n", *words)
+
+    def state():
+        path = it.folder / "state.json"
+        return json.loads(path.read_text()) if path.exists() else {}
+
+    def now(word):
+        return {it["word"]: it["now"] for it in state().get("takes", [])}.get(word)
+
+    until("what it takes", lambda: now("EXPOSURE") == 5000)
+    bounds = next(it for it in state()["takes"] if it["word"] == "EXPOSURE")
+    assert bounds["least"] < 5000 < bounds["most"]
+    (it.folder / "set").write_text("EXPOSURE=2000\nGAIN=3\n")
+    until("another exposure", lambda: now("EXPOSURE") == 2000 and now("GAIN") == 3)
+    assert it.told().count("filming Fake_1") == 1
+    (it.folder / "set").write_text("EXPOSURE=2000\nREGION=40x30+8+4\n")
+    until("another place", lambda: now("REGION") == "40x30+8+4")
+    until("frames of it", lambda: it.told().count("filming Fake_1") == 2)
+    (it.folder / "set").write_text("REGION=20x30\n")
+    until("a refusal", lambda: "another store" in state()["fault"])
+    assert state()["words"] == {"EXPOSURE": "2000", "REGION": "40x30+8+4"}
+    it.run.send_signal(signal.SIGTERM)
+    assert it.wait() == 0, it.told()
+    head, frames, rest = it.text()
+    assert (head["W"], head["H"], rest) == ("40", "30", b"") and len(frames) > 10
 
 
 def test_deep_samples_are_shifted_to_8_bits_where_that_is_asked(camera):

@@ -4,6 +4,7 @@ on is one that the camera sent whole, by the camera's own log."""
 import contextlib
 import csv
 import fcntl
+import re
 import socket
 import struct
 import subprocess
@@ -14,7 +15,7 @@ import gige
 import gige_xml
 import numpy as np
 import pytest
-from conftest import LOCK
+from conftest import LOCK, parsed
 
 HEAD = "REGION=37x21\nRATE=100\nCLOCK=ptp\n"
 SIZE = 37, 21
@@ -128,13 +129,18 @@ def test_colours_are_stored_for_each_pixel(camera, own):
     ],
 )
 def test_ids_that_wrap_and_jump_are_counted_as_they_are(camera, own, words, lost):
-    """After 65535 comes 1: 0 is no frame's id."""
+    """After 65535 comes 1: 0 is no frame's id. The station is given numbers without an end."""
     own.start(*words)
     it = camera(file_of(own), "--frames", "30")
     _, _, log = given_on(it, own)
     assert 0 not in {number for number, *_ in log}
     said = it.says(r"ended: 30 frames given on(?:, (\d+) frames? lost)?")
     assert int(said[1] or 0) == lost, it.told()
+    given = []
+    parsed(it.out.read_bytes(), lambda line: given.append(int(re.search(rb"Xn=(\d+)", line[0])[1])))
+    assert [(it - 1) % 65535 + 1 for it in given] == [number for number, *_ in log]
+    steps = [after - before for before, after in zip(given, given[1:])]
+    assert min(steps) == 1 and sum(steps) - len(steps) == lost
 
 
 def test_packets_that_are_lost_for_good_leave_incomplete_frames_out(camera, own):

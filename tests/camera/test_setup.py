@@ -133,6 +133,7 @@ def test_options_alone_set_up_a_camera_and_wait_for_its_first_frame(laboratory, 
         "times_from": "source",
         "save_to": f"{laboratory.root}/var/lib/loop_station/clips",
         "release": True,
+        "when_full": "release oldest",
     }
     assert laboratory.config()["answers_form"] == "json"
     units = ["loop_station.service", "loop_camera@left.service", "loop_page.service"]
@@ -218,6 +219,17 @@ def test_run_again_it_changes_what_is_there_and_old_files_stay(laboratory, capsy
     )
     assert SAMPLE in [it.read_text() for it in laboratory.etc.glob("station.toml.*")]
     capsys.readouterr()
+
+
+def test_what_was_changed_at_the_page_is_forgotten_once_the_camera_is_set(laboratory, capsys):
+    changed = laboratory.root / "var/lib/loop_page/cameras/left.camera"
+    changed.parent.mkdir(parents=True)
+    changed.write_text("EXPOSURE=2000\n")
+    words = [*FAKE, "--minutes", "2", "--no-page", "--yes", "--no-picture"]
+    assert laboratory.run(*words) == 0 and not changed.exists()
+    assert "what was changed of left at the page is forgotten" in capsys.readouterr().out
+    changed.write_text("EXPOSURE=2000\n")
+    assert laboratory.run("--remove", "left") == 0 and not changed.exists()
 
 
 def test_a_camera_is_removed_and_its_store_stays(laboratory, capsys):
@@ -618,10 +630,11 @@ def test_so_many_presses_leave_room_and_one_more_does_not(minutes, keep):
 def ordering(laboratory, monkeypatch):
     """What loop_setup prints as the command that keeps, for a user, and what it did for that."""
 
-    def one(user, members=(), given=None, why=None):
+    def one(user, members=(), given=None, why=None, is_known=True):
         added, said = [], []
         monkeypatch.setenv("SUDO_USER", user)
         monkeypatch.setattr(orders, "is_member", lambda name: name in members)
+        monkeypatch.setattr(orders, "is_known_here", lambda _: is_known)
         monkeypatch.setattr(orders, "add", lambda name: added.append(name) or why)
         monkeypatch.setattr(setup.Setup, "is_real", lambda _: True)
         words_ = setup.parser().parse_args(["--root", str(laboratory.root), *(given or [])])
@@ -636,8 +649,11 @@ def test_the_last_line_works_as_printed(ordering, laboratory):
     plain = f"echo keep left >{pipe}"
     assert ordering("root") == ordering("") == (plain, [], [])
     assert ordering("anna", ["anna"]) == (plain, [], [])
+    # Who was added in this window has its group by sg alone, for each further camera too.
+    by_group = f"sg loop_station -c '{plain}'"
+    assert ordering("anna", ["anna"], is_known=False) == (by_group, [], [])
     command, added, said = ordering("anna")
-    assert (command, added) == (f"sg loop_station -c '{plain}'", ["anna"])
+    assert (command, added) == (by_group, ["anna"])
     assert "anna is in" in said[0]
     refused = f"echo keep left | sudo tee {pipe}", "sudo usermod -aG loop_station anna"
     command, added, said = ordering("anna", given=["--no-group"])
@@ -645,6 +661,24 @@ def test_the_last_line_works_as_printed(ordering, laboratory):
     command, added, said = ordering("anna", why="no such user")
     assert (command, added) == (refused[0], ["anna"]) and "no such user" in said[0]
     assert said[1].endswith(refused[1])
+
+
+@pytest.mark.skipif(os.geteuid() != 0, reason="only root has a window of another user")
+@pytest.mark.parametrize("groups, is_known", [([], False), (["video"], True)])
+def test_a_window_knows_the_groups_with_which_its_user_signed_in(monkeypatch, groups, is_known):
+    monkeypatch.setattr(orders, "GROUP", "video")
+    assert orders.is_known_here("no such user")
+    window = os.fork()
+    if not window:
+        # As sudo is called: the user is nobody's, and what it runs is root's.
+        os.setgroups([grp.getgrnam(it).gr_gid for it in groups])
+        os.setresuid(pwd.getpwnam("nobody").pw_uid, 0, 0)
+        program = os.fork()
+        if not program:
+            os.setresuid(0, 0, 0)
+            os._exit(orders.is_known_here("nobody"))
+        os._exit(os.waitstatus_to_exitcode(os.waitpid(program, 0)[1]))
+    assert os.waitstatus_to_exitcode(os.waitpid(window, 0)[1]) == is_known
 
 
 def test_the_last_line_gives_an_order_to_the_pipe_of_the_file(ordering, laboratory):
@@ -657,7 +691,39 @@ def test_the_last_line_gives_an_order_to_the_pipe_of_the_file(ordering, laborato
         assert read.readline() == "keep left\n"
 
 
-def test_a_station_that_runs_is_told_to_begin_anew(laboratory, capsys):
+def test_a_station_that_runs_follows_its_file(laboratory, capsys):
+    """Where its file has no pipe of orders, or other words than cameras change, it begins anew."""
     laboratory.runs.add("loop_station.service")
-    assert laboratory.run(*FAKE, "--minutes", "2", "--no-page", "--yes", "--no-picture") == 0
+    given = [*FAKE, "--page", "--yes", "--no-picture", "--minutes"]
+    assert laboratory.run(*given, "2") == 0
     assert "the station begins anew: every camera pauses for a moment\n" in capsys.readouterr().out
+    laboratory.calls.clear()
+    assert laboratory.run(*given, "3") == 0
+    assert "reads its file anew: all other cameras go on\n" in capsys.readouterr().out
+    assert laboratory.calls[2:] == [
+        "reload loop_station.service",
+        "restart loop_camera@left.service",
+    ]
+    text = (laboratory.etc / "station.toml").read_text()
+    (laboratory.etc / "station.toml").write_text(text + '[[camera]]\nname = "right"\n')
+    laboratory.calls.clear()
+    assert laboratory.run("--remove", "left") == 0
+    assert laboratory.calls == [
+        "disable --now loop_camera@left.service",
+        "reload loop_station.service",
+    ]
+
+
+@pytest.mark.parametrize("is_released", [True, False])
+def test_no_press_ends_the_recording_unless_clips_stay_locked(laboratory, is_released):
+    word = "--release" if is_released else "--no-release"
+    assert laboratory.run(*FAKE, "--minutes", "2", word, "--no-page", "--yes", "--no-picture") == 0
+    (camera,) = laboratory.config()["camera"]
+    assert camera["when_full"] == ("release oldest" if is_released else "stop")
+
+
+def test_a_camera_that_was_there_before_keeps_what_it_does_where_all_is_locked(laboratory):
+    laboratory.etc.mkdir(parents=True)
+    (laboratory.etc / "station.toml").write_text('[[camera]]\nname = "left"\nminutes = 2\n')
+    assert laboratory.run(*FAKE, "--minutes", "2", "--no-page", "--yes", "--no-picture") == 0
+    assert "when_full" not in laboratory.config()["camera"][0]

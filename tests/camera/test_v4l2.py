@@ -334,6 +334,23 @@ def test_a_missing_number_is_a_lost_frame(tmp_path):
     assert it.says("ended: 6 frames given on, 3 frames lost before they came")
 
 
+@pytest.mark.parametrize(
+    "numbers,given,lost",
+    [
+        ([(1 << 32) - 1, 0, 2], [(1 << 32) - 1, 1 << 32, (1 << 32) + 2], 1),
+        ([8, 9, 9, 10, 12], [8, 9, 9, 10, 12], 1),
+        ([8, 9, 0, 1, 3], [8, 9, 0, 1, 3], 1),
+        ([0, 0, 0, 0], [0, 0, None, None], 0),
+    ],
+)
+def test_the_station_is_given_numbers_without_an_end(tmp_path, numbers, given, lost):
+    """Those that come again or go back stay as they are: there it begins anew."""
+    things = [it._replace(number=n) for it, n in zip(frames_of(len(numbers), 64), numbers)]
+    it = Run(tmp_path, Device(things))
+    assert it.lines == ["" if n is None else f" Xn={n}" for n in given]
+    assert it.counts["lost"] == lost
+
+
 def test_numbers_go_round_and_begin_anew():
     told = []
     numbers = Numbers(told.append)
@@ -865,7 +882,7 @@ def test_a_network_camera_is_filmed_by_ffmpeg(camera, tmp_path, file, command):
     assert (tmp_path / "words").read_text() == (
         f"-nostdin -v error {command} -strict -1 -f yuv4mpegpipe -\n"
     )
-    assert "it has no numbers, so what is lost isn't counted" in it.told()
+    assert "it has no numbers, so the station estimates what is lost" in it.told()
 
 
 def test_a_real_film_is_played(camera, tmp_path):

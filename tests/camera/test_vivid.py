@@ -11,8 +11,8 @@ import pytest
 from conftest import TOP
 
 HERE = Path(__file__).resolve().parent
-# They want a reader that stands still, and a device that becomes another.
-IN_THE_GUEST = ("slow", "unplugged")
+# They want a reader that stands still, a device that becomes another, and a station.
+IN_THE_GUEST = ("slow", "unplugged", "station")
 # What tells most of all formats.
 WORDS = "GREY Y12 YUYV UYVY NV12 NV21 YU12 YV12 422P RG10 NM12 YM24".split()
 
@@ -59,3 +59,31 @@ def test_times_of_arrival_are_found(tmp_path):
     left = filmed(tmp_path, CHECK.WRONG["times of arrival"])
     with pytest.raises(CHECK.Found, match="and the kernel's is"):
         CHECK.judge_numbers(left, None)
+
+
+STANDS = (
+    "status left stored 139 given up 0 waiting 0 behind 0.0 s room 1 of 2 faults 0 source ended "
+    "gaps 0 lost 1 estimated 0 clock +0.0 s full stop\n"
+)
+KEPT = "kept left 0 0..138 from 2026-12-01T00:00:00.000Z to 2026-12-01T00:00:14.000Z event 1"
+
+
+def test_a_station_that_tells_a_lost_frame_passes():
+    CHECK.tells_lost(STANDS + KEPT + " lost 1\n", 1)
+
+
+@pytest.mark.parametrize(
+    "told,says",
+    [
+        ("", "tells no 'status left"),
+        (STANDS, "tells no 'kept left"),
+        (STANDS + KEPT + "\n", "tells no 'kept left"),
+        (STANDS + KEPT + " lost 2\n", "tells no 'kept left"),
+        (STANDS.replace("lost 1", "lost 0") + KEPT + " lost 1\n", "tells no 'status left"),
+        (STANDS.replace("estimated 0", "estimated 1") + KEPT + " lost 1\n", "no 'status left"),
+        (STANDS + KEPT + " lost 1\nnumbers of left began anew\n", "that began anew"),
+    ],
+)
+def test_a_station_that_tells_it_wrongly_is_found(told, says):
+    with pytest.raises(CHECK.Found, match=says):
+        CHECK.tells_lost(told, 1)

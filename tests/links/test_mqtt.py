@@ -33,7 +33,8 @@ def test_an_order_is_done_and_answered_with_its_id(bench):
     assert asked["from"] <= found["from_us"] <= found["to_us"] <= asked["to"]
     kept = until(lambda: bench.kept("[press-1]"), "kept")[0]
     assert (kept["note"], kept["event"]) == ("run 7 [press-1]", found["event"])
-    assert kept["cameras"] == ["left", "right"]
+    assert kept["cameras"] == ["left", "right"] and kept["lost"] == 0
+    assert [one["lost"] for one in found["cameras"]] == [0, 0]
 
 
 def test_times_may_be_texts_and_one_station_or_camera_be_meant(bench):

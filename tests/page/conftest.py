@@ -128,13 +128,16 @@ class Laboratory:
     until = staticmethod(until)
 
     def __init__(
-        self, folder, cameras=None, answers="pipe", orders=True, form="json", as_it_is=False
+        self, folder, cameras=None, answers="pipe", orders=True, form="json", as_it_is=False,
+        tells_lost=False,
     ):
-        """`as_it_is` leaves the page its own bounds, and the cameras their own rings."""
+        """`as_it_is` leaves the page its own bounds, and the cameras their own rings. A station of
+        before tells of no frame that was lost."""
         self.bounds, room = ({}, {}) if as_it_is else (PATIENT, ROOM)
         self.folder, self.runs, self.station, self.page, self.port = Path(folder), [], None, None, 0
         self.token = None
         lines = ['orders = "orders"'] if orders else []
+        lines += ["tells_lost = true"] if tells_lost else []
         os.mkfifo(self.folder / "orders")
         if answers == "pipe":
             os.mkfifo(self.folder / "answers")

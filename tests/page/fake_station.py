@@ -59,6 +59,8 @@ class Film(layout.Ring):
         self.reel: dict[int, bytes] = {}
         # The tag of each clip.
         self.tags: dict[int, int] = {}
+        # How many frames its source has lost, and the sequence of each frame.
+        self.lost, self.sequences, self.tells_lost = 0, {}, False
         # A small image, since the file is written and not an image.
         super().__init__(1, 1, b"GREY", words.get("segments", 8), 1)
         self.geometry = layout.geometry_of(
@@ -151,11 +153,12 @@ class Film(layout.Ring):
                 self.next % self.geometry.slots,
             )
             self.times[self.next] = moment = self.due
+            self.sequences[self.next] = self.next + self.lost
             self.write(
                 self.geometry.slot_at(index, slot),
                 layout.head(
                     self.next,
-                    self.next,
+                    self.sequences[self.next],
                     moment,
                     self.geometry.size,
                     self.bits if self.bits > 8 else 0,
@@ -201,7 +204,13 @@ class Film(layout.Ring):
         (first, last), tag = self.clips[id_], self.tags[id_]
         line = {"kind": "kept", "camera": self.name, "id": id_, "first": first, "last": last}
         line |= {"from": stamp(self.times[first]), "to": stamp(self.times[last]), "event": event}
-        return line | ({"tag": tag} if tag != event else {})
+        line |= {"tag": tag} if tag != event else {}
+        return line | ({"lost": self.lost_in([first, last])} if self.tells_lost else {})
+
+    def lost_in(self, numbers: list[int]) -> int:
+        """How many frames are lost between some."""
+        ends = min(numbers), max(numbers)
+        return self.sequences[ends[1]] - self.sequences[ends[0]] - (ends[1] - ends[0])
 
     def shortfall(self, first: int, last: int, event: int) -> list[dict]:
         """How much of a time is held, and where no frame is, where that isn't all."""
@@ -215,16 +224,25 @@ class Film(layout.Ring):
             if moment - at > least:
                 gaps.append((at, moment - at))
             at = moment
-        if not gaps or not held:
+        inside = [number for number in sorted(self.held()) if first <= self.times[number] <= last]
+        lost = self.lost_in(inside) if self.tells_lost and inside else 0
+        if not held or not (gaps or lost):
             return []
         missing = sum(micros for _, micros in gaps)
+        told = {"lost": lost} if self.tells_lost else {}
+        holes = [
+            (self.times[one], self.times[two] - self.times[one], self.lost_in([one, two]))
+            for one, two in zip(inside, inside[1:])
+            if self.tells_lost and self.lost_in([one, two])
+        ]
+        gaps = [(at, micros, 0) for at, micros in gaps] + holes
         front = {
             "kind": "held",
             "camera": self.name,
             "held_micros": last - first - missing,
             "asked_micros": last - first,
             "event": event,
-        }
+        } | told
         return [
             front,
             *(
@@ -235,7 +253,8 @@ class Film(layout.Ring):
                     "at": stamp(at),
                     "event": event,
                 }
-                for at, micros in gaps
+                | ({"lost": count} if self.tells_lost else {})
+                for at, micros, count in gaps
             ),
         ]
 
@@ -267,12 +286,14 @@ class Station:
     def __init__(self, path: str) -> None:
         self.config = tomllib.loads(Path(path).read_text(encoding="utf-8"))
         self.answers = self.config.get("answers")
-        self.films = {words["name"]: Film(words) for words in self.config["camera"]}
+        self.path = path
+        self.films = {words["name"]: self.film_of(words) for words in self.config["camera"]}
         self.orders = os.open(self.config["orders"], os.O_RDWR | os.O_NONBLOCK)
         self.rest, self.is_mute, self.is_over = b"", False, False
         self.out = None
         self.full: set[str] = set()
         self.absent, self.sources, self.behind = {}, {}, {}
+        self.clock, self.rule = {}, {}
         self.making: dict[str, str] = {}
         self.hanging, self.saving = set(), set()
         self.is_json = self.config.get("answers_form") == "json"
@@ -281,6 +302,30 @@ class Station:
         self.growing: list[tuple[str, int, int, int, int]] = []
         # The block to which each has grown.
         self.grown: dict[tuple, int] = {}
+
+    def film_of(self, words: dict) -> "Film":
+        """A camera."""
+        film = Film(words)
+        film.tells_lost = self.config.get("tells_lost", False)
+        return film
+
+    def reload(self) -> list[dict]:
+        """Reads its file again: cameras come and go."""
+        config = tomllib.loads(Path(self.path).read_text(encoding="utf-8"))
+        new, lines = {words["name"]: words for words in config["camera"]}, []
+        for name, film in list(self.films.items()):
+            if new.get(name) != film.words:
+                why = "changed" if name in new else "removed"
+                lines.append({"kind": "camera_ended", "camera": name, "why": why})
+                del self.films[name]
+        ended = len(lines)
+        for name, words in new.items():
+            if name not in self.films:
+                why = "changed" if any(it["camera"] == name for it in lines) else "added"
+                self.films[name] = self.film_of(words)
+                lines.append({"kind": "camera_started", "camera": name, "why": why})
+        counts = {"cameras": len(new), "ended": ended, "started": len(lines) - ended}
+        return [*lines, {"kind": "reloaded", "path": self.path} | counts]
 
     def say(self, line: dict, label: str | None = None) -> None:
         """Prints a line, with its time and its label."""
@@ -338,7 +383,9 @@ class Station:
             for line in [*film.grow(since, until, event, tag), *lacks]:
                 self.say(line)
             end = {"kind": "event_not_whole", "event": event, "camera": name, "why": "Gaps"}
-            self.say(end if lacks else {"kind": "event_whole", "event": event, "camera": name})
+            end = end if lacks else {"kind": "event_whole", "event": event, "camera": name}
+            lost = {"lost": lacks[0]["lost"] if lacks else 0} if film.tells_lost else {}
+            self.say(end | lost)
 
     def take(self, line: str) -> None:
         """Does an order."""
@@ -373,13 +420,18 @@ class Station:
             del self.absent[rest]
         elif verb in ("hang", "saving"):
             getattr(self, {"hang": "hanging", "saving": "saving"}[verb]).add(rest)
-        elif verb in ("absent", "source", "behind", "making"):
+        elif verb == "lose":
+            camera, _, count = rest.partition(" ")
+            self.films[camera].lost += int(count)
+        elif verb in ("absent", "source", "behind", "making", "clock", "rule"):
             camera, _, words = rest.partition(" ")
             {
                 "absent": self.absent,
                 "source": self.sources,
                 "behind": self.behind,
                 "making": self.making,
+                "clock": self.clock,
+                "rule": self.rule,
             }[verb][camera] = words
 
     def answer(self, order: str) -> list[dict]:
@@ -391,6 +443,8 @@ class Station:
             return self.release(*parts[1:])
         if order == "status":
             return [self.status(name, film) for name, film in self.films.items()]
+        if order == "reload":
+            return self.reload()
         if order == "stop":
             self.is_over = True
             return [{"kind": "stopped"}]
@@ -432,6 +486,10 @@ class Station:
             "faults": 0,
             "source": source,
         }
+        if film.tells_lost:
+            room |= {"gaps": 0, "lost": film.lost, "estimated": 0}
+            room |= {"clock_micros": int(self.clock[name])} if name in self.clock else {}
+            room |= {"blocks": 7, "when_full": self.rule.get(name, "stop")}
         return {"kind": "status", "camera": name, **counts, **room}
 
     def keep(self, parts: list[str]) -> list[dict]:

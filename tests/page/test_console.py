@@ -86,7 +86,7 @@ def test_a_name_that_can_be_none_is_refused(wrong):
 
 
 def test_who_asks_is_told_what_that_one_may_do(lab):
-    assert lab.ask("/api/me").json() == {"user": "", "rights": ["see", "keep", "release"]}
+    assert lab.ask("/api/me").json() == {"user": "", "rights": ["see", "keep", "release", "set"]}
 
 
 def figures(lab):
@@ -107,7 +107,9 @@ def test_the_disks_figures_are_those_of_the_store(lab):
     assert found["disk_bytes"] >= found["free_bytes"] > 0
 
 
-def test_what_is_locked_is_not_left(lab):
+def test_what_is_locked_is_not_left(make):
+    """In a laboratory of its own: what others have locked already takes no more room."""
+    lab = make().filmed()
     before = figures(lab)["left_seconds"]
     lab.keep(5)
     lab.until(lambda: figures(lab)["left_seconds"] < before, "less room")

@@ -86,8 +86,9 @@ def test_each_line_has_the_members_of_its_kind(station):
         assert list(line)[: len(FRONT & set(line))] == [
             it for it in ("time", "label", "kind") if it in line
         ]
-        needed = {it.lstrip("#@") for it in words.MEMBERS[line["kind"]] if not it.startswith("?")}
-        assert needed <= set(line) - FRONT <= documented()[line["kind"]], line
+        needed = {it.lstrip("#~@") for it in words.MEMBERS[line["kind"]] if not it.startswith("?")}
+        known = documented()[line["kind"]]
+        assert needed <= set(line) - FRONT <= known, line
         assert words.read_line(json.dumps(line)), line
 
 

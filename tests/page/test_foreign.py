@@ -50,6 +50,11 @@ def is_harmless(answer):
     )
 
 
+def test_of_a_picture_pixels_alone_are_given_on():
+    found = redraw(jpeg_of(comment=SCRIPT) + SCRIPT)
+    assert SCRIPT not in found and found[:2] == b"\xff\xd8"
+
+
 def test_a_file_has_this_pages_own_type_and_name(strange):
     hub, odd = strange
     for path, kind in TYPES.items():

@@ -101,12 +101,41 @@ def test_the_events_that_are_joined_are_those_of_a_look_at_all_pairs():
         assert sorted(sorted(it["key"].split("~")) for it in found) == slow_groups(events, presses)
 
 
+def test_what_is_joined_step_by_step_is_what_is_joined_at_once():
+    """Whatever was kept of the steps before: events come, change and go."""
+    luck, joined, said = random.Random(5), Joined(Presses(9)), {}
+    for _ in range(150):
+        own = list(said.setdefault(luck.choice(("", "n", "s")), (None, []))[1])
+        station = next(name for name, (_, events) in said.items() if events == own)
+        what = luck.randrange(4)
+        if own and not what:
+            own.pop(luck.randrange(len(own)))
+        elif own and what == 1:
+            at = luck.randrange(len(own))
+            own[at] = own[at] | {"to_us": own[at]["from_us"] + luck.choice((1, 5)) * SECOND}
+        else:
+            since = luck.randrange(40) * SECOND // 4
+            lasts = luck.choice((1, 5)) * SECOND
+            own.append(named(station, luck.randrange(10**6), since, since + lasts))
+        said[station] = None, own
+        assert joined.join(said) == Joined(Presses(9)).join(said)
+
+
 def test_an_event_is_near_through_any_one_of_a_group():
     """The second reaches the third, and the first doesn't."""
     spans = [("", 0), ("n", 100_000), ("s", 200_000)]
     events = [(it, named(it, 0, at, at + 10 * SECOND, frames=10_001)) for it, at in spans]
     (found,) = Joined(Presses(9)).join(said_of(events))[0]
     assert len(found["cameras"]) == 3 and found["to_us"] == 10 * SECOND + 200_000
+
+
+def test_an_event_that_is_near_two_makes_no_one_of_them():
+    """The second begins too long after the first, and the third between them: it joins the first,
+    by the stations' order."""
+    spans = [("", 0), ("n", 150_000), ("s", 75_000)]
+    events = [(it, named(it, 0, at, at + 10 * SECOND, frames=10_001)) for it, at in spans]
+    found = Joined(Presses(9)).join(said_of(events))[0]
+    assert sorted(it["key"] for it in found) == ["n0.0.0", "own0.0.0~s0.0.0"]
 
 
 @pytest.mark.parametrize("apart, most", [(60 * SECOND, 2), (0, limits.NEAR_TRIES)])

@@ -201,6 +201,15 @@ def test_a_long_way_alone_makes_no_window_small(now):
     assert line.window >= limits.WINDOW_FIRST
 
 
+def test_a_stream_on_which_nothing_waits_is_quiet_and_not_dead(now):
+    line = Line()
+    line.send(1000)
+    line.look(0)
+    now[0] += 10 * limits.READ_SECONDS
+    line.look(0)
+    assert not line.is_dead()
+
+
 def test_a_slow_line_is_told_seldom_how_all_stands(now):
     line = Line()
     assert all(line.is_due("state", 30_000) for _ in range(5))

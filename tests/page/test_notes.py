@@ -6,7 +6,7 @@ from types import SimpleNamespace
 
 import pytest
 from station_page import kept, limits, spans
-from station_page.heard import Heard
+from station_page.heard import Heard, Part
 from station_page.held import Held
 from station_page.kept import Kept
 from station_page.notes import Notes, NotesFault, tidy
@@ -148,7 +148,7 @@ def test_what_a_keep_lacks_is_told_with_its_holes_and_not_those_of_before():
         # The second time it says the same again.
         (found,) = heard.kept_of([kept_line("left", 0, 1, 5, NUMBER), held, gap])
         assert (found.lack, found.held, found.asked) == (said, 5_000_000, 9_000_000)
-    assert spans.told(5, 9, []).endswith("s.")
+    assert spans.told(Part(5, 9)).endswith("s.")
 
 
 def test_an_event_ends_when_its_last_camera_does():

@@ -84,7 +84,7 @@ def reading_of(**more):
     words = {"geometry": geometry, "stores": None, "clips": [], "bits": lambda: 8}
     words |= {"rate": lambda: 24.9, "seconds": lambda: 1.0, "count": lambda: 9, "pieces": list}
     words |= {"locked": lambda: 0.5, "removed_next": lambda: None, "newest": lambda: None}
-    words |= {"oldest": lambda: None, "is_all_locked": lambda: False}
+    words |= {"oldest": lambda: None, "is_all_locked": lambda: False, "holes": list}
     return types.SimpleNamespace(**words | more)
 
 
@@ -105,6 +105,7 @@ def standing_of(silent=0.0, hangs=0.0, status=None, **more):
 def status_of(room):
     """What the station says of a camera."""
     words = dict.fromkeys(("stored", "given_up", "waiting", "keeps", "faults"), 0)
+    words |= dict.fromkeys(("lost", "estimated", "clock", "blocks", "full"))
     return types.SimpleNamespace(**words, behind=0.0, room=room, source="on")
 
 

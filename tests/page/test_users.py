@@ -91,12 +91,13 @@ def test_a_file_that_others_may_write_is_refused(tmp_path):
             add_user(str(tmp_path / "more"), name, rights)
 
 
-def test_the_rights_are_those_three():
+def test_the_rights_are_those_four():
     assert rights_in("release,see") == ("see", "release") and rights_in("see,all") is None
     assert [right_for(it) for it in ("/api/keep", "/api/event/note", "/api/seen")] == ["keep"] * 3
     assert right_for("/api/release") == right_for("/api/event/release") == "release"
     assert right_for("/") == right_for("/api/view") == right_for("/metrics") == "see"
-    assert OWNER.rights == ("see", "keep", "release")
+    assert right_for("/api/camera") == "set"
+    assert OWNER.rights == ("see", "keep", "release", "set")
 
 
 # ----------------------------------------------------------------------------------------- the gate
@@ -170,7 +171,8 @@ def test_a_page_with_users_lets_each_do_what_the_file_says(make):
     }
     assert lab.ask("/api/status").status == 401
     assert lab.ask("/api/me", headers=heads["bob"]).json() == {"user": "bob", "rights": ["see"]}
-    assert lab.ask("/api/me", headers=heads[""]).json()["rights"] == ["see", "keep", "release"]
+    rights = lab.ask("/api/me", headers=heads[""]).json()["rights"]
+    assert rights == ["see", "keep", "release", "set"]
     lab.until(
         lambda: lab.post("/api/keep", {"seconds": 1}, heads["button"]).status == 200, "a keep"
     )
@@ -197,5 +199,5 @@ def test_a_user_is_added_by_the_program_and_the_token_is_shown_once(tmp_path):
     assert status == 0
     assert found[hash_of(said.splitlines()[-1])] == User("ann", ("see", "keep"))
     status, said = run("--add-user", "users", "bob", "look")
-    assert status == 1 and "rights of see, keep, release" in said
+    assert status == 1 and "rights of see, keep, release, set" in said
     assert run("--add-user", "users", "ann", "see", "--make-token", "t")[0] == 2

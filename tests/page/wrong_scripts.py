@@ -1,13 +1,13 @@
 #!/usr/bin/python3
-"""Gives page_check's part `console` wrong bodies of the page's scripts and styles, each of which it
-has to find in Chromium.
+"""Gives page_check's parts `console` and `stress` wrong bodies of the page's scripts and styles,
+and of its Python, each of which they have to find in Chromium.
 
     tests/page/wrong_scripts.py [NAME..]
 
 Each is a copy of python/ with one change of one place, which a page serves to a browser; the steps
-that ought to find it are tried, each for 15 seconds at most in the place of two minutes. It prints
-a line for each body, and ends with 1 where one survives that isn't among those that README.md
-names."""
+that ought to find it are tried, in which each state is awaited for 15 seconds at most, or 30, in
+the place of two minutes. It prints a line for each body, and ends with 1 where one survives that
+isn't among those that README.md names."""
 import shutil
 import subprocess
 import sys
@@ -17,16 +17,19 @@ from pathlib import Path
 sys.dont_write_bytecode = True
 TESTS = Path(__file__).resolve().parent
 TOP = TESTS.parent.parent
-PATIENCE = 15
+PATIENCE = {"console": 15, "stress": 30}
 # Tries steps over a copy of the page: its folder, and the names of the steps.
 TRY = """
 import sys
 sys.dont_write_bytecode = True
 sys.path[1:1] = [{checks!r}, {tools!r}, {tests!r}]
-import browser, page_console
-browser.LIMIT = {patience}
+import browser, page_console, page_stress
 try:
-    page_console.console_part(True, None, sys.argv[1:])
+    for part, module in (("console", page_console), ("stress", page_stress)):
+        names = [it.__name__ for it in module.STEPS if it.__name__ in sys.argv[1:]]
+        browser.LIMIT = {patience}[part]
+        if names:
+            getattr(module, f"{{part}}_part")(True, None, names)
 except (browser.Wrong, AssertionError) as wrong:
     print("found:", str(wrong).splitlines()[0][:150])
 """
@@ -107,6 +110,56 @@ BODIES = [
     ("all_may_release", "page.css", ".may-not-release .release", ".may-not-x .release", "rights"),
     ("a_key_keeps_without_the_right", "page.js", 'if (!may("keep")) return;', "", "rights"),
     ("the_title_is_the_same_everywhere", "page.js", "alarm.title() + name", '"Laboratory"', "name"),
+    # ---------------------------------------------------------------------------- the part `stress`
+    ("events_are_joined_in_the_loop", "stations.py",
+     "*await asyncio.to_thread(self.join.join, said)", "*self.join.join(said)", "joined"),
+    ("a_press_counts_from_when_it_is_done", "page.js", "link.clock.at(moment)", "link.clock.at()",
+     "moment"),
+    ("a_press_has_no_moment", "page.js", "if (at !== null) wish.at = at;", "", "moment"),
+    ("another_stations_page_is_given_on", "stations.py",
+     '        response.headers["Content-Security-Policy"] = FOREIGN\n'
+     '        response.headers.update(told_of(found))\n'
+     '        response.headers["Content-Type"] = KINDS[kind]\n',
+     '        response.headers["Content-Security-Policy"] = "default-src * \'unsafe-inline\'"\n'
+     '        response.headers.update(told_of(found))\n'
+     '        response.headers["Content-Type"] = found.headers["Content-Type"]\n', "strange"),
+    ("words_of_another_station_are_code", "words.js",
+     "if (element.textContent !== text) element.textContent = text;",
+     "if (element.textContent !== text) element.innerHTML = text;", "strange"),
+    ("an_age_is_said_late", "stage.js", "element.hidden = seconds < 1;",
+     "element.hidden = seconds < 3;", "aged"),
+    ("an_age_is_said_early", "stage.js", "element.hidden = seconds < 1;\n  if (seconds >= 1) say(",
+     "element.hidden = seconds < 0.05;\n  if (seconds >= 0.05) say(", "aged"),
+    ("an_age_is_that_when_it_was_sent", "stage.js", "(head.age + Math.max(0, since))", "head.age",
+     "aged"),
+    ("a_picture_has_the_age_of_the_one_before", "stage.js", "      this.old(now());\n", "", "aged"),
+    ("a_lost_page_has_red_circles", "page.css",
+     ".lost .cam .rec { background: none;", ".lost .x .rec { background: none;", "unknown"),
+    ("a_lost_page_has_its_rates", "page.css", ".lost .cam .rate, ", "", "unknown"),
+    ("a_lost_page_has_no_frames", "page.js", "  timeline.known = link.clock.at(heard);\n", "",
+     "unknown"),
+    ("a_lost_station_has_no_frames", "timeline.js", "camera.known_us ?? Infinity", "Infinity",
+     "unknown"),
+    ("what_is_unknown_has_stripes", "timeline.js", 'pen.fillStyle = colour("raised");',
+     'pen.fillStyle = striped(pen, colour("edge"), 0);', "unknown"),
+    ("a_dead_cameras_name_gives_way", "page.css",
+     ".cam h2 { flex: none; max-width: 100%; white-space: normal; overflow-wrap: anywhere; }", "",
+     "sixteen"),
+    ("a_long_name_has_one_line", "page.css",
+     "max-width: 100%; white-space: normal; overflow-wrap: anywhere; }", "max-width: 100%; }",
+     "sixteen"),
+    ("a_time_stands_on_what_is_wrong", "page.css",
+     ".small .cam:is(.warn, .bad) footer span:first-child { visibility: hidden; }", "", "sixteen"),
+    ("the_banner_names_one_camera", "page.js", 'alike(list).join(", ")', 'list[0].camera || ""',
+     "sixteen"),
+    ("other_trouble_is_left_out", "page.js", "(named.length ? ` Also", "(false ? ` Also",
+     "sixteen"),
+    ("a_phones_banner_is_cut_off", "page.css", "  .banner > span { -webkit-line-clamp: none; }\n",
+     "", "sixteen"),
+    ("one_page_too_many_is_not_told", "link.js", '({}))).error || "";', '({}))).none || "";',
+     "too_many"),
+    ("a_page_that_is_let_in_says_it_is_not", "link.js", 'this.refused = answer.ok ? "" :',
+     "this.refused = answer.ok ? this.refused :", "too_many"),
 ]
 # Those that the steps pass over, each with why in README.md.
 SURVIVE: set[str] = set()
@@ -116,7 +169,8 @@ def copy_of(folder, name, old, new):
     """A copy of the page with a wrong body; its program."""
     for part in ("python", "tools"):
         shutil.copytree(TOP / part, folder / part)
-    path = folder / "python" / "page" / "station_page" / "static" / name
+    place = folder / "python" / "page" / "station_page"
+    path = place / name if name.endswith(".py") else place / "static" / name
     text = path.read_text(encoding="utf-8")
     if text.count(old) != 1:
         sys.exit(f"wrong_scripts: {name} has {old!r} {text.count(old)} times")

@@ -93,6 +93,67 @@ def test_nothing_is_lost_where_a_block_went_or_a_count_goes_round(tmp_path):
     assert store[-2:].lost.tolist() == [0, 1]
 
 
+def test_what_is_lost_within_frames_is_told_with_each_place(tmp_path):
+    it = ring(3, slots=4)
+    it.store(4), it.store(), it.store(2)
+    it.lock(1, 4, 7)
+    store = lapyrei.open(put(tmp_path / "a.loop", it))
+    assert store.lost_within == 4 and [hole.lost for hole in store.holes] == [3, 1]
+    hole = store.holes[0]
+    assert (hole.after, hole.before) == (2, 3)
+    assert (hole.since, hole.until) == tuple(store.times[2:4].tolist())
+    (clip,) = store.clips
+    assert clip.lost_within == 3 and [it.lost for it in clip.holes] == [3]
+    # What was lost before the first one isn't within.
+    assert store[3:].lost_within == 1 and store[:3].lost_within == store[:0].lost_within == 0
+
+
+def two_rings(turns):
+    """Two stores of a camera, of blocks of 3: into which each block comes, after how many lost
+    frames before its first one."""
+    rings = [ring(0), ring(0)]
+    sequence, time = 100, rings[0].time
+    for which, lost in turns:
+        it, sequence = rings[which], sequence + lost
+        it.sequence, it.time = sequence % 2**32, time
+        for _ in range(3):
+            it.store()
+        sequence, time = it.sequence, it.time
+    return rings
+
+
+def opened(folder, rings):
+    """Both stores as one."""
+    return lapyrei.open([put(folder / f"left.00{n}.loop", it) for n, it in enumerate(rings)])
+
+
+def test_what_another_store_has_between_is_not_lost(tmp_path):
+    rings = two_rings([(0, 0), (0, 0), (1, 2), (1, 0), (0, 0), (0, 1)])
+    store = opened(tmp_path, rings)
+    places = {place: int(it) for place, it in enumerate(store.lost) if it}
+    assert len(store) == 18 and places == {6: 2, 15: 1} and store.lost_within == 3
+    # The count goes round between two stores.
+    rings = two_rings([(0, 2**32 - 104), (1, 5)])
+    (tmp_path / "around").mkdir()
+    store = opened(tmp_path / "around", rings)
+    assert store.sequences.tolist()[:4] == [2**32 - 3, 2**32 - 2, 2**32 - 1, 5]
+    assert store.lost_within == 5
+
+
+def test_what_the_ring_has_removed_behind_a_clip_is_not_lost(tmp_path):
+    """The block of the clip stays, and those after it, in both stores, are gone."""
+    rings = two_rings([(0, 0)])
+    rings[0].lock(0, 1, 7)
+    sequence, time = rings[0].sequence, rings[0].time
+    for which in [0, 0, 0, 1, 1, 1, 1, 0, 0, 0]:
+        it = rings[which]
+        it.sequence, it.time = sequence, time
+        assert it.store() and it.store() and it.store()
+        sequence, time = it.sequence, it.time
+    store = opened(tmp_path, rings)
+    assert store.runs[0][0] == (0, 2) and store.lost_within == 0
+
+
 # ------------------------------------------------------------------------------- regions
 
 KEYS = [

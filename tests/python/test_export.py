@@ -163,6 +163,7 @@ def test_rgb_and_luma_on_demand(tmp_path):
         "about.json",
         "bits.npy",
         "frames.npy",
+        "lost.npy",
         "number.npy",
         "sequence.npy",
         "time_us.npy",

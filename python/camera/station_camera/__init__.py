@@ -4,6 +4,7 @@ words     the file NAME.camera
 film      a camera of either kind, from its file to the text
 text      YUV4MPEG2 with the camera's times and numbers
 clock     the camera's clock, tied to the system's
+changes   what may be changed while a camera films
 counts    what was incomplete, resent and lost, told once a second at most
 colours   Bayer, RGB and other planes made into those of the store, by ffmpeg
 genicam   cameras by Aravis

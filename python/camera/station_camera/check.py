@@ -12,16 +12,21 @@ from fractions import Fraction
 from pathlib import Path
 from typing import Any, Iterator, NamedTuple
 
-from . import disk, needed, orders, presses, services, words, written
+from lapyrei.losses import holes_in
+
+from . import disk, needed, orders, presses, services, stands, words, written
 from .faults import Failed
 from .text import Form
+from .waiting import socket_bytes
 from .words import BadFile
 
 # What of the asked rate has to come; by how many frames it is reckoned; and after so many seconds
 # without a frame none comes.
 ENOUGH, FRAMES, SILENT = 0.95, 200, 10.0
-# What the buffers of the network and of USB have to take: as the package sets the one, and as
-# docs/cameras.md has the other, in MB.
+# From so many seconds on a camera's clock is off, as at the page.
+CLOCK_OFF = 1.0
+# What the package sets for the buffers of the network, in bytes, and what those of USB have to
+# take, in MB, as docs/cameras.md has it.
 SOCKET, USB = 33_554_432, 300
 RMEM, USBFS = "/proc/sys/net/core/rmem_max", "/sys/module/usbcore/parameters/usbfs_memory_mb"
 # From January 1 2000 on times are of the day, in microseconds.
@@ -59,11 +64,14 @@ def is_synced() -> bool:
 
 
 def protocol_of(serial: str) -> str:
-    """How a camera of GenICam is connected; nothing where it isn't found, or nobody looks."""
-    try:
-        return needed.genicam().protocol_of(serial)
-    except Failed:
-        return ""
+    """How a camera of GenICam is connected; nothing where it isn't found. Failed where the packages
+    are missing that look for it."""
+    return needed.genicam().protocol_of(serial)
+
+
+def lost_of(store: Any) -> int:
+    """How many frames were lost between those that a store holds."""
+    return sum(it.lost for it in holes_in(store.frames, 0, len(store.frames) - 1))
 
 
 def form_of(store: Any) -> Form:
@@ -97,8 +105,11 @@ class Check:
             return 1
         stores = {it["name"]: services.store_at(self.store_of(it)) for it in cameras}
         found = [("station", it) for it in self.of_all(table, stores)]
+        said = stands.status(Path(table.get("orders", self.paths.orders)))
         for it in cameras:
-            found += [(it["name"], wrong) for wrong in self.of_camera(it, stores[it["name"]])]
+            name = it["name"]
+            found += [(name, wrong) for wrong in self.of_camera(it, stores[name])]
+            found += [(name, wrong) for wrong in self.of_clock(it, said.get(name, ""))]
         for name, it in found:
             self.tell(f"{name}: {it.what}: {it.mend}")
         for it in cameras:
@@ -170,10 +181,10 @@ class Check:
         """What is wrong with a camera."""
         name = camera["name"]
         if camera.get("source") == str(self.paths.pipe(name)):
-            yield from self.of_service(name)
+            yield from self.of_service(name, store)
         yield from self.of_store(camera, store)
 
-    def of_service(self, name: str) -> Iterator[Wrong]:
+    def of_service(self, name: str, store: Any) -> Iterator[Wrong]:
         """What is wrong with what gives its frames."""
         file, unit = self.paths.cameras / f"{name}.camera", f"loop_camera@{name}"
         if not file.exists():
@@ -189,7 +200,7 @@ class Check:
         if wanted.device:
             yield from self.of_device(wanted.device)
         if wanted.genicam:
-            yield from self.of_buffers(protocol_of(wanted.genicam))
+            yield from self.of_genicam(wanted.genicam, store.geometry.size if store else 0)
 
     def of_device(self, device: str) -> Iterator[Wrong]:
         """Whether a device is there, and the service's user may use it."""
@@ -206,12 +217,25 @@ class Check:
             mend = f"sudo chgrp video {device} && sudo chmod g+rw {device}"
             yield Wrong(f"{device} is of the group {group}, and loop_camera of video", mend)
 
-    def of_buffers(self, protocol: str) -> Iterator[Wrong]:
+    def of_genicam(self, word: str, payload: int) -> Iterator[Wrong]:
+        """Whether a camera of GenICam is found, and its frames, of so many bytes, may wait."""
+        try:
+            protocol = protocol_of(word)
+        except Failed as fault:
+            what, _, mend = str(fault).partition(": ")
+            yield Wrong(what, mend)
+            return
+        if not protocol:
+            what = f"no camera {word} is found: look at its cable and its power, and see"
+            yield Wrong(what, "loop_setup --list")
+        yield from self.of_buffers(protocol, socket_bytes(payload))
+
+    def of_buffers(self, protocol: str, wanted: int) -> Iterator[Wrong]:
         """Whether the system lets a camera's frames wait."""
         room = number_in(RMEM)
-        if protocol == "GigEVision" and room is not None and room < SOCKET:
+        if protocol == "GigEVision" and room is not None and room < wanted:
             mend = f"sudo sysctl net.core.rmem_max={SOCKET}"
-            yield Wrong(f"the network's buffer has {room} bytes, of {SOCKET}", mend)
+            yield Wrong(f"the network's buffer has {room} bytes, of {wanted}", mend)
         room = number_in(USBFS)
         if protocol == "USB3Vision" and room is not None and room < USB:
             mend = f"echo 1000 | sudo tee {USBFS}"
@@ -231,6 +255,7 @@ class Check:
                 "&& sudo systemctl start loop_station",
             )
         yield from self.of_rate(name, store)
+        yield from self.of_losses(name, store)
         yield from self.of_keeps(camera, store)
 
     def of_rate(self, name: str, store: Any) -> Iterator[Wrong]:
@@ -248,6 +273,28 @@ class Check:
             mend = f"sudo loop_setup --camera {name} --rate {rate:.3g}"
             what = f"{rate:.3g} frames a second come, and {asked:g} were asked for"
             yield Wrong(f"{what} (a shorter exposure, or fewer)", mend)
+
+    def of_losses(self, name: str, store: Any) -> Iterator[Wrong]:
+        """Whether frames were lost, of those that the store holds."""
+        lost = lost_of(store)
+        if lost:
+            what = f"{lost} {'frame was' if lost == 1 else 'frames were'} lost"
+            yield Wrong(f"{what} between the {len(store.frames)} that its store holds",
+                        f"journalctl -u loop_camera@{name} -n 20")
+
+    def of_clock(self, camera: dict[str, Any], line: str) -> Iterator[Wrong]:
+        """Whether a camera's own clock is off, as the station measures it."""
+        name, ahead = camera["name"], stands.clock_in(line)
+        if ahead is None or abs(ahead) <= CLOCK_OFF:
+            return
+        way = "ahead of" if ahead > 0 else "behind"
+        what = f"its clock is {abs(ahead):.1f} s {way} the station's"
+        if camera.get("source") == str(self.paths.pipe(name)):
+            mend = f"sudo systemctl restart loop_camera@{name}"
+            yield Wrong(f"{what}: it is tied to the system's anew by", mend)
+        else:
+            mend = f"sudoedit {self.paths.config}"
+            yield Wrong(f"{what}: set it, or leave its times_from out", mend)
 
     def of_keeps(self, camera: dict[str, Any], store: Any) -> Iterator[Wrong]:
         """Whether a keep leaves room to record in."""

@@ -148,6 +148,26 @@ def read(ioctl: Callable[[int, Any], None], it: Item) -> int | bytes:
     return one.of.value & 0xFFFFFFFF if it.kind == v.BITMASK else one.of.value
 
 
+def ranges(ioctl: Callable[[int, Any], None]) -> dict[str, dict[str, Any]]:
+    """The numbers and menus of a device, each with its value and bounds; whether another control
+    sets it now is `held`."""
+    found = {}
+    for it in items(ioctl):
+        if it.kind not in (v.INTEGER, v.BOOLEAN, v.MENU, v.INTEGER_MENU):
+            continue
+        try:
+            one: dict[str, Any] = {"now": read(ioctl, it), "held": bool(it.flags & v.INACTIVE)}
+        except OSError:
+            continue
+        if it.menu:
+            one["choices"], one["names"] = list(map(str, it.menu)), list(it.menu.values())
+            one["now"] = str(one["now"])
+        else:
+            one |= {"least": it.least, "most": it.most, "step": max(1, it.step)}
+        found[it.name] = one
+    return found
+
+
 def write(ioctl: Callable[[int, Any], None], it: Item, value: int | bytes) -> None:
     """Sets a control."""
     all_of, one, text = made(it)

@@ -27,9 +27,10 @@ def said(counts: dict[str, int]) -> str:
 
 class Lost:
     """How many frames are missing, by the camera's own numbers. Those of GigE Vision have 16 bits,
-    and 1 follows 65535; an incomplete frame has its number too, and may come after later ones."""
+    and 1 follows 65535; an incomplete frame has its number too, and may come after later ones. The
+    station counts the same: 65,535 at once, and numbers that jump further begin anew."""
 
-    AROUND, LATE = 65535, 256
+    AROUND, LATE, MOST = 65535, 256, 65535
 
     def __init__(self) -> None:
         self.last: int | None = None
@@ -41,15 +42,52 @@ class Lost:
             return 0
         step = number - self.last
         if max(number, self.last) <= self.AROUND:
-            step %= self.AROUND
-            step -= self.AROUND if step > self.AROUND // 2 else 0
+            if is_around(step, self.AROUND):
+                step += self.AROUND
+            elif is_late(step, self.AROUND):
+                step -= self.AROUND
         if step == 0:
             return 0
         if -self.LATE <= step < 0:
             return -1
         self.last = number
         # Numbers that begin anew say nothing.
-        return max(0, step - 1)
+        return step - 1 if 0 < step <= self.MOST + 1 else 0
+
+
+def is_around(step: int, around: int) -> bool:
+    """Whether a step back is one forwards, over the greatest number."""
+    return step < 0 and step + around <= around // 2
+
+
+def is_late(step: int, around: int) -> bool:
+    """Whether a step forwards is one back over the greatest number, to a frame that comes late."""
+    return step > 0 and around - step <= Lost.LATE
+
+
+class Unrolled:
+    """A camera's own numbers as they would be without an end: those of GigE Vision, of 16 bits, go
+    from 65535 to 1, those of a kernel from the greatest of 32 bits to 0. One that goes back, or
+    comes again, is given as it is: the station begins anew there."""
+
+    def __init__(self, around: int) -> None:
+        self.around, self.turns, self.again = around, 0, 0
+        self.last: int | None = None
+
+    def of(self, number: int) -> int | None:
+        """The number of a frame; None where that says nothing, and the station judges by time: more
+        than two in a row have the same, or it is a late one of before the first."""
+        last = self.last
+        self.again = self.again + 1 if number == last else 0
+        if last is not None and max(number, last) <= self.around:
+            if is_around(number - last, self.around):
+                self.turns += 1
+            elif is_late(number - last, self.around):
+                if not self.turns:
+                    return None
+                self.turns -= 1
+        self.last = number
+        return number + self.turns * self.around if self.again < 2 else None
 
 
 class Numbers:

@@ -6,12 +6,13 @@ import contextlib
 import time
 import zlib
 from pathlib import Path
-from typing import Any, Callable
+from typing import Any, Callable, NamedTuple
 
 from . import needed, v4l2
+from .changes import Changes
 from .chunks import Chunks
-from .counts import Counts
-from .faults import Gone
+from .counts import Counts, Lost, Numbers, Unrolled
+from .faults import Gone, Refused
 from .text import BadFrames, Form, Text
 from .words import Wanted
 
@@ -42,6 +43,7 @@ class OfGenicam:
     def __init__(self, wanted: Wanted, tell: Callable[[str], None]) -> None:
         self.wanted, self.tell, self.module = wanted, tell, needed.genicam()
         self.word, self.clock_every = wanted.genicam, self.module.CLOCK_EVERY
+        self.numbers = Lost.AROUND
 
     def open(self) -> Any:
         """The camera, opened and set."""
@@ -52,7 +54,7 @@ class OfLinux:
     """A camera of V4L2, as a file names it. Once it was there it is waited for by the name that
     stays with it: plugged in again it may be another /dev/video."""
 
-    clock_every = v4l2.CLOCK_EVERY
+    clock_every, numbers = v4l2.CLOCK_EVERY, Numbers.AROUND
 
     def __init__(self, wanted: Wanted, tell: Callable[[str], None], calls: Any = None) -> None:
         self.wanted, self.tell, self.calls = wanted, tell, calls
@@ -65,9 +67,17 @@ class OfLinux:
         return camera
 
 
+class Given(NamedTuple):
+    """What the program's words say beside: a file for a line a frame, the folder of what cameras
+    say, and what may be changed."""
+
+    log: str | None = None
+    chunks: str | None = None
+    changes: Changes | None = None
+
+
 class Film:
-    """A camera from its file to the text. `frames`, `log` and `chunks` are the program's
-    words."""
+    """A camera from its file to the text. It ends after `frames` of them."""
 
     def __init__(
         self,
@@ -76,12 +86,13 @@ class Film:
         tell: Callable[[str], None],
         asked: Callable[[], bool],
         frames: int | None = None,
-        log: str | None = None,
-        chunks: str | None = None,
+        given: Given | None = None,
     ) -> None:
+        given = given or Given()
         self.kind, self.out, self.tell, self.asked, self.most = kind, out, tell, asked, frames
-        self.counts, self.log, self.last = Counts(tell), Log(log), ""
-        self.chunks = Chunks(Path(chunks or "chunks"), kind.wanted.chunks, tell)
+        self.counts, self.log, self.last = Counts(tell), Log(given.log), ""
+        self.chunks = Chunks(Path(given.chunks or "chunks"), kind.wanted.chunks, tell)
+        self.changes = given.changes
         self.form: Form | None = None
 
     def run(self) -> None:
@@ -107,16 +118,36 @@ class Film:
 
     def _once(self) -> None:
         """Films until the camera goes."""
-        camera = self.kind.open()
+        camera = self._opened()
         try:
             if not self.out.open(self.asked):
                 return
+            changes = self.changes
+
+            def is_over() -> bool:
+                return self.asked() or changes is not None and changes.look(camera)
+
             with contextlib.closing(Stream(self, camera)) as stream:
-                with contextlib.closing(camera.film(self.counts, self.asked)) as pictures:
+                with contextlib.closing(camera.film(self.counts, is_over)) as pictures:
                     for it in pictures:
                         stream.give(it)
         finally:
             camera.close()
+
+    def _opened(self) -> Any:
+        """The camera, opened and set, with what was changed where it takes that."""
+        if self.changes is None:
+            return self.kind.open()
+        self.kind.wanted = self.changes.wanted()
+        try:
+            camera = self.kind.open()
+        except Refused as fault:
+            if not self.changes.refused(str(fault)):
+                raise
+            self.kind.wanted = self.changes.wanted()
+            camera = self.kind.open()
+        self.changes.began(camera)
+        return camera
 
     def begins(self, form: Form, camera: Any) -> None:
         """Frames of a form begin. Another header is for another text: the service starts this
@@ -142,6 +173,7 @@ class Stream:
     def __init__(self, film: Film, camera: Any) -> None:
         self.film, self.camera = film, camera
         self.clock, self.looked = camera.clock(), time.monotonic()
+        self.numbers = Unrolled(film.kind.numbers)
         self.sink: Any = film.out.frame
         self.converter: Any = None
         self.form: Form | None = None
@@ -165,7 +197,7 @@ class Stream:
         pieces = self.camera.pixels(it, self.form, bool(self.converter))
         micros = self.clock.micros(it.stamp, it.arrival)
         self.film.log.write(it, micros)
-        self.sink(pieces, micros, it.number)
+        self.sink(pieces, micros, self.numbers.of(it.number))
         self.film.chunks.write(it.number, micros, getattr(it, "chunks", ()))
         self.film.count()
         if time.monotonic() > self.looked + self.film.kind.clock_every:

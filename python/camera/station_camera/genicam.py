@@ -16,8 +16,9 @@ from gi.repository import Aravis, GLib  # noqa: E402
 from . import samples  # noqa: E402
 from .clock import Clock  # noqa: E402
 from .counts import Counts, Lost  # noqa: E402
-from .faults import Gone, Refused  # noqa: E402
+from .faults import Failed, Gone, Refused  # noqa: E402
 from .text import BadFrames, Form  # noqa: E402
+from .waiting import socket_bytes  # noqa: E402
 from .words import Wanted  # noqa: E402
 
 # Aravis' own camera without hardware, whose frames have known pixels.
@@ -30,8 +31,6 @@ BUFFER_ROOM, BUFFERS_LEAST, BUFFERS_MOST = 256_000_000, 8, 200
 POLL, SILENCE, STUCK = 0.2, 2.0, 10.0
 # How often the clocks are compared.
 CLOCK_EVERY = 60.0
-# What the socket of GigE Vision is to hold while nobody looks at it: some frames, within these.
-SOCKET_FRAMES, SOCKET_LEAST, SOCKET_MOST = 4, 4_000_000, 32_000_000
 OK = Aravis.BufferStatus.SUCCESS
 # The names that streams have for what they count. Those of GigE Vision count packets.
 COUNTED = {"resent": "n_resent_packets", "missing": "n_missing_packets"}
@@ -101,6 +100,8 @@ def device_of(serial: str) -> str | None:
 def protocol_of(serial: str) -> str:
     """How the camera of a serial number is connected; nothing where it isn't found. It isn't
     opened, so another program may have it."""
+    if serial.startswith(FAKE):
+        Aravis.enable_interface(FAKE)
     for place, words in ids():
         if serial in words:
             return Aravis.get_device_protocol(place) or ""
@@ -136,6 +137,11 @@ def look_at(place: int) -> Found:
         return known._replace(why=fault.message)
 
 
+def ranged(word: str, now: float, least: float, most: float) -> dict[str, Any]:
+    """A number that may be changed, and its bounds."""
+    return {"word": word, "now": now, "least": least, "most": most}
+
+
 def serial_of(place: int) -> str:
     """The word by which a file names a camera."""
     if Aravis.get_device_protocol(place) == FAKE:
@@ -152,6 +158,9 @@ def rates(camera: Any) -> dict[str, float]:
 
 class Camera:
     """A camera that was opened and set as a file asks for."""
+
+    # What it takes while it films.
+    AT_ONCE = ("EXPOSURE", "GAIN")
 
     def __init__(
         self, wanted: Wanted, tell: Callable[[str], None], identity: str | None = None
@@ -204,6 +213,34 @@ class Camera:
             if value is not None:
                 with said(f"{key}={value}", Refused):
                     call(value)
+
+    def change(self, values: dict[str, str]) -> None:
+        """Sets what may be set while it films."""
+        for key, value in values.items():
+            with said(f"{key}={value}", Refused):
+                (self._exposure if key == "EXPOSURE" else self._gain)(float(value))
+
+    def size(self) -> tuple[int, int]:
+        """The size of its frames."""
+        return self.width, self.height
+
+    def takes(self) -> list[dict[str, Any]]:
+        """What may be changed, with what it has now, and between which bounds."""
+        it, found = self.camera, []
+        with said("it doesn't say what it takes", Failed):
+            if it.is_exposure_time_available():
+                bounds = it.get_exposure_time_bounds()
+                found.append(ranged("EXPOSURE", it.get_exposure_time(), *bounds))
+            if it.is_gain_available():
+                found.append(ranged("GAIN", it.get_gain(), *it.get_gain_bounds()))
+            x, y, width, height = it.get_region()
+            most = tuple(it.get_sensor_size())
+            found.append({"word": "REGION", "now": f"{width}x{height}+{x}+{y}", "sensor": most})
+        with contextlib.suppress(GLib.Error):
+            choices = ["off", *it.dup_available_trigger_sources()]
+            now = self.wanted.trigger or "off"
+            found.append({"word": "TRIGGER", "now": now, "choices": choices})
+        return found
 
     def _feature(self, name: str, value: str) -> None:
         """Sets a feature by its name; one without a value is a command."""
@@ -460,7 +497,7 @@ def widen(
 ) -> None:
     """Gives the socket of a stream room for some frames, and says where the system doesn't allow
     that. Without it Aravis leaves the socket as large as the system makes any."""
-    wanted = max(SOCKET_LEAST, min(SOCKET_MOST, SOCKET_FRAMES * payload))
+    wanted = socket_bytes(payload)
     stream.set_property("socket-buffer", Aravis.GvStreamSocketBuffer.FIXED)
     stream.set_property("socket-buffer-size", wanted)
     has = (allowed or socket_room)(wanted)

@@ -41,8 +41,8 @@ def film(wanted: Wanted, out: Text, tell: Callable[[str], None], asked: Callable
         return
     command = ffmpeg_words(wanted)
     tell(
-        f"filming {wanted.source} by ffmpeg: it has no numbers, so what is lost isn't counted, and "
-        "frames have the time of their arrival"
+        f"filming {wanted.source} by ffmpeg: it has no numbers, so the station estimates what is "
+        "lost, and frames have the time of their arrival"
     )
     os.dup2(out.descriptor, 1)
     for number in (signal.SIGPIPE, signal.SIGTERM, signal.SIGINT, signal.SIGHUP):

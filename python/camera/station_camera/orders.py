@@ -6,6 +6,7 @@ import grp
 import os
 import pwd
 import subprocess
+from pathlib import Path
 
 GROUP = "loop_station"
 
@@ -22,6 +23,23 @@ def is_member(name: str) -> bool:
         return grp.getgrnam(GROUP).gr_gid in os.getgrouplist(name, pwd.getpwnam(name).pw_gid)
     except KeyError:
         return False
+
+
+def is_known_here(name: str) -> bool:
+    """Whether the window in which a user has called sudo has the group: one in which the user has
+    signed in before hasn't. Where there is no such window, it counts as having it."""
+    try:
+        user, group = str(pwd.getpwnam(name).pw_uid), str(grp.getgrnam(GROUP).gr_gid)
+        process = os.getppid()
+        while process > 1:
+            text = Path(f"/proc/{process}/status").read_text(encoding="ascii", errors="replace")
+            has = {line[0]: line[1:] for line in map(str.split, text.splitlines()) if line}
+            if has["Uid:"][0] == user:
+                return group in [*has["Gid:"], *has["Groups:"]]
+            process = int(has["PPid:"][0])
+    except (KeyError, OSError):
+        pass
+    return True
 
 
 def command(name: str) -> str:

@@ -8,7 +8,8 @@ from typing import Any, NamedTuple
 
 from . import needed, network, v4l2, words
 from .faults import Failed, Refused
-from .film import Ended, Film, OfGenicam, OfLinux
+from .changes import Changes
+from .film import Ended, Film, Given, OfGenicam, OfLinux
 from .text import BadFrames, NobodyReads, Text
 
 
@@ -22,6 +23,8 @@ class Options(NamedTuple):
     frames: int | None = None
     log: str | None = None
     chunks: str | None = None
+    set: str | None = None
+    state: str | None = None
 
 
 def options(given: list[str]) -> Options | None:
@@ -32,7 +35,7 @@ def options(given: list[str]) -> Options | None:
         word = left.pop(0)
         if word in ("--list", "--fake"):
             found[word[2:]] = True
-        elif word in ("--to", "--log", "--chunks") and left:
+        elif word in ("--to", "--log", "--chunks", "--set", "--state") and left:
             found[word[2:]] = left.pop(0)
         elif word == "--frames" and left and left[0].isdecimal() and int(left[0]):
             found["frames"] = int(left.pop(0))
@@ -123,7 +126,8 @@ def main(given: list[str], doc: str) -> int:
 def film(given: Options, tell, calls: Any = None) -> int:
     """Films a camera; returns the status."""
     try:
-        wanted = words.wanted(Path(given.file or "").read_text(encoding="utf-8"))
+        content = Path(given.file or "").read_text(encoding="utf-8")
+        wanted = words.wanted(content)
     except (OSError, UnicodeDecodeError) as fault:
         tell(f"{given.file}: {getattr(fault, 'strerror', None) or fault}")
         return 1
@@ -137,7 +141,9 @@ def film(given: Options, tell, calls: Any = None) -> int:
             network.film(wanted, out, tell, asked)
             return 0
         kind = OfGenicam(wanted, tell) if wanted.genicam else OfLinux(wanted, tell, calls)
-        Film(kind, out, tell, asked, given.frames, given.log, given.chunks).run()
+        changes = Changes(content, given.set, given.state, tell)
+        more = Given(given.log, given.chunks, changes if given.set or given.state else None)
+        Film(kind, out, tell, asked, given.frames, more).run()
     except Ended:
         return 0
     except (NobodyReads, BadFrames, Refused, Failed, OSError) as fault:

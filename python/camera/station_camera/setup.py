@@ -36,6 +36,7 @@ class Paths(NamedTuple):
     stores: Path
     page: Path
     token: Path
+    changed: Path
 
     def pipe(self, name: str) -> Path:
         """The pipe of a camera."""
@@ -55,6 +56,7 @@ def paths_below(root: str) -> Paths:
         lib,
         etc / "page.toml",
         etc / "page.token",
+        top / "var/lib/loop_page/cameras",
     )
 
 
@@ -108,18 +110,20 @@ class Setup:
         if text is None:
             raise Stopped(f"{self.paths.config} has no camera {name}")
         store = next((it.get("store") for it in self.cameras() if it.get("name") == name), None)
+        is_followed = self.is_followed(text)
         self._write(self.paths.config, text)
         file = self.paths.cameras / f"{name}.camera"
         if file.exists():
             old = written.free(file, "removed")
             file.rename(old)
             self.tell(f"{file} is {old} now")
+        self.forget_changes(name)
         if not self.given.no_start:
             services.run("disable", "--now", f"loop_camera@{name}.service")
             if services.is_active("loop_station.service"):
                 # A station without a camera doesn't begin.
                 left = written.table_of(text, self.paths.config).get("camera")
-                services.run("restart" if left else "stop", "loop_station.service")
+                self._follow(is_followed) if left else services.run("stop", "loop_station.service")
         self.tell(
             f"{name} is removed; its store stays: {self.paths.stores / (store or name + '.loop')}"
         )
@@ -385,6 +389,9 @@ class Setup:
             values |= {"save_to": old.get("save_to", clips), "release": True}
         elif old.get("release"):
             values["release"] = False
+        if not old:
+            # No press ends the recording; clips that stay locked go by whoever releases them alone.
+            values["when_full"] = "release oldest" if is_released else "stop"
         heads = {
             "orders": str(self.paths.orders),
             "answers": str(self.paths.answers),
@@ -427,9 +434,8 @@ class Setup:
             True,
             True if self.given.move_store else None,
         ):
+            # A station that records into it makes a new one within a second.
             moved = written.free(store, time.strftime("%Y-%m-%dT%H-%M-%SZ", time.gmtime()))
-            if not self.given.no_start and services.is_active("loop_station.service"):
-                services.run("stop", "loop_station.service")
             for path in (store, store.with_name(store.name + ".events")):
                 if path.exists():
                     path.rename(moved.with_name(moved.name + path.name.removeprefix(store.name)))
@@ -456,7 +462,24 @@ class Setup:
                 raise Stopped(f"{self.paths.page}: {fault}") from None
         return f"http://{listen}/"
 
-    def start(self, name: str, store: Path, page: str | None) -> None:
+    def is_followed(self, text: str) -> bool:
+        """Whether a station that runs by the old text can go on by a new one: it takes orders
+        there, and only cameras are others."""
+        old, new = (written.table_of(it, self.paths.config) for it in (self.config(), text))
+        fixed = ("orders", "answers", "answers_form", "saves", "times", "events")
+        return old.get("orders") == str(self.paths.orders) and all(
+            old.get(it) == new.get(it) for it in fixed
+        )
+
+    def _follow(self, is_followed: bool) -> None:
+        """Lets a station that runs follow its new file."""
+        if is_followed:
+            self.tell("the station reads its file anew: all other cameras go on")
+        else:
+            self.tell("the station begins anew: every camera pauses for a moment")
+        services.run("reload" if is_followed else "restart", "loop_station.service")
+
+    def start(self, name: str, store: Path, page: str | None, is_followed: bool) -> None:
         """Starts the services, and waits for the first frame."""
         before = services.store_at(store)
         seen = before.next if before is not None else 0
@@ -465,11 +488,14 @@ class Setup:
         )
         services.run("daemon-reload")
         services.run("enable", *units)
-        # Each reads its file when it begins. A stop stores what waits.
         if services.is_active(units[0]):
-            self.tell("the station begins anew: every camera pauses for a moment")
-        for unit in units:
-            services.run("restart", unit)
+            self._follow(is_followed)
+        else:
+            services.run("restart", units[0])
+        for unit in units[1:]:
+            # The page follows the station by itself.
+            if unit != "loop_page.service" or not services.is_active(unit):
+                services.run("restart", unit)
         self.tell(f"started: {', '.join(units)}; waiting for a stored frame")
         following = services.wait_for_frame(store, seen, FIRST_FRAME)
         if following is None:
@@ -484,8 +510,11 @@ class Setup:
         station's group."""
         pipe = written.table_of(self.config(), self.paths.config).get("orders", self.paths.orders)
         plain, user = f"echo keep {name} >{pipe}", orders.user()
-        if user is None or orders.is_member(user) or not self.is_real():
+        if user is None or not self.is_real():
             return plain
+        by_group = f"sg {orders.GROUP} -c '{plain}'"
+        if orders.is_member(user):
+            return plain if orders.is_known_here(user) else by_group
         asked = f"Shall {user} give the station orders, by its group {orders.GROUP}?"
         if self.ask.yes(asked, True, self.given.group):
             why = orders.add(user)
@@ -494,7 +523,7 @@ class Setup:
                     f"{user} is in the group {orders.GROUP} now: other windows know it once {user} "
                     "has signed in again"
                 )
-                return f"sg {orders.GROUP} -c '{plain}'"
+                return by_group
             self.tell(f"{user} can't be added to the group {orders.GROUP}: {why}")
         self.tell(f"{user} may give no orders without sudo: {orders.command(user)}")
         return f"echo keep {name} | sudo tee {pipe}"
@@ -503,6 +532,13 @@ class Setup:
         """Writes a file, and tells where the old one is."""
         old = written.replace(path, text)
         self.tell(f"{path} is written" + (f"; the old one is {old}" if old else ""))
+
+    def forget_changes(self, name: str) -> None:
+        """What was changed of a camera at the page doesn't count any more."""
+        path = self.paths.changed / f"{name}.camera"
+        if path.exists():
+            path.unlink()
+            self.tell(f"what was changed of {name} at the page is forgotten")
 
     def run(self) -> None:
         """All of it."""
@@ -532,14 +568,16 @@ class Setup:
         minutes = self.minutes(form, name, is_released)
         is_timed = wanted.clock != "arrival"
         text, store = self.station(name, minutes, is_timed, is_released)
+        is_followed = self.is_followed(text)
         self._write(file, made)
+        self.forget_changes(name)
         self.old_store(store, form, minutes)
         self._write(self.paths.config, text)
         page = self.page()
         if self.given.no_start:
             self.tell("nothing was started (--no-start)")
         else:
-            self.start(name, store, page)
+            self.start(name, store, page, is_followed)
         if page:
             self.tell(f"the page: {page}  its token: sudo cat {self.paths.token}")
         if not self.given.no_start:

@@ -240,6 +240,9 @@ class Handle:
 class Camera:
     """A camera that was opened and set as a file asks for."""
 
+    # What it takes while it films.
+    AT_ONCE = ("CONTROL_",)
+
     def __init__(
         self,
         wanted: Wanted,
@@ -270,6 +273,27 @@ class Camera:
     def close(self) -> None:
         """Gives the camera back, so that it can be opened anew."""
         self.handle.close()
+
+    def change(self, values: dict[str, str]) -> None:
+        """Sets what may be set while it films."""
+        given = [(key.removeprefix("CONTROL_"), value) for key, value in values.items()]
+        try:
+            controls.settle(self.handle.raw, given, self.tell)
+        except controls.Wrong as fault:
+            raise Refused(str(fault)) from None
+        except OSError as fault:
+            raise said(self.path, fault) from None
+
+    def size(self) -> tuple[int, int]:
+        """The size of its frames."""
+        return self.took.width, self.took.height
+
+    def takes(self) -> list[dict[str, Any]]:
+        """What may be changed, with what it has now, and between which bounds."""
+        return [
+            {"word": f"CONTROL_{name}", **found}
+            for name, found in controls.ranges(self.handle.raw).items()
+        ]
 
     def _timings(self) -> None:
         """Takes the timing of an input's signal, where it has one (HDMI), and asks to be told where

@@ -38,6 +38,8 @@ KINDS = {
 CLOCKS = ("tied", "ptp", "arrival")
 FEATURE, CONTROL = "FEATURE_", "CONTROL_"
 OPEN_ENDED = {"GENICAM": FEATURE, "DEVICE": CONTROL}
+# What may be changed while a camera films, by how the words begin.
+CHANGING = {"GENICAM": ("EXPOSURE", "GAIN", "TRIGGER", "REGION"), "DEVICE": (CONTROL,)}
 # GenICam's names of features.
 FEATURE_NAME = re.compile(r"[A-Za-z_][A-Za-z0-9_]{0,99}")
 
@@ -152,7 +154,11 @@ def one_of(
 
 def wanted(content: str) -> Wanted:
     """What a file asks for. What can't be is refused by its key."""
-    found = lines_of(content)
+    return wanted_in(lines_of(content))
+
+
+def wanted_in(found: dict[str, str]) -> Wanted:
+    """The same by the values of its keys."""
     kinds = [key for key in KINDS if found.get(key)]
     if len(kinds) != 1:
         raise BadFile(

@@ -209,8 +209,8 @@ class Bridge:
         """The states of station and cameras."""
         level, text = status["station"]
         self.states.set(f"{self.base}/state", self.state(level, text))
-        words = ("name", "level", "kind", "short", "state", "given_up", "behind", "room", "keeps",
-                 "seconds", "frames", "locked")
+        words = ("name", "level", "kind", "short", "state", "given_up", "lost", "estimated",
+                 "clock_us", "behind", "room", "keeps", "seconds", "frames", "locked")
         for camera in status["cameras"]:
             found = {word: camera[word] for word in words if word in camera}
             self.states.set(f"{self.base}/cameras/{camera['name']}", self.dressed(found))
@@ -271,7 +271,7 @@ class Bridge:
             if event["until_us"] is None and now - since >= SETTLED_SECONDS:
                 words = ("note", "tag", "cameras", "bytes", "lacks", "clips")
                 found = {"event": event["number"]} | span_of(event)
-                found |= {word: event[word] for word in words}
+                found |= {word: event[word] for word in words} | {"lost": event.get("lost", 0)}
                 self.tell_once(keys, "kept", self.dressed(found))
         self.events = seen
 

@@ -184,5 +184,7 @@ def kept_of(found: dict) -> dict:
         ends = min(it["from_us"] for it in clips), max(it["to_us"] for it in clips)
         told |= span_of({"from_us": ends[0], "to_us": ends[1]})
     words = ("camera", "kept", "clips", "until_us", "held_us", "asked_us", "why")
-    told["cameras"] = [{word: one[word] for word in words} for one in answers]
+    told["cameras"] = [
+        {word: one[word] for word in words} | {"lost": one.get("lost", 0)} for one in answers
+    ]
     return told | {"text": " ".join(one["text"] for one in answers)}

@@ -19,6 +19,7 @@ stands on it.
     notes       what people write beside clips
     whole       files that are replaced whole
     noting      notes of clips that grow, or aren't seen yet
+    tuning      cameras that are set from the browser
     causes      why events were kept: who pressed, or what gave the order
     search      events that are looked for
     alerts      what went wrong, until somebody has seen it

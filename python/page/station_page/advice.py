@@ -12,6 +12,10 @@ ADVICE = {
     "locked": "The camera is well: every block of its ring belongs to an event, so there is no room "
         "for new frames. Release events that you don't need, and recording goes on at once. "
         "Download them before, if they matter.",
+    "full": "The camera is well, and goes on: its file says in `when_full` which event goes first. "
+        "Download what matters, or release events yourself.",
+    "clock": "Set the camera's clock, by NTP or PTP, or let the station take the times of arrival "
+        "(`times_from`).",
     "silent": "See that the camera has power, that its cable is in and its program runs. The "
         "station opens the source again by itself.",
     "empty": "Wait a moment. If no frame comes, see that the camera's program runs.",

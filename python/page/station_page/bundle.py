@@ -10,7 +10,7 @@ import layout
 
 from . import limits, pictures
 from .chunks import table_of
-from .films import Fetch, Film, Gathered, Text, csv_of
+from .films import Fetch, Film, Gathered, Text, csv_of, holes_csv, holes_of
 from .words import iso
 
 # What a zip may have of each camera, and how each is told in its text.
@@ -18,7 +18,8 @@ PARTS = {
     "mp4": "a film (H.264), for the eye",
     "y4m": "the frames as they are stored, byte for byte (YUV4MPEG2)",
     "png": "a picture of each frame",
-    "csv": "number, time and the camera's own count of each frame; _chunks.csv has what it said",
+    "csv": "number, time and the camera's own count of each frame; _chunks.csv has what it said, "
+        "and _holes.csv where frames were lost",
 }
 
 
@@ -124,9 +125,10 @@ class Bundle:
             if depths != [8]:
                 size += f" of {' and '.join(map(str, depths))} bits"
             span = f"{iso(clip.since)} to {iso(clip.until)}, frames {clip.first} to {clip.last}"
+            lost = sum(it.lost for it in holes_of(fetch))
             lines.append(
                 f"{self.called(fetch).split('/')[1]}: {span}, {size} at {geometry.rate():g} a "
-                f"second"
+                f"second, {lost} lost"
             )
         lines += ["", *(f".{part}: {PARTS[part]}" for part in self.what), ""]
         return "\n".join(lines).encode()
@@ -192,6 +194,8 @@ class Bundle:
     def csv_pieces(self, fetch: Fetch) -> Iterator:
         """The table of times, and, where the camera has said it, what it said of each frame."""
         yield ".csv", fetch.clip.since, csv_of(fetch)
+        if holes := holes_of(fetch):
+            yield "_holes.csv", fetch.clip.since, holes_csv(holes)
         if table := table_of(self.chunks, fetch):
             yield "_chunks.csv", fetch.clip.since, table
 

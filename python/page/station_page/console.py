@@ -29,6 +29,8 @@ VIEW = {"stream", "turn", "width", "cameras", "stretch", "moment", "speed", "unt
 
 # Under what fetches of events are counted, beside those of each camera.
 EVENTS = ""
+# So many changes of cameras are marked on the timeline, the newest.
+CHANGES = 50
 
 
 class Console:
@@ -58,6 +60,8 @@ class Console:
         get("/api/event.zip", self.zip, allow_head=False)
         post("/api/event/note", self.note)
         post("/api/event/release", self.release)
+        get(rf"/api/cameras/{camera}/settings", self.settings)
+        post("/api/camera", self.tune)
         get(rf"{frame}/value", self.value)
         get(rf"{frame}/light", self.light)
         get(rf"{frame}/picture", self.picture)
@@ -90,7 +94,8 @@ class Console:
 
     def events_of(self, clips: list[dict]) -> list[dict]:
         """The events of some clips."""
-        return events_of(clips, self.laboratory.heard, self.laboratory.causes.of)
+        causes = self.laboratory.causes
+        return events_of(clips, self.laboratory.heard, causes.of, causes.changed)
 
     def more(self) -> dict:
         """What the console shows of each camera beside its state."""
@@ -101,7 +106,7 @@ class Console:
             if watched.reading:
                 found[name] |= room_of(watched.reading)
                 found[name]["disk"] = figures_of(watched.reading, watched.space)
-        return {"cameras": found}
+        return {"cameras": found, "changes": list(self.laboratory.causes.changes)[-CHANGES:]}
 
     async def stream(self, request: web.Request) -> web.StreamResponse:
         """All that is new, until the page goes away."""
@@ -247,6 +252,20 @@ class Console:
         work = asyncio.to_thread(self.laboratory.noting.put, found, body["note"])
         await self.page.change(request, "note", order, work)
         return web.json_response({"text": "The note is written."})
+
+    async def settings(self, request: web.Request) -> web.Response:
+        """What of a camera may be set, with what it has now."""
+        tuning, name = self.laboratory.tuning, request.match_info["camera"]
+        return web.json_response(await asyncio.to_thread(tuning.settings, name))
+
+    async def tune(self, request: web.Request) -> web.Response:
+        """Sets words of a camera."""
+        body = await self.page.body(request, {"camera", "set"})
+        name, wish = self.laboratory.watched(body.get("camera")).camera.name, body.get("set")
+        who = ", ".join(self.page.gate.who(request))
+        work = self.laboratory.tuning.change(name, wish, who)
+        text = await self.page.change(request, "set", f"{name}: {str(wish)[:200]}", work)
+        return web.json_response({"text": text})
 
     async def release(self, request: web.Request) -> web.Response:
         """Releases all clips of an event. What isn't is said, and the rest is released

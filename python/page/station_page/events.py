@@ -4,6 +4,8 @@ page didn't hear it, it goes by their times."""
 import collections
 from collections.abc import Callable
 
+from lapyrei.losses import lost_at_turn, lost_between
+
 from .heard import Heard, Told
 from .reader import store_of
 
@@ -91,15 +93,18 @@ def events_of(
     clips: list[dict],
     heard: Heard | None = None,
     cause_of: Callable[[int | None], dict | None] = lambda number: None,
+    changed: Callable[[list[str], int, int], list[dict]] = lambda *_: [],
 ) -> list[dict]:
     """The events of all clips, the newest first, as objects for JSON: `key` names an event as long
     as its clips stay, and `number` is the station's, where it is known; times are in microseconds
-    since 1970. `cause_of` says of a number why it was kept."""
+    since 1970. `cause_of` says of a number why it was kept, and `changed` what was changed of
+    cameras within a time."""
     heard = heard or Heard()
     found = []
     for group in groups_of(clips):
         event = event_of(group, heard)
-        found.append(event | {"cause": cause_of(event["number"])})
+        changes = changed(event["cameras"], event["from_us"], event["to_us"])
+        found.append(event | {"cause": cause_of(event["number"]), "changes": changes})
     return sorted(found, key=lambda it: (it["to_us"], it["from_us"], it["key"]), reverse=True)
 
 
@@ -122,17 +127,36 @@ def event_of(group: Group, heard: Heard) -> dict:
         "archived": all(it.get("archived", False) for it in ordered),
         "until_us": told.until if told.goes_on() else None,
         "lacks": lacks_of(told),
-        "lost": sum(
-            heard.lost(name, group.since, group.until) for name in {it["camera"] for it in ordered}
-        ),
+        "lost": sum(lost_of(name, group, heard) for name in {it["camera"] for it in ordered}),
         "clips": [
             {
                 key: it[key]
-                for key in ("camera", "id", "first", "last", "from_us", "to_us", "frames")
+                for key in ("camera", "id", "first", "last", "from_us", "to_us", "frames", "lost")
+                if key in it
             }
             for it in ordered
         ],
     }
+
+
+def lost_of(camera: str, group: Group, heard: Heard) -> int:
+    """How many frames of a camera were lost within an event: by its frames' sequence; and where a
+    store of before says less by that than the station has told, that many."""
+    found = sorted(
+        run for it in group.clips if it["camera"] == camera for run in it.get("runs", ())
+    )
+    # While an event grows it has a clip and a longer one, which comes later here.
+    runs = list({(run.store, run.numbers[0]): run for run in found}.values())
+    count = sum(run.lost for run in runs)
+    for one, two in zip(runs, runs[1:]):
+        if one.store is None:
+            numbers = one.numbers[1], two.numbers[0]
+            count += lost_between((one.sequences[1], two.sequences[0]), numbers) or 0
+        else:
+            count += lost_at_turn(one.sequences[1], two.sequences[0])
+    told = heard.told(group.clips[0]["event"]).parts.get(camera)
+    most = max(count, heard.lost(camera, group.since, group.until))
+    return max(most, told.lost) if told else most
 
 
 def in_order(clips: list[dict]) -> list[dict]:
@@ -154,7 +178,7 @@ def lacks_of(told: Told) -> list[dict]:
     return [
         {"camera": name, "held_us": part.held, "asked_us": part.asked, "why": part.why or ""}
         for name, part in sorted(told.parts.items())
-        if part.held is not None or part.why
+        if part.is_short() or (part.why and not part.lost)
     ]
 
 

@@ -16,6 +16,7 @@ from pathlib import Path
 
 import layout
 from lapyrei import sums
+from lapyrei.losses import Hole, holes_in
 
 from . import limits, pictures
 from .reader import Clip, Gone, Reading, Source
@@ -180,6 +181,21 @@ def csv_of(fetch: Fetch) -> bytes:
     lines = ["number,time_us,time,sequence"]
     lines += [
         f"{frame.number},{frame.time},{iso(frame.time)},{frame.sequence}" for frame in fetch.frames
+    ]
+    return ("\r\n".join(lines) + "\r\n").encode()
+
+
+def holes_of(fetch: Fetch) -> list[Hole]:
+    """Where frames of a clip were lost."""
+    return holes_in(fetch.frames, 0, len(fetch.frames) - 1)
+
+
+def holes_csv(holes: list[Hole]) -> bytes:
+    """The same as a table: the frames beside each, their times, and how many were lost."""
+    lines = ["after,before,after_us,before_us,after_time,before_time,lost"]
+    lines += [
+        f"{it.after},{it.before},{it.since},{it.until},{iso(it.since)},{iso(it.until)},{it.lost}"
+        for it in holes
     ]
     return ("\r\n".join(lines) + "\r\n").encode()
 

@@ -10,18 +10,27 @@ from .words import Line
 
 # From here on a tag is an event's number: a time after 2001. Tags of people are smaller.
 NUMBERS_FROM = 10**15
+# Where frames were lost, what is shorter than this is no time without frames: a second.
+LEAST = 1_000_000
 
 
 @dataclass
 class Part:
     """What was said of a camera's part of an event: how much of its time is held of how much, in
-    microseconds, and from when to when no frame is; and once its end is over, why it isn't whole,
-    or nothing where it is."""
+    microseconds, from when to when no frame is, and how many were lost; and once its end is over,
+    why it isn't whole, or nothing where it is."""
 
     held: int | None = None
     asked: int | None = None
     gaps: list[tuple[int, int]] = field(default_factory=list)
     why: str | None = None
+    lost: int = 0
+
+    def is_short(self) -> bool:
+        """Whether less is held than was asked for: a station tells of lost frames too, however
+        little time they took."""
+        missing = (self.asked or 0) - (self.held or 0)
+        return self.held is not None and (not self.lost or missing >= LEAST)
 
 
 @dataclass
@@ -77,10 +86,14 @@ class Heard:
         elif line.kind == "held":
             part = told.part(line["camera"])
             part.held, part.asked, part.gaps = line["held_micros"], line["asked_micros"], []
+            part.lost = line.members.get("lost") or 0
         elif line.kind == "gap":
-            told.part(line["camera"]).gaps.append((line["at"], line["at"] + line["micros"]))
+            if line["micros"] >= LEAST or not line.members.get("lost"):
+                told.part(line["camera"]).gaps.append((line["at"], line["at"] + line["micros"]))
         elif line.kind in ("event_whole", "event_not_whole"):
-            told.part(line["camera"]).why = line.members.get("why", "")
+            part = told.part(line["camera"])
+            part.why = line.members.get("why", "")
+            part.lost = max(part.lost, line.members.get("lost") or 0)
         for kept in (self.events, self.clips):
             while len(kept) > limits.EVENTS_HEARD:
                 kept.popitem(last=False)

@@ -46,6 +46,8 @@ class Held:
                         "to_us": clip.until,
                         "from": words.iso(clip.since),
                         "to": words.iso(clip.until),
+                        "lost": clip.lost(),
+                        "runs": clip.runs,
                         "seconds": (clip.until - clip.since) / 1e6 + 1 / reading.geometry.rate(),
                         "bytes": clip.count() * (reading.geometry.size + 6)
                         + len(layout.text_front(part.geometry, part.bits(clip.first))),

@@ -154,10 +154,17 @@ class Keeping:
         for name, of_one in clips.items():
             number = of_one[0]["event"]
             part = self.laboratory.heard.told(number).part(name)
-            lack = "" if part.held is None else spans.told(part.held, part.asked or 0, part.gaps)
             one = told(name, [self.clip_told(name, line) for line in of_one], number)
+            held = (part.held, part.asked) if part.is_short() else (None, None)
             found.append(
-                replace(one, lack=lack, until=ends.get(name), held=part.held, asked=part.asked)
+                replace(
+                    one,
+                    lack=spans.told(part),
+                    until=ends.get(name),
+                    held=held[0],
+                    asked=held[1],
+                    lost=part.lost,
+                )
             )
         return found + [not_kept(line, line.camera in clips) for line in refused]
 

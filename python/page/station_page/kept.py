@@ -27,6 +27,8 @@ class Kept:
     until: int | None = None
     held: int | None = None
     asked: int | None = None
+    # How many frames were lost within, as the station says it.
+    lost: int = 0
 
     def sentence(self) -> str:
         """All of it, with the camera's name."""
@@ -55,7 +57,8 @@ class Kept:
             "why": "" if self.is_kept else self.text,
         }
         found |= {"clips": clips, "lack": self.lack, "remark": self.remark, "event": self.event}
-        return found | {"until_us": self.until, "held_us": self.held, "asked_us": self.asked}
+        found |= {"until_us": self.until, "held_us": self.held, "asked_us": self.asked}
+        return found | {"lost": self.lost}
 
 
 def told(name: str, clips: list[Clip], event: int | None = None) -> Kept:

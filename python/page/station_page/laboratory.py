@@ -22,6 +22,7 @@ from .reports import remind_in, reports_in
 from .rings import Ring, Sources, Stores
 from .settings import BadSettings, Camera, Settings, cameras_of, toml_of
 from .standing import Standing
+from .tuning import Tuning
 from .warned import Warned
 from .watched import Watched, refusal, settle
 from .words import Line, Unfit
@@ -70,7 +71,7 @@ class Laboratory:
         self.orders, self.heard = Orders(settings.orders, settings.answers, self), Heard()
         self.notes, self.films = Notes(settings.notes), Films()
         self.noting, self.warned, self.shown = Noting(self), Warned(self), Standing(self)
-        self.keeping, self.held = Keeping(self), Held(self)
+        self.keeping, self.held, self.tuning = Keeping(self), Held(self), Tuning(self)
         self.archive = Archive(settings.archive)
         # Beside the notes.
         self.causes = Causes(f"{settings.notes}.causes" if settings.notes else None)
@@ -81,6 +82,9 @@ class Laboratory:
         self.is_running, self.was_running, self.said = self.orders.pipe.is_read(), False, 0.0
         self.streams, self.wanted, self.version, self.looked = 0, time.monotonic(), 0, 0.0
         self.changed, self.hurry = asyncio.Condition(), asyncio.Event()
+        # The station has read its file again, by an order or since it has begun anew: it is asked
+        # at once, and what its file says of cameras is so then.
+        self.asks, self.is_reloaded = asyncio.Event(), False
         self.state = b"{}"
 
     def on_line(self, line: Line) -> None:
@@ -93,6 +97,10 @@ class Laboratory:
             watched.making = line["percent"]
         elif watched and line.kind in ("status", "store_open", "kept"):
             watched.making = None
+        if line.kind in ("reloaded", "stopped"):
+            # The next one that answers has read it.
+            self.is_reloaded = True
+            self.asks.set()
 
     def on_event(self, line: Line) -> None:
         """A line of the station that nobody asked for."""
@@ -145,9 +153,12 @@ class Laboratory:
                 with contextlib.suppress(NoStation):
                     await self.ask_status()
             for _ in range(int(limits.IDLE_ASK_SECONDS / limits.ASK_SECONDS)):
-                await asyncio.sleep(limits.ASK_SECONDS)
-                if not self.said or self.streams or time.monotonic() - self.wanted < 10:
+                with contextlib.suppress(asyncio.TimeoutError):
+                    await asyncio.wait_for(self.asks.wait(), limits.ASK_SECONDS)
+                is_asked = self.asks.is_set() or not self.said or self.streams
+                if is_asked or time.monotonic() - self.wanted < 10:
                     break
+            self.asks.clear()
 
     async def ask_status(self) -> None:
         """Asks once."""
@@ -157,9 +168,10 @@ class Laboratory:
 
     def follow(self, names: set[str | None]) -> None:
         """The station has these cameras. One that it hasn't, and that its file doesn't name any
-        more, goes; one that is new to both comes."""
+        more, goes; one that is new to both comes; and once the station has read its file again,
+        each is as that says."""
         path = self.settings.config
-        if not names or not path or names == set(self.cameras):
+        if not names or not path or (names == set(self.cameras) and not self.is_reloaded):
             return
         try:
             cameras = cameras_of(toml_of(path), self.settings.folder, path)
@@ -172,6 +184,16 @@ class Laboratory:
             if name in names and name not in self.cameras:
                 self.cameras[name] = watched_of(found[name])
                 self.warned.tell_news(f"{name} was added to the station.")
+            elif name in names and self.is_reloaded:
+                self.change(self.cameras[name], found[name])
+        self.is_reloaded = False
+
+    def change(self, watched: Watched, camera: Camera) -> None:
+        """A camera is as this says from now on. Of another store nothing was seen yet."""
+        if watched.camera.store != camera.store:
+            self.cameras[camera.name] = watched_of(camera)
+        else:
+            watched.camera = camera
 
     def remove(self, name: str) -> None:
         """A camera was taken out of the station: nothing of it is told any more."""
@@ -210,7 +232,7 @@ class Laboratory:
 
     def forget_station(self) -> None:
         """What a station said that has ended isn't so any more, nor not so."""
-        self.said = 0.0
+        self.said, self.is_reloaded = 0.0, True
         self.heard.station_ended()
         for name, watched in self.cameras.items():
             watched.status, watched.absent, watched.making = None, "", None

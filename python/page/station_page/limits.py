@@ -188,3 +188,10 @@ EVENT_CLIPS_A_STORE = 64
 # The zips whose progress pages are told, and for how many seconds after their end.
 PROGRESS = 32
 PROGRESS_SECONDS = 30.0
+
+# How long a camera's program may take to read what was changed; how many words are changed at once,
+# how large what it says may be, and how many changes are remembered.
+TUNING_SECONDS = 8.0
+TUNED_AT_ONCE = 8
+SAID_BYTES = 1 << 18
+CHANGES = 200

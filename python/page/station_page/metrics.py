@@ -62,6 +62,27 @@ class Collector:
             "Frames that were lost since the station began",
             [(it, it["given_up"]) for it in standing["cameras"]],
         )
+        yield self.family(
+            CounterMetricFamily,
+            "loop_camera_lost",
+            "Frames that the source lost since the station began",
+            [(it, it["lost"]) for it in standing["cameras"]],
+        )
+        yield self.family(
+            CounterMetricFamily,
+            "loop_camera_lost_estimated",
+            "Those of them that are known by times alone",
+            [(it, it["estimated"]) for it in standing["cameras"]],
+        )
+        yield self.family(
+            GaugeMetricFamily,
+            "loop_camera_clock_seconds",
+            "How far the source's clock is ahead of the station's",
+            [
+                (it, None if it["clock_us"] is None else it["clock_us"] / 1e6)
+                for it in standing["cameras"]
+            ],
+        )
         yield from archived.families(standing["archive"])
         yield GaugeMetricFamily(
             "loop_station_up",

@@ -186,7 +186,19 @@ def light(geometry: layout.Geometry, data: bytes, bits: int = 8) -> dict:
     luma = luma_of(geometry, data, bits=bits)
     black, white = auto_stretch(luma, bits)
     counts = numpy.bincount(numpy.minimum(luma >> (bits - 8), BARS - 1).ravel(), minlength=BARS)
-    return {"counts": counts.tolist(), "black": black, "white": white, "bits": bits}
+    found = {"counts": counts.tolist(), "black": black, "white": white, "bits": bits}
+    return found | {"sharpness": sharpness(luma)}
+
+
+def sharpness(luma: numpy.ndarray) -> float:
+    """How steep edges are, as a part of the mean brightness: it is largest where a picture is in
+    focus, and another exposure changes little of it."""
+    if min(luma.shape) < 3:
+        return 0.0
+    plain = luma.astype(numpy.float32)
+    across, down = plain[:, 2:] - plain[:, :-2], plain[2:] - plain[:-2]
+    steep = float(numpy.sqrt(numpy.mean(across**2) + numpy.mean(down**2)))
+    return round(steep / max(1e-3, float(plain.mean())), 4)
 
 
 def value_at(geometry: layout.Geometry, part, x: int, y: int, bits: int = 8) -> dict[str, int]:

@@ -16,11 +16,24 @@ from lapyrei import layout
 from lapyrei.errors import Gone
 from lapyrei.files import Known, read_steadily
 from lapyrei.files import StoreFile as OpenStore
+from lapyrei.losses import Hole, holes_in
 
 from .workers import Workers
 
 # The frames by which the rate is reckoned.
 RATE_FRAMES = 50
+
+
+class Run(NamedTuple):
+    """Frames of a clip that follow one another: the times of the first and the last one, their
+    sequences and numbers, and how many were lost between them."""
+
+    since: int
+    until: int
+    sequences: tuple[int, int]
+    numbers: tuple[int, int]
+    lost: int
+    store: int | None
 
 
 @dataclass(frozen=True)
@@ -36,6 +49,12 @@ class Clip:
     until: int
     # Whether it was seen in its store: the station tells times in milliseconds.
     is_seen: bool = True
+    # One, or several where its camera has several stores and others have frames between.
+    runs: tuple[Run, ...] = ()
+
+    def lost(self) -> int:
+        """How many frames were lost within it."""
+        return sum(run.lost for run in self.runs)
 
     def count(self) -> int:
         """How many frames it has."""
@@ -160,6 +179,10 @@ class Held:
         """The held frames, divided where a number or time is missing."""
         raise NotImplementedError
 
+    def holes(self) -> list[Hole]:
+        """Where frames were lost, by time."""
+        raise NotImplementedError
+
     def clip(self, id_: int) -> Clip | None:
         """The clip of an id."""
         return next((clip for clip in self.clips if clip.id == id_), None)
@@ -216,10 +239,37 @@ class Reading(Held):
         )
         self.among, base = among, layout.CLIPS * (among or 0)
         self.clips = [
-            Clip(base + id_, first, last, tag, store.times[first], store.times[last])
+            Clip(
+                base + id_,
+                first,
+                last,
+                tag,
+                store.times[first],
+                store.times[last],
+                runs=tuple(self.runs_of(first, last)),
+            )
             for id_, first, last, tag in store.clips
         ]
         self.ordered: ByTime | None = None
+
+    def runs_of(self, first: int, last: int) -> list[Run]:
+        """The runs of a clip with these numbers."""
+        ends = [(first, last)]
+        if self.among is not None:
+            # Where time is missing, another store may have the frames.
+            ends = [(max(it.first, first), min(it.last, last)) for it in self.pieces()]
+        return [self.run(self.place(one), self.place(two)) for one, two in ends if one <= two]
+
+    def place(self, number: int) -> int:
+        """Where the frame of a number is among those that are held."""
+        return bisect_left(self.frames, number, key=lambda frame: frame.number)
+
+    def run(self, start: int, end: int) -> Run:
+        """The frames from a place to another one."""
+        one, two = self.frames[start], self.frames[end]
+        lost = sum(hole.lost for hole in holes_in(self.frames, start, end))
+        sequences, numbers = (one.sequence, two.sequence), (one.number, two.number)
+        return Run(one.time, two.time, sequences, numbers, lost, self.among)
 
     def each(self) -> list["Reading"]:
         """Its stores."""
@@ -262,7 +312,7 @@ class Reading(Held):
         """The same in less memory."""
         if isinstance(self.frames, Packed):
             return self
-        self.pieces()
+        self.pieces(), self.holes()
         found = copy.copy(self)
         found.frames, found.store, found.ordered = Packed(self.frames), copy.copy(self.store), None
         found.store.frames, found.store.times = [], {}
@@ -337,17 +387,27 @@ class Reading(Held):
             if start < end
         ]
 
+    def holes(self) -> list[Hole]:
+        """Where frames were lost; of one of several stores, within its pieces alone, since another
+        one may have what is between."""
+        if not hasattr(self, "missed"):
+            spans = [(0, len(self.frames) - 1)]
+            if self.among is not None:
+                spans = [(self.place(it.first), self.place(it.last)) for it in self.pieces()]
+            self.missed = [it for span in spans for it in holes_in(self.frames, *span)]
+        return self.missed
+
     def near(self, number: int, by: int, store: int | None = None) -> Frame | None:
         """The held frame that is so many held frames after a number, or the last one on that
         side; none of a store that its camera hasn't."""
         if not self.frames or store != self.among:
             return None
-        place = bisect_left(self.frames, number, key=lambda frame: frame.number)
+        place = self.place(number)
         return self.told(self.frames[min(max(place + by, 0), len(self.frames) - 1)])
 
     def frames_of(self, clip: Clip) -> list:
         """The frames of a clip."""
-        start = bisect_left(self.frames, clip.first, key=lambda frame: frame.number)
+        start = self.place(clip.first)
         return self.frames[start : start + clip.count()]
 
 

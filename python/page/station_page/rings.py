@@ -11,6 +11,7 @@ from lapyrei import layout
 from lapyrei.errors import Gone
 from lapyrei.files import Known, numbered_of
 from lapyrei.files import StoreFile as OpenStore
+from lapyrei.losses import Hole
 
 from . import limits
 from .reader import Frame, Held, Piece, Placed, Reader, Reading, Source, newest_in, store_of
@@ -108,6 +109,17 @@ class Ring(Held):
     def pieces(self) -> list[Piece]:
         """The held frames, divided where a time is missing."""
         return self.joined
+
+    def holes(self) -> list[Hole]:
+        """Where frames were lost within the stores: what is missing between them is told of events,
+        which hold all of their time."""
+        return self.missed
+
+    @functools.cached_property
+    def missed(self) -> list[Hole]:
+        """The holes, by time."""
+        found = [it for part in self.each() for it in part.holes()]
+        return sorted(found, key=lambda it: it.since)
 
     @functools.cached_property
     def joined(self) -> list[Piece]:

@@ -392,7 +392,7 @@ class Page:
         await self.laboratory.fresh()
         clips = self.laboratory.held.clips()
         for clip in clips:
-            del clip["order_tag"]
+            del clip["order_tag"], clip["runs"]
         return web.json_response({"clips": clips})
 
     async def journal(self, request: web.Request) -> web.Response:

@@ -14,6 +14,7 @@ from urllib.parse import urlsplit
 
 NAME = re.compile(r"[A-Za-z0-9_-]{1,32}")
 WORDS = {"listen", "token", "on_alert", "webhook", "notes", "folder", "archive", "station"}
+WORDS |= {"cameras", "camera_states"}
 WORDS |= {"users", "mail", "mqtt", "remind", "name", "chunks"}
 # What the console is called where nobody gives it a name, and the letters of one.
 NAMELESS = "Laboratory"
@@ -81,6 +82,10 @@ class Settings:
     folder: str = "."
     # The file of users, each with rights of their own.
     users: str | None = None
+    # The folder into which words of cameras are written that are changed here, and the one in which
+    # their programs say what they take.
+    cameras_set: str | None = None
+    camera_states: str | None = None
     # What the page's own file says beside.
     own: dict = field(default_factory=dict)
 
@@ -271,7 +276,7 @@ def parser() -> argparse.ArgumentParser:
         "--add-user",
         nargs=3,
         metavar=("FILE", "NAME", "RIGHTS"),
-        help="add a user to such a file, with rights of see,keep,release; print the token, and end",
+        help="add a user to such a file, with rights of see,keep,release,set; print the token, and end",
     )
     words.add_argument(
         "--settings",
@@ -366,7 +371,13 @@ def read_settings(given: argparse.Namespace) -> Settings:
     orders, answers = (path and os.path.join(folder, path) for path in place.values())
     is_text = answers is not None and config.get("answers_form") != "json"
     notes = os.path.join(folder, named["notes"] or "loop_page.notes")
-    archive, chunks = (text_at(own, it, given.settings or "") for it in ("archive", "chunks"))
+    archive, chunks, cameras_set, camera_states = (
+        path and os.path.join(folder, path)
+        for path in (
+            text_at(own, it, given.settings or "")
+            for it in ("archive", "chunks", "cameras", "camera_states")
+        )
+    )
     return Settings(
         cameras_of(config, folder, given.config) if given.config else [],
         orders,
@@ -378,12 +389,14 @@ def read_settings(given: argparse.Namespace) -> Settings:
         is_text,
         list(own.get("on_alert", [])),
         own.get("webhook"),
-        archive and os.path.join(folder, archive),
-        chunks and os.path.join(folder, chunks),
+        archive,
+        chunks,
         stations_of(own.get("station", []), given.settings or ""),
         name=name_in(named["name"]),
         config=given.config,
         folder=folder,
         users=users,
+        cameras_set=cameras_set,
+        camera_states=camera_states,
         own={word: own[word] for word in ("mail", "mqtt", "remind") if word in own},
     )

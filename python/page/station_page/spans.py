@@ -4,6 +4,7 @@ for a while, or because they came no more."""
 from collections.abc import Iterable
 
 from . import words
+from .heard import Part
 from .reader import Clip, Reading
 from .rings import Ring
 
@@ -13,11 +14,17 @@ HOLES_NAMED = 3
 LEAST = 1_000_000
 
 
-def told(held: int, asked: int, gaps: list[tuple[int, int]]) -> str:
-    """What the station says, in a sentence: how much is held of how much, in microseconds, and from
-    when to when no frame is."""
-    front = f"That is {words.seconds_words(held / 1e6)} of {words.seconds_words(asked / 1e6)}"
-    return f"{front}: no frames are held {times_of(gaps)}." if gaps else f"{front}."
+def told(part: Part) -> str:
+    """What the station says, in sentences: how much is held of how much, from when to when no frame
+    is, and how many were lost."""
+    many = "1 frame of it was" if part.lost == 1 else f"{part.lost} frames of it were"
+    lost = f"{many} lost." if part.lost else ""
+    if not part.is_short():
+        return lost
+    held, asked = ((it or 0) / 1e6 for it in (part.held, part.asked))
+    front = f"That is {words.seconds_words(held)} of {words.seconds_words(asked)}"
+    times = f": no frames are held {times_of(part.gaps)}." if part.gaps else "."
+    return f"{front}{times} {lost}".rstrip()
 
 
 def times_of(gaps: list[tuple[int, int]]) -> str:

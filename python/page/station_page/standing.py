@@ -5,9 +5,12 @@ from . import limits, words
 from .reader import Piece, Reading, store_in
 from .rings import Ring
 from .watched import Watched, refusal
+from .words import Status
 
-# Pieces of a timeline that a page is sent, the newest.
+# Pieces of a timeline that a page is sent, and places where frames were lost, the newest.
 PIECES = 300
+# From so much on a camera's clock is told to be off, in microseconds.
+CLOCK_OFF = 1_000_000
 AS_TEXT = (
     "The station's answers are text, which the page doesn't read. Write `answers_form = \"json\"` "
     "into its configuration, and start station and page again."
@@ -82,6 +85,11 @@ class Standing:
             "behind": status and status.behind,
             "room": status and status.room,
             "keeps": status and status.keeps,
+            "lost": status and status.lost,
+            "estimated": status and status.estimated,
+            "clock_us": status and status.clock,
+            "blocks": status and status.blocks,
+            "full": status and status.full,
         }
         reading = watched.reading
         if kind == "hangs":
@@ -102,6 +110,7 @@ class Standing:
             "frames": reading.count(),
             "locked": reading.locked(),
             "pieces": [piece_of(it) for it in reading.pieces()[-PIECES:]],
+            "holes": [[it.since, it.until, it.lost] for it in reading.holes()[-PIECES:]],
             "removed_next": removed,
             "clips": [
                 [clip.id, clip.first, clip.last, clip.since, clip.until] for clip in reading.clips
@@ -162,13 +171,7 @@ class Standing:
         # The station knows before the newest block is full.
         has_no_room = status is not None and status.room == 0 and is_silent
         if reading.is_all_locked() or has_no_room:
-            when = "has stopped" if is_silent else "stops when the newest block is full"
-            return (
-                "bad",
-                f"All of its room is locked. Recording {when}: release a clip.",
-                "locked",
-                "all locked",
-            )
+            return self.locked_state(status, is_silent)
         if is_silent:
             return self.silent_state(watched, source)
         if not reading.count():
@@ -176,6 +179,14 @@ class Standing:
         if not watched.has_moved:
             return "warn", "The page waits for a new frame.", "waiting", "waiting"
         return self.recording_state(watched, reading)
+
+    def locked_state(self, status: Status | None, is_silent: bool) -> tuple[str, str, str, str]:
+        """A camera all of whose room is locked: what comes of that, by the station's rule."""
+        front, then = "All of its room is locked.", words.when_full(status and status.full)
+        if then and not is_silent:
+            return "warn", f"{front} With the newest block {then}.", "full", "all locked"
+        when = "has stopped" if is_silent else "stops when the newest block is full"
+        return "bad", f"{front} Recording {when}: release a clip.", "locked", "all locked"
 
     def source_of(self, watched: Watched) -> str:
         """What the station says of a camera's source; `on` where it says nothing."""
@@ -221,7 +232,19 @@ class Standing:
                 f"frames were lost."
             )
             return "warn", text, "slow", f"{rate:.0f} of {asked:.0f} a second"
+        clock = watched.status.clock if watched.status else None
+        if clock is not None and abs(clock) > CLOCK_OFF:
+            return "warn", clock_text(clock), "clock", f"clock {clock / 1e6:+.1f} s"
         return "good", "Recording.", "good", "recording"
+
+
+def clock_text(micros: int) -> str:
+    """That a camera's clock is off by so much."""
+    way = "ahead of" if micros > 0 else "behind"
+    return (
+        f"Its clock is {words.seconds_words(abs(micros) / 1e6)} {way} the station's. It records, "
+        f"and a keep of seconds is right; the times of its frames are its own."
+    )
 
 
 def piece_of(piece: Piece) -> list[int]:

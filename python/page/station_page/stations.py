@@ -321,7 +321,7 @@ class Stations:
         await self.laboratory.fresh()
         clips = self.laboratory.held.clips()
         for clip in clips:
-            del clip["order_tag"]
+            del clip["order_tag"], clip["runs"]
         told = await asyncio.gather(*(self.clips_of(it) for it in self.others))
         unusable = {}
         for other, found in zip(self.others, told):

@@ -6,6 +6,8 @@ import logging
 import threading
 import time
 from bisect import bisect_left
+from itertools import chain
+from operator import itemgetter
 from typing import NamedTuple
 
 from lapyrei.answers import ALERT_NUMBERS_END as ALERTS
@@ -18,6 +20,7 @@ from .others import Other
 from .whole import clear, write_whole
 
 log = logging.getLogger("loop_page")
+AS_JSON = json.JSONEncoder(separators=(",", ":")).encode
 
 
 def named(other: Other, camera: object) -> str:
@@ -83,11 +86,16 @@ def more_of(local: dict, others: list[Other]) -> dict:
 
 def event_of(other: Other, event: dict) -> dict:
     """An event of another station, with its cameras' names here."""
-    clips = [it | {"camera": named(other, it["camera"])} for it in event["clips"]]
-    lacks = [it | {"camera": named(other, it["camera"])} for it in event["lacks"]]
-    key = "~".join(f"{it['camera']}.{it['id']}.{it['first']}" for it in clips)
-    cameras = [named(other, it) for it in event["cameras"]]
-    return event | {"key": key, "clips": clips, "lacks": lacks, "cameras": cameras}
+    # As `named` has it, once for all of them: a station may say thousands.
+    front = f"{other.name}{MARK}"
+    clips = [it | {"camera": front + it["camera"]} for it in event["clips"]]
+    return event | {
+        "key": "~".join([f"{it['camera']}.{it['id']}.{it['first']}" for it in clips]),
+        "clips": clips,
+        "lacks": [it | {"camera": front + it["camera"]} for it in event["lacks"]],
+        "cameras": [front + it for it in event["cameras"]],
+        "changes": [it | {"camera": front + it["camera"]} for it in event.get("changes", ())],
+    }
 
 
 class Presses:
@@ -146,7 +154,7 @@ class Presses:
 
 def period(event: dict) -> float:
     """The microseconds from a frame to the next, of its slowest camera."""
-    return max([(it["to_us"] - it["from_us"]) / max(1, it["frames"] - 1) for it in event["clips"]])
+    return max([(it["to_us"] - it["from_us"]) / (it["frames"] - 1 or 1) for it in event["clips"]])
 
 
 class Known(NamedTuple):
@@ -181,6 +189,8 @@ def are_near(one: Known, other: Known) -> bool:
 
 
 Group = dict[str, Known]
+# Events that may be one, each with its station.
+Crowd = list[tuple[str, Known]]
 
 
 class Beginnings:
@@ -231,36 +241,82 @@ class Beginnings:
         return None
 
 
-def grouped(events: dict[str, list[Known]], presses: Presses) -> list[Group]:
-    """The events of each station in groups: those of one press, and, where this page doesn't know
-    the press, those of one span."""
-    groups: list[Group] = []
-    by_press: dict[tuple, Group] = {}
-    by_tag: collections.defaultdict[int, Beginnings] = collections.defaultdict(Beginnings)
-    for station, own in events.items():
+def crowds(events: dict[str, list[Known]], presses: Presses) -> tuple[list[Crowd], list[Crowd]]:
+    """The events of all stations in crowds: those of each press; and of those of which this page
+    knows no press, those of a tag that begin near one another. No two of two crowds are one."""
+    by_press: collections.defaultdict[tuple, Crowd] = collections.defaultdict(list)
+    by_tag: collections.defaultdict[int, list] = collections.defaultdict(list)
+    for place, (station, own) in enumerate(events.items()):
         for event in own:
-            press = presses.of(station, event.number)
-            beginnings = by_tag[event.tag]
-            group = by_press.get(press) if press else beginnings.group(station, event)
-            if group is None or station in group:
-                groups.append(group := {})
-                if press:
-                    by_press[press] = group
-            group[station] = event
-            if not press:
-                beginnings.add(event, group)
-        for beginnings in by_tag.values():
+            press = None if event.number is None else presses.of(station, event.number)
+            if press:
+                by_press[press].append((station, event))
+            else:
+                found = by_tag[event.tag]
+                found.append((event.since, place, len(found), station, event))
+    return list(by_press.values()), [it for own in by_tag.values() for it in near_by(own)]
+
+
+def near_by(found: list[tuple[int, int, int, str, Known]]) -> list[Crowd]:
+    """Events of a tag, divided where a beginning is too far from the one before it for any two to
+    be one. Each part is in the stations' order."""
+    found.sort()
+    far = NEAR_START + max([it[4].slack for it in found])
+    breaks = [
+        place
+        for place, (old, new) in enumerate(zip(found, found[1:]), 1)
+        if new[0] - old[0] > far
+    ]
+    parts = [found[start:end] for start, end in zip([0, *breaks], [*breaks, len(found)])]
+    return [[it[3:] for it in sorted(part, key=itemgetter(1, 2))] for part in parts]
+
+
+def are_one(crowd: Crowd) -> bool:
+    """Whether any two of a crowd are of one span, and of two stations."""
+    if len({station for station, _ in crowd}) < len(crowd):
+        return False
+    since, until, slack, *_ = zip(*[event for _, event in crowd])
+    least = min(slack)
+    starts = max(since) - min(since) <= NEAR_START + least
+    return starts and max(until) - min(until) <= NEAR_END + least
+
+
+def of_press(crowd: Crowd) -> list[Group]:
+    """The events of a press in groups: of each station one event alone."""
+    groups: list[Group] = []
+    for station, event in crowd:
+        if not groups or station in groups[-1]:
+            groups.append({})
+        groups[-1][station] = event
+    return groups
+
+
+def of_span(crowd: Crowd) -> list[Group]:
+    """The events of a crowd in groups: those of one span."""
+    if are_one(crowd):
+        return [dict(crowd)]
+    groups, beginnings, last = [], Beginnings(), crowd[0][0]
+    for station, event in crowd:
+        if station != last:
             beginnings.settle()
+            last = station
+        group = beginnings.group(station, event)
+        if group is None:
+            groups.append(group := {})
+        group[station] = event
+        beginnings.add(event, group)
     return groups
 
 
 class Joined:
-    """The events of all stations as one list. What was made of an event, or of some that are one,
-    is kept until a station says something else of it, so that a new event costs little."""
+    """The events of all stations as one list. How a crowd is divided, and what was made of an
+    event, or of some that are one, is kept until a station says something else of it, so that a new
+    event costs little."""
 
     def __init__(self, presses: Presses) -> None:
         self.presses = presses
         self.stations: dict[str, dict[str, Known]] = {}
+        self.divided: dict[tuple[int, ...], list[Group]] = {}
         self.made: dict[tuple[int, ...], tuple[Group, dict, bytes]] = {}
 
     def join(self, said: dict[str, tuple[Other | None, list[dict]]]) -> tuple[list[dict], bytes]:
@@ -273,7 +329,7 @@ class Joined:
             name: {it.said["key"]: it for it in events} for name, events in stations.items()
         }
         made = {}
-        for group in grouped(stations, self.presses):
+        for group in self.groups(stations):
             mark = tuple(id(it) for it in group.values())
             made[mark] = self.made.get(mark) or one_made(group)
         self.made = made
@@ -283,6 +339,18 @@ class Joined:
             reverse=True,
         )
         return [it[1] for it in ordered], b"[" + b",".join(it[2] for it in ordered) + b"]"
+
+    def groups(self, stations: dict[str, list[Known]]) -> list[Group]:
+        """The events of each station in groups: those of one press, and, where this page doesn't
+        know the press, those of one span."""
+        pressed, near = crowds(stations, self.presses)
+        divided = {}
+        for crowd in near:
+            mark = tuple([id(event) for _, event in crowd])
+            divided[mark] = self.divided.get(mark) or of_span(crowd)
+        self.divided = divided
+        found = [group for groups in divided.values() for group in groups]
+        return found + [group for crowd in pressed for group in of_press(crowd)]
 
     def known_of(self, name: str, other: Other | None, events: list[dict]) -> list[Known]:
         """The events of a station: those that it has said before are what they were."""
@@ -297,32 +365,40 @@ class Joined:
 def one_made(group: Group) -> tuple[Group, dict, bytes]:
     """A group, what it is as one event, and that as JSON."""
     found = one_of([it.event for it in group.values()])
-    return group, found, json.dumps(found, separators=(",", ":")).encode()
+    return group, found, AS_JSON(found).encode()
+
+
+COLUMNS = itemgetter(
+    "key", "from_us", "to_us", "seconds", "bytes", "fetched", "note", "number", "until_us", "clips",
+    "cameras", "lacks",
+)
 
 
 def one_of(events: list[dict]) -> dict:
     """Events of several stations as one."""
     if len(events) == 1:
         return events[0]
-    notes = dict.fromkeys(it["note"] for it in events if it["note"])
-    numbers = [it["number"] for it in events if it["number"] is not None]
-    ends = [it["until_us"] for it in events if it["until_us"] is not None]
+    # Each word of all of them at once, since this is done for thousands.
+    keys, since, until, seconds, sizes, fetched, notes, numbers, ends, clips, cameras, lacks = zip(
+        *map(COLUMNS, events)
+    )
     return events[0] | {
-        "key": "~".join(it["key"] for it in events),
-        "number": numbers[0] if numbers else None,
-        "from_us": min(it["from_us"] for it in events),
-        "to_us": max(it["to_us"] for it in events),
-        "seconds": max(it["seconds"] for it in events),
-        "cameras": [name for it in events for name in it["cameras"]],
-        "bytes": sum(it["bytes"] for it in events),
-        "note": "; ".join(notes),
-        "fetched": any(it["fetched"] for it in events),
-        "archived": all(it.get("archived", False) for it in events),
-        "until_us": max(ends) if ends else None,
-        "lacks": [lack for it in events for lack in it["lacks"]],
-        "clips": [clip for it in events for clip in it["clips"]],
+        "key": "~".join(keys),
+        "number": next((it for it in numbers if it is not None), None),
+        "from_us": min(since),
+        "to_us": max(until),
+        "seconds": max(seconds),
+        "cameras": [*chain.from_iterable(cameras)],
+        "bytes": sum(sizes),
+        "note": "; ".join(dict.fromkeys(filter(None, notes))),
+        "fetched": any(fetched),
+        "archived": all([it.get("archived", False) for it in events]),
+        "until_us": max((it for it in ends if it is not None), default=None),
+        "lacks": [*chain.from_iterable(lacks)],
+        "clips": [*chain.from_iterable(clips)],
         "cause": next((it["cause"] for it in events if it.get("cause")), None),
-        "lost": sum(it.get("lost", 0) for it in events),
+        "lost": sum([it.get("lost", 0) for it in events]),
+        "changes": [change for it in events for change in it.get("changes", ())],
     }
 
 

@@ -15,10 +15,10 @@ from .settings import NAME, TOKEN_BYTES, BadSettings
 
 log = logging.getLogger("loop_page")
 
-# To look; to keep, write notes, and take notice of warnings; to release.
-RIGHTS = ("see", "keep", "release")
+# To look; to keep, write notes, and take notice of warnings; to release; to set cameras.
+RIGHTS = ("see", "keep", "release", "set")
 LINE = re.compile(r"(\S+)\s+(\S+)\s+([0-9a-f]{64})")
-HEAD = "# A line for each user: name, rights (of see, keep, release), SHA-256 of the token.\n"
+HEAD = "# A line for each user: name, rights (of see, keep, release, set), SHA-256 of the token.\n"
 # What a change asks for, by its address; all else asks for `see`.
 CHANGES = {
     "/api/keep": "keep",
@@ -27,6 +27,7 @@ CHANGES = {
     "/api/seen": "keep",
     "/api/release": "release",
     "/api/event/release": "release",
+    "/api/camera": "set",
 }
 
 

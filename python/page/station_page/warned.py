@@ -2,6 +2,7 @@
 import asyncio
 import collections
 import time
+from dataclasses import replace
 
 from . import limits, words
 from .watched import Watched, refusal
@@ -55,6 +56,14 @@ ALL_LOCKED = (
 )
 
 
+def nearly_locked(event: Event, status: Status) -> Event:
+    """That little room is left, with what comes then, by the rule in the station's file."""
+    if then := words.when_full(status.full):
+        text = f"{event.camera}: four fifths of its room are locked. Once all is, {then}."
+        return replace(event, text=text)
+    return event
+
+
 class Warned:
     """The warnings of a laboratory, which has the cameras, the station and the list of alerts."""
 
@@ -70,6 +79,8 @@ class Warned:
         if not event:
             return
         watched = self.laboratory.cameras.get(event.camera or "")
+        if event.kind == "nearly locked" and watched and watched.status:
+            event = nearly_locked(event, watched.status)
         if watched and line.kind in ("store_absent", "store_open"):
             watched.absent = line.members.get("why", "")
         for kind in ENDS.get(event.kind, ()):

@@ -6,21 +6,21 @@ from dataclasses import dataclass, field
 
 EPOCH = datetime.datetime(1970, 1, 1, tzinfo=datetime.timezone.utc)
 MICROSECOND = datetime.timedelta(microseconds=1)
-# The members of each kind of line, as docs/reference.md has them: a text, with # a number, with @ a
-# time; with ? it may be missing.
+# The members of each kind of line, as docs/reference.md has them: a text, with # a number, with ~
+# one that may be below 0, with @ a time; with ? it may be missing.
 FRAMES = "camera #width #height format #rate_num #rate_den ?#bits ?#store_bits"
 MEMBERS = {
     kind: members.split()
     for kind, members in {
-        "kept": "camera #id #first #last @from @to #event ?#tag",
+        "kept": "camera #id #first #last @from @to #event ?#tag ?#lost",
         "kept_none": "camera #event",
-        "held": "camera #held_micros #asked_micros #event",
-        "gap": "camera #micros @at #event",
+        "held": "camera #held_micros #asked_micros #event ?#lost",
+        "gap": "camera #micros @at #event ?#lost",
         "event_begun": "#event @from @to",
-        "event_whole": "#event camera",
-        "event_not_whole": "#event camera why",
+        "event_whole": "#event camera ?#lost",
+        "event_not_whole": "#event camera why ?#lost",
         "refused": "camera #number name ?#damage ?#frame",
-        "released": "camera #id",
+        "released": "camera #id ?why",
         "cancelled": "camera #id",
         "not_saving": "camera #id",
         "not_released": "camera #id #first",
@@ -38,7 +38,8 @@ MEMBERS = {
         "old_layout": "camera path",
         # What else stands in a list, the page reads in the store.
         "camera": "camera ?#store #next",
-        "status": "camera #stored #given_up #waiting #behind_micros #room ?#keeps #faults source ?#gaps",
+        "status": "camera #stored #given_up #waiting #behind_micros #room ?#keeps #faults source "
+        "?#gaps ?#lost ?#estimated ?~clock_micros ?#blocks ?when_full ?#full_tag",
         "bad_order": "line",
         "help": "order",
         "too_far": "",
@@ -68,6 +69,17 @@ MEMBERS = {
         "behind": "camera #micros",
         "not_noted": "camera path",
         "no_answers": "path",
+        "numbers_anew": "camera",
+        "wrong_time": "camera ~micros @at",
+        "clock_steps": "camera ~micros @at",
+        "system_clock_steps": "~micros @at",
+        "not_in_order": "camera",
+        "removed_out_of_order": "camera #frames",
+        "camera_ended": "camera why",
+        "camera_started": "camera why",
+        "not_changed": "word",
+        "reloaded": "path #cameras #ended #started",
+        "not_reloaded": "path why",
         "dropped_lines": "#lines",
     }.items()
 }
@@ -208,6 +220,14 @@ class Status:
     keeps: int | None
     faults: int
     source: str
+    # Frames that the source lost since the station began, and how many of them by their times
+    # alone; how far its clock is ahead of the station's, in microseconds; how many blocks may be
+    # locked, and what is done once all are. None of a station of before.
+    lost: int | None = None
+    estimated: int | None = None
+    clock: int | None = None
+    blocks: int | None = None
+    full: str | None = None
 
 
 def read_line(raw: str) -> Line | None:
@@ -237,21 +257,17 @@ def printed(text: object) -> int | None:
 
 def member_of(found: dict, name: str) -> tuple[str, object]:
     """A member of a line, by its name and the marks before it."""
-    key = name.lstrip("?#@")
+    key = name.lstrip("?#~@")
     value = found.get(key)
     if value is None and name.startswith("?"):
         return key, None
     mark = name.lstrip("?")[0]
-    if (
-        mark == "#"
-        and isinstance(value, int)
-        and not isinstance(value, bool)
-        and 0 <= value < 2**64
-    ):
-        return key, value
+    if mark in "#~" and isinstance(value, int) and not isinstance(value, bool):
+        if (0 if mark == "#" else -(2**63)) <= value < 2**64:
+            return key, value
     if mark == "@" and isinstance(value, str):
         return key, moment_of(value)
-    if mark not in "#@" and isinstance(value, str):
+    if mark not in "#~@" and isinstance(value, str):
         # A name of a file may have any sign.
         return key, plain(value)
     raise BadMember(key)
@@ -269,7 +285,15 @@ def status_of(line: Line) -> Status:
     """What a line of `status` says."""
     behind = line["behind_micros"] // 100_000 / 10
     counts = (line[key] for key in ("stored", "given_up", "waiting"))
-    return Status(*counts, behind, line["room"], line["keeps"], line["faults"], line["source"])
+    more = (line[key] for key in ("lost", "estimated", "clock_micros", "blocks"))
+    stands = (line[key] for key in ("room", "keeps", "faults", "source"))
+    return Status(*counts, behind, *stands, *more, rule_of(line))
+
+
+def rule_of(line: Line) -> str | None:
+    """What is done once all room is locked, as the station's file says it."""
+    rule, tag = line["when_full"], line["full_tag"]
+    return rule if tag is None else f"{rule} tag {tag}"
 
 
 def meaning(why: str) -> str:
@@ -290,6 +314,8 @@ def refusal_of(line: Line) -> str | None:
     return REFUSALS.get(line.kind)
 
 
+# Why the station has released a clip by itself.
+FULL, SAVED = "all of its room was locked, and its file has `when_full`", "it is saved"
 # The events: for each kind of line the word for it, whether it is a warning, and its sentence.
 EVENTS = {
     "source_on": ("source", False, "{camera}: frames come, {frames}."),
@@ -389,6 +415,41 @@ EVENTS = {
         "{camera}: no frame came for {micros} s before {at}: the camera, or its driver, dropped "
         "some.",
     ),
+    "numbers_anew": (
+        "numbers",
+        True,
+        "{camera}: the numbers that its source gives its frames began anew. What was lost just "
+        "before isn't known.",
+    ),
+    "wrong_time": (
+        "times",
+        True,
+        "{camera}: its source said a time {micros} s off at {at}, which isn't used. Look at the "
+        "camera's clock.",
+    ),
+    "clock_steps": (
+        "clock",
+        True,
+        "{camera}: its clock stepped by {micros} s at {at}. Keeps go by the new one.",
+    ),
+    "system_clock_steps": (
+        "clock",
+        True,
+        "The computer's clock stepped by {micros} s at {at}. Frames go on by the one it had: "
+        "restart the station to follow the new one.",
+    ),
+    "not_in_order": (
+        "order",
+        True,
+        "{camera}: which of its stores is the newest was told by times alone. Look whether one of "
+        "them is another camera's.",
+    ),
+    "removed_out_of_order": (
+        "order",
+        True,
+        "{camera}: at the start {frames} frames were removed though older ones are held: memory "
+        "was full before all stores were open. Give it more `memory`.",
+    ),
     "too_slow": (
         "too slow",
         True,
@@ -402,7 +463,7 @@ EVENTS = {
         True,
         "{camera}: clip {id} can't be saved as {path}: {why}. The station tries again each minute.",
     ),
-    "released": ("released", False, "{camera}: clip {id} was released, since it is saved."),
+    "released": ("released", False, "{camera}: clip {id} was released, since {why}."),
     "event_whole": (
         "whole",
         False,
@@ -432,12 +493,29 @@ def shown(key: str, value: object) -> str:
     return meaning(value) if key == "why" else str(value)
 
 
+# What comes of it where all room is locked, by the word `when_full` of the station's file.
+WHEN_FULL = {
+    "release saved": "the oldest event that is saved is released",
+    "release oldest": "the oldest event is released, saved or not",
+}
+
+
+def when_full(rule: str | None) -> str:
+    """What is released once all room is locked; nothing where recording stops then."""
+    oldest, _, tag = (rule or "").partition(" tag ")
+    of = f", of tag {plain(tag)}" if tag else ""
+    return WHEN_FULL[oldest] + of if oldest in WHEN_FULL else ""
+
+
 def event_of(line: Line) -> Event | None:
     """What a line without a label says that happened, if it does."""
     if line.kind not in EVENTS:
         return None
     kind, is_bad, sentence = EVENTS[line.kind]
     said = {key: shown(key, value) for key, value in line.members.items()}
+    if line.kind == "released":
+        is_bad = line["why"] == "full"
+        kind, said["why"] = ("released full", FULL) if is_bad else (kind, SAVED)
     if "rate_num" in said:
         said["frames"] = "{width}x{height} {format} {rate_num}:{rate_den}".format(**said)
         if line["bits"] is not None:

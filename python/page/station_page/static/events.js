@@ -1,7 +1,7 @@
 // Events: one press is one event of all its cameras. Play, note, download, release.
 import { ask } from "/static/link.js";
 import { may } from "/static/rights.js";
-import { Search, causeWords } from "/static/search.js";
+import { Search, causeWords, changeWords } from "/static/search.js";
 import { byId, clock, count, icon, length, make, mark, say, size, zone } from "/static/words.js";
 
 const THUMBS = 5;
@@ -194,8 +194,8 @@ class Row {
     say(this.time, clock(event.from_us));
     say(this.length, `${length(event.seconds)} \u00b7 ${camerasOf(event)}${event.tag ? ` \u00b7 tag ${event.tag}` : ""}${event.archived ? " \u00b7 archived" : ""}`);
     say(this.size, size(event.bytes));
-    say(this.cause, causeWords(event));
-    this.cause.hidden = !event.cause;
+    say(this.cause, [causeWords(event), ...(event.changes || []).map(changeWords)].filter(Boolean).join(". "));
+    this.cause.hidden = !this.cause.textContent;
     this.cause.className = `cause by-${event.cause?.kind || ""}`;
     say(this.lack, lackOf(event));
     this.lack.hidden = !this.lack.textContent;

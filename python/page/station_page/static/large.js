@@ -1,14 +1,16 @@
 // A camera as large as the screen takes: pixel values under the pointer, the histogram with black and white point, and what is known of the camera.
 import { ask } from "/static/link.js";
 import { paint, sayAge, stretchWords } from "/static/stage.js";
-import { byId, clock, colour, count, lasting, length, make, penOf, say, trimmed, zone } from "/static/words.js";
+import { byId, clock, colour, count, fullWords, lasting, length, lostFrames, lostWords, make, penOf, say, trimmed, zone } from "/static/words.js";
 
 const LIGHT_EVERY = 700;
 const FORMATS = { GREY: "grey", YM12: "colour 4:2:0", YM16: "colour 4:2:2", YM24: "colour 4:4:4" };
 
 export class Large {
-  constructor() {
+  /** `now` is the server's time in microseconds, null where it isn't known. */
+  constructor(now) {
     this.name = null;
+    this.now = now;
     this.canvas = byId("large-picture");
     this.point = null;
     this.lit = 0;
@@ -42,12 +44,14 @@ export class Large {
     say(byId("large-when"), "");
     byId("large-stretch").hidden = true;
     this.drawLight();
+    this.opened?.(name);
     this.fit();
   }
 
   /** Shows all cameras again. */
   close() {
     this.name = null;
+    this.opened?.(null);
     byId("stage").hidden = byId("events-side").hidden = false;
     byId("large").hidden = byId("large-side").hidden = true;
   }
@@ -87,7 +91,9 @@ export class Large {
       ["Holds", camera.seconds ? `${lasting(camera.seconds)}, ${camera.frames.toLocaleString("en")} frames` : "nothing"],
       ["Locked", camera.locked === undefined ? "nothing" : `${count(events, "clip")}, ${Math.round(camera.locked * 100)} %`, camera.locked > 0.8],
       ["Behind", camera.behind === null ? "unknown" : `${camera.behind.toFixed(1)} s`, camera.behind > 0.5],
-      ["Lost", camera.given_up === null ? "unknown" : count(camera.given_up, "frame"), camera.given_up > 0],
+      ["Lost", lostWords(camera), lostFrames(camera) > 0],
+      ...(Math.abs(camera.clock_us ?? 0) > 1e6 ? [["Clock", `${camera.clock_us > 0 ? "+" : "\u2212"}${length(Math.abs(camera.clock_us) / 1e6)}`, true]] : []),
+      ...(camera.full ? [["When full", fullWords(camera.full)]] : []),
       ...(more?.disk || []),
       ["Source", more?.source || "unknown"],
     ];
@@ -106,6 +112,7 @@ export class Large {
     paint(this.canvas, bytes, () => {
       if (head.camera !== this.name) return;
       this.head = head;
+      this.old();
       byId("frame").classList.remove("blank");
       byId("large-none").hidden = true;
       byId("frame").dataset.number = head.number;
@@ -120,8 +127,8 @@ export class Large {
   }
 
   /** Says how old the picture is, as on a tile. */
-  old(now) {
-    sayAge(byId("large-age"), this.name ? this.head : null, now);
+  old() {
+    sayAge(byId("large-age"), this.name ? this.head : null, this.now());
   }
 
   /** There is no picture. */
@@ -209,6 +216,7 @@ export class Large {
     const found = await ask(`/api/cameras/${encodeURIComponent(camera)}/frames/${number}/light`).catch(() => null);
     if (!found || camera !== this.name) return;
     this.light = found;
+    this.lighted?.(found);
     this.drawLight();
   }
 

@@ -10,8 +10,9 @@ import { askRights, may } from "/static/rights.js";
 import { speak } from "/static/spoken.js";
 import { Stage } from "/static/stage.js";
 import { Timeline, rangeWords } from "/static/timeline.js";
+import { Tune } from "/static/tune.js";
 import { View } from "/static/view.js";
-import { byId, clock, count, icon, length, make, mark, say, zone } from "/static/words.js";
+import { byId, clock, count, fullWords, icon, length, make, mark, say, zone } from "/static/words.js";
 
 const LOST_AFTER = 2500;
 const SECONDS = [5, 10, 15, 20, 30, 45, 60, 90, 120, 180, 300, 600, 900, 1800, 3600];
@@ -30,8 +31,8 @@ let isLost = false;
 let answeredAt = -Infinity;
 let isBegun = false;
 
-const large = new Large();
-const stage = new Stage((name) => view.open(name));
+const large = new Large(() => link.clock.at());
+const stage = new Stage((name) => view.open(name), () => link.clock.at());
 const link = new Link((head, body) => hear(head, body));
 const events = new Events({ play: (event) => view.playEvent(event), answered, now: () => timeline.now() });
 const timeline = new Timeline({ scrub: (time) => view.scrub(time), pin: (time) => view.pin(time), choose: () => name() });
@@ -39,6 +40,9 @@ const view = new View(link, stage, large, timeline, (text) => answered(text, "ba
 const ruler = new Ruler(large, () => { if (view.moment === null) view.pin(timeline.now()); });
 const alarm = new Alarm((ids) => sawAll(ids));
 view.levels = new Levels(view);
+const tune = new Tune(answered);
+large.opened = (name) => tune.open(name);
+large.lighted = (found) => tune.light(found);
 large.wish = (camera) => view.stretch[camera];
 large.stretched = (points) => view.setStretch(large.name, points);
 view.told = () => {
@@ -66,7 +70,9 @@ function hear(head, body) {
   } else if (head.kind === "state") {
     show(JSON.parse(text.decode(body)));
   } else if (head.kind === "more") {
-    more = JSON.parse(text.decode(body)).cameras;
+    const found = JSON.parse(text.decode(body));
+    more = found.cameras;
+    timeline.changed(found.changes || []);
     if (standing) show(standing);
   } else if (head.kind === "events") {
     events.show(JSON.parse(text.decode(body)));
@@ -328,14 +334,22 @@ function room() {
   byId("meter").style.width = `${Math.round(most * 100)}%`;
   const seconds = wishedSeconds() || 60, number = left(seconds);
   byId("meter").parentElement.classList.toggle("full", number === 0);
-  say(byId("room"), roomWords(number, seconds));
+  say(byId("room"), roomWords(number, seconds) + thenWords(number));
   showDisk(standing.cameras.map((camera) => more[camera.name]?.disk), timeline.now());
 }
 
 function roomWords(number, seconds) {
   if (number === null) return "";
-  if (number === 0) return `no room for another event of ${length(seconds)}: release one`;
+  if (number === 0) return `no room for another event of ${length(seconds)}: release one;`;
   return `room for ${count(number, "more event")} of ${length(seconds)}`;
+}
+
+/** What comes where all is locked, by the rule of the camera that is locked most; nothing where the station doesn't say it. */
+function thenWords(number) {
+  const known = standing.cameras.filter((camera) => camera.full && camera.locked !== undefined);
+  if (number === null || !known.length) return "";
+  const most = known.reduce((one, other) => (other.locked > one.locked ? other : one));
+  return `${number === 0 ? "" : ";"} then ${fullWords(most.full)}`;
 }
 
 // ------------------------------------------------------------------------------------------------ press
@@ -606,7 +620,7 @@ link.listen();
 link.clock.measure();
 setInterval(watch, 250);
 setInterval(() => {
-  stage.ages(link.clock.at());
-  large.old(link.clock.at());
+  stage.ages();
+  large.old();
 }, 250);
 setInterval(tick, 100);

@@ -1,10 +1,10 @@
 // What the person at this page may do. A control that one may not use isn't there, and keys don't do it either.
 import { byId } from "/static/words.js";
 
-const ALL = ["see", "keep", "release"];
+const ALL = ["see", "keep", "release", "set"];
 let rights = ALL;
 
-/** Whether the person may `keep`, or `release`. Notes and warnings that are seen are of those who may keep. */
+/** Whether the person may `keep`, `release`, or `set` cameras. Notes and warnings that are seen are of those who may keep. */
 export const may = (what) => rights.includes(what);
 
 /** Asks the server who is at the page, and shows what that person may do. A server that doesn't say it refuses by itself. */

@@ -8,6 +8,9 @@ const KINDS = { press: "Pressed", http: "By HTTP", mqtt: "By MQTT", trigger: "By
 /** Why an event was kept, and by whom; nothing where that isn't known. */
 export const causeWords = ({ cause }) => (cause ? `${KINDS[cause.kind] || "By an order"}${cause.who ? `: ${cause.who}` : ""}` : "");
 
+/** What was changed of a camera, and by whom. */
+export const changeWords = ({ camera, text, who }) => `${camera}: ${text}${who ? ` (${who})` : ""}`;
+
 /** The moment of an event's cause, or else of its first frame, in microseconds. */
 export const causeAt = (event) => event.cause?.at_us ?? event.from_us;
 

@@ -1,5 +1,5 @@
 // The pictures of all cameras, in as many columns as make them largest.
-import { byId, clock, lasting, make, mark, penOf, say } from "/static/words.js";
+import { byId, clock, lasting, lostFrames, make, mark, penOf, say } from "/static/words.js";
 
 const RATIO = 4 / 3;
 const GAP = 8;
@@ -48,13 +48,14 @@ class Tile {
     this.age = make("span", { className: "chip age num", hidden: true, title: "How old this picture is" });
     this.when = make("span");
     this.holds = make("span");
+    this.lost = make("span", { className: "ill", title: "Frames that were lost since the station began" });
     this.none = make("p", { className: "none" }, "No picture yet.");
     this.button = make("button", { type: "button" });
     this.button.onclick = () => open(name);
     const title = make("h2", { title: place < 9 ? `${name}: key ${place + 1}` : name }, name), grow = () => make("span", { className: "grow" });
     for (const canvas of [this.picture, this.ring]) canvas.setAttribute("aria-hidden", "true");
     const top = make("header", {}, make("span", { className: "rec" }), title, grow(), this.past, this.age, this.eye, this.chip, this.rate);
-    const bottom = make("footer", { className: "num" }, this.when, grow(), this.holds);
+    const bottom = make("footer", { className: "num" }, this.when, grow(), this.lost, this.holds);
     this.element = make("article", { className: "cam unknown blank" }, this.picture, this.none, top, bottom, this.ring, this.button);
     this.element.dataset.camera = name;
     this.shown = null;
@@ -72,6 +73,8 @@ class Tile {
     say(this.chip, chip);
     this.rate.hidden = !camera.rate;
     if (camera.rate) say(this.rate, `${camera.rate.toFixed(1)} fps`);
+    const lost = lostFrames(camera);
+    say(this.lost, lost ? `${lost.toLocaleString("en")} lost` : "");
     say(this.holds, camera.seconds ? `holds ${lasting(camera.seconds)}` : "");
     mark(this.button, "aria-label", `${this.name}: ${camera.state} Show it large`);
     if (!this.shown) say(this.none, camera.newest ? "The picture comes." : camera.state);
@@ -79,11 +82,12 @@ class Tile {
     this.drawRing(camera);
   }
 
-  /** Shows a picture that has come. */
-  take(head, bytes) {
+  /** Shows a picture that has come, with its own age: not for a moment with that of the one before. */
+  take(head, bytes, now) {
     head.came = performance.now();
     paint(this.picture, bytes, () => {
       this.shown = head;
+      this.old(now());
       this.element.classList.remove("blank");
       this.none.hidden = true;
       this.element.dataset.number = head.number;
@@ -130,10 +134,10 @@ class Tile {
 }
 
 export class Stage {
-  /** `open` shows a camera large. */
-  constructor(open) {
+  /** `open` shows a camera large; `now` is the server's time in microseconds, null where it isn't known. */
+  constructor(open, now) {
     this.element = byId("stage");
-    this.open = open;
+    Object.assign(this, { open, now });
     this.tiles = new Map();
     this.only = null;
     this.moment = null;
@@ -195,16 +199,16 @@ export class Stage {
   }
 
   take(head, bytes) {
-    this.tiles.get(head.camera)?.take(head, bytes);
+    this.tiles.get(head.camera)?.take(head, bytes, this.now);
   }
 
   blank(head) {
     this.tiles.get(head.camera)?.blank(head);
   }
 
-  /** Says on each live picture how old it is, at a time of the server; null where that isn't known. */
-  ages(now) {
-    for (const tile of this.tiles.values()) tile.old(now);
+  /** Says on each live picture how old it is. */
+  ages() {
+    for (const tile of this.tiles.values()) tile.old(this.now());
   }
 
   /** Says on each picture of which moment it is, where it isn't live. */

@@ -1,5 +1,5 @@
 // One timeline for all cameras, a lane each: what is held, gaps, events, what goes next, and now. It shows a span of time that follows the clock, or stands.
-import { causeAt, causeWords } from "/static/search.js";
+import { causeAt, causeWords, changeWords } from "/static/search.js";
 import { byId, clock, colour, length, make, mark, penOf, say, zone } from "/static/words.js";
 
 const SECOND = 1e6;
@@ -19,8 +19,9 @@ const SHAPES = {
   mqtt: (pen, x, y) => pen.rect(x - MARK, y - MARK, 2 * MARK, 2 * MARK),
   trigger: (pen, x, y) => corners(pen, [x, y - MARK - 1], [x + MARK + 1, y], [x, y + MARK + 1], [x - MARK - 1, y]),
   http: (pen, x, y) => corners(pen, [x, y - MARK], [x + MARK, y + MARK], [x - MARK, y + MARK]),
+  setting: (pen, x, y) => { pen.rect(x - MARK, y - 1.5, 2 * MARK, 3); pen.rect(x - 1.5, y - MARK, 3, 2 * MARK); },
 };
-const CALLED = { press: "\u25cf press", trigger: "\u25c6 trigger", mqtt: "\u25a0 MQTT", http: "\u25b2 HTTP" };
+const CALLED = { press: "\u25cf press", trigger: "\u25c6 trigger", mqtt: "\u25a0 MQTT", http: "\u25b2 HTTP", setting: "\u271a camera set" };
 
 /** A path through corners. */
 function corners(pen, ...points) {
@@ -36,6 +37,7 @@ export class Timeline {
     this.scale = byId("scale");
     this.cameras = [];
     this.events = [];
+    this.changes = [];
     this.span = 600 * SECOND;
     this.isAll = false;
     this.end = null;
@@ -87,18 +89,26 @@ export class Timeline {
   /** The events whose causes are marked above the lanes. */
   caused(events) {
     this.events = events;
-    const kinds = Object.keys(CALLED).filter((kind) => events.some((event) => event.cause?.kind === kind));
+    const has = (kind) => (kind === "setting" ? this.changes.length : events.some((event) => event.cause?.kind === kind));
+    const kinds = Object.keys(CALLED).filter(has);
     byId("causes-key").hidden = !kinds.length;
     say(byId("causes-key"), kinds.map((kind) => CALLED[kind]).join("  "));
     this.draw();
   }
 
+  /** What was changed of cameras, which is marked as causes are. */
+  changed(changes) {
+    if (changes.length === this.changes.length && changes.at(-1)?.at_us === this.changes.at(-1)?.at_us) return;
+    this.changes = changes;
+    this.caused(this.events);
+  }
+
   /** The causes of what is shown, each with its place, its moment and its words. */
   causes() {
     const names = new Set(this.cameras.map((camera) => camera.name)), [begin, end] = this.window(), width = this.scale.clientWidth;
-    return this.events.filter((event) => event.cause && event.cameras.some((name) => names.has(name))).map((event) => ({
-      x: (causeAt(event) - begin) / (end - begin) * width, at: causeAt(event), kind: event.cause.kind, words: `${clock(causeAt(event), 1)} ${causeWords(event)}`,
-    }));
+    const at = (moment, kind, words) => ({ x: (moment - begin) / (end - begin) * width, at: moment, kind, words: `${clock(moment, 1)} ${words}` });
+    const changes = this.changes.filter(({ camera }) => names.has(camera)).map((it) => at(it.at_us, "setting", changeWords(it)));
+    return [...changes, ...this.events.filter((event) => event.cause && event.cameras.some((name) => names.has(name))).map((event) => at(causeAt(event), event.cause.kind, causeWords(event)))];
   }
 
   /** The cause under the pointer. */
@@ -381,6 +391,15 @@ export class Timeline {
       fill(since, until + period, colour("held"));
     }
     for (const [, , , since, until] of camera.clips || []) fill(since, until + period, colour("clip"), room * 0.1);
+    // A mark at the foot of the lane where frames were lost.
+    for (const [since, until] of camera.holes || []) {
+      const left = Math.max(0, this.x(since)), right = Math.min(width, Math.max(this.x(until), this.x(since) + 3));
+      if (right <= 0 || left >= width) continue;
+      pen.fillStyle = colour("panel");
+      pen.fillRect(left - 1, top + tall / 2, right - left + 2, tall / 2);
+      pen.fillStyle = colour("bad");
+      pen.fillRect(left, top + tall / 2 + 1, right - left, tall / 2 - 1);
+    }
     const next = nextOf(camera);
     if (next) {
       fill(...next, colour("panel"));

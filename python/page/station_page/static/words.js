@@ -123,3 +123,21 @@ export function penOf(canvas) {
   pen.clearRect(0, 0, width, height);
   return { pen, width, height };
 }
+
+/** How many frames of a camera were lost since the station began: by its source, and given up after that. */
+export const lostFrames = (camera) => (camera.lost ?? 0) + (camera.given_up ?? 0);
+
+/** The same in words. */
+export function lostWords(camera) {
+  if (camera.given_up === null || camera.given_up === undefined) return "unknown";
+  const by = [[camera.lost, "before they came"], [camera.estimated, "of these by times alone"], [camera.given_up, "after"]];
+  const parts = by.filter(([number]) => number).map(([number, text]) => `${number.toLocaleString("en")} ${text}`);
+  return parts.length ? `${count(lostFrames(camera), "frame")}: ${parts.join(", ")}` : "none";
+}
+
+/** What comes of it where all of a ring is locked, by the station's word. */
+export function fullWords(rule) {
+  const [what, tag] = rule.split(" tag ");
+  const words = { "release saved": "the oldest saved event is released", "release oldest": "the oldest event is released" }[what];
+  return words ? words + (tag ? ` of tag ${tag}` : "") : "recording stops";
+}
