@@ -32,6 +32,9 @@
  *               one beside it (NAME.loop.sync) that comes within HOLD ends only after that, and
  *               each other one takes EACH more; all in milliseconds, FROM of CLOCK_MONOTONIC
  *   LOOP_STALLED   NAME   LOOP_STALL stalls the files whose path has this name, and no others
+ *   LOOP_READS  MICROS   each read of a file NAME.loop takes so much longer: a disk that seeks
+ *   LOOP_CLOCK  AFTER:SECONDS   the time of day is set so much further, AFTER milliseconds after it
+ *               was first asked for
  *   LOOP_BAD    NAME   each sync of a file whose path has this name fails (EIO), while there is a
  *               file `bad`
  *   LOOP_CLOSE  MILLIS   a named pipe is closed only so much later
@@ -328,7 +331,24 @@ ssize_t pwrite64(int fd, const void *bytes, size_t count, off_t at) {
     return pwrite(fd, bytes, count, at);
 }
 
+/* Takes the time of a disk that seeks. */
+static void seek(int fd) {
+    const char *given = getenv("LOOP_READS");
+    if (!given) return;
+    char name[4096], link[64];
+    snprintf(link, sizeof link, "/proc/self/fd/%d", fd);
+    ssize_t length = syscall(SYS_readlink, link, name, sizeof name - 1);
+    if (length < 0) return;
+    name[length] = 0;
+    const char *end = strstr(name, ".loop");
+    if (!end || strcmp(end, ".loop")) return;
+    long long micros = atoll(given);
+    struct timespec pause = {micros / 1000000, micros % 1000000 * 1000};
+    nanosleep(&pause, NULL);
+}
+
 ssize_t pread(int fd, void *bytes, size_t count, off_t at) {
+    seek(fd);
     return fails() ? -1 : syscall(SYS_pread64, fd, bytes, shortened(count), at);
 }
 
@@ -346,6 +366,21 @@ int ftruncate(int fd, off_t size) {
 
 int ftruncate64(int fd, off_t size) {
     return ftruncate(fd, size);
+}
+
+int clock_gettime(clockid_t clock, struct timespec *now) {
+    static long long first = 0;
+    long long after, seconds;
+    int done = syscall(SYS_clock_gettime, clock, now);
+    const char *given = getenv("LOOP_CLOCK");
+    if (done || clock != CLOCK_REALTIME || !given) return done;
+    if (sscanf(given, "%lld:%lld", &after, &seconds) != 2) return done;
+    struct timespec up;
+    syscall(SYS_clock_gettime, CLOCK_MONOTONIC, &up);
+    long long millis = up.tv_sec * 1000LL + up.tv_nsec / 1000000;
+    if (!first) first = millis;
+    if (millis - first >= after) now->tv_sec += seconds;
+    return done;
 }
 
 /* Waits while the disk stalls. */

@@ -14,7 +14,9 @@ PARENT_DEATH = 1
 # How the lines begin that tell what happens by itself, and those beside the clips of a keep.
 EVENTS = ("source ", "store ", "given up ", "all locked ", "room again ", "behind ", "caught up ",
           "no answers ", "not noted ", "dropped ", "waited ", "stood still ", "disk ", "making ",
-          "nearly all locked ", "waits ", "held ", "gap ", "times of ", "no times of ")
+          "nearly all locked ", "waits ", "held ", "gap ", "times of ", "no times of ",
+          "numbers of ", "wrong time ", "clock steps ", "system clock steps ", "not in order ",
+          "removed out of order ")
 # The file of a `Told`, and what its configuration says of it.
 ANSWERS = "answers.json"
 AS_JSON = f'answers = "{ANSWERS}"\nanswers_form = "json"\n'

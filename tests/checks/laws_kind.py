@@ -40,12 +40,13 @@ KIND = Kind(
             "a public function without a clause",
             given={
                 "LAWS": changed_core(
-                    "src/sets.rt",
-                    "    ensures { IsTrue result ↔ (newest ≤ written + 60000000) }\n{",
+                    "src/newest.rt",
+                    "    ensures { IsTrue result ↔ (counts_ahead newest other"
+                    " < counts_ahead newest one) }\n{",
                     "{",
                 )
             },
-            says="sets/is_written_since says nothing",
+            says="newest/opens_before says nothing",
         ),
         Wrong(
             "a definition that nothing names",

@@ -2,6 +2,7 @@
 from kinds import Kind, Wrong
 
 SILENT = 'dup2(open("/dev/null", O_WRONLY), 2);'
+WAITING = 'if (count == 1 && !isatty(0)) write(2, "it waits\\n", 9);'
 
 KIND = Kind(
     "output_check",
@@ -14,6 +15,16 @@ KIND = Kind(
             "a program that tells nothing on its error output",
             {"LOOP_CLI": SILENT},
             says="another answer",
-        )
+        ),
+        Wrong(
+            "a program that waits on a terminal without a word",
+            {"LOOP_CLI": f"if (count == 1) {SILENT}"},
+            says="without words, on a terminal: b''",
+        ),
+        Wrong(
+            "a program that says what it waits for on any input",
+            {"LOOP_CLI": WAITING},
+            says="without words, without a terminal",
+        ),
     ],
 )

@@ -9,6 +9,8 @@ import time
 from browser import Browser
 from conftest import Laboratory
 from page_access import STEPS as ACCESS
+from page_lost import SETTINGS
+from page_lost import STEPS as LOST
 from page_strangers import Wrong
 from page_work import NAME
 from page_work import STEPS as WORK
@@ -21,16 +23,18 @@ CAMERAS = [
     {"name": "pump", "pattern": "96x128 GREY 10:1", "scene": "beam"},
 ]
 ROOM = {"keep": 3, "slots": 50, "segments": 24}
-STEPS = (*ACCESS, *WORK)
+STEPS = (*ACCESS, *WORK, *LOST)
 
 
 @contextlib.contextmanager
 def laboratory():
     """A laboratory whose station and page run, in a new folder."""
     folder = tempfile.mkdtemp(prefix="page_check", dir="/var/tmp")
-    lab = Laboratory(folder, [ROOM | camera for camera in CAMERAS], as_it_is=True)
+    cameras = [ROOM | camera for camera in CAMERAS]
+    lab = Laboratory(folder, cameras, as_it_is=True, tells_lost=True)
+    (lab.folder / "page.toml").write_text(SETTINGS)
     try:
-        lab.start_station().start_page("--name", NAME)
+        lab.start_station().start_page("--name", NAME, "--settings", "page.toml")
         yield lab
     finally:
         lab.close()

@@ -21,7 +21,7 @@ def changed_page(name, old, new, place="python/page/station_page"):
 KIND = Kind(
     "page_check",
     [],
-    ["--quick", "tests", "browser", "console", "strangers", "units"],
+    ["--quick", "tests", "browser", "console", "stress", "strangers", "units"],
     ["LOOP_STATION"],
     (
         "sees, presses and fetches in a browser, and asks the page what it has to refuse;"
@@ -32,7 +32,7 @@ KIND = Kind(
             "a page that doesn't say what a keep lacks",
             given={
                 "LOOP_PAGE": changed_page(
-                    "keeping.py", 'lack = "" if part.held is None', 'lack = "" if True'
+                    "keeping.py", "lack=spans.told(part)", 'lack=""'
                 )
             },
             words=["station"],
@@ -124,6 +124,16 @@ KIND = Kind(
             },
             words=["--quick", "console"],
             says="lanes: ",
+        ),
+        Wrong(
+            "a page whose press counts from when it is done",
+            given={
+                "LOOP_PAGE": changed_page(
+                    "static/page.js", "link.clock.at(moment)", "link.clock.at()"
+                )
+            },
+            words=["--quick", "stress"],
+            says="moment: ",
         ),
     ],
 )

@@ -306,6 +306,7 @@ def steps(browser, lab, shots):
     """All cameras of an event go frame by frame by keys, in step: each shows the last of its frames
     until the moment, which is a frame of one of them."""
     released(lab)
+    browser.until(lambda: not rows(browser), "end of the events before")
     lab.post("/api/keep", {"seconds": 3})
     browser.until(lambda: len(rows(browser)) == 1, "event")
     event = lab.ask("/api/events").json()["events"][0]
@@ -450,7 +451,10 @@ def rights(browser, lab, shots):
     for may, offered in (
         ('["see"]', set()),
         ('["see", "keep"]', {"press", "note", "alarm-seen", "INPUT"}),
-        ('["see", "keep", "release"]', {"press", "note", "alarm-seen", "INPUT", "quiet release"}),
+        (
+            '["see", "keep", "release", "set"]',
+            {"press", "note", "alarm-seen", "INPUT", "quiet release"},
+        ),
     ):
         script = browser.cdp("Page.addScriptToEvaluateOnNewDocument", {"source": ME % may})
         try:

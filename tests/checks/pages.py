@@ -24,7 +24,7 @@ ELSEWHERE = (
     (r"^rt ", "needs the kit", None),
     (r"^tools/check", "takes minutes, and the programs", None),
     (r"^python3 -m venv|^mine/bin/pip", "needs the wheel that tools/package makes", None),
-    (r"^loop_demo", "runs until Ctrl-C, and needs the page's packages", None),
+    (r"^loop_demo", "runs until Ctrl-C: package_demo.py types it", None),
 )
 
 

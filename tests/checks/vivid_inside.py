@@ -240,23 +240,46 @@ def unplugged(variant, _):
     (DRIVER / "bind").write_text("vivid.0")
 
 
+def drop_one(knobs, film):
+    """Lets the driver drop one frame of two a second: what comes from 0.15 s after a frame on, for
+    as long as a frame takes."""
+    before = film.counted()
+    while film.counted() == before:
+        time.sleep(0.001)
+    time.sleep(0.15)
+    knobs.set(percentage_of_dropped_buffers=100)
+    time.sleep(0.5)
+    knobs.set(percentage_of_dropped_buffers=0)
+
+
 def station(variant, _):
-    """loop_station stores what loop_camera films."""
+    """loop_station stores what loop_camera films, and of which the driver drops one frame; then it
+    says how the camera stands, and keeps all. One that is compiled without a proof is slow here: it
+    takes 0.2 s for a frame."""
     place = OUT / variant / "station"
     place.mkdir(parents=True)
     os.mkfifo(place / "left.y4m")
     (place / "station.toml").write_text(
-        '[[camera]]\nname = "left"\nsource = "left.y4m"\nstore = "left.loop"\nbytes = 8000000\n'
-        'times_from = "source"\n'
+        'times = false\n[[camera]]\nname = "left"\nsource = "left.y4m"\nstore = "left.loop"\n'
+        'bytes = 8000000\ntimes_from = "source"\n'
     )
     with open(place / "told", "wb") as told:
         run = subprocess.Popen(
             ["/bin/loop_station", "station.toml"], cwd=place, stdin=subprocess.PIPE, stdout=told
         )
-    film = Film(variant, "filmed", "DEVICE=/dev/video0\n" + GREY, to=str(place / "left.y4m"))
+    knobs = Knobs("/dev/video0")
+    file = "DEVICE=/dev/video0\nDEVICE_FORMAT=GREY\nSIZE=320x180\nRATE=2\n"
+    film = Film(variant, "filmed", file, to=str(place / "left.y4m"))
+    film.count(20)
+    drop_one(knobs, film)
     film.count(60)
     film.stop()
+    knobs.handle.close()
     time.sleep(2)
+    for order in (b"status\n", b"keep left 60\n"):
+        run.stdin.write(order)
+        run.stdin.flush()
+        time.sleep(1)
     run.communicate(b"stop\n", timeout=PATIENCE)
     (place / "left.y4m").unlink()
 

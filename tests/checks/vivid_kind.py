@@ -9,9 +9,9 @@ KIND = Kind(
     "films the kernel's camera without hardware in a guest, and compares frames (qemu; network)",
     [
         Wrong(
-            "loop_camera with one wrong thing, 8 times",
+            "loop_camera with one wrong thing, 10 times",
             words=["--wrong"],
-            says="8 of 8 wrong forms are found",
+            says="10 of 10 wrong forms are found",
             status=0,
         )
     ],

@@ -63,3 +63,65 @@ def test_the_gate_has_to_have_passed_for_this_commit(release, last, commit, lack
         (release.TOP / "out").mkdir()
         (release.TOP / "out/gate").write_text(f"{commit or head}\n{last}\n")
     assert bool(release.lacks_of_gate()) == lacks
+
+
+@pytest.fixture
+def handed_out(release, tmp_path):
+    """Makes a folder of what is handed out, whose package says this of its making."""
+
+    def make(lines, lacks=()):
+        folder, root = tmp_path / "handed_out", tmp_path / "root"
+        doc = root / "usr/share/doc/lapyrei"
+        (root / "DEBIAN").mkdir(parents=True)
+        doc.mkdir(parents=True)
+        folder.mkdir()
+        control = "Package: it\nVersion: 1.2.3\nArchitecture: amd64\nMaintainer: A <a@b>\n"
+        (root / "DEBIAN/control").write_text(f"{control}Description: it\n")
+        (doc / "BUILD").write_text("".join(f"{it}\n" for it in lines))
+        package = "lapyrei_1.2.3_amd64.deb"
+        subprocess.run(["dpkg-deb", "-b", root, folder / package], check=True, capture_output=True)
+        made = [package, "lapyrei_1.2.3_static_amd64.tar.gz",
+                "lapyrei-1.2.3-py3-none-linux_x86_64.whl"]
+        sums = [f"{'0' * 64}  {it}\n" for it in made if it not in lacks]
+        (folder / "SHA256SUMS").write_text("".join(sums))
+        return folder
+
+    return make
+
+
+PROVED = [f"{it} proved and built from this commit" for it in
+          ("loop_cli", "loop_station", "liblapyrei")]
+
+
+def test_what_is_proved_from_this_commit_may_go_out(release, handed_out):
+    commit = f"commit {release.run('git', 'rev-parse', 'HEAD')[1]}"
+    assert not release.lacks_of_build(handed_out([commit, *PROVED]))
+
+
+@pytest.mark.parametrize("line", range(4))
+def test_a_trial_a_given_program_and_another_commit_do_not_go_out(release, handed_out, line):
+    commit = f"commit {release.run('git', 'rev-parse', 'HEAD')[1]}"
+    lines = [commit, *PROVED]
+    word = lines[line].split()[0]
+    lines[line] = f"{lines[line]}, with changes that are not committed" if not line \
+        else f"{word} compiled without a proof: a trial, and no release"
+    assert word in release.lacks_of_build(handed_out(lines))
+
+
+def test_static_programs_and_the_wheel_have_to_be_there(release, handed_out):
+    folder = handed_out([], lacks=["lapyrei_1.2.3_static_amd64.tar.gz"])
+    assert release.lacks_of_build(folder) == "not made: lapyrei_1.2.3_static_amd64.tar.gz"
+
+
+def test_all_that_packages_lack_is_told_at_once(release, handed_out):
+    folder = handed_out([])
+    sums = (folder / "SHA256SUMS").read_text()
+    tool = release.TOP / "tools/package"
+    tool.parent.mkdir()
+    tool.write_text(f"#!/bin/sh\n[ $1 = --repository ] || echo '{'0' * 64}  it' >$1/SHA256SUMS\n")
+    tool.chmod(0o755)
+    told = release.lacks_of_packages("KEY", folder)
+    assert (folder / "SHA256SUMS").read_text() == sums
+    for lack in ("a checksum differs", "BUILD doesn't say: commit", "InRelease isn't signed",
+                 "two runs give other bytes"):
+        assert lack in told
