@@ -70,11 +70,14 @@ def test_no_frame_is_torn_beside_a_writer(tmp_path):
 
 
 def test_a_reader_that_looks_no_second_time_has_torn_frames_there(tmp_path, monkeypatch):
-    """Else the test above would say nothing."""
+    """Else the test above would say nothing. It waits for the writer between look and read: what
+    the two do by themselves differs from one machine to the other."""
 
     def careless(self, geometry, place, number, read):
         self.look(geometry, place, number)
-        return read(geometry.slot_at(place, number % geometry.slots) + layout.HEAD)
+        at = geometry.slot_at(place, number % geometry.slots) + layout.HEAD
+        until(lambda: self.read_at(at, 1)[0] != number % 251, "other frame there")
+        return read(at)
 
     monkeypatch.setattr(StoreFile, "whole", careless)
     # Nor at the head that it reads with the pixels.
