@@ -46,7 +46,8 @@ impl CameraState {
     }
 }
 
-/// Releases a clip, where every block is locked and the configuration lets one go, and tells it.
+/// Releases a clip, where every block is locked and the configuration lets one go, and tells it. Where the disk refuses
+/// that, it is told once: the clip may be unlocked on the disk even so.
 pub(crate) fn free_block<R: Wait + Clock, D: Disk + Drop>(
     rt: &R,
     alloc: Global,
@@ -65,12 +66,17 @@ pub(crate) fn free_block<R: Wait + Clock, D: Disk + Drop>(
     let Some(oldest) = clip_to_go(rt, alloc, state, desks, rule, &clips) else {
         return;
     };
-    if unlock_part(rt, state, desks, oldest.id).is_ok() {
-        let mut lines = state.lines(alloc);
-        // Where memory for the line is refused, it isn't printed.
-        let _ = lines.released_full(state.config.name.as_str(), oldest.id);
-        state.tell(rt, lines, None);
+    let released = unlock_part(rt, state, desks, oldest.id);
+    if !state.whole.is_told(oldest.id, released.is_ok()) {
+        return;
     }
+    let (mut lines, name) = (state.lines(alloc), state.config.name.as_str());
+    // Where memory for the line is refused, it isn't printed.
+    let _ = match released {
+        Ok(()) => lines.released_full(name, oldest.id),
+        Err(fault) => lines.refused(name, fault),
+    };
+    state.tell(rt, lines, None);
 }
 
 // Of these clips the one that goes. One whose first frame can't be read stays.

@@ -16,6 +16,8 @@ pub(crate) struct WholeClips {
     saved: Mutex<Vec<SaveKey>>,
     // When it was looked last whether all is locked.
     looked: AtomicU64,
+    // The id after that of the clip whose release was refused last; 0 where one came through since.
+    refused: AtomicU64,
 }
 
 impl WholeClips {
@@ -24,6 +26,7 @@ impl WholeClips {
         WholeClips {
             saved: Mutex::new(Vec::new(alloc)),
             looked: AtomicU64::new(0),
+            refused: AtomicU64::new(0),
         }
     }
 
@@ -65,5 +68,14 @@ impl WholeClips {
             self.looked.store(now, Ordering::SeqCst);
         }
         due
+    }
+
+    /// A clip was let go, or that was refused. Returns whether that is told: of a refusal, unless it was told of the same
+    /// clip before, since it is tried again and again.
+    pub fn is_told(&self, id: u32, is_released: bool) -> bool {
+        let refused = if is_released { 0 } else { u64::from(id) + 1 };
+        let last = self.refused.load(Ordering::SeqCst);
+        self.refused.store(refused, Ordering::SeqCst);
+        is_released || last != refused
     }
 }
