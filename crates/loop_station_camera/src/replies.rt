@@ -139,20 +139,29 @@ pub(crate) fn tell_listed(
     }
 }
 
+// Tells that a camera's store isn't there, or how far it is made.
+fn tell_absent<R: Wait>(
+    rt: &R,
+    state: &CameraState,
+    why: &Absent,
+    lines: &mut Lines,
+) -> io::Result<()> {
+    let name = state.config.name.as_str();
+    let Some(percent) = state.life.making(rt) else {
+        return lines.absent(name, why);
+    };
+    match state.path_of(state.alloc, state.life.made_number(rt)) {
+        Ok(path) => lines.status_making(name, path.as_str(), u64::from(percent)),
+        Err(_) => Ok(()),
+    }
+}
+
 /// Tells the status of a camera, from what is counted of it: its disk isn't asked.
 pub fn tell_status<R: Wait>(rt: &R, state: &CameraState, lines: &mut Lines) -> io::Result<()> {
     let name = state.config.name.as_str();
     match state.jobs.attended(rt) {
         Some(Ok(())) => {}
-        Some(Err(why)) => {
-            return match state.life.making(rt) {
-                Some(percent) => match state.path_of(state.alloc, state.life.made_number(rt)) {
-                    Ok(path) => lines.status_making(name, path.as_str(), u64::from(percent)),
-                    Err(_) => Ok(()),
-                },
-                None => lines.absent(name, &why),
-            };
-        }
+        Some(Err(why)) => return tell_absent(rt, state, &why, lines),
         None => return lines.absent(name, &Absent::Opening),
     }
     let (tally, camera) = (state.tally(rt), state.life.camera(rt));

@@ -18,7 +18,7 @@ use std::time::{Clock, Duration};
 /// What is known of the camera's files that aren't open yet.
 #[derive(Clone, Copy, PartialEq, Eq)]
 pub enum Elsewhere {
-    /// One of them has no frame, so it takes frames before a block goes.
+    /// One of them has a free segment, so it takes frames before a block goes.
     Roomy,
     /// The oldest frame in them has this sequence; `newest` is that of the newest frame of all.
     From { newest: u32, oldest: u32 },

@@ -2,11 +2,10 @@
 //! and `stores` what they are.
 
 use crate::notes::read_events;
-use crate::opening::{
-    OpenStore, Opened, Unopened, elsewhere, member_of, open_first, open_others, tell_layout,
-    tell_order,
-};
+use crate::opening::{OpenStore, Opened, Unopened, member_of, open_first, open_others};
+use crate::seeing::elsewhere;
 use crate::stores::{limits_for, tell_clips};
+use crate::telling::{print, tell_layout, tell_order};
 use loop_capture::Device;
 use loop_desk::Desk;
 use loop_file::{FileDisk, FileFault};
@@ -127,9 +126,9 @@ fn tell_absence<R: AllocGlobal + Wait + Clock, W: Write + Drop>(
     };
     let mut lines = state.lines(rt.alloc());
     let (name, path) = (state.config.name.as_str(), state.config.store.as_str());
-    // Where memory for the line is refused, it isn't printed.
-    if !printed && lines.not_a_store(name, path, end).is_ok() {
-        outlet.put(rt, &lines);
+    if !printed {
+        let written = lines.not_a_store(name, path, end);
+        print(rt, outlet, &lines, written);
     }
     true
 }
@@ -164,14 +163,8 @@ fn film_into<R: AllocGlobal + Places + Threads + Wait + Clock + Sync, W: Write +
         Ok(member) => member,
         Err(why) => return why,
     };
-    let events = open_events(rt, state);
-    tell_clips(
-        rt,
-        state,
-        &mut store,
-        member.clips.as_slice(),
-        events.as_slice(),
-    );
+    let (events, clips) = (open_events(rt, state), member.clips.as_slice());
+    tell_clips(rt, state, &mut store, clips, events.as_slice());
     let first = first_of(newest, *next);
     let Some(camera) = camera_before(rt.alloc(), state, store, first) else {
         return Absent::NoBuffers;
@@ -193,6 +186,18 @@ fn film_into<R: AllocGlobal + Places + Threads + Wait + Clock + Sync, W: Write +
     if let Ok(ended) = &filmed {
         *next = Some(ended.device.next_sequence());
     }
+    after(rt, state, outlet, before, filmed)
+}
+
+// A filming has ended: what it lost is counted, and the stores that failed are left alone; `before` as for `count_lost`.
+// Returns why it ended.
+fn after<R: AllocGlobal + Wait + Clock, W: Write + Drop>(
+    rt: &R,
+    state: &CameraState,
+    outlet: &Outlet<W>,
+    before: (u64, u64),
+    filmed: Filmed,
+) -> Absent {
     count_lost(rt, state, before, &filmed);
     state.lose_rest(rt);
     leave_failed(rt, state, outlet, &filmed);
@@ -312,15 +317,11 @@ fn leave_alone<R: AllocGlobal + Wait + Clock, W: Write + Drop>(
     let Ok(path) = state.path_of(rt.alloc(), Some(number)) else {
         return;
     };
-    let mut lines = state.lines(rt.alloc());
-    let why = Absent::Store(StoreFault::MustReopen);
-    // Where memory for the line is refused, it isn't printed.
-    if is_new
-        && lines
-            .one_absent(state.config.name.as_str(), path.as_str(), &why)
-            .is_ok()
-    {
-        outlet.put(rt, &lines);
+    if is_new {
+        let mut lines = state.lines(rt.alloc());
+        let why = Absent::Store(StoreFault::MustReopen);
+        let written = lines.one_absent(state.config.name.as_str(), path.as_str(), &why);
+        print(rt, outlet, &lines, written);
     }
 }
 

@@ -398,6 +398,29 @@ enum Next {
     Break,
 }
 
+// Gives the line of a stream back that was read as the one of another; `begun`: what the frame before it may have begun
+// of a header. None: the next header follows.
+fn take_line<R: Wait, I: Read + Drop>(
+    rt: &R,
+    state: &CameraState,
+    input: &mut Input<I>,
+    begun: Begun,
+    joined: bool,
+) -> Option<Next> {
+    input.return_line();
+    let bytes = begun.bytes.get(..begun.count).unwrap_or(&[]);
+    let is_whole = begun.count == 0 || input.begins_with().ok() == Some(Joined::Header);
+    if !is_whole && !input.give_back(bytes) {
+        return Some(Next::End);
+    }
+    if joined && input.begins_with().ok() != Some(Joined::Header) {
+        // Its frames aren't as the store has them.
+        state.life.set_unusable(rt, fault_name(Y4mFault::NotY4m));
+        return Some(Next::Break);
+    }
+    None
+}
+
 // What follows a stream; `joined`: its header isn't its writer's own.
 fn goes_on<R: AllocGlobal + Wait + Clock, I: Read + Drop>(
     rt: &R,
@@ -421,16 +444,8 @@ fn goes_on<R: AllocGlobal + Wait + Clock, I: Read + Drop>(
             return Next::End;
         }
         StreamEnd::OtherLine(begun) => {
-            input.return_line();
-            let bytes = begun.bytes.get(..begun.count).unwrap_or(&[]);
-            let is_whole = begun.count == 0 || input.begins_with().ok() == Some(Joined::Header);
-            if !is_whole && !input.give_back(bytes) {
-                return Next::End;
-            }
-            if joined && input.begins_with().ok() != Some(Joined::Header) {
-                // Its frames aren't as the store has them.
-                state.life.set_unusable(rt, fault_name(Y4mFault::NotY4m));
-                return Next::Break;
+            if let Some(next) = take_line(rt, state, input, begun, joined) {
+                return next;
             }
         }
         StreamEnd::OtherHeader(bytes) => {
@@ -535,11 +550,8 @@ fn play_stream<R: AllocGlobal + Wait + Clock, I: Read + Drop, W: Write + Drop>(
 ) -> StreamEnd {
     begin_read(rt, state);
     if !paced {
-        match input.begins_with() {
-            Ok(Joined::Header) => {}
-            Ok(Joined::End) => return StreamEnd::Ended,
-            Ok(Joined::Frame | Joined::Other) => return StreamEnd::NoHeader,
-            Err(_) => return StreamEnd::Failed,
+        if let Some(end) = refused_beginning(input) {
+            return end;
         }
     }
     input.begin_line();
@@ -552,8 +564,7 @@ fn play_stream<R: AllocGlobal + Wait + Clock, I: Read + Drop, W: Write + Drop>(
     };
     let geometry = match reader.geometry(ANY_RING.segments, ANY_RING.slots) {
         Ok(geometry) => geometry,
-        Err(GeometryFault::RateUnknown) => return StreamEnd::Unusable("RateUnknown"),
-        Err(GeometryFault::BadGeometry) => return StreamEnd::Unusable("BadGeometry"),
+        Err(fault) => return StreamEnd::Unusable(geometry_fault_name(fault)),
     };
     let mut beat = beat_of(rt, state, &geometry);
     let said = said_of(state, &geometry, depth.bits());
@@ -578,11 +589,7 @@ fn play_stream<R: AllocGlobal + Wait + Clock, I: Read + Drop, W: Write + Drop>(
             Ok((bytes, line)) if fits => {
                 is_doubted = false;
                 begun = header_begun(&bytes);
-                let said = Said {
-                    time: line.time,
-                    number: line.number,
-                    ..said
-                };
+                let said = said_with(said, line.time, line.number);
                 state.feed.give(rt, &state.timeline, bytes, said, epoch);
             }
             Ok((bytes, _)) => {
@@ -593,6 +600,33 @@ fn play_stream<R: AllocGlobal + Wait + Clock, I: Read + Drop, W: Write + Drop>(
         }
     }
     unreachable!()
+}
+
+// How a stream ends before its header: what waits in the input isn't one. None: it is one.
+fn refused_beginning<I: Read + Drop>(input: &mut Input<I>) -> Option<StreamEnd> {
+    match input.begins_with() {
+        Ok(Joined::Header) => None,
+        Ok(Joined::End) => Some(StreamEnd::Ended),
+        Ok(Joined::Frame | Joined::Other) => Some(StreamEnd::NoHeader),
+        Err(_) => Some(StreamEnd::Failed),
+    }
+}
+
+// The name of what is wrong with the geometry of a header.
+fn geometry_fault_name(fault: GeometryFault) -> &'static str {
+    match fault {
+        GeometryFault::RateUnknown => "RateUnknown",
+        GeometryFault::BadGeometry => "BadGeometry",
+    }
+}
+
+// What a frame's line says of it, and what its stream says of all.
+fn said_with(said: Said, time: Option<u64>, number: Option<u64>) -> Said {
+    Said {
+        time,
+        number,
+        ..said
+    }
 }
 
 // The same of a source whose pace is set here: when its frames come says nothing of those that are lost.
