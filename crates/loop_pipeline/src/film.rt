@@ -574,20 +574,20 @@ fn film_beside<R: Wait + Clock, D: Disk + Drop, G: Guide>(
     Ok(film_back(rt, alloc, link, guide, door, back))
 }
 
-// A back of which no desk was asked, after its front has ended. Where that ticked, which it does only after all could
-// begin, what it brought is stored now.
+// A back of which no desk was asked, after its front has ended; with it, whether that ticked, which it does only after
+// all could begin: then what it brought is stored now.
 fn film_late<R: Wait + Clock, D: Disk + Drop, G: Guide>(
     rt: &R,
     alloc: Global,
     link: &Link,
     guide: &G,
     door: &Door<D>,
-    back: Back<D, G>,
-    over: bool,
+    unasked: (Back<D, G>, bool),
 ) -> Back<D, G>
-    ensures joins { Joins (door.now ≡ false) back result }
-    ensures settled { G.NOTED ≡ false → over ≡ true → IsSettledBack D.medium G.gives_up result }
+    ensures joins { Joins (door.now ≡ false) unasked.0 result }
+    ensures settled { G.NOTED ≡ false → unasked.1 ≡ true → IsSettledBack D.medium G.gives_up result }
 {
+    let (back, over) = unasked;
     if over {
         film_back(rt, alloc, link, guide, door, back)
     } else {
@@ -646,14 +646,14 @@ fn run_in<
             let front = handle.join(rt);
             let back = match filmed {
                 Ok(back) => back,
-                Err(back) => film_late(rt, alloc, link, guide, door, back, front.over),
+                Err(back) => film_late(rt, alloc, link, guide, door, (back, front.over)),
             };
             Both { front, back }
         }
         Err(refused) => {
             link.close(rt);
             let front = (refused.value)();
-            let back = film_late(rt, alloc, link, guide, door, back, front.over);
+            let back = film_late(rt, alloc, link, guide, door, (back, front.over));
             Both { front, back }
         }
     }
