@@ -4,7 +4,7 @@
 //!
 //! `calls` has the exported calls, `on_store` what they do to an open store, `open` what they share: the store over the
 //! bytes, and the answer with the log.
-//! `bytes` is the log as bytes, and `answer` what C gives and gets. A call is a function of the bytes alone: where it
+//! `memory` has that of a group. `bytes` is the log as bytes, and `answer` what C gives and gets. A call is a function of the bytes alone: where it
 //! needs bytes that aren't there, or a longer log, it is made again with them.
 #![tactic(auto)]
 
@@ -12,6 +12,7 @@ mod answer;
 mod bytes;
 mod calls;
 pub mod laws;
+mod memory;
 mod on_store;
 mod open;
 
