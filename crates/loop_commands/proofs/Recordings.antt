@@ -1,5 +1,5 @@
 -- What film_all says of cameras, told of the sources and stores from which they were made.
-use Rattle.std.proofs.Common.{◌≡◌, ◌⊎◌, ◌∙◌, inl, inr, ℕ, List, [], ◌∷◌, ◌++◌, Result, Ok, Err, None, Some, All, ap, arith, length, map, refl, slice_get, subst, suc, sym, zero}
+use Rattle.std.proofs.Common.{◌≡◌, ◌⊎◌, ◌∙◌, inl, inr, ℕ, List, [], ◌∷◌, ◌++◌, Result, Ok, Err, None, Some, All, ap, arith, false, length, map, refl, slice_get, subst, suc, sym, zero}
 use Rattle.std.specs.List.{zip}
 use Rattle.std.specs.Global.{Global}
 use Rattle.std.specs.Option.{option_map, unwrap_or}
@@ -134,7 +134,7 @@ module _ {D P : Type 0} (medium : D → Medium) (meaning : P → Plane) (frames 
   abbrev IsShotFilmed : Shot RecordSource D P Post → Result (CameraEnd RecordSource D P Post Global)
       (Unfilmed RecordSource D P Post) → Type 0
   IsShotFilmed shot filmed =
-      IsFilmed medium GivesRecorded meaning AsksNothing (λ fault. ⊤) (λ n now. IsPeriod shot.guide.geometry n now)
+      IsFilmed medium GivesRecorded meaning AsksNothing (λ fault. ⊤) (false ≡ false) (λ n now. IsPeriod shot.guide.geometry n now)
       (λ n. MayEnd shot.guide.frames n) shot.camera filmed
 
   recorded-by : (source : RecordSource) (store : Seen D) (take : Take) (shot : Shot RecordSource D P Post)
@@ -165,6 +165,7 @@ module _ {D P : Type 0} (medium : D → Medium) (meaning : P → Plane) (frames 
             (subst (λ n. CameraKeeps medium GivesRecorded meaning AsksNothing (λ fault. ⊤)
             (IsPeriod shot.guide.geometry) (MayEnd n) shot.camera ended e.given_up e.left e.missed e.failed e.over)
             ready.ticks kept));
+        settled = is.settled refl;
         next = refl;
         waiting = refl;
       })
@@ -172,7 +173,7 @@ module _ {D P : Type 0} (medium : D → Medium) (meaning : P → Plane) (frames 
   pub are-recorded : (sources : List RecordSource) (stores : List (Seen D)) (shots : List (Shot RecordSource D P Post))
       (outcomes : List (Outcome RecordSource D P Post)) (takes : List Take) → map held_by shots ≡ zip sources stores
       → All (IsReady meaning frames) shots → map shot_of outcomes ≡ shots
-      → All (IsOutcome medium GivesRecorded meaning AsksNothing (λ fault. ⊤)
+      → All (IsOutcome medium GivesRecorded meaning AsksNothing (λ fault. ⊤) (false ≡ false)
       (λ (post : Post) n now. IsPeriod post.geometry n now) (λ post n. MayEnd post.frames n)) outcomes
       → map (λ take. Some take) takes ≡ map taken_of outcomes
       → AreRecorded {P = P} medium meaning frames sources stores takes
@@ -200,7 +201,7 @@ module _ {D P : Type 0} (medium : D → Medium) (meaning : P → Plane) (frames 
         (sym (makes held_by shots k shot there) ∙ ap (λ l. slice_get l k) held
         ∙ pair-at sources stores k source store is-source is-store) in
         recorded-by source store take shot o.filmed
-        (all-at (IsOutcome medium GivesRecorded meaning AsksNothing (λ fault. ⊤)
+        (all-at (IsOutcome medium GivesRecorded meaning AsksNothing (λ fault. ⊤) (false ≡ false)
         (λ (post : Post) n now. IsPeriod post.geometry n now) (λ post n. MayEnd post.frames n)) outcomes k o each at.1)
         at.2 (all-at (IsReady meaning frames) shots k shot ready there) holds;
   }

@@ -17,7 +17,7 @@ use Rattle.loop_pipeline.specs.declared.ending.CameraEnd.{CameraEnd}
 use Rattle.loop_pipeline.specs.declared.film.Unfilmed.{Unfilmed}
 use Rattle.loop_pipeline.specs.declared.several.Outcome.{Outcome}
 use Rattle.loop_pipeline.specs.declared.several.Shot.{Shot}
-use Rattle.loop_pipeline.specs.Cameras.{CameraKeeps, SeenCamera}
+use Rattle.loop_pipeline.specs.Cameras.{CameraKeeps, IsSettledDesk, SeenCamera}
 use Rattle.loop_pipeline.specs.Fronts.{IsRegular}
 use Rattle.loop_commands.specs.declared.cameras.Post.{Post}
 use Rattle.loop_commands.specs.declared.cameras.Take.{Take}
@@ -56,6 +56,7 @@ pub record IsCameraOf {D P : Type 0} (meaning : P → Plane) (source : RecordSou
 
 -- What a camera recorded of this source into this store: it was filmed to its end, until its guide or its source was
 -- over. Each frame that came was stored, waits at the desk, or is told as lost, and no clip of the store was unlocked.
+-- None waits there at the end, unless a flush was refused.
 -- What is told is what the camera says: the next number of its store, how many frames wait, were given up, were left,
 -- found no buffer, and couldn't be got.
 pub record HasRecorded {D P : Type 0} (medium : D → Medium) (meaning : P → Plane) (frames : ℕ) (source : RecordSource)
@@ -65,6 +66,7 @@ pub record HasRecorded {D P : Type 0} (medium : D → Medium) (meaning : P → P
   pub ended : SeenCamera RecordSource D P
   pub keeps : CameraKeeps medium GivesRecorded meaning AsksNothing (λ fault. ⊤) (IsPeriod store.geometry)
       (MayEnd frames) camera ended take.given_up take.left take.missed take.failed true
+  pub settled : IsSettledDesk medium (λ fault. ⊤) camera.desk ended.desk
   pub next : take.next ≡ ended.desk.store.next
   pub waiting : take.waiting ≡ length ended.desk.pending
 
