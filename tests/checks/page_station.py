@@ -9,6 +9,7 @@ import threading
 import time
 
 from page_strangers import expect
+from page_true import promises_part
 
 # A camera that never ends, one that stops when the check says so, and a small one with a tag that
 # keeps on for two seconds.
@@ -213,5 +214,5 @@ def station_part(is_quick, shots):
         look_at_text(lab)
     return (
         f"station: events, holes, releases and warnings of {program}; a dead camera after"
-        f" {took:.1f} s"
+        f" {took:.1f} s; {promises_part(program)}"
     )

@@ -465,7 +465,7 @@ BODIES = [
      "        await asyncio.sleep(0)\n", ""),
     ("a_disk_that_hangs_has_its_turn", "eye", "                turn.give_up()\n",
      "                pass\n", ""),
-    ("frames_that_were_shown_stay", "memory", "library.mallopt(MMAP_THRESHOLD, LARGE)", "pass", ""),
+    ("frames_that_were_shown_stay", "memory", "library.mallopt(word, value)", "pass", ""),
     ("an_away_camera_has_its_rate", "together", ', "rate": None}', "}", ""),
     (
         "events_are_joined_in_the_loop",
