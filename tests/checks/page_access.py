@@ -220,10 +220,16 @@ def letters(browser, lab, shots):
 
 def left(browser, lab, shots):
     """A page that was left, which the browser keeps to go back to it, takes none of its six
-    connections to the server: the eighth has pictures as soon as the first."""
+    connections to the server: the eighth has pictures as soon as the others, and waits for no
+    connection of an earlier one to be closed."""
+    took = []
     for _ in range(OPENED):
         browser.driver.get("about:blank")
+        begun = time.monotonic()
         browser.open()
+        took.append(time.monotonic() - begun)
+    most = LATE + 3 * sorted(took)[OPENED // 2]
+    expect(max(took) < most, f"a page waits for others: {', '.join(f'{it:.1f} s' for it in took)}")
     browser.driver.back()
     browser.driver.back()
     browser.until(browser.has_pictures, "pictures of a page that somebody goes back to")
@@ -232,6 +238,7 @@ def left(browser, lab, shots):
     browser.until(lambda: browser.run(number) > count, "pictures that go on there")
 
 
-# A browser gives all pages of a server six connections.
-OPENED = 8
+# A browser gives all pages of a server six connections. The server closes one of which nobody reads
+# after 20 s; so many seconds aren't noise.
+OPENED, LATE = 8, 10
 STEPS = (lanes, narrow, names, focus, aloud, letters, left)

@@ -199,7 +199,8 @@ def look_at_step(lab):
         for name in more:
             del os.environ[name]
     lab.until(lambda: ("clock", None) in lab.alerts(), "warning of a clock that was set")
-    text = next(it["text"] for it in lab.status()["alerts"] if it["kind"] == "clock")
+    alerts = {(it["kind"], it["camera"]): it["text"] for it in lab.status()["alerts"]}
+    text = alerts["clock", None]
     expect(re.search(r"stepped by 3(600|599)\.", text), f"the warning is {text!r}")
     count = lab.camera("stops")["newest"][0]
     lab.filmed(count + 150, "stops")
@@ -217,7 +218,7 @@ def promises_part(program):
         for step in (
             look_at_losses, look_at_clock, look_at_stop, look_at_full, look_at_reload, look_at_step,
         ):
-            begun = time.monotonic()
+            begun, name = time.monotonic(), step.__name__.removeprefix("look_at_")
             step(lab)
-            took.append(f"{step.__name__.removeprefix('look_at_')} {time.monotonic() - begun:.1f} s")
+            took.append(f"{name} {time.monotonic() - begun:.1f} s")
     return ", ".join(took)

@@ -437,8 +437,10 @@ def measure(browser, lab, shots):
     expect(abs(measured(browser)[0] - length) < 0.01, f"the line is {measured(browser)}")
     expect(measured(browser)[1:3] == (120, -3), f"the line is {measured(browser)}")
     expect(browser.focused() == "End of the line: x 200, y 117", f"heard: {browser.focused()!r}")
-    number = lambda: browser.one("#frame").get_attribute("data-number")
-    browser.still(number, "end of a picture that goes on while it is measured")
+    browser.still(
+        lambda: browser.one("#frame").get_attribute("data-number"),
+        "end of a picture that goes on while it is measured",
+    )
     drawn(browser)
     browser.shot(shots, "measure")
     browser.keys(Keys.ESCAPE)
