@@ -107,7 +107,7 @@ def look_at_clock(lab):
 
     lab.until(is_said, "clock that is ahead")
     lab.feeder.ahead = 0
-    lab.until(lambda: lab.camera("numbered")["kind"] == "good", "clock that is right")
+    lab.until(lambda: lab.camera("numbered")["kind"] != "clock", "clock that is right")
 
 
 def look_at_stop(lab):
@@ -122,7 +122,8 @@ def look_at_stop(lab):
     for clip in lab.ask("/api/clips").json()["clips"]:
         if clip["camera"] == name:
             lab.post("/api/release", {"camera": name, "id": clip["id"], "first": clip["first"]})
-    lab.until(lambda: lab.camera(name)["kind"] == "good", "recording that goes on")
+    lab.until(lambda: lab.camera(name)["kind"] != "locked", "end of that")
+    lab.filmed(lab.camera(name)["newest"][0] + 20, name)
 
 
 def two_events(lab):
@@ -147,25 +148,21 @@ def look_at_full(lab):
     first, second = two_events(lab)
     goes = {"oldest": first["oldest"], "tagged": second["tagged"], "saved": second["saved"]}
     stays = {"oldest": second["oldest"], "tagged": first["tagged"], "saved": first["saved"]}
-    left = set(GIVING)
+    warned = set()
 
-    def have_gone():
-        """Whether all have; what is new is locked until then."""
-        found = events(lab)
-        for name in sorted(left):
-            expect(stays[name] in found, f"{name}: another event goes than its rule says")
-            if goes[name] not in found:
-                left.discard(name)
-            else:
-                kept(lab, name)
-        return not left
+    def are_warned():
+        """Whether all are warned of; what is new is locked until then."""
+        warned.update(camera for kind, camera in lab.alerts() if kind == "released full")
+        for name in set(GIVING) - warned:
+            kept(lab, name)
+        return set(GIVING) <= warned
 
-    lab.until(have_gone, f"release of {left}")
+    lab.until(are_warned, "warning of each camera that gives way")
     for name in GIVING:
-        lab.until(
-            lambda name=name: ("released full", name) in lab.alerts(), f"warning of {name}"
-        )
-        lab.filmed(lab.camera(name)["newest"][0] + 20, name)
+        lab.until(lambda name=name: goes[name] not in events(lab), f"release by {name}'s rule")
+        lab.until(lambda name=name: stays[name] in events(lab), f"event of {name} that stays")
+    # The others stop, once nothing is left that their rule lets go.
+    lab.filmed(lab.camera("oldest")["newest"][0] + 20, "oldest")
     expect((lab.folder / "saved.y4m").stat().st_size > 50 * len(FRAME), "a clip isn't saved")
 
 
@@ -177,7 +174,7 @@ def look_at_reload(lab):
     path.write_text(plain + ADDED)
     lab.order("reload")
     lab.until(lambda: "added" in {it["name"] for it in lab.status()["cameras"]}, "added camera")
-    lab.until(lambda: lab.camera("added")["kind"] == "good", "added camera that films")
+    lab.filmed(20, "added")
     expect(kept(lab, "added"), "nothing is kept of it")
     path.write_text(plain)
     lab.order("reload")
