@@ -14,7 +14,7 @@ HERE = Path(__file__).resolve().parent
 # They want a reader that stands still, a device that becomes another, and a station.
 IN_THE_GUEST = ("slow", "unplugged", "station")
 # What tells most of all formats.
-WORDS = "GREY Y12 YUYV UYVY NV12 NV21 YU12 YV12 422P RG10 NM12 YM24".split()
+WORDS = "GREY Y12 YUYV UYVY NV12 NV21 YU12 YV12 422P RG10 RGB3 NM12 YM24".split()
 
 
 def check_of(name):
