@@ -11,10 +11,10 @@ import pytest
 from conftest import TOP
 
 HERE = Path(__file__).resolve().parent
-# They want a reader that stands still, a device that becomes another, and a station.
-IN_THE_GUEST = ("slow", "unplugged", "station")
+# They want a reader that stands still, a device that becomes another, a driver, and a station.
+IN_THE_GUEST = ("slow", "unplugged", "webcam", "station")
 # What tells most of all formats.
-WORDS = "GREY Y12 YUYV UYVY NV12 NV21 YU12 YV12 422P RG10 NM12 YM24".split()
+WORDS = "GREY Y12 YUYV UYVY NV12 NV21 YU12 YV12 422P RG10 RGB3 NM12 YM24".split()
 
 
 def check_of(name):

@@ -63,7 +63,9 @@ def formats(folder, words):
     for name in words:
         made, things = random.Random(name), []
         for number in range(3):
-            parts, _, strides = test_v4l2.laid_out(name, 8, 6, 0, made)
+            parts, strides = [made.randbytes(3 * 8 * 6)], [3 * 8]
+            if planes.LAYS[name].how != "rgb":
+                parts, _, strides = test_v4l2.laid_out(name, 8, 6, 0, made)
             things.append(Given(number, parts, micros=moment(number)))
         more = dict(type=v.CAPTURE_PLANES) if len(strides) > 1 else {}
         film(folder / f"video0-{name}", Witnessed(things, name, (8, 6), [0] * len(strides), **more))

@@ -31,6 +31,8 @@ def changed_copy(name, old, new):
             sys.exit(f"tools/check: {name} hasn't {old!r} any more")
         copy = folder / Path(name).name
         copy.write_text(text.replace(old, new, 1))
+        # A program stays one.
+        shutil.copymode(TOP / name, copy)
         return str(copy)
 
     return make

@@ -1,15 +1,20 @@
 """A Debian that is booted by its own systemd, in a container, and the package that it has."""
 import contextlib
+import fcntl
 import os
 import re
 import signal
 import subprocess
+import tempfile
 import time
 from pathlib import Path
 
 from pages import Wrong
 
 TOP = Path(__file__).resolve().parents[2]
+# Whoever boots a machine waits for the end of another one's: their services would share control
+# groups, and none signals to all of a group in which there are processes that it can't see.
+LOCK = Path(tempfile.gettempdir()) / "lapyrei-machine.lock"
 
 
 class Machine:
@@ -19,6 +24,8 @@ class Machine:
     def __init__(self, root, log, *more, is_quick=True):
         words = ["systemd-nspawn", "--quiet", "--register=no", "--keep-unit", *more, "-D", root,
                  "--boot"]
+        self.lock = open(LOCK, "a")
+        fcntl.flock(self.lock, fcntl.LOCK_EX)
         with open(log, "ab") as file:
             self.process = subprocess.Popen(words, stdin=subprocess.DEVNULL, stdout=file,
                                             stderr=file, start_new_session=True)
@@ -82,6 +89,7 @@ class Machine:
         except subprocess.TimeoutExpired:
             self.process.kill()
             self.process.wait()
+        self.lock.close()
 
 
 def parent_of(number):

@@ -17,7 +17,8 @@ KIND = Kind(
                     "packaging/loop_station_service", "trap ask HUP", "trap - HUP"
                 )
             },
-            says="SIGHUP ends the station",
+            # A camera is added by a reload.
+            says="has a gap: its frames step by",
         ),
         Wrong(
             "a reload that does nothing",

@@ -41,7 +41,9 @@ KIND = Kind(
             "a service that doesn't end as its station does",
             given={
                 "SERVICE": changed_copy(
-                    "packaging/loop_station_service", "\nstatus=127\n", "\nexit 0\n"
+                    "packaging/loop_station_service",
+                    '\nif [ "$status" -gt 128 ]',
+                    '\nexit 0\nif [ "$status" -gt 128 ]',
                 )
             },
             says="station that was killed runs again",

@@ -3,7 +3,7 @@ that `plan` names, and leaves the texts, what was said, and what the witness not
 judges nothing.
 
 video0 is a webcam, video1 one whose planes lie in several buffers, video2 a tuner, which gives
-fields."""
+fields. Another webcam is usb_webcam.py's, which the driver uvcvideo films."""
 import json
 import os
 import signal
@@ -14,9 +14,9 @@ from pathlib import Path
 
 WORK, OUT = Path("/work"), Path("/out")
 PATIENCE = 120
-# What the kernel calls the first camera, whichever path it has.
-FIRST = "vivid-000-vid-cap"
-BY_ID = Path("/dev/v4l/by-id/usb-vivid")
+# What the kernel calls the first camera, whichever path it has, and the webcam.
+FIRST, WEBCAM = "vivid-000-vid-cap", "Lapyrei webcam"
+BY_ID, WEBCAM_BY_ID = (Path("/dev/v4l/by-id", it) for it in ("usb-vivid", "usb-webcam"))
 DRIVER = Path("/sys/bus/platform/drivers/vivid")
 
 
@@ -205,11 +205,12 @@ def slow(variant, _):
     pipe.unlink()
 
 
-def first():
-    """The first camera's path below /dev now, found as udev does: by what it is. All three are one
-    device to the driver, and come and go together."""
+def first(name=FIRST):
+    """A camera's path below /dev now, found as udev does: by what it is; of a webcam's two the one
+    that gives pictures. All three of vivid are one device to it, and come and go together."""
     for path in Path("/sys/class/video4linux").glob("video*"):
-        if (path / "name").read_text().strip() == FIRST and Path("/dev", path.name).exists():
+        is_it = (path / "name").read_text().startswith(name)
+        if is_it and (path / "index").read_text() == "0\n" and Path("/dev", path.name).exists():
             return path.name
     return None
 
@@ -238,6 +239,48 @@ def unplugged(variant, _):
     # As it was, for the next one.
     (DRIVER / "unbind").write_text("vivid.0")
     (DRIVER / "bind").write_text("vivid.0")
+
+
+def plugged(device):
+    """Plugs a webcam in; answers its path below /dev."""
+    device.plug()
+    path = until("the webcam is there", lambda: first(WEBCAM)) or ""
+    WEBCAM_BY_ID.parent.mkdir(parents=True, exist_ok=True)
+    WEBCAM_BY_ID.unlink(missing_ok=True)
+    WEBCAM_BY_ID.symlink_to(f"/dev/{path}")
+    return path
+
+
+def webcam(variant, words):
+    """A webcam of USB by the kernel's own driver. It gives JPEGs, of which one is cut off and one
+    marked as faulty, is unplugged while somebody has it open, and plugged in again; last it gives
+    YUYV."""
+    from usb_webcam import MJPG, YUYV, Webcam
+
+    pictures = {
+        kind: [it.read_bytes() for it in sorted((WORK / "pictures").glob(f"{name}.*"))]
+        for kind, name in ((MJPG, "MJPG"), (YUYV, "YUYV"))
+    }
+    device = Webcam(pictures, words["size"], 10, (words["cut"],), (words["faulty"],))
+    path, size = plugged(device), "SIZE={}x{}\nRATE=10\n".format(*words["size"])
+    file = f"DEVICE=/dev/{path}\nDEVICE_FORMAT=MJPG\nCONTROL_brightness=9\n{size}"
+    it = Film(variant, "webcam", file)
+    it.count(20)
+    held = os.open(f"/dev/{path}", os.O_RDWR)
+    device.unplug()
+    WEBCAM_BY_ID.unlink()
+    it.says("it has gone")
+    device.brightness = bytes(2)
+    new = plugged(device)
+    it.more(20)
+    it.stop()
+    os.close(held)
+    brightness = int.from_bytes(device.brightness, "little", signed=True)
+    (it.place / "became").write_text(f"{path} {new} {brightness}")
+    it = Film(variant, "webcam-YUYV", f"DEVICE=/dev/{new}\nDEVICE_FORMAT=YUYV\n{size}")
+    it.count(15)
+    it.stop()
+    device.unplug()
 
 
 def drop_one(knobs, film):
@@ -291,7 +334,8 @@ def listed(variant, _):
     (OUT / "list").write_text(done.stdout + done.stderr)
 
 
-STEPS = {it.__name__: it for it in (listed, formats, refusals, numbers, slow, unplugged, station)}
+STEPS = (listed, formats, refusals, numbers, slow, unplugged, webcam, station)
+STEPS = {it.__name__: it for it in STEPS}
 
 
 def main():

@@ -182,9 +182,20 @@ def late(program, folder):
         assert until(lambda: it.got() == ["reload"]), it.told()
 
 
+def with_dd(folder, text):
+    """An environment in which another dd writes the order."""
+    (folder / "bin").mkdir()
+    (folder / "bin/dd").write_text(f"#!/bin/sh\n{text}\n")
+    (folder / "bin/dd").chmod(0o755)
+    return {**os.environ, "PATH": f"{folder}/bin:{os.environ['PATH']}"}
+
+
 def ended(program, folder):
     """A station that ends meanwhile: that is told before this ends, as the station did."""
-    with Service(program, folder, "echo on; sleep 0.5; exit 4") as it:
+    # It ends while the order is on its way, however slow the machine is.
+    found = with_dd(folder, "[ -e asked ] || { : >asked; sleep 1.5; }; exit 1")
+    station = "echo on; until [ -e asked ]; do sleep 0.05; done; exit 4"
+    with Service(program, folder, station, env=found) as it:
         it.signal()
         assert it.ends() == 4
         assert "the station ended before it took `reload`" in it.told()
@@ -193,10 +204,7 @@ def ended(program, folder):
 def several(program, folder):
     """One that comes while an order is on its way isn't lost; of many few remain."""
     # The order is written, and what wrote it goes on for a while.
-    (folder / "bin").mkdir()
-    (folder / "bin/dd").write_text('#!/bin/sh\n/bin/dd "$@" || exit\nsleep 0.7\n')
-    (folder / "bin/dd").chmod(0o755)
-    found = {**os.environ, "PATH": f"{folder}/bin:{os.environ['PATH']}"}
+    found = with_dd(folder, '/bin/dd "$@" || exit\nsleep 0.7')
     with Service(program, folder, TAKES, env=found) as it:
         it.signal()
         assert until(lambda: it.got() == ["reload"])
