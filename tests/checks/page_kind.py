@@ -136,6 +136,18 @@ KIND = Kind(
             says="lanes: ",
         ),
         Wrong(
+            "a page that joins events in the loop that answers",
+            given={
+                "LOOP_PAGE": changed_page(
+                    "stations.py",
+                    "*await asyncio.to_thread(self.join.join, said)",
+                    "*self.join.join(said)",
+                )
+            },
+            words=["--quick", "stress"],
+            says="joined: (the server is said to be lost|no picture came)",
+        ),
+        Wrong(
             "a page whose press counts from when it is done",
             given={
                 "LOOP_PAGE": changed_page(
