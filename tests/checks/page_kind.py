@@ -49,6 +49,16 @@ KIND = Kind(
             says="no 3 lost frames of the camera",
         ),
         Wrong(
+            "a page that doesn't warn of what a full ring releases",
+            given={
+                "LOOP_PAGE": changed_page(
+                    "words.py", '("released full", FULL) if is_bad', '("released", FULL) if is_bad'
+                )
+            },
+            words=["station"],
+            says="no warning of each camera that gives way",
+        ),
+        Wrong(
             "a page that unpacks what strangers send",
             given={
                 "LOOP_PAGE": changed_page(
