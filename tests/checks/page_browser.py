@@ -795,7 +795,7 @@ def browser_part(is_quick, shots):
                     step(browser, lab, shots)
                 except WebDriverException as fault:
                     raise Wrong(f"{step.__name__}: {fault.msg}") from None
-                except Wrong as wrong:
+                except (Wrong, AssertionError) as wrong:
                     raise Wrong(f"{step.__name__}: {wrong}") from None
                 took.append(f"{step.__name__} {time.monotonic() - start:.1f} s")
         finally:

@@ -49,6 +49,16 @@ KIND = Kind(
             says="no 3 lost frames of the camera",
         ),
         Wrong(
+            "a page that doesn't warn of what a full ring releases",
+            given={
+                "LOOP_PAGE": changed_page(
+                    "words.py", '("released full", FULL) if is_bad', '("released", FULL) if is_bad'
+                )
+            },
+            words=["station"],
+            says="no warning of each camera that gives way",
+        ),
+        Wrong(
             "a page that unpacks what strangers send",
             given={
                 "LOOP_PAGE": changed_page(
@@ -134,6 +144,18 @@ KIND = Kind(
             },
             words=["--quick", "console"],
             says="lanes: ",
+        ),
+        Wrong(
+            "a page that joins events in the loop that answers",
+            given={
+                "LOOP_PAGE": changed_page(
+                    "stations.py",
+                    "*await asyncio.to_thread(self.join.join, said)",
+                    "*self.join.join(said)",
+                )
+            },
+            words=["--quick", "stress"],
+            says="joined: (the server is said to be lost|no picture came)",
         ),
         Wrong(
             "a page whose press counts from when it is done",

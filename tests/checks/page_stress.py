@@ -86,9 +86,10 @@ def opened(lab, port=None):
 # ----------------------------------------------------------------------------------- many stations
 
 # Counts, each 50 ms, for how long no other picture came at most, and whether the server is lost.
-WATCH = """window.longest = 0; window.lostOnce = false;
+WATCH = """window.longest = 0; window.lostOnce = false; clearInterval(window.watching);
 let seen = '', since = performance.now();
-setInterval(() => { const now = document.querySelector('.cam[data-camera=left]').dataset.number;
+window.watching = setInterval(() => {
+    const now = document.querySelector('.cam[data-camera=left]').dataset.number;
     if (now !== seen) [seen, since] = [now, performance.now()];
     window.longest = Math.max(window.longest, performance.now() - since);
     window.lostOnce ||= document.body.classList.contains('lost'); }, 50);"""
@@ -121,6 +122,12 @@ def neighbours(count, events):
             neighbour.close()
 
 
+# A busy machine holds a page up now and then: it is looked at so many times at most. One that joins
+# in the loop that answers is held up each time.
+LOOKS = 3
+SHORT = 0.75 * JOIN_SECONDS
+
+
 def joined(shots):
     """While the events of six stations are joined, which takes four seconds each time, pictures
     come, a press is answered, and no server is lost; and then the events are there."""
@@ -133,22 +140,44 @@ def joined(shots):
             own = ".cam[data-camera=left]"
             browser.until(lambda: browser.one(own).get_attribute("data-number"), "own picture")
             browser.until(lambda: browser.run(ROWS) >= 30, "events of all stations")
-            browser.run(WATCH)
-            # Joined again and again, since each station says another event each second.
-            time.sleep(3 * JOIN_SECONDS)
-            begun = time.monotonic()
-            browser.run("document.activeElement.blur()")
-            browser.keys("k")
-            browser.until(lambda: browser.text("#answer").startswith("Kept"), "answer to a press")
-            took = time.monotonic() - begun
-            longest, was_lost = browser.run("return [window.longest / 1000, window.lostOnce]")
+            longest, took = looked_again(press_beside_joins, browser)
             browser.shot(shots, "joined")
         finally:
             browser.driver.quit()
-    expect(not was_lost, "the server is said to be lost while events are joined")
-    expect(longest < 0.75 * JOIN_SECONDS, f"no picture came for {longest:.1f} s")
-    expect(took < JOIN_SECONDS, f"a press is answered after {took:.1f} s")
     return f"pictures at most {longest:.1f} s apart, a press {took:.1f} s"
+
+
+def looked_again(look, *words):
+    """What is found by a look at which nothing is wrong, of so many at most."""
+    for _ in range(LOOKS - 1):
+        with contextlib.suppress(Wrong):
+            return look(*words)
+    return look(*words)
+
+
+def press_beside_joins(browser):
+    """While events are joined again and again, since each station says another one each second: for
+    how many seconds no picture came at most, and how many a press took."""
+    browser.run(WATCH)
+    time.sleep(3 * JOIN_SECONDS)
+    # Else a press may take minutes.
+    held_up(browser)
+    browser.until(lambda: not browser.text("#answer").startswith("Kept"), "end of an answer")
+    begun = time.monotonic()
+    browser.run("document.activeElement.blur()")
+    browser.keys("k")
+    browser.until(lambda: browser.text("#answer").startswith("Kept"), "answer to a press")
+    took = time.monotonic() - begun
+    expect(took < SHORT, f"a press is answered after {took:.1f} s")
+    return held_up(browser), took
+
+
+def held_up(browser):
+    """For how many seconds no picture came at most, of a page that isn't held up."""
+    longest, was_lost = browser.run("return [window.longest / 1000, window.lostOnce]")
+    expect(not was_lost, "the server is said to be lost while events are joined")
+    expect(longest < SHORT, f"no picture came for {longest:.1f} s")
+    return longest
 
 
 # ---------------------------------------------------------------------------- the moment of a press

@@ -124,6 +124,9 @@ class Laboratory:
     """A folder with a configuration, a station that runs, and a page that does."""
 
     config = "station.toml"
+    # What is there once it was begun: a second page in the folder of another one has no station.
+    station = page = token = gate = None
+    port = 0
     # Bounds of the page beside its own ones.
     bounds: dict = {}
     until = staticmethod(until)
@@ -135,8 +138,7 @@ class Laboratory:
         """`as_it_is` leaves the page its own bounds, and the cameras their own rings. A station of
         before tells of no frame that was lost."""
         self.bounds, room = ({}, {}) if as_it_is else (PATIENT, ROOM)
-        self.folder, self.runs, self.station, self.page, self.port = Path(folder), [], None, None, 0
-        self.token = self.gate = None
+        self.folder, self.runs = Path(folder), []
         lines = ['orders = "orders"'] if orders else []
         lines += ["tells_lost = true"] if tells_lost else []
         os.mkfifo(self.folder / "orders")

@@ -404,39 +404,59 @@ def test_few_frames_are_in_memory_at_a_time_and_one_that_hangs_takes_no_turn(mon
     asyncio.run(look())
 
 
-@pytest.mark.parametrize("is_little, least, most", [(True, 0, 8), (False, 16, 10**6)])
-def test_frames_that_were_shown_take_no_memory(is_little, least, most):
-    """Sixteen threads have 2 MiB each, again and again; afterwards none has. Without what the
-    page's program does first most of it stays, as MiB."""
+def test_frames_that_were_shown_take_little_memory_and_the_next_ones_the_same():
+    """Sixteen threads have 2 MiB each, again and again, and then four of them. Afterwards little
+    is left of it, and the four have made few pages anew; without what the page's program does
+    first most of it is left."""
+    left, made = memory_of(is_little=True)
+    assert left < 20 and made < 50 * FRAME_PAGES
+    left, _ = memory_of(is_little=False)
+    assert left > 24
+
+
+# The pages of 4 KiB that 2 MiB have.
+FRAME_PAGES = 512
+
+
+def memory_of(is_little):
+    """The MiB that are left after threads have had memory, and the pages that the system made
+    while four of them had it 50 times each."""
     text = f"""
-import re, sys, threading
+import re, resource, sys, threading
 sys.path.insert(1, {str(PROGRAM.resolve().parent)!r})
 from station_page import memory
 
 if {is_little}:
     memory.keep_little()
-barrier = threading.Barrier(16)
 
 def size():
     return int(re.search(r"VmRSS:\\s+(\\d+)", open("/proc/self/status").read())[1]) / 1024
 
-def work():
-    for _ in range(5):
-        barrier.wait()
-        found = b"x" * (2 << 20)
-        barrier.wait()
-        del found
+def take(count, times):
+    barrier = threading.Barrier(count)
 
-before, threads = size(), [threading.Thread(target=work) for _ in range(16)]
-for thread in threads:
-    thread.start()
-for thread in threads:
-    thread.join()
-print(size() - before)
+    def work():
+        for _ in range(times):
+            barrier.wait()
+            found = b"x" * (2 << 20)
+            barrier.wait()
+            del found
+
+    threads = [threading.Thread(target=work) for _ in range(count)]
+    for thread in threads:
+        thread.start()
+    for thread in threads:
+        thread.join()
+
+before = size()
+take(16, 5)
+faults = resource.getrusage(resource.RUSAGE_SELF).ru_minflt
+take(4, 50)
+print(size() - before, resource.getrusage(resource.RUSAGE_SELF).ru_minflt - faults)
 """
     words = ["/usr/bin/python3", "-B", "-c", text]
     done = subprocess.run(words, capture_output=True, text=True, check=True)
-    assert least <= float(done.stdout) + 0.5 and float(done.stdout) < most
+    return map(float, done.stdout.split())
 
 
 def test_pages_that_look_at_the_same_time_cost_one_picture():

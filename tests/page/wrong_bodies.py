@@ -466,6 +466,8 @@ BODIES = [
     ("a_disk_that_hangs_has_its_turn", "eye", "                turn.give_up()\n",
      "                pass\n", ""),
     ("frames_that_were_shown_stay", "memory", "library.mallopt(word, value)", "pass", ""),
+    ("each_frame_has_new_pages", "memory", "KEPT = 16 * 1024", "KEPT = 256", ""),
+    ("each_thread_has_an_arena", "memory", ", ARENA_MAX: 1}", "}", ""),
     ("an_away_camera_has_its_rate", "together", ', "rate": None}', "}", ""),
     (
         "events_are_joined_in_the_loop",

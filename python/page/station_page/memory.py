@@ -3,16 +3,18 @@ import contextlib
 import ctypes
 
 # The parameters of mallopt(3), by its header.
-MMAP_THRESHOLD, ARENA_MAX = -3, -8
-# From so many bytes on a piece of memory is the system's again once nobody has it; and so many
-# arenas at most keep smaller ones. By itself the library learns from a frame of megabytes to keep
-# what has its size, in an arena for each thread that reads: 100 MB for 16 cameras of 1920x1080.
-KEPT = {MMAP_THRESHOLD: 256 * 1024, ARENA_MAX: 2}
+TRIM_THRESHOLD, MMAP_THRESHOLD, ARENA_MAX = -1, -3, -8
+# All threads have one arena, which keeps at most about so many bytes that nobody has: room for the
+# frames that are drawn at a time. By itself the library has an arena for each thread that reads,
+# and each keeps a frame: 100 MB for 16 cameras of 1920x1080. Where each frame is the system's again
+# at once, its pages are made anew for the next one, which is a third of what the page computes.
+KEPT = 16 * 1024 * 1024
+WORDS = {TRIM_THRESHOLD: KEPT, MMAP_THRESHOLD: KEPT, ARENA_MAX: 1}
 
 
 def keep_little() -> None:
-    """Frames that were shown take no memory."""
+    """Frames that were shown take little memory, and the next ones take the same."""
     with contextlib.suppress(OSError, AttributeError):
         library = ctypes.CDLL(None)
-        for word, value in KEPT.items():
+        for word, value in WORDS.items():
             library.mallopt(word, value)
