@@ -65,9 +65,9 @@ KIND = Kind(
               "test_chunks_are_those"),
         wrong("that waits for a camera when it is told to end", "program.py",
               "        signal.set_wakeup_fd(self.bell", "        signal.set_wakeup_fd(-1",
-              "a_stop_waits", "test_a_stop_waits.*the stop took"),
+              "a_stop_waits", "AssertionError: the stop took [0-9]"),
         wrong("that ends without a word where a camera is silent", "program.py",
               "        self.last()\n", "        pass\n", "a_stop_waits",
-              "test_a_stop_waits.*doesn't say what it gave on"),
+              "AssertionError: it doesn't say what it gave on"),
     ],
 )
