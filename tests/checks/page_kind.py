@@ -146,6 +146,12 @@ KIND = Kind(
             says="lanes: ",
         ),
         Wrong(
+            "a page that shows half as many pictures",
+            given={"LOOP_PAGE": changed_page("limits.py", "LIVE_RATE = 8", "LIVE_RATE = 4")},
+            words=["load"],
+            says="load: a page sees",
+        ),
+        Wrong(
             "a page that joins events in the loop that answers",
             given={
                 "LOOP_PAGE": changed_page(
