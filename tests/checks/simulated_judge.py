@@ -5,13 +5,16 @@ from __future__ import annotations
 
 import dataclasses
 import datetime
+import functools
 import random
 import re
 from pathlib import Path
 
 import layout
 from simulated_disk import Disk, File, Record
+from simulated_kept import Kept
 from simulated_run import Lived, chooser, told
+from simulated_told import Told
 from simulated_world import EPOCH, SECOND, SIZE, Camera, World
 
 REFERENCE = Path(__file__).resolve().parents[2] / "docs/reference.md"
@@ -85,6 +88,15 @@ class Held:
             return True
         return any(map(self.may_go, self.blocks))
 
+    def may_take_a_block(self) -> bool:
+        """Whether another block has a place."""
+        return len(self.blocks) < self.geometry.segments or any(map(self.may_go, self.blocks))
+
+    def free_blocks(self) -> int:
+        """How many blocks may still be locked: all but the newest, and those that clips meet."""
+        met = [it for it in self.blocks if it != max(self.blocks) and not self.may_go(it)]
+        return self.geometry.segments - 1 - len(met)
+
     def first_of(self, block: int) -> int | None:
         """The name of a block's first frame."""
         return self.names.get(block * self.geometry.slots)
@@ -96,6 +108,7 @@ class Held:
             map(self.is_locked, range(block * slots, (block + 1) * slots)))
 
 
+@functools.lru_cache(300)
 def held_in(image: bytes) -> Held:
     """What an image holds; refuses one that isn't whole, and pixels that no source gave."""
     found = layout.read_once(lambda at, count: image[at:at + count], len(image))
@@ -107,6 +120,12 @@ def held_in(image: bytes) -> Held:
             names[number] = name_of(image[at:at + SIZE])
     blocks = [it.block for it in found.segments if it.open and it.whole]
     return Held(names, list(found.clips), blocks, geometry)
+
+
+@functools.lru_cache(300)
+def clips_of(table: bytes) -> list[tuple[int, int, int, int]]:
+    """The clips of a table."""
+    return layout.clips_in(table, 2)
 
 
 def moment_of(text: str) -> int:
@@ -163,7 +182,10 @@ class Judge:
         self.streams: dict[str, dict[int, int]] = {it: {} for it in self.cameras}
         self.writer = dict.fromkeys(self.cameras, 0)
         self.kept_of: dict[tuple[int, str], set[int]] = {}
+        # Which paths are pipes.
+        self.pipes = {"nobody"}
         self.found: list[str] = []
+        self.told, self.kept = Told(self), Kept(self)
 
     def says(self, what: str) -> None:
         """Something is wrong."""
@@ -179,6 +201,7 @@ class Judge:
         self.begins(lived)
         chance = random.Random(f"judge {seed}")
         lines = told(lived.records)
+        self.lines_of = lines
         self.frees = [(time, it["camera"], it["id"]) for _, time, it in lines
                       if it["kind"] == "released"]
         self.out_of_order = {it["camera"] for _, _, it in lines
@@ -189,13 +212,20 @@ class Judge:
         count = len(lived.records)
         looks = {chance.randrange(count) for _ in range(LOOKS)} if count else set()
         looks |= set(chance.sample(sorted(by_record), min(LINES, len(by_record))))
+        if self.world.is_piped:
+            self.reads_alone(lived, lines)
+            return self.found
         self.looks_at(lived.before, lived.life.begins, "at the start")
         for index, record in enumerate(lived.records):
             if record.kind == "W":
                 self.writes(record)
+                self.kept.is_away(record)
+            if record.kind in "CNL":
+                self.kept.names_change(record)
             self.disk.take(record)
             if record.kind == "V":
                 self.moves(record.data.decode().split("\0")[0])
+                self.kept.moves(*record.data.decode().split("\0"), record.time)
             if record.kind in "PDQ":
                 self.comes(record.number, record.place, record.time, record.kind)
             for said in by_record.get(index, ()):
@@ -204,6 +234,23 @@ class Judge:
                 self.look(chance, record.time)
         self.ends(lived, lines)
         return self.found
+
+    def reads_alone(self, lived: Lived, lines: list) -> None:
+        """Where answers are a pipe whose reader comes and goes lines may be dropped: each that is
+        there is a line, and it is told how many aren't."""
+        for _, time, said in lines:
+            self.reads(said, time)
+        if lived.status not in (0, 1, 137) or lived.why().startswith(("all threads", "broken")):
+            self.says(f"ended with {lived.status}, {lived.why()}")
+        dropped = any(said["kind"] == "dropped_lines" for _, _, said in lines)
+        asked = {it.split()[2][1:] for it in self.script if it.startswith("order ")}
+        done = {said.get("label") for _, _, said in lines if said["kind"] == "done"}
+        readers = [list(map(int, it.split()[1:])) for it in self.script
+                   if it.startswith("reader ")]
+        is_read = any(since < lived.end() - SECOND and until > lived.end() and rate > 10_000
+                      for since, until, rate in readers)
+        if lived.why().startswith("ended") and not dropped and is_read and asked - done:
+            self.says(f"lines are missing, and that isn't told: {sorted(asked - done)}")
 
     def begins(self, lived: Lived) -> None:
         """A life begins."""
@@ -233,6 +280,11 @@ class Judge:
         self.begun: set[int] = set()
         self.begin_next = {it: self.stored_in(lived.before, it) for it in self.cameras}
         self.late = {it for it in self.cameras if self.cameras[it].is_ahead}
+        # Which cameras' writers left amid a frame, and the times that their frames say.
+        self.cuts: dict[str, int] = {}
+        self.said_at: dict[str, dict[int, int]] = {it: {} for it in self.cameras}
+        self.told.begins(lived)
+        self.kept.begins(lived)
 
     def stored_in(self, files: dict[str, bytes], name: str) -> int:
         """How many frames the stores of a camera say that they ever had."""
@@ -241,7 +293,7 @@ class Judge:
 
     def held(self, image: bytes | None) -> Held | None:
         """What a store's image holds, if there is one."""
-        if image is None:
+        if image is None or image[:8] == b"no store":
             return None
         try:
             return held_in(image)
@@ -268,12 +320,16 @@ class Judge:
             self.here[name].append((time, int(words[3])))
             self.came[name].append((time, int(words[3])))
             self.streams[name][int(words[3])] = self.writer[name]
+            self.said_at[name][int(words[3])] = int(words[1]) - 20_000
         elif words[0] in ("frame", "part", "close"):
             self.writer[name] += 1
+            self.cuts[name] = self.cuts.get(name, 0) + (words[0] == "part")
             if kind == "D":
                 self.broken.add(name)
         elif words[0] in ("order", "unended"):
             self.ordered(words[2].removeprefix("@"), words[3:], time)
+        self.told.comes(name, words, time, kind)
+        self.kept.comes(name, words, time, kind)
 
     def ordered(self, label: str, words: list[str], time: int) -> None:
         """An order came."""
@@ -298,6 +354,8 @@ class Judge:
             return
         if not always <= members <= always | sometimes:
             self.says(f"members that the reference doesn't name: {said}")
+        if self.world.is_piped:
+            return
         if label is not None:
             if label not in self.given or label in self.done:
                 self.says(f"an answer to no order, or after its end: {said}")
@@ -305,6 +363,8 @@ class Judge:
         reader = getattr(self, f"reads_{kind}", None)
         if reader:
             reader(said, time)
+        self.told.reads(said, time)
+        self.kept.reads(said, time)
 
     def reads_done(self, said: dict, time: int) -> None:
         """An order is answered, once; a release by its id is done, or refused."""
@@ -372,7 +432,9 @@ class Judge:
     def table(self, path: str) -> list[tuple[int, int, int, int]]:
         """The clips of a store's file now."""
         file = self.disk.names.get(path)
-        return layout.clips_in(bytes(file.now[layout.SUPER:layout.FRONT]), 2) if file else []
+        if file is None or file.now[:1] != bytes([layout.OPEN]):
+            return []
+        return clips_of(bytes(file.now[layout.SUPER:layout.FRONT]))
 
     def sees_tables(self) -> None:
         """A file is about to be changed: remembers which clip each id was."""
@@ -556,6 +618,7 @@ class Judge:
                 del self.clips[which]
         for path, text in list(self.saved.items()):
             self.looks_at_text(files, path, text, time, when)
+        self.kept.look(files, time, when)
 
     def looks_at_text(self, files: dict[str, bytes], path: str, text: bytes, time: int,
                       when: str) -> None:
@@ -610,6 +673,8 @@ class Judge:
         self.looks_at(lived.left, end, "at the end")
         self.looks_at(lived.after, end, "at the end, after it")
         self.all_stored()
+        self.told.ends(lived, lines)
+        self.kept.ends(lived, lines)
         self.goes_on_with_events(lived)
         self.forgets(lived.after)
 
@@ -619,6 +684,8 @@ class Judge:
         for name, camera in self.cameras.items():
             for path in camera.paths() if file else ():
                 if self.disk.names.get(path) is file:
+                    names = names_in_slots(record.data) if record.place >= layout.FRONT else set()
+                    self.told.writes(name, path, record, names)
                     if layout.SUPER <= record.place < layout.FRONT:
                         self.sees_tables()
                         self.locked_at[name] = record.time
@@ -627,7 +694,8 @@ class Judge:
                     else:
                         self.goes(name, path, file, record)
                         self.stored_at[name] = record.time
-                        self.stored[name].update(names_in_slots(record.data))
+                        self.stored[name].update(names)
+                    self.kept.writes(name, path, record, names)
 
     def goes(self, name: str, path: str, file: File, record: Record) -> None:
         """A block that goes is the oldest of all that no clip locks and that aren't the newest of
@@ -643,6 +711,11 @@ class Judge:
                                                    range(held.geometry.segments)):
             return
         block = int.from_bytes(file.now[record.place + layout.BLOCK_AT:][:8], "little")
+        free = [it for it, other in stores.items() if other and it != path
+                and len(other.blocks) < other.geometry.segments]
+        is_open = record.time - self.opened.get(name, record.time) > SOON
+        if free and is_open and not self.lived.life.is_slow and not self.world.strange_files:
+            self.says(f"{path} gives up a block at {record.time}, and {free} have room")
         gone = held.first_of(block)
         may = [it.first_of(block) for it in stores.values() if it
                for block in it.blocks if it.may_go(block)]
@@ -650,6 +723,11 @@ class Judge:
             self.says(f"{path} gives up frame {gone} of {name}, and {min(may)} came before it,"
                       f" isn't locked, and isn't in the newest block of its store, at"
                       f" {record.time}")
+
+    def single(self, name: str) -> bool:
+        """Whether a camera that is to have several stores has an old one, which is its only one."""
+        return f"{name}.loop" in self.disk.names or bool(
+            self.world.strange_files & set(self.cameras[name].paths()))
 
     def present(self, path: str) -> bytes | None:
         """What a file holds."""

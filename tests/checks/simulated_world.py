@@ -18,6 +18,11 @@ NAMES = ("left", "right", "belt", "gate")
 EIO, ENOSPC = 5, 28
 # So many bytes of a header's beginning the station knows as such at the end of a frame.
 BEGUN = 6
+# How much is saved to names of this kind, and what stands beside the stores that is no file of
+# the station: what has the name of an unfinished text, and a store of somebody else.
+SAVED = 20
+OTHERS = ("saved3.part", "saved7")
+LINKED = ("saved5.part", "precious")
 
 
 def moment(at: int) -> str:
@@ -100,8 +105,17 @@ class World:
         pick = self.chance
         self.has_faults = pick.random() < 0.5
         self.kills_early = pick.random() < 0.3
+        # The only folder into which orders may write, in some worlds.
+        self.saves = "clips" if pick.random() < 0.15 else ""
         self.cameras = [self.camera(at) for at in range(pick.choice((1, 1, 1, 2, 2, 3)))]
         self.count = 0
+        # The answers are a pipe, whose reader comes and goes: lines may be dropped.
+        self.is_piped = pick.random() < 0.04
+        # Stores of layout 1, and files with the name of a store that aren't one.
+        self.old: set[str] = set()
+        self.strange_files: set[str] = set()
+        # What nobody may change.
+        self.foreign: dict[str, bytes] = {}
 
     def camera(self, at: int) -> Camera:
         """A camera of any kind."""
@@ -118,6 +132,8 @@ class World:
             words["memory"] = pick.choice((1000, 5000, "1 s"))
         if pick.random() < 0.2:
             words["buffers"] = pick.choice((4, 32))
+        if pick.random() < 0.15:
+            words["tag"] = 7
         if pick.random() < 0.25:
             words["save_to"] = "clips"
             words["release"] = pick.random() < 0.5
@@ -130,6 +146,8 @@ class World:
     def config(self, without: str = "") -> str:
         """The station's file, perhaps without a camera."""
         head = 'orders = "orders"\nanswers = "answers"\nanswers_form = "json"\n'
+        if self.saves:
+            head += f'saves = "{self.saves}"\n'
         return head + "".join(it.lines() for it in self.cameras if it.name != without)
 
     def files(self) -> dict[str, bytes]:
@@ -140,8 +158,16 @@ class World:
             for at, path in enumerate(camera.paths()):
                 likely = 0.7 if camera.stores == 1 else 0.93 if at else 1
                 if self.chance.random() < likely:
-                    found[path] = layout.fresh(camera.geometry())
-        return found
+                    is_old = self.chance.random() < 0.03
+                    if is_old:
+                        self.old.add(path)
+                    found[path] = layout.fresh(camera.geometry(), 1 if is_old else 2)
+                elif at and self.chance.random() < 0.3:
+                    self.strange_files.add(path)
+                    found[path] = b"no store" * 100
+        other = layout.fresh(self.cameras[0].geometry())
+        self.foreign = {OTHERS[0]: b"somebody's own", OTHERS[1]: other, LINKED[1]: b"precious"}
+        return {**found, **self.foreign}
 
     def life(self, now: int, is_first: bool, is_last: bool) -> Life:
         """The next life, which begins now."""
@@ -161,7 +187,15 @@ class World:
             camera.is_ahead = not is_first and pick.random() < 0.25
             lines.append(f"pipe {int(camera.is_ahead)} {camera.name}.y4m {camera.header()}")
         lines.append("orders orders")
-        lines += [f"sync {it.name} {pick.choice((50, 500, 3000, 8000))}" for it in self.cameras]
+        if self.is_piped:
+            at = now + pick.choice((0, SECOND, span // 2, span - SECOND))
+            while at < now + span:
+                until = at + pick.choice((SECOND, span))
+                lines.append(f"reader {at} {until} {pick.choice((0, 2000, 100_000))}")
+                at = until + pick.choice((SECOND, span // 3))
+        crawls = pick.random() < 0.05
+        syncs = (30_000, 60_000) if crawls else (50, 500, 3000, 8000)
+        lines += [f"sync {it.name} {pick.choice(syncs)}" for it in self.cameras]
         faults = self.faults(now, now + span) if self.has_faults else []
         orders: dict[str, str] = {}
         events = []
@@ -184,8 +218,8 @@ class World:
         script = "\n".join(lines + faults + [it for _, it in events]) + "\n"
         down = pick.choice((100_000, SECOND, 5 * SECOND))
         is_faulty = any(it.startswith("bad") for it in faults)
-        return Life(now, now + span, script, end, orders, is_faulty, bool(faults), down, files,
-                    changed)
+        return Life(now, now + span, script, end, orders, is_faulty, bool(faults) or crawls, down,
+                    files, changed)
 
     def reloads(self, since: int, until: int, orders: dict[str, str],
                 events: list[tuple[int, str]]) -> tuple[dict[str, str], set[str]]:
@@ -217,12 +251,15 @@ class World:
                 stall = pick.choice((100_000, 400_000, 2 * SECOND))
                 found.append(f"slow {begin} {end} {name} {stall}")
             elif what < 0.8:
-                call = pick.choice(("sync", "write", "sync"))
+                call = pick.choice(("sync", "write", "sync", "read"))
                 found.append(f"bad {begin} {end} {name} {call} {EIO} {pick.choice((1, 3, 10))}")
             else:
-                kind = pick.choice((".part", ".new", ".events"))
+                kind = pick.choice((".part", ".new", ".events", ".new"))
                 call = pick.choice(("open", "write", "sync", "rename"))
                 error = pick.choice((EIO, ENOSPC))
+                if kind == ".new" and pick.random() < 0.5:
+                    # The disk is full.
+                    begin, end, call, error = since, until, "truncate", ENOSPC
                 found.append(f"bad {begin} {end} {kind} {call} {error} {pick.choice((1, 2))}")
         return found
 
@@ -235,9 +272,12 @@ class World:
         if pick.random() < 0.1:
             at = pick.randint(since, until)
             found.append((at, f"pause {at} {pick.choice((200_000, SECOND, 4 * SECOND))}"))
-        if pick.random() < 0.05:
+        if pick.random() < 0.07:
             at, path = pick.randint(since, until), pick.choice(pick.choice(self.cameras).paths())
             found.append((at, f"move {at} {path} moved{at}"))
+        if pick.random() < 0.05 and not self.is_piped:
+            at = pick.randint(since, until)
+            found.append((at, f"move {at} answers answers.{at}"))
         return found
 
     def frames(self, camera: Camera, since: int, until: int) -> list[tuple[int, str]]:
@@ -346,10 +386,16 @@ class World:
             if pick.random() < 0.1:
                 # A pipe that nobody reads.
                 return f"save {camera.name} {clip} nobody"
+            out = f"saved{pick.randint(0, SAVED)}"
+            if self.saves and pick.random() < 0.7:
+                out = f"{self.saves}/{out}"
+            if pick.random() < 0.05:
+                # What the station itself reads or writes.
+                out = pick.choice((*camera.paths(), "station.toml", "answers", "orders",
+                                   f"{camera.name}.loop.events", f"{camera.name}.y4m"))
             if pick.random() < 0.2:
-                tag, out = pick.choice((7, 1, 2)), f"saved{pick.randint(0, 20)}"
-                return f"save{bang} {camera.name} #{tag} {out}"
-            return f"save{bang} {camera.name} {clip} saved{pick.randint(0, 20)}"
+                return f"save{bang} {camera.name} #{pick.choice((7, 1, 2))} {out}"
+            return f"save{bang} {camera.name} {clip} {out}"
         if what < 0.78:
             return f"cancel {camera.name} {clip}"
         if what < 0.88:

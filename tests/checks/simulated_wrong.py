@@ -168,7 +168,50 @@ def file_gone(world: World, lived: Lived, chance: random.Random) -> Lived | None
     return with_more(lived, index, [Record("U", time, 0, 0, said["path"].encode())])
 
 
+def untold(*kinds: str) -> Callable[[World, Lived, random.Random], Lived | None]:
+    """What is told of a camera, or of the computer, isn't told: all lines of these kinds."""
+    def form(world: World, lived: Lived, chance: random.Random) -> Lived | None:
+        life, end = lived.life, lived.end()
+        mine = [time for _, time, said in told(lived.records) if said["kind"] in kinds]
+        if not mine or life.is_slow or life.is_faulty or life.changed or world.is_piped or \
+                end - max(mine) < 5_000_000 or "\nmove" in life.script:
+            return None
+        records = []
+        for record in lived.records:
+            if record.kind == "A":
+                lines = [it for it in record.data.split(b"\n")
+                         if it and json.loads(it)["kind"] not in kinds]
+                record = record._replace(data=b"".join(it + b"\n" for it in lines))
+            records.append(record)
+        return lived._replace(records=records)
+
+    return form
+
+
+def otherwise(kind: str, key: str, more: int) -> Callable[..., Lived | None]:
+    """A line of a kind says another number, of all that have one."""
+    def form(world: World, lived: Lived, chance: random.Random) -> Lived | None:
+        def change(line: dict) -> None:
+            line[key] += more
+
+        life = lived.life
+        has = any(said["kind"] == kind and key in said for _, _, said in told(lived.records))
+        if not has or life.is_slow or life.is_faulty or life.changed or world.is_piped:
+            return None
+        return said_otherwise(lived, kind, change, chance)
+
+    return form
+
+
 FORMS = {
+    "a store that opens isn't told": untold("store_open"),
+    "how a disk syncs isn't told": untold("syncs"),
+    "a pause isn't told": untold("stood_still"),
+    "a set clock isn't told": untold("system_clock_steps"),
+    "a source that begins isn't told": untold("source_on"),
+    "a kept clip has another tag": otherwise("kept", "tag", 1),
+    "a saved file has other frames": otherwise("saved", "id", 1),
+    "an event is another order's": otherwise("event_begun", "event", -1_000_000),
     "a kept clip is unlocked": unlocked,
     "a kept frame is another": frame_changed,
     "a kept block is gone": frame_gone,
