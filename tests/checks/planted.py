@@ -170,6 +170,21 @@ def with_faults(files: dict[str, str], faults: list[Fault]) -> dict[str, str]:
     return found
 
 
+def unfit() -> list[str]:
+    """Why faults don't fit their sources, a line for each."""
+    files, told = unproved.program("loop_station").files, []
+    try:
+        faults = all_faults()
+    except Unfit as why:
+        return [str(why)]
+    for fault in faults:
+        try:
+            with_faults(files, [fault])
+        except Unfit as why:
+            told.append(f"station.faults: {why}")
+    return told
+
+
 class Planted(unproved.Program):
     """The station with all faults, which is linked with the switch."""
 
