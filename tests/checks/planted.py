@@ -11,7 +11,6 @@ from __future__ import annotations
 
 import re
 import subprocess
-import tempfile
 from pathlib import Path
 from typing import NamedTuple
 
@@ -137,7 +136,8 @@ def changed(text: str, changes: list[Change]) -> str:
     for begin, end in sorted({it[1:3] for it in changes}, key=lambda it: (it[0], -it[1])):
         if begin < at:
             continue
-        inner = [it for it in changes if begin <= it[1] and it[2] <= end and it[1:3] != (begin, end)]
+        inner = [it for it in changes
+                 if begin <= it[1] and it[2] <= end and it[1:3] != (begin, end)]
         if any(begin < it[1] < end < it[2] for it in changes):
             raise Unfit(f"faults overlap: {text[begin:end]!r}")
         old = changed(text[begin:end], [(it[0], it[1] - begin, it[2] - begin, it[3])

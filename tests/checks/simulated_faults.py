@@ -1,6 +1,6 @@
-"""How tests/simulate looks for the faults of tests/wrong/station.faults: first it runs seeds without
-a fault, and remembers each life; then, for each fault, it runs them again. A life whose log is the
-same needs no judge."""
+"""How tests/simulate looks for the faults of tests/wrong/station.faults: first it runs seeds
+without a fault, and remembers each life; then, for each fault, it runs them again. A life whose log
+is the same needs no judge."""
 from __future__ import annotations
 
 import hashlib
@@ -83,6 +83,7 @@ class Search:
                 judge = pickle.loads(known[at].judge)
             if judge is not None:
                 judge.world, judge.cameras = world, {it.name: it for it in world.cameras}
+                # A judge that was kept asks by the world that is there now.
                 found = judge.judges(lived, f"{seed} {at}")
                 if found:
                     return at, found

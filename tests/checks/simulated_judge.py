@@ -8,6 +8,7 @@ import datetime
 import functools
 import random
 import re
+import struct
 from pathlib import Path
 
 import layout
@@ -17,6 +18,8 @@ from simulated_run import Lived, chooser, told
 from simulated_told import Told
 from simulated_world import EPOCH, SECOND, SIZE, Camera, World
 
+# What the entry of a clip says: its first and last number, and its tag.
+ENTRY = struct.Struct("<8xQQQ")
 REFERENCE = Path(__file__).resolve().parents[2] / "docs/reference.md"
 # Within so much time a frame that came is stored, an order answered, and what is unlocked told.
 SOON = 5 * SECOND
@@ -125,7 +128,8 @@ def held_in(image: bytes) -> Held:
 @functools.lru_cache(300)
 def clips_of(table: bytes) -> list[tuple[int, int, int, int]]:
     """The clips of a table."""
-    return layout.clips_in(table, 2)
+    open_ones = [it for it, gate in enumerate(table[::layout.ENTRY]) if gate == layout.OPEN]
+    return [(it, *ENTRY.unpack_from(table, layout.ENTRY * it)) for it in open_ones]
 
 
 def moment_of(text: str) -> int:
@@ -168,6 +172,7 @@ class Judge:
     def __init__(self, world: World) -> None:
         self.world = world
         self.cameras = {it.name: it for it in world.cameras}
+        self.paths = {path: it.name for it in world.cameras for path in it.paths()}
         self.kinds = kinds_of_lines()
         self.clips: dict[tuple[str, int], Clip] = {}
         self.saved: dict[str, bytes] = {}
@@ -283,6 +288,7 @@ class Judge:
         # Which cameras' writers left amid a frame, and the times that their frames say.
         self.cuts: dict[str, int] = {}
         self.said_at: dict[str, dict[int, int]] = {it: {} for it in self.cameras}
+        self.came_at: dict[str, dict[int, int]] = {it: {} for it in self.cameras}
         self.told.begins(lived)
         self.kept.begins(lived)
 
@@ -321,6 +327,7 @@ class Judge:
             self.came[name].append((time, int(words[3])))
             self.streams[name][int(words[3])] = self.writer[name]
             self.said_at[name][int(words[3])] = int(words[1]) - 20_000
+            self.came_at[name][int(words[3])] = time
         elif words[0] in ("frame", "part", "close"):
             self.writer[name] += 1
             self.cuts[name] = self.cuts.get(name, 0) + (words[0] == "part")
@@ -436,12 +443,11 @@ class Judge:
             return []
         return clips_of(bytes(file.now[layout.SUPER:layout.FRONT]))
 
-    def sees_tables(self) -> None:
-        """A file is about to be changed: remembers which clip each id was."""
-        for camera in self.cameras.values():
-            for path in camera.paths():
-                for own, *clip in self.table(path):
-                    self.tables.setdefault((path, own), set()).add(tuple(clip))
+    def sees_tables(self, *paths: str) -> None:
+        """Files are about to be changed, or all are looked at: remembers which clip each id was."""
+        for path in paths or self.paths:
+            for own, *clip in self.table(path):
+                self.tables.setdefault((path, own), set()).add(tuple(clip))
 
     def reads_saved(self, said: dict, time: int) -> None:
         """The file is there, whole, and has as many frames."""
@@ -681,21 +687,22 @@ class Judge:
     def writes(self, record: Record) -> None:
         """A store's file is about to be changed."""
         file = self.disk.files.get(record.number)
-        for name, camera in self.cameras.items():
-            for path in camera.paths() if file else ():
-                if self.disk.names.get(path) is file:
-                    names = names_in_slots(record.data) if record.place >= layout.FRONT else set()
-                    self.told.writes(name, path, record, names)
-                    if layout.SUPER <= record.place < layout.FRONT:
-                        self.sees_tables()
-                        self.locked_at[name] = record.time
-                        if record.data[:1] == bytes([layout.CLOSED]):
-                            self.room_at[name] = record.time
-                    else:
-                        self.goes(name, path, file, record)
-                        self.stored_at[name] = record.time
-                        self.stored[name].update(names)
-                    self.kept.writes(name, path, record, names)
+        path = next((it for it in self.paths if self.disk.names.get(it) is file), None)
+        if file is None or path is None:
+            return
+        name, is_table = self.paths[path], layout.SUPER <= record.place < layout.FRONT
+        names = set() if is_table else names_in_slots(record.data)
+        self.told.writes(name, path, record, names)
+        if is_table:
+            self.sees_tables(path)
+            self.locked_at[name] = record.time
+            if record.data[:1] == bytes([layout.CLOSED]):
+                self.room_at[name] = record.time
+        else:
+            self.goes(name, path, file, record)
+            self.stored_at[name] = record.time
+            self.stored[name].update(names)
+        self.kept.writes(name, path, record, names)
 
     def goes(self, name: str, path: str, file: File, record: Record) -> None:
         """A block that goes is the oldest of all that no clip locks and that aren't the newest of

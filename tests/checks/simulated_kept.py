@@ -10,7 +10,7 @@ from simulated_disk import Record
 from simulated_world import EPOCH, LINKED, SECOND, SIZE, Camera
 
 if TYPE_CHECKING:
-    from simulated_judge import Held, Judge
+    from simulated_judge import Judge
     from simulated_run import Lived
 
 SOON = 5 * SECOND
@@ -44,6 +44,8 @@ class Kept:
                 self.slots[path] = self.slots_in(lived.before.get(path))
         self.now: dict[str, dict[int, Span]] = {}
         self.changes: dict[str, int] = {}
+        # The stores whose tables were changed since the last line.
+        self.dirty: set[str] = set()
         self.closing: dict[tuple[str, int], list[tuple]] = {}
         self.orders: dict[str, tuple[int, list[str]]] = {}
         self.over: dict[str, int] = {}
@@ -123,7 +125,8 @@ class Kept:
 
     def moves(self, old: str, new: str, time: int) -> None:
         """Somebody moves a file, perhaps a store that is recorded into."""
-        is_store = any(old in it.paths() for it in self.judge.cameras.values())
+        is_store = old in self.judge.paths
+        self.dirty |= {old} & set(self.judge.paths)
         for number, file in self.judge.disk.files.items() if is_store else ():
             if file is self.judge.disk.names.get(new):
                 self.away[number] = time
@@ -145,6 +148,7 @@ class Kept:
         elif layout.SUPER <= record.place < layout.FRONT:
             own = (record.place - layout.SUPER) // layout.ENTRY
             self.changes[path] = self.changes.get(path, 0) + 1
+            self.dirty.add(path)
             if record.data[:1] == bytes([layout.CLOSED]):
                 self.closes(name, path, own)
         if name not in self.judge.moved:
@@ -153,7 +157,7 @@ class Kept:
     def stores(self, name: str, path: str, record: Record) -> None:
         """Frames are stored: each with the time at which it came, or which its source says."""
         camera, size = self.judge.cameras[name], layout.HEAD + SIZE
-        came = dict((it, at) for at, it in self.judge.here[name])
+        came = self.judge.came_at[name]
         for at in range(0, len(record.data), size):
             number, sequence, _, moment, *_ = layout.SLOT_HEAD.unpack_from(record.data, at)
             frame = int.from_bytes(record.data[at + layout.HEAD:][:8], "little")
@@ -200,6 +204,7 @@ class Kept:
     def names_change(self, record: Record) -> None:
         """A file is made, or gets a name."""
         words = record.data.decode().split("\0")
+        self.dirty |= {words[-1]} & set(self.judge.paths)
         if record.kind == "C":
             self.made[words[0]] = record.time
             for name, camera in self.judge.cameras.items():
@@ -220,8 +225,9 @@ class Kept:
     def reads(self, said: dict, time: int) -> None:
         """A line came."""
         kind = said["kind"]
-        for path in self.now:
+        for path in self.dirty:
             self.now[path] = {own: tuple(clip) for own, *clip in self.judge.table(path)}
+        self.dirty.clear()
         self.stays_released(time)
         reader = getattr(self, f"reads_{kind}", None)
         if reader:
@@ -289,7 +295,12 @@ class Kept:
             if event in self.here and any(one[1] >= two[0]
                                           for one, two in zip(found, found[1:])):
                 self.says(f"the clips of an event overlap in {path}: {found}")
-        for at, path in enumerate(camera.paths()):
+        # Passed over: an event that ended while the station was down is told as over before its
+        # other stores are open, without what these have.
+        if camera.stores > 1 and event not in self.here and \
+                time - self.judge.lived.life.begins < SOON:
+            return
+        for path in camera.paths():
             for own, (first, last, tag) in self.now[path].items():
                 if tag == event and (first, last) not in spans.get(path, ()):
                     self.says(f"{path} has the clip {own} {first}..{last} of the event, which isn't"
@@ -696,8 +707,9 @@ class Kept:
                 # One step of one event is done at a visit: with many, where nothing is stored, each
                 # takes its time.
                 if self.judge.told.is_plain(name) and end - max(to, opened) > SOON and \
-                        not self.stopping and "times_from" not in camera.words and "\npause" not in lived.life.script:
-                    self.says(f"event {event} of {name} was to end at {to}, and isn't over at {end}")
+                        not self.stopping and "times_from" not in camera.words:
+                    self.says(f"event {event} of {name} was to end at {to}, and isn't over at"
+                              f" {end}")
 
     def makes_all_stores(self, lived: Lived, end: int) -> None:
         """Stores that are missing are made while recording goes on."""
@@ -721,4 +733,3 @@ class Kept:
                       for _, _, it in self.judge.lines_of)
         if left and not pending and not stopped:
             self.says(f"{left} is left")
-

@@ -143,7 +143,7 @@ class Told:
         if time - last > 300_000:
             since = time
         self.runs[name] = (since, time)
-        if time - since > TOLD:
+        if time - since > 3 * TOLD:
             self.says(f"frames of {name} are stored since {since}, and it isn't told that there is"
                       f" room again at {time}")
 

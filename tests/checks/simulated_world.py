@@ -5,6 +5,7 @@ it alone."""
 from __future__ import annotations
 
 import dataclasses
+import functools
 import random
 import time
 
@@ -31,6 +32,14 @@ def moment(at: int) -> str:
     return f"{whole}.{(EPOCH + at) % SECOND:06}Z"
 
 
+@functools.cache
+def paths_of(name: str, stores: int) -> list[str]:
+    """The files of a camera's stores."""
+    if stores == 1:
+        return [f"{name}.loop"]
+    return [f"{name}.{it:03}.loop" for it in range(stores)]
+
+
 @dataclasses.dataclass
 class Camera:
     """A camera of a world, its stores, and what its source brings next."""
@@ -55,9 +64,7 @@ class Camera:
 
     def paths(self) -> list[str]:
         """Its stores' files."""
-        if self.stores == 1:
-            return [f"{self.name}.loop"]
-        return [f"{self.name}.{it:03}.loop" for it in range(self.stores)]
+        return paths_of(self.name, self.stores)
 
     def header(self) -> str:
         """The first line of its source."""

@@ -46,7 +46,8 @@ def test_statements_are_left_out_whatever_white_space_they_have():
 
 def test_two_faults_of_one_place_and_one_within_it_stand_together():
     text = planted_in(fault("old: n > 1 && n < 9\nnew: true", 1),
-                      fault("old: n > 1 && n < 9\nnew: false", 2), fault("old: n < 9\nnew: n < 5", 3))
+                      fault("old: n > 1 && n < 9\nnew: false", 2),
+                      fault("old: n < 9\nnew: n < 5", 3))
     assert "(if crate::wrong::wrong(1) { true } else if crate::wrong::wrong(2) { false } else " \
         "{ n > 1 && (if crate::wrong::wrong(3) { n < 5 } else { n < 9 }) })" in text
 
