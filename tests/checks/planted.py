@@ -106,6 +106,14 @@ def all_faults() -> list[Fault]:
     return faults_of(FAULTS.read_text())
 
 
+def with_seeds(text: str, seeds: dict[str, int]) -> str:
+    """A text of faults, in which some have other seeds."""
+    for name, seed in seeds.items():
+        text = re.sub(rf"(?m)^(fault: {name}\n(?:says|met): .*\n)(?:seed: .*\n)?",
+                      rf"\g<1>seed: {seed}\n", text)
+    return text
+
+
 def pattern(text: str) -> re.Pattern[str]:
     """Where a text stands, with any white space."""
     return re.compile(r"\s+".join(map(re.escape, text.split())))
@@ -206,7 +214,7 @@ class Planted(unproved.Program):
             processes.run = plain
 
 
-def program(level: str = "fast") -> Planted:
+def program(level: str = unproved.PLAIN) -> Planted:
     """The station with all faults, each switched off."""
     plain = unproved.program("loop_station", level)
     files = with_faults({**plain.files, "switch": SWITCH}, all_faults())

@@ -126,10 +126,11 @@ def tells(found: Found, fault: planted.Fault) -> None:
     """Prints what came of a fault."""
     took = f"{found.seconds:.1f} s of a processor, {found.seeds} seeds"
     if found.seed is None:
-        print(f"NOT found {fault.name}: {took}, {found.others} of them otherwise. {fault.says}")
+        print(f"NOT found {fault.name}: {took}, {found.others} of them otherwise. {fault.says}",
+              flush=True)
     else:
         print(f"found     {fault.name}: seed {found.seed}, life {found.life}: {took}:"
-              f" {found.wrong[0][:160]}")
+              f" {found.wrong[0][:160]}", flush=True)
 
 
 def finds(names: list[str], first: int, count: int, jobs: int, kept: bool) -> int:
@@ -137,6 +138,9 @@ def finds(names: list[str], first: int, count: int, jobs: int, kept: bool) -> in
     Answers the status."""
     global SEARCH
     faults = [it for it in planted.all_faults() if not names or it.name in names]
+    if not kept and not names:
+        # Those that are found already have their seed.
+        faults = [it for it in faults if it.seed is None]
     if missing := set(names) - {it.name for it in faults}:
         print(f"there is no fault {sorted(missing)}")
         return 2
@@ -163,5 +167,8 @@ def finds(names: list[str], first: int, count: int, jobs: int, kept: bool) -> in
         for fault, found in zip(faults, pool.imap(with_fault, todo)):
             tells(found, fault)
             count += found.seed is not None
+            if found.seed is not None and not kept:
+                text = planted.with_seeds(planted.FAULTS.read_text(), {fault.name: found.seed})
+                planted.FAULTS.write_text(text)
     print(f"{count} of {len(faults)} faults are found")
     return 0 if count == len(faults) else 1

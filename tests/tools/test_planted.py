@@ -88,5 +88,11 @@ def test_two_faults_of_one_name_are_refused():
         planted.faults_of(f"{one}\n\n{one}")
 
 
+def test_a_seed_is_put_into_the_text_in_place_of_another_one():
+    text = "fault: f\nsays: x\nfile: a\n\nfault: g\nmet: y\nseed: 4\nfile: a\n"
+    assert planted.with_seeds(text, {"f": 3, "g": 5}) == \
+        "fault: f\nsays: x\nseed: 3\nfile: a\n\nfault: g\nmet: y\nseed: 5\nfile: a\n"
+
+
 def test_all_faults_fit_the_sources():
     assert not planted.unfit()
