@@ -472,8 +472,9 @@ static void read_over(void) {
     WANT(lapyrei_close(it), 0);
 }
 
-/* Frames of one byte each, and a reader that never sees another. */
-enum { PLAIN = 64 * 48 };
+/* Frames of one byte each, and a reader that never sees another. How many it sees whole in a number of reads, and how
+ * often it meets a cut, is a matter of the machine: it goes on until it has, as long as there is hope. */
+enum { PLAIN = 64 * 48, ENOUGH = 100, HOPELESS = 1000000 };
 static struct {
     lapyrei it;
     atomic_int is_over, torn, whole, gone;
@@ -498,7 +499,7 @@ static void *follows(void *of) {
     lapyrei_run some[8];
     size_t many;
     WANT(lapyrei_open_read(of, &reader), 0);
-    for (int k = 0; k < 300; k++) {
+    for (int k = 0; k < 300 || (k < HOPELESS && atomic_load(&film.whole) <= ENOUGH); k++) {
         WANT(lapyrei_wait(reader, newest, 60000, &newest), 0);
         uint64_t wanted = k % 2 || newest < 3 ? newest : newest - 3; /* as far back as may be there */
         int refusal = lapyrei_read(reader, wanted, NULL, bytes, PLAIN);
@@ -530,7 +531,7 @@ static void whole_beside(void) {
     pthread_join(writer, NULL);
     WANT(lapyrei_close(film.it), 0);
     WANT(film.torn, 0);
-    WANT(film.whole > 100, 1);
+    WANT(film.whole > ENOUGH, 1);
 }
 
 /* A child that lives holds no lock: neither of a store that was closed, nor of one that its parent has open. */
@@ -638,7 +639,7 @@ static void cut_beside(void) {
     beside.size = (size_t)pread(file, beside.bytes, sizeof beside.bytes, 0);
     WANT(beside.size > 4096 && beside.size < sizeof beside.bytes, 1);
     pthread_create(&other, NULL, cuts_and_mends, &file);
-    for (int round = 0; round < 100 || (round < 20000 && !(done && refusals)); round++) {
+    for (int round = 0; round < 100 || (round < HOPELESS && !(done && refusals)); round++) {
         int refusal = lapyrei_open(path, &it);
         for (int k = 0; !refusal && k < 12; k++) {
             refusal = some_call(it, k);

@@ -15,9 +15,10 @@ import gige
 import gige_xml
 import numpy as np
 import pytest
-from conftest import LOCK, parsed
+from conftest import LOCK, parsed, until
 
-HEAD = "REGION=37x21\nRATE=100\nCLOCK=ptp\n"
+# So few frames a second that those of some seconds have room in a socket of any system.
+HEAD = "REGION=37x21\nRATE=25\nCLOCK=ptp\n"
 SIZE = 37, 21
 
 
@@ -69,8 +70,11 @@ def given_on(it, own):
     """The frames that were given on, as the program's log has them: each is one that the camera
     sent whole, with the camera's own time, and none is there twice."""
     assert it.wait() == 0, it.told()
-    sent, log, (head, frames, rest) = own.sent(), it.log(), it.text()
+    log, (head, frames, rest) = it.log(), it.text()
     assert rest == b"" and len(frames) == len(log) > 0
+    # The camera writes down what it has sent.
+    until("the camera's log", lambda: {number for number, *_ in log} <= set(own.sent()))
+    sent = own.sent()
     for number, stamp, _, crc in log:
         assert sent[number][:2] == (stamp, crc)
     assert len({number for number, *_ in log}) == len(log)
@@ -134,13 +138,15 @@ def test_ids_that_wrap_and_jump_are_counted_as_they_are(camera, own, words, lost
     it = camera(file_of(own), "--frames", "30")
     _, _, log = given_on(it, own)
     assert 0 not in {number for number, *_ in log}
-    said = it.says(r"ended: 30 frames given on(?:, (\d+) frames? lost)?")
-    assert int(said[1] or 0) == lost, it.told()
+    # Of a camera that a busy machine holds up amid a frame, that frame is incomplete.
+    counts = r"(?:, (\d+) frames? incomplete and dropped)?(?:, (\d+) frames? lost)?"
+    said = it.says("ended: 30 frames given on" + counts)
+    assert int(said[2] or 0) == lost, it.told()
     given = []
     parsed(it.out.read_bytes(), lambda line: given.append(int(re.search(rb"Xn=(\d+)", line[0])[1])))
     assert [(it - 1) % 65535 + 1 for it in given] == [number for number, *_ in log]
     steps = [after - before for before, after in zip(given, given[1:])]
-    assert min(steps) == 1 and sum(steps) - len(steps) == lost
+    assert min(steps) == 1 and sum(steps) - len(steps) == lost + int(said[1] or 0)
 
 
 def test_packets_that_are_lost_for_good_leave_incomplete_frames_out(camera, own):

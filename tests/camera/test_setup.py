@@ -110,7 +110,9 @@ class Laboratory:
 
 
 @pytest.fixture
-def laboratory(tmp_path, monkeypatch):
+def laboratory(tmp_path, tmp_path_factory, monkeypatch):
+    # Pictures for which no folder is named stay where they are made.
+    monkeypatch.setattr(tempfile, "tempdir", str(tmp_path_factory.mktemp("pictures")))
     return Laboratory(tmp_path, monkeypatch)
 
 

@@ -351,10 +351,7 @@ MIDDLE = """const it = document.querySelector('#large-picture');
 
 def pixel_of(lab, number, x, y):
     """The brightness of a pixel of the first camera, by the layout alone."""
-    import layout
-
-    recording = layout.read((lab.folder / "left.loop").read_bytes())
-    expect(isinstance(recording, layout.Recording), f"the store can't be read: {recording}")
+    recording = lab.recording_of("left", number, number)
     return recording.frames[number][y * recording.geometry.width + x]
 
 

@@ -155,8 +155,9 @@ def test_what_is_held_is_of_own_cameras_that_are_read_and_of_events_that_are_ove
 
 # ------------------------------------------------------------------------------------ connections
 
-# So often, ten times a second, a server drips: for six times as long as an answer may take here.
-DRIPS = 60
+# So often, ten times a second, a server drips: for sixty times as long as an answer may take here,
+# and for some times as long as a busy machine takes to notice.
+DRIPS = 600
 
 
 class Raw:
@@ -211,7 +212,7 @@ def test_an_answer_that_drips_is_late_as_a_whole(raw, first):
     begun = time.monotonic()
     with pytest.raises(pages.PageFault, match="isn't whole within 1 s|timed out"):
         page.status()
-    assert time.monotonic() - begun < 8
+    assert time.monotonic() - begun < 30
 
 
 def test_an_answer_without_an_end_is_read_to_its_bound(raw):

@@ -19,10 +19,13 @@ def bench(module):
 def test_states_are_retained(bench):
     until(lambda: bench.newest("state").get("level") == "good", "state")
     until(lambda: bench.newest("cameras/left").get("kind") == "good", "camera")
-    late = bench.listen(bench.broker.port)
-    for topic in ("state", "cameras/left", "cameras/right"):
-        until(lambda: late.newest(f"{HERE}/{topic}").get("station") == "one", topic)
-    assert all(retain for _, _, retain in late.messages[:3])
+    late, first = bench.listen(bench.broker.port), {}
+    topics = [f"{HERE}/{it}" for it in ("state", "cameras/left", "cameras/right")]
+    for topic in topics:
+        until(lambda: late.newest(topic).get("station") == "one", topic)
+    for topic, _, retain in list(late.messages):
+        first.setdefault(topic, retain)
+    assert all(first[topic] for topic in topics)
 
 
 def test_an_order_is_done_and_answered_with_its_id(bench):

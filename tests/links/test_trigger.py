@@ -166,12 +166,13 @@ def test_packets_are_taken_from_those_alone_who_may_send_them(look):
     count = len(it.fired)
     for sender in ("127.0.0.1", "127.0.0.9", "127.0.2.1", "127.0.1.200"):
         send(sender, f"by {sender}", it)
-    until(lambda: "127.0.1.200" in it.texts()[-1], "cause")
+    # Of what had to be sent again until they listened some may come after it.
+    until(lambda: any("127.0.1.200" in text for text in it.texts()), "cause")
     assert [text for text in it.texts()[count:] if "begun" not in text] == [
         "UDP from 127.0.1.200 'by 127.0.1.200'"
     ]
     send("127.0.0.9", "by anybody", every)
-    until(lambda: "by anybody" in every.texts()[-1], "cause")
+    until(lambda: any("by anybody" in text for text in every.texts()), "cause")
 
 
 def test_an_address_of_ipv4_is_the_same_by_ipv6():
@@ -201,8 +202,8 @@ def test_a_pattern_is_a_word_with_stars(pattern, text, is_one):
 )
 def test_no_pattern_takes_long(pattern):
     found = sources.pattern_in(settings.Words({"match": pattern}, "t"))
-    begun = time.monotonic()
-    assert not found.match(b"a" * 65_000) and time.monotonic() - begun < 2
+    begun = time.thread_time()
+    assert not found.match(b"a" * 65_000) and time.thread_time() - begun < 2
 
 
 def test_each_sender_has_its_turn():

@@ -55,10 +55,10 @@ def token_in(folder, text=TOKEN):
 
 
 # What a page loads first where its disk or its clock is to be wrong: reads of a file named in the
-# file `hangs` wait until it isn't any more, and the system's clock is as many seconds wrong as the
-# file `clock` says.
+# file `hangs` wait until it isn't any more, in the system, as at a disk: what looks again and again
+# would be at work. The system's clock is as many seconds wrong as the file `clock` says.
 SPOILT = """
-import os, time
+import fcntl, os, time
 here = os.path.dirname(__file__)
 def text(name):
     try:
@@ -69,7 +69,8 @@ def text(name):
 plain_read, plain_time = os.pread, time.time
 def pread(file, count, at):
     while (name := text("hangs")) and name in os.readlink(f"/proc/self/fd/{file}"):
-        time.sleep(0.05)
+        with open(os.path.join(here, "gate")) as gate:
+            fcntl.flock(gate, fcntl.LOCK_SH)
     return plain_read(file, count, at)
 os.pread, time.time = pread, lambda: plain_time() + float(text("clock") or 0)
 """
@@ -135,7 +136,7 @@ class Laboratory:
         before tells of no frame that was lost."""
         self.bounds, room = ({}, {}) if as_it_is else (PATIENT, ROOM)
         self.folder, self.runs, self.station, self.page, self.port = Path(folder), [], None, None, 0
-        self.token = None
+        self.token = self.gate = None
         lines = ['orders = "orders"'] if orders else []
         lines += ["tells_lost = true"] if tells_lost else []
         os.mkfifo(self.folder / "orders")
@@ -224,8 +225,14 @@ class Laboratory:
     def spoil(self, name, text):
         """Makes a disk hang (`hangs`, a file's name), or the clock wrong (`clock`, by seconds); a
         text without anything ends that."""
+        if name == "hangs" and text and not self.gate:
+            self.gate = open(self.folder / "spoilt" / "gate", "w", encoding="utf-8")
+            fcntl.flock(self.gate, fcntl.LOCK_EX)
         (self.folder / "spoilt" / f"{name}.new").write_text(text)
         os.rename(self.folder / "spoilt" / f"{name}.new", self.folder / "spoilt" / name)
+        if name == "hangs" and not text and self.gate:
+            self.gate.close()
+            self.gate = None
 
     def journal(self):
         """Who changed what."""
@@ -328,13 +335,27 @@ class Laboratory:
 
         return layout.read_store(self.folder / f"{name}.loop").frames
 
+    def recording_of(self, name, first, last):
+        """Some of a camera's frames, by the layout alone, while its station goes on. Its file isn't
+        read as a whole: that takes longer than blocks stay."""
+        import layout
+
+        path, frames = self.folder / f"{name}.loop", {}
+        store = layout.read_store(path)
+        places = {it.block: it.place for it in store.with_frames()}
+        with open(path, "rb") as file:
+            for number in range(first, last + 1):
+                block, slot = divmod(number, store.geometry.slots)
+                file.seek(store.geometry.slot_at(places[block], slot) + layout.HEAD)
+                frames[number] = file.read(store.geometry.size)
+        return layout.Recording(store.geometry, store.version, store.next, frames, store.clips)
+
     def text_of(self, name, clip):
         """A clip as YUV4MPEG2, by the layout alone."""
         import layout
 
-        recording = layout.read((self.folder / f"{name}.loop").read_bytes())
-        assert isinstance(recording, layout.Recording), recording
-        return layout.text_of(recording, clip["first"], clip["last"])
+        first, last = clip["first"], clip["last"]
+        return layout.text_of(self.recording_of(name, first, last), first, last)
 
     def end(self, run, how=signal.SIGKILL):
         """Ends a program."""
@@ -348,6 +369,8 @@ class Laboratory:
             self.end(run)
             if run.stdout:
                 run.stdout.close()
+        if self.gate:
+            self.gate.close()
 
 
 @pytest.fixture

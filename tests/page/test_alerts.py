@@ -191,6 +191,8 @@ def test_a_disk_that_does_not_answer_holds_up_no_other_camera(monkeypatch):
 
 def test_a_look_that_works_is_one_of_a_busy_machine_and_no_disk_that_hangs(monkeypatch):
     import asyncio
+    import hashlib
+    import threading
     import time
     import types
 
@@ -198,25 +200,32 @@ def test_a_look_that_works_is_one_of_a_busy_machine_and_no_disk_that_hangs(monke
     from station_page import watched as looks
 
     monkeypatch.setattr(limits, "DISK_SECONDS", 0.1)
+    is_enough = threading.Event()
 
     def work():
-        end = time.monotonic() + 2
-        while time.monotonic() < end:
-            pass
+        # It works while another thread runs too: else it might wait for that.
+        while not is_enough.is_set():
+            hashlib.sha256(bytes(1 << 20))
         raise OSError("done")
 
     async def look():
         reader = types.SimpleNamespace(read=work)
         watched = looks.Watched(types.SimpleNamespace(name="left"), reader)
         watched.begin()
-        found = []
-        while not watched.looking.done():
+        found, end = [], time.monotonic() + 2
+        while len(found) < 20 or time.monotonic() < end:
             found.append(watched.hangs())
+            await asyncio.sleep(0.02)
+        is_enough.set()
+        while not watched.looking.done():
             await asyncio.sleep(0.02)
         return found, watched
 
-    found, watched = asyncio.run(look())
-    assert not any(found) and len(found) > 3 and watched.why == "done"
+    try:
+        found, watched = asyncio.run(look())
+    finally:
+        is_enough.set()
+    assert not any(found) and watched.why == "done"
     # One that waits for a processor works as soon as it can.
     watched.looking, watched.began = types.SimpleNamespace(done=lambda: False), 0.0
     watched.idle = watched.worked = 0.0

@@ -69,12 +69,12 @@ def test_brackets_in_a_text_are_no_depth():
     ids=range(4),
 )
 def test_a_long_text_is_read_in_time(raw):
-    begun = time.monotonic()
+    begun = time.thread_time()
     try:
         answers.answer_in(raw, answers.STATE)
     except Unusable:
         pass
-    assert time.monotonic() - begun < 20
+    assert time.thread_time() - begun < 20
 
 
 @pytest.mark.parametrize(

@@ -167,8 +167,7 @@ def test_a_deep_clip_is_fetched_as_it_is(deep, camera, colour, bits):
     text = deep.ask(f"/api/clips/{camera}/{clip['id']}.y4m").body
     front, rest = text.split(b"\n", 1)
     assert front.decode() == f"YUV4MPEG2 W{wide} H{high} F25:1 Ip A0:0 C{colour}"
-    recording = layout.read((deep.folder / f"{camera}.loop").read_bytes())
-    frames = [recording.frames[it] for it in range(clip["first"], clip["last"] + 1)]
+    frames = deep.recording_of(camera, clip["first"], clip["last"]).frames.values()
     assert rest == b"".join(b"FRAME\n" + it for it in frames)
     listed = next(it for it in deep.ask("/api/clips").json()["clips"] if it["camera"] == camera)
     assert listed["bytes"] == len(text)

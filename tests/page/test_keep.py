@@ -69,16 +69,19 @@ def test_notes_outlive_the_page(make):
 
 
 def test_a_keep_is_answered_within_a_second(make):
-    """One of some: a machine that is busy with others takes longer now and then."""
+    """One of many: a machine that is busy with others takes longer now and then."""
     lab = make()
     lab.filmed()
 
     def is_soon():
         start = time.monotonic()
-        lab.keep()
-        return time.monotonic() - start < 1
+        clip = lab.keep()
+        took = time.monotonic() - start
+        body = {"camera": "left", "id": clip["id"], "first": clip["first"]}
+        assert lab.post("/api/release", body).status == 200
+        return took < 1
 
-    assert any(is_soon() for _ in range(60))
+    lab.until(is_soon, "keep that is answered within a second")
 
 
 def test_a_file_of_notes_that_cannot_be_read_is_left_as_it_is(make):

@@ -90,7 +90,8 @@ def test_a_client_that_reads_nothing_is_closed(make):
 def test_orders_that_wait_have_a_bound(make):
     from concurrent.futures import ThreadPoolExecutor
 
-    lab = make(page=False).start_limited(ORDERS=3, CHANGE_SECONDS=2).filmed()
+    # Long enough for all eight to come while the first three wait.
+    lab = make(page=False).start_limited(ORDERS=3, CHANGE_SECONDS=10).filmed()
     lab.order_done("!mute")
     with ThreadPoolExecutor(8) as pool:
         found = [

@@ -103,7 +103,7 @@ def test_pictures_through_a_hub_are_new_behind_a_slow_line(make):
 
 def test_a_page_that_never_reads_is_closed(make):
     lab = make(page=False, cameras=PICTURES)
-    lab.start_limited(READ_SECONDS=3).filmed(10, "a")
+    lab.start_limited(READ_SECONDS=6).filmed(10, "a")
     with socket.socket() as client:
         client.setsockopt(socket.SOL_SOCKET, socket.SO_RCVBUF, 4096)
         client.connect(("127.0.0.1", lab.port))
@@ -118,7 +118,7 @@ def test_a_page_that_never_reads_is_closed(make):
     # One that reads stays, however little is new.
     page = Open(lab)
     page.look(cameras=[])
-    end = time.monotonic() + 8
+    end = time.monotonic() + 12
     while time.monotonic() < end:
         page.message()
     assert page.look(cameras=[]).status == 200

@@ -185,10 +185,11 @@ def lossy(make, request):
     tells of it."""
     lab = make(tells_lost=request.param)
     lab.filmed(30)
-    lab.order("!lose left 3")
-    count = lab.camera()["frames"]
-    lab.until(lambda: lab.camera()["frames"] > count + 20, "frames")
-    lab.order("!lose left 2")
+    lab.order_done("!lose left 3")
+    # Some frames come before the next ones are lost: by the store, since the page may be behind.
+    last = lab.stored()[-1].number
+    lab.until(lambda: lab.stored()[-1].number > last + 20, "frames")
+    lab.order_done("!lose left 2")
     lab.until(lambda: sum(it[2] for it in lab.camera()["holes"]) == 5, "holes")
     count = lab.camera()["frames"]
     lab.until(lambda: lab.camera()["frames"] > count + 20, "frames")

@@ -216,11 +216,11 @@ def test_a_speed_that_is_no_number_is_refused():
 
 
 def test_a_pixel_has_the_values_of_the_store(shared):
-    recording = layout.read((shared.folder / "right.loop").read_bytes())
-    number = max(recording.frames) - 2
+    number = shared.stored("right")[-1].number - 2
+    frame = shared.recording_of("right", number, number).frames[number]
     for x, y in ((0, 0), (32, 20), (5, 7)):
         found = shared.ask(f"/api/cameras/right/frames/{number}/value?x={x}&y={y}")
-        assert found.json()["values"] == {"value": recording.frames[number][y * 33 + x]}
+        assert found.json()["values"] == {"value": frame[y * 33 + x]}
     for query in ("x=33&y=0", "x=0&y=21", "x=-1&y=0", "x=a&y=0", "y=1", ""):
         assert shared.ask(f"/api/cameras/right/frames/{number}/value?{query}").status == 400, query
     assert shared.ask("/api/cameras/right/frames/9999999/value?x=0&y=0").status == 404
@@ -238,10 +238,10 @@ def test_a_colour_pixel_has_its_three_values():
 
 
 def test_the_light_of_a_frame_counts_each_value(shared):
-    recording = layout.read((shared.folder / "right.loop").read_bytes())
-    number = max(recording.frames) - 2
+    number = shared.stored("right")[-1].number - 2
+    frame = shared.recording_of("right", number, number).frames[number]
     found = shared.ask(f"/api/cameras/right/frames/{number}/light").json()
-    wanted = numpy.bincount(numpy.frombuffer(recording.frames[number], numpy.uint8), minlength=256)
+    wanted = numpy.bincount(numpy.frombuffer(frame, numpy.uint8), minlength=256)
     assert found["counts"] == wanted.tolist() and 0 <= found["black"] < found["white"] <= 255
 
 

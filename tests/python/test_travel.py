@@ -8,7 +8,6 @@ import pickle
 import signal
 import subprocess
 import sys
-import time
 
 import conftest
 import lapyrei
@@ -214,10 +213,15 @@ import os, sys, time
 sys.path[1:1] = {path!r}
 import lapyrei
 store = lapyrei.open({file!r}, "r+")
+out, into = os.pipe()
 child = os.fork()
 if not child:
+    os.write(into, b"x")
     time.sleep({limit})
     os._exit(0)
+if not {closes}:
+    # A child lets go of the store once it runs.
+    os.read(out, 1)
 print(child, flush=True)
 if {closes}:
     store.close()
@@ -246,7 +250,6 @@ def test_a_forked_child_that_lives_keeps_no_store_busy(tmp_path, library, closes
             assert run.stdout.readline() == "opened\n"
         run.stdin.close()
         run.wait(conftest.LIMIT)
-        time.sleep(0.05)
         os.kill(child, 0)
         lapyrei.open(path, "r+").close()
     finally:

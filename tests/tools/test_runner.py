@@ -1,7 +1,8 @@
 """tests/run: which tests words choose, how they are laid out, and what is told of them."""
-import os
+import contextlib
 import signal
 import sys
+import threading
 import time
 
 import pytest
@@ -148,18 +149,41 @@ def test_a_checks_frames_get_names(monkeypatch):
     assert running.ending(1) == "ended with status 1" and "SIGILL" in running.ending(-4)
 
 
-def test_what_runs_too_long_is_ended_with_all_that_it_began(tmp_path):
-    words = ["sh", "-c", "sleep 60 & echo $! >child; echo said; wait"]
+def until(reached):
+    """Waits for a state, for as long as a busy machine may take."""
+    end = time.monotonic() + 120
+    while not reached() and time.monotonic() < end:
+        time.sleep(0.02)
+    return reached()
+
+
+def test_what_runs_too_long_is_ended_with_all_that_it_began(tmp_path, monkeypatch):
+    """Its time is over once it has begun all: by the clock it might not have by then."""
+    limits, timer = [], threading.Timer
+
+    def once_it_has_begun(limit, ends, words):
+        limits.append(limit)
+        return timer(0, lambda: until((tmp_path / "begun").exists) and ends(*words))
+
+    monkeypatch.setattr(threading, "Timer", once_it_has_begun)
+    words = ["sh", "-c", "sleep 300 & echo $! >child; echo said; : >begun; wait"]
     ended = processes.run(words, tmp_path, limit=0.5)
     assert ended.is_late and ended.status == -signal.SIGKILL and ended.out == "said\n"
-    child = int((tmp_path / "child").read_text())
-    for _ in range(100):
+    stat = f"/proc/{int((tmp_path / 'child').read_text())}/stat"
+
+    def is_over():
         # A child that is ended stays until its new parent asks for it.
-        stat = f"/proc/{child}/stat"
-        if not os.path.exists(stat) or open(stat).read().split()[2] == "Z":
-            return
-        time.sleep(0.02)
-    pytest.fail("the child runs on")
+        with contextlib.suppress(OSError):
+            return open(stat).read().split()[2] == "Z"
+        return True
+
+    assert until(is_over), "the child runs on"
+    assert limits == [0.5]
+
+
+def test_a_limit_of_time_is_by_the_clock(tmp_path):
+    assert processes.run(["sleep", "300"], tmp_path, limit=0.05).is_late
+    assert not processes.run(["true"], tmp_path, limit=300).is_late
 
 
 def test_a_process_has_its_input_and_its_outputs(tmp_path):

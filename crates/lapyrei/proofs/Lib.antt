@@ -1,5 +1,4 @@
 mod Asking
-mod GroupFrames
 mod LogBytes
 mod PutOver
 mod Serving

@@ -1,8 +1,14 @@
 -- What an exported call answers, by what its parts say.
-use Rattle.std.proofs.Common.{◌≡◌, ℕ, List, Option, Some, Result, Ok, Err, refl, sym, subst}
+use Rattle.std.proofs.Common.{◌≡◌, inl, ℕ, List, [], Option, Some, Result, Ok, Err, refl, sym, subst}
+use Rattle.loop_disk.specs.Calls.{no_failures}
 use Rattle.loop_disk.specs.Crashing.{Tape, medium_after}
+use Rattle.loop_disk.specs.History.{at_rest}
+use Rattle.loop_disk.specs.Medium.{IsSound}
+use Rattle.loop_disk.specs.Sound.{sound_of}
+use Rattle.loop_disk.proofs.Moments.{started}
 use Rattle.loop_store.specs.declared.fault.OpenRefused.{OpenRefused}
 use Rattle.loop_store.specs.declared.fault.StoreFault.{StoreFault}
+use Rattle.loop_store.specs.declared.fault.StoreFault.TheVariants.{NoMemory}
 use Rattle.loop_record.specs.declared.geometry.Geometry.{Geometry}
 use Rattle.loop_store.specs.Make.{Formats}
 use Rattle.loop_store.specs.Reopen.{OpensKeeping}
@@ -34,6 +40,36 @@ unserved it keep Did refused log answer opens told = record {
   made = record { store = Err refused; opens = opens; done = (refl, refl) };
   told = told;
 }
+
+-- what opens a disk may refuse for want of memory before the disk is called
+no_memory : (keep : ℕ) (start : List ℕ)
+    → OpensKeeping medium_after keep (untouched start) (Err (record { fault = NoMemory; disk = untouched start }))
+no_memory keep start =
+    let m = medium_after (untouched start) in
+    let sound : IsSound m = sound_of no_failures (at_rest start) [] in record {
+      opened = λ honest. tt;
+      found = tt;
+      tells = tt;
+      kept = tt;
+      fine = tt;
+      refused = λ image may. tt;
+      alike = λ honest. (refl, refl);
+      stays = λ honest other. record {
+        bytes = refl;
+        images = λ c left. left;
+        time = (started m m.may_leave sound (λ c left. left)).time;
+        keeps = λ t c le left. left;
+      };
+      moments = λ honest. started m _ sound (λ c left. inl left);
+      called = record { size = refl; honest = (λ h. h, λ h. h); failures = refl };
+    }
+
+-- memory was refused before the store was opened
+pub unopened : (it : Given) (keep : ℕ) (Did : Deed) (log : List ℕ) (answer : Answer)
+    → AnswersFor it (Err NoMemory) (untouched it.bytes) log answer → Serves it keep Did log answer
+unopened it keep Did log answer told =
+    unserved it keep Did (record { fault = NoMemory; disk = untouched it.bytes }) log answer (no_memory keep it.bytes)
+    told
 
 -- a store was made
 pub served_new : (it : Given) (shape : Shape) (g : Geometry) (disk : Tape) (store : Seen Tape)

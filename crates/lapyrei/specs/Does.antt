@@ -46,13 +46,11 @@ pictures_in size (head ∷ heads) bytes =
     record { sequence = head.sequence; flags = head.flags; timestamp = head.timestamp; bytes = take size bytes }
     ∷ pictures_in size heads (drop size bytes)
 
--- a group that the store takes is appended, and the number of its first frame told, or memory was refused; another is
--- of a wrong size
+-- a group that the store takes is appended, and the number of its first frame told; another is of a wrong size
 abbrev pub StoresGroup : List Head → List ℕ → Deed
 StoresGroup heads bytes old new outcome =
     (takes old.geometry old.next (length heads) (length bytes) ≡ true)
-    × (Calls old new (appended (pictures_in (frame_bytes old.geometry) heads bytes) outcome ∷ [])
-    ⊎ ((new ≡ old) × (outcome ≡ Err NoMemory)))
+    × Calls old new (appended (pictures_in (frame_bytes old.geometry) heads bytes) outcome ∷ [])
     ⊎ (takes old.geometry old.next (length heads) (length bytes) ≡ false)
     × ((new ≡ old) × (outcome ≡ Err WrongSize))
 

@@ -1,13 +1,12 @@
 -- What follows from the definitions of what C is told.
-use Rattle.std.specs.Prelude.{◌⊎◌, ℕ, ◌*◌, ◌<◌, ◌≤◌, List, [], ◌∷◌, length}
+use Rattle.std.specs.Prelude.{◌⊎◌, ℕ, ◌*◌, ◌≤◌, List, [], ◌∷◌, length}
 use Rattle.lapyrei.specs.declared.answer.Answer.{Answer}
-use Rattle.lapyrei.specs.Told.{AsksForBytes, IsThere, Meets}
+use Rattle.lapyrei.specs.Told.{AllThere, AsksForBytes, IsThere, Meets}
 
 -- where all pages of the file are there, no answer asks for bytes
 abbrev pub WholeFilesSuffice : Type 0
 WholeFilesSuffice =
-    (bytes present : List ℕ) (answer : Answer) → ((page : ℕ) → page * 4096 < length bytes → IsThere present page)
-    → AsksForBytes bytes present answer → ⊥
+    (bytes present : List ℕ) (answer : Answer) → AllThere bytes present → AsksForBytes bytes present answer → ⊥
 
 -- answers to calls on these bytes, each of which asks for bytes: the next call has them, and what was there before
 abbrev pub AskInTurn : List ℕ → List ℕ → List Answer → Type 0

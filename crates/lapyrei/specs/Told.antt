@@ -1,5 +1,6 @@
 -- What C is told of a call.
 use Rattle.std.specs.Prelude.{◌≡◌, ◌≢◌, ◌⊎◌, ℕ, ◌+◌, ◌*◌, ◌-◌, ◌^◌, ◌<◌, ◌≤◌, min, List, [], get_or, length, take, Option, Some, None, Result, Ok, Err}
+use Rattle.loop_disk.specs.declared.fault.Failures.{Failures}
 use Rattle.loop_disk.specs.Crashing.{Tape, medium_after}
 use Rattle.loop_disk.specs.Calls.{no_failures}
 use Rattle.loop_record.specs.declared.geometry.Geometry.{Geometry}
@@ -29,6 +30,10 @@ given bytes present log = record { bytes = bytes; present = present; room = leng
 -- the bytes of a page are there
 abbrev pub IsThere : List ℕ → ℕ → Type 0
 IsThere present page = get_or present page 0 ≡ 1
+
+-- the bytes of all pages are there
+abbrev pub AllThere : List ℕ → List ℕ → Type 0
+AllThere bytes present = (page : ℕ) → page * 4096 < length bytes → IsThere present page
 
 -- a page has one of so many bytes from a place on
 abbrev pub Meets : ℕ → ℕ → ℕ → Type 0
@@ -75,12 +80,18 @@ pub record IsOutOfMemory (answer : Answer) : Type 0 where
   pub refusal : answer.refusal ≡ 1
   pub nothing : answer.log ≡ 0
 
--- No call of the disk failed: the call was made, or its log is too long. Or one did: it was a read of bytes that aren't
--- there, or memory was refused to the disk.
+-- Calls of the disk failed. Where one was a read, and not all bytes of the file are there, bytes are asked for that
+-- aren't there; otherwise memory was refused to the disk.
+abbrev pub AnswersFailed : List ℕ → List ℕ → Failures → Answer → Type 0
+AnswersFailed bytes present failures answer =
+    ((0 < failures.reads) × AsksForBytes bytes present answer)
+    ⊎ (((failures.reads ≡ 0) ⊎ AllThere bytes present) × IsOutOfMemory answer)
+
+-- No call of the disk failed: the call was made, or its log is too long. Or one did.
 abbrev pub AnswersFor : Given → Result ℕ StoreFault → Tape → List ℕ → Answer → Type 0
 AnswersFor it outcome disk log answer =
     ((disk.failures ≡ no_failures) × (IsMade outcome disk log answer ⊎ AsksForLog it disk answer))
-    ⊎ ((disk.failures ≢ no_failures) × (AsksForBytes it.bytes it.present answer ⊎ IsOutOfMemory answer))
+    ⊎ ((disk.failures ≢ no_failures) × AnswersFailed it.bytes it.present disk.failures answer)
 
 -- ---- which call it was
 

@@ -7,8 +7,9 @@ ghost use Rattle.lapyrei.specs.Shown.{bytes_of_good, shaped};
 ghost use Rattle.lapyrei.specs.Told.{Serves, ServesNew, given};
 
 use crate::answer::{Answer, Head, Known, Run, Shape};
+use crate::memory::GroupMemory;
 use crate::on_store;
-use crate::open::{finish, make, open, refuse};
+use crate::open::{finish, make, open, refuse, refuse_unopened};
 use loop_overlay::LogDisk;
 use loop_record::Times;
 use loop_store::StoreFault;
@@ -117,7 +118,8 @@ pub extern "C" fn lapyrei_rt_known(
     )
 }
 
-/// Appends a group of frames, whose bytes follow one another, and answers the number of the first.
+/// Appends a group of frames, whose bytes follow one another, and answers the number of the first. Where memory for
+/// them is refused, the store isn't opened.
 #[unsafe(no_mangle)]
 pub extern "C" fn lapyrei_rt_append(
     alloc: Global,
@@ -131,13 +133,16 @@ pub extern "C" fn lapyrei_rt_append(
     ensures { Serves (given image.now present.now log.old) keep
         (StoresGroup heads.now bytes.now) log.new result }
 {
+    let Ok(memory) = GroupMemory::new(alloc, heads.len(), bytes.len()) else {
+        return refuse_unopened(alloc, image, present, log);
+    };
     on_store!(
         alloc,
         image,
         present,
         log,
         keep,
-        |store| on_store::append(alloc, &mut store, heads, bytes)
+        |store| on_store::append(memory, &mut store, heads, bytes)
     )
 }
 

@@ -1,54 +1,41 @@
 // The calls on an open store, whose outcomes are numbers.
-ghost use Rattle.std.specs.Prelude.{◌≡◌, ◌*◌, All, IfOk, length, map};
+ghost use Rattle.std.specs.Prelude.{◌≡◌, ◌*◌, All, length, map};
 ghost use Rattle.loop_record.specs.Plain.{pictures};
 ghost use Rattle.loop_record.specs.declared.times.Times.{Times};
 ghost use Rattle.lapyrei.specs.Does.{ShowsKnown, Knows, Locks, Looks, PutsClips, PutsSought, Reads, ReadsHead, StoresGroup, Unlocks, Upgrades, pictures_in, takes};
+ghost use Rattle.lapyrei.specs.Memory.{HasGroupRoom, IsEnough};
 ghost use Rattle.lapyrei.specs.Shown.{clip_run, put_over, span_run};
 
 use crate::answer::{Head, Known, Run, Shape};
+use crate::memory::{GroupMemory, frame_in};
 use loop_overlay::LogDisk;
 use loop_record::{Frame, Span, Times};
 use loop_ring::MAX_GROUP;
 use loop_store::{Clip, Store, StoreFault};
-use std::alloc::{AllocError, Global};
+use std::alloc::Global;
 
 /// The number that stands for none.
 const NONE: u64 = u64::MAX;
 
-// A frame of this head and these bytes.
-fn frame_of(alloc: Global, head: &Head, bytes: &[u8]) -> Result<Frame, AllocError>
-    ensures { IfOk result (λ frame. (frame.sequence ≡ head.now.sequence) × ((frame.flags ≡ head.now.flags)
-        × ((frame.timestamp ≡ head.now.timestamp) × (frame.bytes.items ≡ bytes.now)))) }
-{
-    Ok(Frame {
-        sequence: head.sequence,
-        flags: head.flags,
-        timestamp: head.timestamp,
-        bytes: Vec::from_slice(alloc, bytes)?,
-    })
-}
-
 // Frames of these heads, whose bytes follow one another.
-fn frames_of(
-    alloc: Global,
-    heads: &[Head],
-    bytes: &[u8],
-    size: usize,
-) -> Result<Vec<Frame>, AllocError>
-    requires { length bytes.now ≡ length heads.now * size }
-    ensures frames { IfOk result (λ frames. pictures frames.items ≡ pictures_in size heads.now bytes.now) }
-    ensures sizes { IfOk result (λ frames. All (λ frame. length frame.bytes.items ≡ size) frames.items) }
-    ensures count { IfOk result (λ frames. length frames.items ≡ length heads.now) }
+fn frames_of(memory: GroupMemory, heads: &[Head], bytes: &[u8], size: usize) -> Vec<Frame>
+    requires bytes { length bytes.now ≡ length heads.now * size }
+    requires room { HasGroupRoom (length heads.now) size memory }
+    ensures frames { pictures result.items ≡ pictures_in size heads.now bytes.now }
+    ensures sizes { All (λ frame. length frame.bytes.items ≡ size) result.items }
+    ensures count { length result.items ≡ length heads.now }
 {
-    let mut frames = Vec::new(alloc);
+    let GroupMemory {
+        mut frames,
+        mut spare,
+    } = memory;
     let mut rest = bytes;
     for head in heads {
         let (own, others) = rest.split_at(size);
         rest = others;
-        frames.reserve(1)?;
-        frames.push_reserved(frame_of(alloc, head, own)?);
+        frames.push_reserved(frame_in(spare.pop().unwrap(), head, own));
     }
-    Ok(frames)
+    frames
 }
 
 // Whether a store takes so many frames of so many bytes in one append.
@@ -59,20 +46,22 @@ fn takes<'a>(store: &Store<LogDisk<'a>>, frames: usize, bytes: usize) -> bool
     1 <= frames && frames <= MAX_GROUP && frames <= store.room() as usize && bytes == frames * size
 }
 
-/// Appends a group of 1 to as many frames as fit, or answers `WrongSize`.
+/// Appends a group of 1 to as many frames as fit, or answers `WrongSize`. No memory is refused to it: it has that of
+/// the group.
 pub(crate) fn append<'a>(
-    alloc: Global,
+    memory: GroupMemory,
     store: &mut Store<LogDisk<'a>>,
     heads: &[Head],
     bytes: &[u8],
 ) -> Result<u64, StoreFault>
+    requires { IsEnough (length heads.now) (length bytes.now) memory }
     ensures { StoresGroup heads.now bytes.now store.old store.new result }
 {
     if !takes(store, heads.len(), bytes.len()) {
         return Err(StoreFault::WrongSize);
     }
     let size = store.geometry().frame_bytes() as usize;
-    let frames = frames_of(alloc, heads, bytes, size)?;
+    let frames = frames_of(memory, heads, bytes, size);
     store.append(&frames)
 }
 

@@ -1,10 +1,10 @@
 // What the calls share: the store over the file's bytes, and the answer with the log.
-ghost use Rattle.std.specs.Prelude.{◌⊎◌, Err, IsTrue};
+ghost use Rattle.std.specs.Prelude.{Err, IfNone, IfSome, IsFalse, IsTrue};
 ghost use Rattle.loop_store.specs.Make.{Formats};
 ghost use Rattle.loop_store.specs.Reopen.{OpensKeeping};
 ghost use Rattle.loop_disk.specs.Crashing.{medium_after};
 ghost use Rattle.lapyrei.specs.Shown.{version_asked};
-ghost use Rattle.lapyrei.specs.Told.{AsksForBytes, IsOutOfMemory, IsThere, AnswersFor, LacksPage, given, untouched};
+ghost use Rattle.lapyrei.specs.Told.{AllThere, AnswersFailed, AnswersFor, IsThere, LacksPage, given, untouched};
 
 use crate::answer::{Answer, WANTS_BYTES, WANTS_LOG};
 use crate::bytes::{log_length, put_calls};
@@ -43,7 +43,8 @@ pub(crate) fn make<'a>(
 
 // Whether the bytes of a page aren't there.
 fn is_gone(present: &[u8], page: u64) -> bool
-    ensures { IsTrue result → IsThere present.now page → ⊥ }
+    ensures gone { IsTrue result → IsThere present.now page → ⊥ }
+    ensures there { IsFalse result → IsThere present.now page }
 {
     present.get(page as usize) != Some(&1)
 }
@@ -65,13 +66,45 @@ fn lacks_page(image: &[u8], present: &[u8], wanted: Wanted) -> bool
     false
 }
 
-// The answer where a call of the disk failed: the bytes that aren't there, or `NoMemory`.
-fn fail(image: &[u8], present: &[u8], wanted: Option<Wanted>) -> Answer
-    ensures { AsksForBytes image.now present.now result ⊎ IsOutOfMemory result }
+// The first byte of a page of the file that isn't there.
+fn first_gone(image: &[u8], present: &[u8]) -> Option<Wanted>
+    ensures gone { IfSome result (λ byte. LacksPage image.now present.now byte.at byte.count) }
+    ensures there { IfNone result (AllThere image.now present.now) }
 {
-    match wanted {
-        Some(wanted) if lacks_page(image, present, wanted) => Answer::needs(WANTS_BYTES, wanted),
-        _ => Answer::made(Err(StoreFault::NoMemory), 0),
+    let pages = (image.len() as u64).div_ceil(PAGE);
+    for page in 0..pages {
+        if is_gone(present, page) {
+            return Some(Wanted {
+                at: page * PAGE,
+                count: 1,
+            });
+        }
+    }
+    None
+}
+
+// What to ask for where a read failed: the bytes of that read. The contracts of a disk don't say that these aren't
+// there, so it is looked into, and otherwise others are asked for that aren't.
+fn lacking(image: &[u8], present: &[u8], read: Option<Wanted>) -> Option<Wanted>
+    ensures gone { IfSome result (λ bytes. LacksPage image.now present.now bytes.at bytes.count) }
+    ensures there { IfNone result (AllThere image.now present.now) }
+{
+    match read {
+        Some(bytes) if lacks_page(image, present, bytes) => Some(bytes),
+        _ => first_gone(image, present),
+    }
+}
+
+// The answer where calls of the disk failed: bytes that aren't there, where a read did, or `NoMemory`.
+fn fail<'a>(disk: &LogDisk<'a>, image: &[u8], present: &[u8]) -> Answer
+    ensures { AnswersFailed image.now present.now disk.now.failures result }
+{
+    if disk.failures().reads == 0 {
+        return Answer::made(Err(StoreFault::NoMemory), 0);
+    }
+    match lacking(image, present, disk.wanted()) {
+        Some(bytes) => Answer::needs(WANTS_BYTES, bytes),
+        None => Answer::made(Err(StoreFault::NoMemory), 0),
     }
 }
 
@@ -86,7 +119,7 @@ pub(crate) fn finish<'a>(
     ensures { AnswersFor (given image.now present.now log.old) outcome disk.entry log.new result }
 {
     if disk.failures() != Failures::none() {
-        return fail(image, present, disk.wanted());
+        return fail(&disk, image, present);
     }
     let count = log_length(disk.calls());
     if count > log.len() as u64 {
@@ -108,4 +141,13 @@ pub(crate) fn refuse<'a>(
 {
     let OpenRefused { fault, disk } = refused;
     finish(disk, Err(fault), image, present, log)
+}
+
+/// The same where memory was refused before the store was opened.
+pub(crate) fn refuse_unopened(alloc: Global, image: &[u8], present: &[u8], log: &mut [u8]) -> Answer
+    ensures { AnswersFor (given image.now present.now log.old) (Err StoreFault.NoMemory) (untouched image.now)
+        log.new result }
+{
+    let disk = LogDisk::new(alloc, image, present);
+    finish(disk, Err(StoreFault::NoMemory), image, present, log)
 }

@@ -1,1 +1,2 @@
 pub mod OutputBytes
+pub mod Recordings

@@ -1,16 +1,21 @@
 // Cameras whose frames are recorded into stores in files, each by threads of its own.
-ghost use Rattle.std.specs.Prelude.{◌≡◌, ◌<◌, false};
+ghost use Rattle.std.specs.Prelude.{◌≡◌, ◌<◌, ◌≤◌, [], All, IfOk, Some, false, map, vec_len};
+ghost use Rattle.std.specs.List.{zip};
+ghost use Rattle.std.specs.Vec.{vec_capacity};
 ghost use Rattle.loop_script.specs.Pattern.{timestamp_of};
+ghost use Rattle.loop_commands.specs.Recorded.{AreRecorded, IsCameraOf, IsReady, held_by, take_of, taken_of};
 
 use crate::source::RecordSource;
 use loop_capture::Device;
 use loop_desk::Desk;
+use loop_disk::Disk;
 use loop_file::FileDisk;
 use loop_pages::PageFault;
 use loop_pipeline::{
-    Camera, CameraEnd, Guide, Noting, Shot, Visits, film_all, mapped_start, new_queue, start_queue,
+    Camera, CameraEnd, Guide, Noting, Outcome, Shot, Visits, film_all, mapped_start, new_queue,
+    start_queue,
 };
-use loop_plane::MmapPlane;
+use loop_plane::{MmapPlane, PlaneMemory};
 use loop_record::Geometry;
 use loop_script::{LIMITS, pattern_timestamp};
 use loop_store::{Store, StoreFault};
@@ -56,7 +61,9 @@ pub(crate) struct Take {
 
 impl Take {
     // What a camera recorded that was filmed.
-    fn of(ended: &RecordEnded) -> Take {
+    fn of(ended: &RecordEnded) -> Take
+        ensures { result ≡ take_of ended.now }
+    {
         let status = ended.desk.status();
         Take {
             next: status.next,
@@ -80,6 +87,12 @@ type RecordCamera = Camera<RecordSource, FileDisk, MmapPlane, Post>;
 
 // What is left of it.
 type RecordEnded = CameraEnd<RecordSource, FileDisk, MmapPlane, Post>;
+
+// A camera with its guide.
+type RecordShot = Shot<RecordSource, FileDisk, MmapPlane, Post>;
+
+// What came of it.
+type RecordOutcome = Outcome<RecordSource, FileDisk, MmapPlane, Post>;
 
 // What guides a camera: so many ticks at the rate of its store, and no flush after one that was refused.
 #[derive(Drop)]
@@ -108,7 +121,9 @@ impl Noting for Post {
 
 /// Nobody visits the desk of a recording: it makes no call but submits and flushes.
 impl Visits for Post {
-    ghost asks = { λ call. ⊥ };
+    ghost use Rattle.loop_commands.specs.Recorded.{AsksNothing};
+
+    ghost asks = { AsksNothing };
 
     const VISITED: bool = false;
 }
@@ -138,7 +153,9 @@ fn camera_before(
     number: u32,
     source: RecordSource,
     store: Store<FileDisk>,
-) -> Result<RecordCamera, Unrecorded> {
+) -> Result<RecordCamera, Unrecorded>
+    ensures { IfOk result (IsCameraOf ⟦<MmapPlane as PlaneMemory>⟧.plane source store) }
+{
     if store.must_reopen() {
         return Err(Unrecorded::Refused(StoreFault::MustReopen));
     }
@@ -159,16 +176,61 @@ fn camera_before(
     }
 }
 
-// Adds one to a list.
-fn add<T: Drop>(list: &mut Vec<T>, one: T) -> Result<(), AllocError> {
-    match list.push(one) {
-        Ok(()) => Ok(()),
-        Err(_) => Err(AllocError),
+// The camera of this number, with a guide by which it makes so many ticks.
+fn shot_before(
+    alloc: Global,
+    number: u32,
+    source: RecordSource,
+    store: Store<FileDisk>,
+    frames: u32,
+) -> Result<RecordShot, Unrecorded>
+    ensures held { IfOk result (λ shot. held_by shot ≡ (source, store)) }
+    ensures ready { IfOk result (IsReady ⟦<MmapPlane as PlaneMemory>⟧.plane frames) }
+{
+    let geometry = store.geometry();
+    let camera = camera_before(alloc, number, source, store)?;
+    let guide = Post { frames, geometry };
+    Ok(Shot { guide, camera })
+}
+
+// A camera for each source and the store at its place. They are numbered in their order, from 0.
+fn shots_of(
+    alloc: Global,
+    sources: Vec<RecordSource>,
+    stores: Vec<Store<FileDisk>>,
+    frames: u32,
+) -> Result<Vec<RecordShot>, Unrecorded>
+    ensures held { IfOk result (λ shots. map held_by shots.items ≡ zip sources.items stores.items) }
+    ensures ready { IfOk result (λ shots.
+        All (IsReady ⟦<MmapPlane as PlaneMemory>⟧.plane frames) shots.items) }
+{
+    let mut shots = Vec::with_capacity(alloc, stores.len())?;
+    let mut number = 0u32;
+    for (source, store) in sources.into_iter().zip(stores) {
+        shots.push_reserved(shot_before(alloc, number, source, store, frames)?);
+        number = number.saturating_add(1);
     }
+    Ok(shots)
+}
+
+// What each camera recorded, in `takes`, which is empty; NoMemory where one wasn't filmed.
+fn takes_of(outcomes: Vec<RecordOutcome>, mut takes: Vec<Take>) -> Result<Vec<Take>, Unrecorded>
+    requires room { (takes.items ≡ []) × (vec_len outcomes ≤ vec_capacity takes) }
+    ensures told { IfOk result (λ told. map (λ take. Some take) told.items ≡ map taken_of outcomes.items) }
+{
+    for outcome in outcomes {
+        let Outcome { shot: _, filmed } = outcome;
+        match filmed {
+            Ok(ended) => takes.push_reserved(Take::of(&ended)),
+            Err(_) => return Err(NO_MEMORY),
+        }
+    }
+    Ok(takes)
 }
 
 /// Records from each source into the store at its place, for so many frame periods or until the source has ended, at
-/// the script's limits. Returns what each camera recorded.
+/// the script's limits. Returns what each camera recorded: each frame that came is stored or counted there, and no clip
+/// is unlocked.
 ///
 /// `TooLarge` where the buffers of a camera need more than 1,024 pages; `NoMemory` where memory or a thread is refused.
 /// Then nothing is recorded: no camera ticks before each has begun. What a store refuses is counted by its camera, and
@@ -179,26 +241,15 @@ pub(crate) fn record_stores<R: Threads + Wait + Clock + Sync>(
     sources: Vec<RecordSource>,
     stores: Vec<Store<FileDisk>>,
     frames: u32,
-) -> Result<Vec<Take>, Unrecorded> {
-    let mut shots = Vec::with_capacity(alloc, stores.len())?;
-    let mut number = 0u32;
-    for (source, store) in sources.into_iter().zip(stores) {
-        let geometry = store.geometry();
-        let camera = camera_before(alloc, number, source, store)?;
-        number = number.saturating_add(1);
-        let guide = Post { frames, geometry };
-        add(&mut shots, Shot { guide, camera })?;
-    }
+) -> Result<Vec<Take>, Unrecorded>
+    ensures { IfOk result (λ takes. AreRecorded ⟦<FileDisk as Disk>⟧.medium ⟦<MmapPlane as PlaneMemory>⟧.plane
+        frames sources.items stores.items takes.items) }
+{
+    let shots = shots_of(alloc, sources, stores, frames)?;
     // Reserved before anything is recorded.
-    let mut takes = Vec::with_capacity(alloc, shots.len())?;
-    let Ok(outcomes) = film_all(rt, alloc, shots) else {
-        return Err(NO_MEMORY);
-    };
-    for outcome in &outcomes {
-        match &outcome.filmed {
-            Ok(ended) => add(&mut takes, Take::of(ended))?,
-            Err(_) => return Err(NO_MEMORY),
-        }
+    let takes = Vec::with_capacity(alloc, shots.len())?;
+    match film_all(rt, alloc, shots) {
+        Ok(outcomes) => takes_of(outcomes, takes),
+        Err(_) => Err(NO_MEMORY),
     }
-    Ok(takes)
 }

@@ -6,7 +6,8 @@
 //! from a `source` into stores in files; `cameras` sets up a camera for each. `undone` says why a command isn't done.
 //!
 //! loop_script says what a line and the words mean, with proofs. What becomes of an open store and of the text of an
-//! export, and when that is printed, is proved of `on_store`. All other lines that are printed are tested.
+//! export, and when that is printed, is proved of `on_store`; what a recording keeps of its stores, of `cameras`. All
+//! other lines that are printed are tested.
 //!
 //! docs/script.md says why it is so.
 #![tactic(auto)]

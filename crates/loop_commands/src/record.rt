@@ -1,5 +1,6 @@
 // Recordings into stores in files.
 ghost use Rattle.std.specs.Prelude.{◌≡◌, IfOk, length, vec_len};
+ghost use Rattle.loop_commands.specs.Recorded.{AreOpened};
 
 use crate::cameras::{Take, Unrecorded, record_stores};
 use crate::source::RecordSource;
@@ -188,7 +189,8 @@ fn find_stores<'a, D: Disk + Drop>(
     disks: Vec<D>,
     keep: u32,
 ) -> Result<Vec<Store<D>>, Undone<'a>>
-    ensures { IfOk result (λ stores. vec_len stores ≡ vec_len disks) }
+    ensures count { IfOk result (λ stores. vec_len stores ≡ vec_len disks) }
+    ensures opened { IfOk result (λ stores. AreOpened D.medium keep disks.items stores.items) }
 {
     let mut stores = Vec::with_capacity(alloc, disks.len())?;
     for disk in disks {

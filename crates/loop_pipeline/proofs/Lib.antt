@@ -13,6 +13,7 @@ mod OutPlanes
 mod RingEnds
 mod Roomy
 mod Searching
+mod Settling
 mod SeveralStarts
 mod SeveralSteps
 mod TickSteps

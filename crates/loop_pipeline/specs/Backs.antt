@@ -216,6 +216,11 @@ pub record WasRefused {D A : Type 0} (medium : D → Medium) (gives_up : StoreFa
   pub went : GoesBy medium began parts desk
   pub refused : MayGiveUp gives_up (flat_map calls_of parts)
 
+-- Nothing waits at the active desk, or a flush was refused, by a fault for which frames are given up.
+abbrev pub IsSettledBack : {D A : Type 0} → (D → Medium) → (StoreFault → Type 0) → SeenBack D A → Type 0
+IsSettledBack medium gives_up seen =
+    IsSoAt seen.active seen.desks (λ desk. desk.pending ≡ []) ⊎ WasRefused medium gives_up seen
+
 -- the active desk has just refused this frame
 abbrev pub IsTurnedDown : {D A : Type 0} → (D → Medium) → SeenBack D A → LostFrame → Type 0
 IsTurnedDown medium seen lost =

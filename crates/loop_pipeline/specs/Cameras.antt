@@ -76,6 +76,35 @@ pub record KeepsJoined {S D P : Type 0} (medium : D → Medium) (gives : S → N
   pub keeps : CameraKeeps medium gives meaning asks gives_up due ends
       (record old { joined = old.joined ++ others }) new given_up left missed failed over
 
+-- ---- nothing is left waiting
+
+-- From one moment of a desk to a later one there were these calls, and a flush among them was refused, by a fault for
+-- which the guide gives frames up.
+pub record HasRefusedFlush {D : Type 0} (medium : D → Medium) (gives_up : StoreFault → Type 0) (old new : SeenDesk D)
+    : Type 0 where
+  pub parts : List Part
+  pub went : GoesBy medium old parts new
+  pub refused : MayGiveUp gives_up (flat_map calls_of parts)
+
+-- What a filming leaves of its desk, which was `old` when it began: no frame waits there, so all that it accepted, and
+-- all that waited there before, are stored; or a flush was refused so, and what still waits there isn't stored.
+abbrev pub IsSettledDesk : {D : Type 0} → (D → Medium) → (StoreFault → Type 0) → SeenDesk D → SeenDesk D → Type 0
+IsSettledDesk medium gives_up old new = (new.pending ≡ []) ⊎ HasRefusedFlush medium gives_up old new
+
+-- What a filming leaves that began with the desk `old`: `new` are this one and the others that came meanwhile, in their
+-- order; none came where the door is shut. One of them at least is settled so, since it came.
+pub record EndsSettled {D : Type 0} (medium : D → Medium) (gives_up : StoreFault → Type 0) (shut : Type 0)
+    (old : SeenDesk D) (new : List (SeenDesk D)) : Type 0 where
+  pub others : List (SeenDesk D)
+  pub none : shut → others ≡ []
+  pub all : length new ≡ length (old ∷ others)
+  pub place : ℕ
+  pub before : SeenDesk D
+  pub after : SeenDesk D
+  pub was : slice_get (old ∷ others) place ≡ Some before
+  pub is : slice_get new place ≡ Some after
+  pub settled : IsSettledDesk medium gives_up before after
+
 -- ---- one desk alone
 
 -- the desk's call, without its place

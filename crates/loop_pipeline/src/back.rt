@@ -191,8 +191,10 @@ impl<D: Disk + Drop, K: Visits, A: Allocator + Copy> Back<D, K, A> {
         Some(lost)
     }
 
-    /// Whether a flush was refused, and isn't tried again. It promises nothing.
-    pub fn is_refused(&self) -> bool {
+    /// Whether a flush was refused, and isn't tried again.
+    pub fn is_refused(&self) -> bool
+        ensures { result ≡ true → WasRefused D.medium K.gives_up self.now }
+    {
         self.refused
     }
 

@@ -1,6 +1,6 @@
 //! The end of a camera: its front and its back, brought together.
 
-ghost use Rattle.std.specs.Prelude.{◌≡◌, ◌∷◌, List};
+ghost use Rattle.std.specs.Prelude.{◌≡◌, ◌∷◌, List, length};
 ghost use Rattle.rtrb.specs.Ring.{IsPair};
 ghost use Rattle.loop_desk.specs.Seen.{SeenDesk};
 ghost use Rattle.loop_pipeline.specs.Cameras.{CameraKeeps};
@@ -66,6 +66,7 @@ pub fn end<S: FrameSource + Drop, D: Disk + Drop, P: PlaneMemory, G: Guide, A: A
     ensures again { StaysOpen P.plane begun.queue.value result.queue result.table }
     ensures held { HandIsSpent result.queue result.hand }
     ensures desks { result.desk ∷ result.joined.items ≡ back.desks }
+    ensures all { length back.desks ≡ length back.began }
     ensures front { (result.device ≡ front.device) × (result.queue ≡ front.queue) × (result.over ≡ front.over) }
 {
     let Begun {

@@ -1,9 +1,9 @@
 //! What the two threads of a camera do: one has its front, the other its back. docs/threads.md says why it is so.
 
-ghost use Rattle.std.specs.Prelude.{◌≡◌, ◌∷◌, [], IfErr, IfOk, List, false, true};
+ghost use Rattle.std.specs.Prelude.{◌≡◌, ◌∷◌, [], IfErr, IfOk, List, None, false, length, true};
 ghost use Rattle.loop_desk.specs.Seen.{SeenDesk};
-ghost use Rattle.loop_pipeline.specs.Backs.{Joins};
-ghost use Rattle.loop_pipeline.specs.Cameras.{CameraKeeps, KeepsJoined};
+ghost use Rattle.loop_pipeline.specs.Backs.{IsSettledBack, Joins};
+ghost use Rattle.loop_pipeline.specs.Cameras.{CameraKeeps, EndsSettled, IsSettledDesk, KeepsJoined};
 ghost use Rattle.loop_pipeline.specs.Returns.{IsReturned, GivesJoined};
 ghost use Rattle.rtrb.specs.Ring.{IsPair, sent};
 ghost use Rattle.loop_pipeline.specs.Fronts.{HandIsSpent, IsRegular, Leaves, LeavesCarried, StaysOpen, made_of, StandsPort};
@@ -326,7 +326,8 @@ fn flush_some<R: Wait, D: Disk + Drop, G: Guide>(
     guide: &G,
     back: &mut Back<D, G>,
 ) -> Option<u64>
-    ensures { back.new ≡ record back.old { desks = back.new.desks } }
+    ensures same { back.new ≡ record back.old { desks = back.new.desks } }
+    ensures settled { G.NOTED ≡ false → result ≡ None → IsSettledBack D.medium G.gives_up back.new }
 {
     if back.is_refused() || back.desks().status(back.desks().active()).pending == 0 {
         return None;
@@ -344,7 +345,7 @@ fn flush_some<R: Wait, D: Disk + Drop, G: Guide>(
 
 /// The whole work of a back's thread: it takes the desks that wait at the door, brings frames to the active one, serves
 /// what others ask, and flushes, until the front's thread has ended and nothing is left to flush, or a call couldn't be
-/// noted.
+/// noted. Where calls aren't noted, nothing waits at the active desk then, or a flush was refused.
 pub fn film_back<R: Wait + Clock, D: Disk + Drop, G: Guide>(
     rt: &R,
     alloc: Global,
@@ -353,14 +354,15 @@ pub fn film_back<R: Wait + Clock, D: Disk + Drop, G: Guide>(
     door: &Door<D>,
     mut back: Back<D, G>,
 ) -> Back<D, G>
-    ensures { Joins (door.now ≡ false) back result }
+    ensures joins { Joins (door.now ≡ false) back result }
+    ensures settled { G.NOTED ≡ false → IsSettledBack D.medium G.gives_up result }
 {
     'turns: for _ in rt.forever() {
         let seen = link.given.count(rt);
         let over = link.over.load(Ordering::SeqCst);
         let some = serve(rt, alloc, link, guide, door, &mut back);
         let rest = match flush_some(rt, guide, &mut back) {
-            _ if back.is_closed() => {
+            _ if G::NOTED && back.is_closed() => {
                 link.stop(rt);
                 break;
             }
@@ -552,7 +554,8 @@ struct Both<S: FrameSource + Drop, D: Disk + Drop, P: PlaneMemory, G: Visits, W:
     back: Back<D, G>,
 }
 
-// The whole work of a back's thread, once those of the cameras beside it can begin too. If one can't, no desk is asked.
+// The whole work of a back's thread, once those of the cameras beside it can begin too. If one can't, no desk is asked:
+// the back comes back as it is.
 fn film_beside<R: Wait + Clock, D: Disk + Drop, G: Guide>(
     rt: &R,
     alloc: Global,
@@ -560,13 +563,36 @@ fn film_beside<R: Wait + Clock, D: Disk + Drop, G: Guide>(
     guide: &G,
     door: &Door<D>,
     back: Back<D, G>,
-) -> Back<D, G>
-    ensures { Joins (door.now ≡ false) back result }
+) -> Result<Back<D, G>, Back<D, G>>
+    ensures joins { IfOk result (Joins (door.now ≡ false) back) }
+    ensures settled { G.NOTED ≡ false → IfOk result (IsSettledBack D.medium G.gives_up) }
+    ensures unasked { IfErr result (λ same. same ≡ back) }
 {
     if !link.wait_for_others(rt) {
-        return back;
+        return Err(back);
     }
-    film_back(rt, alloc, link, guide, door, back)
+    Ok(film_back(rt, alloc, link, guide, door, back))
+}
+
+// A back of which no desk was asked, after its front has ended; with it, whether that ticked, which it does only after
+// all could begin: then what it brought is stored now.
+fn film_late<R: Wait + Clock, D: Disk + Drop, G: Guide>(
+    rt: &R,
+    alloc: Global,
+    link: &Link,
+    guide: &G,
+    door: &Door<D>,
+    unasked: (Back<D, G>, bool),
+) -> Back<D, G>
+    ensures joins { Joins (door.now ≡ false) unasked.0 result }
+    ensures settled { G.NOTED ≡ false → unasked.1 ≡ true → IsSettledBack D.medium G.gives_up result }
+{
+    let (back, over) = unasked;
+    if over {
+        film_back(rt, alloc, link, guide, door, back)
+    } else {
+        back
+    }
 }
 
 // Runs a front in a thread of its own, and the back in this one, once those of the cameras beside it can begin too. If
@@ -600,6 +626,7 @@ fn run_in<
     ensures front { LeavesCarried W.inside S.next_gives P.plane (G.due halves.entry.begun.guide.value)
         (G.ends halves.entry.begun.guide.value) (made_of halves.entry.begun) result.front }
     ensures back { Joins (halves.entry.door.now ≡ false) halves.entry.back result.back }
+    ensures settled { G.NOTED ≡ false → result.front.over ≡ true → IsSettledBack D.medium G.gives_up result.back }
 {
     let Halves {
         begun,
@@ -615,18 +642,19 @@ fn run_in<
     { film_carried(rt, alloc, link, guide, inlet) };
     match scope.spawn_with(begun, work) {
         Ok(handle) => {
-            let back = film_beside(rt, alloc, link, guide, door, back);
-            Both {
-                front: handle.join(rt),
-                back,
-            }
+            let filmed = film_beside(rt, alloc, link, guide, door, back);
+            let front = handle.join(rt);
+            let back = match filmed {
+                Ok(back) => back,
+                Err(back) => film_late(rt, alloc, link, guide, door, (back, front.over)),
+            };
+            Both { front, back }
         }
         Err(refused) => {
             link.close(rt);
-            Both {
-                front: (refused.value)(),
-                back,
-            }
+            let front = (refused.value)();
+            let back = film_late(rt, alloc, link, guide, door, (back, front.over));
+            Both { front, back }
         }
     }
 }
@@ -648,6 +676,8 @@ fn end_both<S: FrameSource + Drop, D: Disk + Drop, P: PlaneMemory, G: Guide, W: 
         result.given_up result.left result.missed result.failed result.over }
     ensures again { StaysOpen P.plane begun.queue.value result.queue result.table }
     ensures held { HandIsSpent result.queue result.hand }
+    ensures desks { (result.desk ∷ result.joined.items ≡ back.desks) × (length back.desks ≡ length back.began) }
+    ensures over { result.over ≡ front.over }
     ensures rests { result.over ≡ false
         → (result.device ≡ begun.device.value) × (result.queue ≡ begun.queue.value) }
 {
@@ -718,6 +748,8 @@ pub fn film_desks<
         (G.ends guided.entry.guide.now) (door.now ≡ false) guided.entry.camera
         (record { device = e.device; queue = e.queue; desk = e.desk; joined = e.joined.items })
         e.given_up e.left e.missed e.failed e.over) }
+    ensures settled { G.NOTED ≡ false → IfOk result (λ e. EndsSettled D.medium G.gives_up (door.now ≡ false)
+        guided.entry.camera.desk (e.desk ∷ e.joined.items)) }
     ensures ended { IfOk result (λ e. e.over ≡ true) }
     ensures again { IfOk result (λ e. StaysOpen P.plane guided.entry.camera.queue e.queue e.table) }
     ensures held { IfOk result (λ e. HandIsSpent e.queue e.hand) }
@@ -800,6 +832,7 @@ pub fn film_camera<
         (G.due guide.now) (G.ends guide.now) camera
         (record { device = e.device; queue = e.queue; desk = e.desk; joined = e.joined.items })
         e.given_up e.left e.missed e.failed e.over) }
+    ensures settled { G.NOTED ≡ false → IfOk result (λ e. IsSettledDesk D.medium G.gives_up camera.desk e.desk) }
     ensures ended { IfOk result (λ e. e.over ≡ true) }
     ensures again { IfOk result (λ e. StaysOpen P.plane camera.queue e.queue e.table) }
     ensures held { IfOk result (λ e. HandIsSpent e.queue e.hand) }

@@ -1,6 +1,6 @@
 //! What a back does by its guide: flushes that aren't tried again, and visits.
 
-ghost use Rattle.std.specs.Prelude.{◌≡◌, IfSome};
+ghost use Rattle.std.specs.Prelude.{◌≡◌, IfSome, IsSome, false};
 ghost use Rattle.loop_desk.specs.Desk.{flushed};
 ghost use Rattle.loop_pipeline.specs.Backs.{IsChangedAt, IsLastOf};
 
@@ -19,6 +19,7 @@ impl<D: Disk + Drop, G: Guide, A: Allocator + Copy> Back<D, G, A> {
     pub fn flush_for<R: Wait>(&mut self, rt: &R, guide: &G) -> Option<Result<Flushed, StoreFault>>
         ensures last { IfSome result (λ answer. IsLastOf D.medium self.new (flushed answer)) }
         ensures same { IsChangedAt self.old.active self.old self.new }
+        ensures always { G.NOTED ≡ false → IsSome result }
     {
         match self.desks.flush_noted() {
             None => {

@@ -16,7 +16,9 @@
 //! both do (`specs/Cameras`, `CameraKeeps`): the frames that waited and those that the source gave at ticks that
 //! completed a buffer are, in order and with all bytes, those that came to the desk and those that still wait; each
 //! that came was accepted or is counted; and of those that were accepted the footage is kept, whenever the power fails:
-//! there is a desk after each answered call, so at each moment all is there that was answered before.
+//! there is a desk after each answered call, so at each moment all is there that was answered before. Where calls aren't
+//! noted, no frame waits at the desk in the end, or a flush was refused by a fault for which the guide gives up
+//! (`settled`).
 //!
 //! Both programs film by it: `loop_cli record` and `loop_station`. Their desks' calls aren't noted; a recorder's are
 //! (loop_recorder), and what was noted leads from a desk's opening to the desk (`specs/Notes`, `HasGoneOn`).

@@ -1,6 +1,6 @@
 //! Several cameras, each filmed by threads of its own. None ticks before all have begun.
 
-ghost use Rattle.std.specs.Prelude.{◌≡◌, ◌+◌, ◌++◌, ◌≤◌, [], All, IfErr, IfOk, IfSome, length, map, vec_len};
+ghost use Rattle.std.specs.Prelude.{◌≡◌, ◌+◌, ◌++◌, ◌≤◌, [], All, IfErr, IfOk, IfSome, false, length, map, vec_len};
 ghost use Rattle.std.specs.Option.{option_to_list};
 ghost use Rattle.std.specs.Vec.{vec_capacity};
 ghost use Rattle.loop_pipeline.specs.Several.{IsFilmed, IsOutcome, IsRunning, shot_in, shot_of};
@@ -47,9 +47,10 @@ struct Given<S: FrameSource + Drop, D: Disk + Drop, P: PlaneMemory, G: Guide + D
 impl<S: FrameSource + Drop, D: Disk + Drop, P: PlaneMemory, G: Guide + Drop> Promise<
     Filmed<S, D, P, G>,
 > for Given<S, D, P, G> {
+    ghost use Rattle.std.specs.Prelude.{◌≡◌, false};
     ghost use Rattle.loop_pipeline.specs.Several.{IsFilmed};
 
-    ghost kept_by = { λ given filmed. IsFilmed D.medium S.next_gives P.plane G.asks G.gives_up
+    ghost kept_by = { λ given filmed. IsFilmed D.medium S.next_gives P.plane G.asks G.gives_up (G.NOTED ≡ false)
         (G.due given.0.value.guide) (G.ends given.0.value.guide) given.0.value.camera filmed };
 }
 
@@ -66,7 +67,7 @@ fn film_alone<
     P: PlaneMemory + Send,
     G: Guide + Sync,
 >(rt: &R, alloc: Global, link: &Link, guide: &G, camera: Camera<S, D, P, G>) -> Filmed<S, D, P, G>
-    ensures { IsFilmed D.medium S.next_gives P.plane G.asks G.gives_up
+    ensures { IsFilmed D.medium S.next_gives P.plane G.asks G.gives_up (G.NOTED ≡ false)
         (G.due guide.now) (G.ends guide.now) camera result }
 {
     let (rt, link, guide) = (&*rt, &*link, &*guide);
@@ -74,7 +75,7 @@ fn film_alone<
         thread::scope_env(),
         rt,
         move |scope| -> Filmed<S, D, P, G>
-            ensures { IsFilmed D.medium S.next_gives P.plane G.asks G.gives_up
+            ensures { IsFilmed D.medium S.next_gives P.plane G.asks G.gives_up (G.NOTED ≡ false)
                 (G.due guide.entry.now) (G.ends guide.entry.now) camera result }
         { film_camera(rt, alloc, scope, link, guide, camera) },
     )
@@ -88,7 +89,7 @@ fn film_one<
     P: PlaneMemory + Send,
     G: Guide + Drop + Sync,
 >(rt: &R, alloc: Global, barrier: &Arc<StartBarrier>, shot: Shot<S, D, P, G>) -> Filmed<S, D, P, G>
-    ensures { IsFilmed D.medium S.next_gives P.plane G.asks G.gives_up
+    ensures { IsFilmed D.medium S.next_gives P.plane G.asks G.gives_up (G.NOTED ≡ false)
         (G.due shot.guide) (G.ends shot.guide) shot.camera result }
 {
     let Shot { guide, camera } = shot;
@@ -126,12 +127,12 @@ fn start_one<
 ) -> Result<Running<S, D, P, G>, Outcome<S, D, P, G>>
     ensures started { IfOk result (λ running. IsRunning running × (running.shot.value ≡ shot)) }
     ensures refused { IfErr result (λ outcome. (outcome.shot.value ≡ shot)
-        × IsOutcome D.medium S.next_gives P.plane G.asks G.gives_up G.due G.ends outcome) }
+        × IsOutcome D.medium S.next_gives P.plane G.asks G.gives_up (G.NOTED ≡ false) G.due G.ends outcome) }
 {
     let given = Snapshot::of(&shot);
     let kept = Snapshot::of(&shot);
     let work = move || -> Filmed<S, D, P, G>
-        ensures { IsFilmed D.medium S.next_gives P.plane G.asks G.gives_up
+        ensures { IsFilmed D.medium S.next_gives P.plane G.asks G.gives_up (G.NOTED ≡ false)
             (G.due shot.guide) (G.ends shot.guide) shot.camera result }
     { film_one(rt, alloc, barrier, shot) };
     match scope.spawn_with(Given(given), work) {
@@ -168,7 +169,8 @@ fn start_all<
     ensures shots { map shot_in threads.new.items
         ++ map shot_of (option_to_list result.0) ++ result.1.items ≡ shots.items }
     ensures threads { All IsRunning threads.new.items }
-    ensures came { IfSome result.0 (IsOutcome D.medium S.next_gives P.plane G.asks G.gives_up G.due G.ends) }
+    ensures came { IfSome result.0
+        (IsOutcome D.medium S.next_gives P.plane G.asks G.gives_up (G.NOTED ≡ false) G.due G.ends) }
 {
     'starting: while !shots.is_empty() {
         match start_one(rt, alloc, scope, barrier, shots.remove(0)) {
@@ -188,7 +190,8 @@ fn join_all<R: Threads, S: FrameSource + Drop, D: Disk + Drop, P: PlaneMemory, G
     requires room { (outcomes.items ≡ []) × (vec_len threads ≤ vec_capacity outcomes) }
     requires threads { All IsRunning threads.items }
     ensures shots { map shot_of result.items ≡ map shot_in threads.items }
-    ensures each { All (IsOutcome D.medium S.next_gives P.plane G.asks G.gives_up G.due G.ends) result.items }
+    ensures each { All (IsOutcome D.medium S.next_gives P.plane G.asks G.gives_up (G.NOTED ≡ false) G.due G.ends)
+        result.items }
     ensures count { vec_len result ≡ vec_len threads }
     ensures capacity { vec_capacity result ≡ vec_capacity outcomes }
 {
@@ -205,12 +208,15 @@ fn with_one<S: FrameSource + Drop, D: Disk + Drop, P: PlaneMemory, G: Guide + Dr
     mut outcomes: Vec<Outcome<S, D, P, G>>,
     one: Option<Outcome<S, D, P, G>>,
 ) -> Vec<Outcome<S, D, P, G>>
-    requires each { All (IsOutcome D.medium S.next_gives P.plane G.asks G.gives_up G.due G.ends) outcomes.items }
-    requires came { IfSome one (IsOutcome D.medium S.next_gives P.plane G.asks G.gives_up G.due G.ends) }
+    requires each { All (IsOutcome D.medium S.next_gives P.plane G.asks G.gives_up (G.NOTED ≡ false) G.due G.ends)
+        outcomes.items }
+    requires came { IfSome one
+        (IsOutcome D.medium S.next_gives P.plane G.asks G.gives_up (G.NOTED ≡ false) G.due G.ends) }
     requires room { vec_len outcomes + length (option_to_list one) ≤ vec_capacity outcomes }
     ensures shots { map shot_of result.items
         ≡ map shot_of outcomes.items ++ map shot_of (option_to_list one) }
-    ensures each { All (IsOutcome D.medium S.next_gives P.plane G.asks G.gives_up G.due G.ends) result.items }
+    ensures each { All (IsOutcome D.medium S.next_gives P.plane G.asks G.gives_up (G.NOTED ≡ false) G.due G.ends)
+        result.items }
     ensures count { vec_len result ≡ vec_len outcomes + length (option_to_list one) }
     ensures capacity { vec_capacity result ≡ vec_capacity outcomes }
 {
@@ -228,10 +234,12 @@ fn with_rest<S: FrameSource + Drop, D: Disk + Drop, P: PlaneMemory, G: Guide + D
     mut outcomes: Vec<Outcome<S, D, P, G>>,
     rest: Vec<Shot<S, D, P, G>>,
 ) -> Vec<Outcome<S, D, P, G>>
-    requires each { All (IsOutcome D.medium S.next_gives P.plane G.asks G.gives_up G.due G.ends) outcomes.items }
+    requires each { All (IsOutcome D.medium S.next_gives P.plane G.asks G.gives_up (G.NOTED ≡ false) G.due G.ends)
+        outcomes.items }
     requires room { vec_len outcomes + vec_len rest ≤ vec_capacity outcomes }
     ensures shots { map shot_of result.items ≡ map shot_of outcomes.items ++ rest.items }
-    ensures each { All (IsOutcome D.medium S.next_gives P.plane G.asks G.gives_up G.due G.ends) result.items }
+    ensures each { All (IsOutcome D.medium S.next_gives P.plane G.asks G.gives_up (G.NOTED ≡ false) G.due G.ends)
+        result.items }
 {
     for shot in rest {
         let given = Snapshot::of(&shot);
@@ -271,7 +279,8 @@ fn film_in<
     requires threads { (rooms.threads.items ≡ []) × (vec_len shots ≤ vec_capacity rooms.threads) }
     requires outcomes { (rooms.outcomes.items ≡ []) × (vec_len shots ≤ vec_capacity rooms.outcomes) }
     ensures shots { map shot_of result.items ≡ shots.items }
-    ensures each { All (IsOutcome D.medium S.next_gives P.plane G.asks G.gives_up G.due G.ends) result.items }
+    ensures each { All (IsOutcome D.medium S.next_gives P.plane G.asks G.gives_up (G.NOTED ≡ false) G.due G.ends)
+        result.items }
 {
     let Rooms {
         mut threads,
@@ -297,7 +306,7 @@ pub fn film_all<
 ) -> Result<Vec<Outcome<S, D, P, G>>, Vec<Shot<S, D, P, G>>>
     ensures shots { IfOk result (λ outcomes. map shot_of outcomes.items ≡ shots.items) }
     ensures each { IfOk result (λ outcomes.
-        All (IsOutcome D.medium S.next_gives P.plane G.asks G.gives_up G.due G.ends) outcomes.items) }
+        All (IsOutcome D.medium S.next_gives P.plane G.asks G.gives_up (G.NOTED ≡ false) G.due G.ends) outcomes.items) }
     ensures refused { IfErr result (λ back. back ≡ shots) }
 {
     let count = shots.len();
@@ -319,7 +328,8 @@ pub fn film_all<
             requires { ((rooms.threads.items ≡ []) × (vec_len shots ≤ vec_capacity rooms.threads))
                 × ((rooms.outcomes.items ≡ []) × (vec_len shots ≤ vec_capacity rooms.outcomes)) }
             ensures { (map shot_of result.items ≡ shots.items)
-                × All (IsOutcome D.medium S.next_gives P.plane G.asks G.gives_up G.due G.ends) result.items }
+                × All (IsOutcome D.medium S.next_gives P.plane G.asks G.gives_up (G.NOTED ≡ false) G.due G.ends)
+                result.items }
         { film_in(rt, alloc, scope, barrier, shots, rooms) },
     );
     Ok(outcomes)

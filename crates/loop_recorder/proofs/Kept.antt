@@ -98,8 +98,8 @@ module _ {B S : Type 0} (source : B → S) (gives : S → Next → List ℕ → 
 module _ {S D P G : Type 0} (medium : D → Medium) (gives : S → Next → List ℕ → S → Type 0) (meaning : P → Plane)
     (frames : ℕ) (geometry : Geometry) where
   -- of a camera that had one desk
-  pub kept-of : (camera : SeenCamera S D P) (filmed : Result (CameraEnd S D P G Global) (Unfilmed S D P G))
-      → IsFilmed medium gives meaning IsRead (λ fault. ⊤) (IsTickTime geometry) (λ n. frames ≤ n) camera filmed
+  pub kept-of : {plain : Type 0} (camera : SeenCamera S D P) (filmed : Result (CameraEnd S D P G Global) (Unfilmed S D P G))
+      → IsFilmed medium gives meaning IsRead (λ fault. ⊤) plain (IsTickTime geometry) (λ n. frames ≤ n) camera filmed
       → camera.joined ≡ [] → IsRegular meaning camera.queue
       → IfSome (seen_left filmed).lost (HasKept medium gives meaning frames geometry camera (rest_left filmed)
       (seen_left filmed).queue (seen_left filmed).desk)
@@ -130,12 +130,12 @@ module _ {S D P G : Type 0} (medium : D → Medium) (gives : S → Next → List
 -- so it is of each of several
 module _ {S D P W : Type 0} (medium : D → Medium) (gives : S → Next → List ℕ → S → Type 0) (meaning : P → Plane)
     (shots : List (Shot S D P (Post W))) (r : Returned D P) where
-  pub are-filmed : (outcomes : List (Outcome S D P (Post W))) → map shot_of outcomes ≡ shots
-      → All (IsOutcome medium gives meaning IsRead (λ fault. ⊤) (λ (post : Post W) n now. IsTickTime post.geometry n now)
+  pub are-filmed : {plain : Type 0} (outcomes : List (Outcome S D P (Post W))) → map shot_of outcomes ≡ shots
+      → All (IsOutcome medium gives meaning IsRead (λ fault. ⊤) plain (λ (post : Post W) n now. IsTickTime post.geometry n now)
       (λ post n. post.frames ≤ n)) outcomes
       → r.rests.items ≡ map outcome_rest outcomes
       → map seen_filmed r.filmed.items ≡ map outcome_left outcomes → AreFilmed medium gives meaning shots r
-  are-filmed outcomes same each rests left k s rest e is-s is-rest is-e alone regular =
+  are-filmed {plain} outcomes same each rests left k s rest e is-s is-rest is-e alone regular =
       let at = made-from shot_of outcomes k s (subst (λ l. slice_get l k ≡ Some s) (sym same) is-s) in
       let o = at.0 in
       let shot = shot_of o in
@@ -149,7 +149,7 @@ module _ {S D P W : Type 0} (medium : D → Medium) (gives : S → Next → List
       let kept : IfSome (outcome_left o).lost (HasKept medium gives meaning shot.guide.frames shot.guide.geometry shot.camera
       (outcome_rest o) (outcome_left o).queue (outcome_left o).desk) =
       kept-of medium gives meaning shot.guide.frames shot.guide.geometry shot.camera o.filmed
-      (all-at (IsOutcome medium gives meaning IsRead (λ fault. ⊤)
+      (all-at (IsOutcome medium gives meaning IsRead (λ fault. ⊤) plain
       (λ (post : Post W) n now. IsTickTime post.geometry n now) (λ post n. post.frames ≤ n)) outcomes k o each at.1)
       (subst (λ (z : Shot S D P (Post W)). z.camera.joined ≡ []) (sym at.2) alone)
       (subst (λ (z : Shot S D P (Post W)). IsRegular meaning z.camera.queue) (sym at.2) regular) in

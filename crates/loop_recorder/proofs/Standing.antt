@@ -16,8 +16,8 @@ use Rattle.loop_recorder.specs.Recordings.{HoldsAll, StandsAfter}
 
 pub stands-after : {S D P G : Type 0} (medium : D → Medium) (gives : S → Next → List ℕ → S → Type 0)
     (meaning : P → Plane) (asks : DeskCall → Type 0) (gives_up : StoreFault → Type 0) (due : ℕ → ℕ → Type 0)
-    (ends : ℕ → Type 0) (camera : SeenCamera S D P) (filmed : Result (CameraEnd S D P G Global) (Unfilmed S D P G))
-    → IsFilmed medium gives meaning asks gives_up due ends camera filmed → StandsAfter meaning filmed
+    (ends : ℕ → Type 0) {plain : Type 0} (camera : SeenCamera S D P) (filmed : Result (CameraEnd S D P G Global) (Unfilmed S D P G))
+    → IsFilmed medium gives meaning asks gives_up plain due ends camera filmed → StandsAfter meaning filmed
 stands-after medium gives meaning asks gives_up due ends camera (Ok e) is = is.again.0
 stands-after medium gives meaning asks gives_up due ends camera (Err (NoMemory c)) is = tt
 stands-after medium gives meaning asks gives_up due ends camera (Err (NoThread e)) is = is.refused.2

@@ -1,17 +1,10 @@
 use Rattle.lapyrei.specs.Does.{StoresGroup}
 use Rattle.lapyrei.specs.Told.{given}
-use Rattle.lapyrei.proofs.Serving.{served, unserved}
+use Rattle.lapyrei.proofs.Serving.{unopened}
 use Rattle.lapyrei.proofs.calls.lapyrei_rt_append.Goals as goal
 
-pub returns-in-Ok : goal.returns-in-Ok
-returns-in-Ok c =
-    served (given c.args.image.now c.args.present.now c.args.log.now) c.args.keep
-    (StoresGroup c.args.heads.now c.args.bytes.now) c.in-Ok.opened
-    c.append-outcome.new.store c.append-outcome.result c.into_disk.result c.finish.new.log c.finish.result c.in-Ok.ensures
-    c.append-outcome.ensures c.into_disk.ensures c.finish.ensures
-
-pub returns-in-Err : goal.returns-in-Err
-returns-in-Err c =
-    unserved (given c.args.image.now c.args.present.now c.args.log.now) c.args.keep
-    (StoresGroup c.args.heads.now c.args.bytes.now) c.in-Err.refused c.refuse.new.log
-    c.refuse.result c.in-Err.ensures c.refuse.ensures
+pub returns-in_default : goal.returns-in_default
+returns-in_default c =
+    unopened (given c.args.image.now c.args.present.now c.args.log.now) c.args.keep
+    (StoresGroup c.args.heads.now c.args.bytes.now) c.refuse_unopened.new.log c.refuse_unopened.result
+    c.refuse_unopened.ensures

@@ -11,3 +11,6 @@ returns-clause-keeps g c first others was regular =
     _ _ _ _ _ c.into_parts-desk.result.refused was c.into_parts-desk.ensures.desks (c.requires.front.keeps regular)
     c.into_parts-desk.ensures.keeps c.slots_beside-left.ensures.producer c.slots_beside-left.ensures.looked
     c.slots_beside-left.ensures.fifo c.slots_beside-left.ensures.value
+
+pub returns-clause-all : goal.returns-clause-all
+returns-clause-all g c = c.into_parts-desk.ensures.keeps.all

@@ -2,6 +2,7 @@ use Rattle.std.proofs.Common.{◌≡◌, ◌∙◌, false, ap, subst, sym}
 use Rattle.std.specs.Global.{Global}
 use Rattle.loop_pipeline.specs.Fronts.{Leaves, SeenFront, StaysOpen}
 use Rattle.loop_pipeline.proofs.Joining.{keeps-joined}
+use Rattle.loop_pipeline.proofs.Settling.{ends-settled}
 use Rattle.loop_pipeline.proofs.film.film_desks.Goals as goal
 
 pub returns-then-ended-clause-keeps : goal.returns-then-ended-clause-keeps
@@ -49,3 +50,10 @@ returns-else-ended-clause-refused g c =
           c.args.guided.guide.now _ _ _ c.run_in-front.result.back _ _ _ _ _ c.camera.view_is c.of-again.ensures c.in-Ok-new.ensures.made
           c.run_in-front.ensures.back c.end_both-ended.ensures.keeps,
     )
+
+pub returns-then-ended-clause-settled : goal.returns-then-ended-clause-settled
+returns-then-ended-clause-settled g c plain =
+    ends-settled g.D.Disk.medium g.G.Visits.gives_up _ c.args.guided.camera.desk c.camera.inside.desk _ _
+    c.run_in-front.result.back _ _ (ap (λ v. v.desk) c.camera.view_is) c.in-Ok-new.ensures.made c.run_in-front.ensures.back
+    c.end_both-ended.ensures.desks.0 c.end_both-ended.ensures.desks.1
+    (c.run_in-front.ensures.settled plain (sym c.end_both-ended.ensures.over ∙ c.if-ended.true))

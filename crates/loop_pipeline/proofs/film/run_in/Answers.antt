@@ -4,6 +4,8 @@ use Rattle.loop_pipeline.specs.Fronts.{LeavesCarried, SeenFront}
 use denote.Param.Send.{sendable}
 use Rattle.std.proofs.Crossing.{crosses}
 use Rattle.loop_pipeline.proofs.Crossing.{inlet_send, left_send, link_sync}
+use Rattle.loop_pipeline.proofs.Settling.{joined-here, joined-late, settled-here}
+use Rattle.loop_pipeline.proofs.film.run_in.Goals.{in-Err-filmed, in-Ok-filmed}
 use Rattle.loop_pipeline.proofs.film.run_in.Goals as goal
 
 pub spawn_with-requires-send-F : goal.spawn_with-requires-send-F
@@ -30,7 +32,23 @@ pub returns-in-Err-clause-front : goal.returns-in-Err-clause-front
 returns-in-Err-clause-front g c =
     subst (λ (seen : SeenFront g.row.S.Denot g.row.P.Denot g.row.G.Denot Global). LeavesCarried g.W.Carrier.inside
     g.S.FrameSource.next_gives g.P.PlaneMemory.plane (g.G.Guide.due seen.guide) (g.G.Guide.ends seen.guide) seen
-    c.work.result) (sym c.requires.begun) (rw c.in-Err.ensures.err at c.work.ensures)
+    c.work-front.result) (sym c.requires.begun) (rw c.in-Err.ensures.err at c.work-front.ensures)
 
-pub returns-in-Ok-clause-front : goal.returns-in-Ok-clause-front
-returns-in-Ok-clause-front g c = rw c.in-Ok.ensures.ok at c.join.ensures
+pub returns-after-filmed-clause-front : goal.returns-after-filmed-clause-front
+returns-after-filmed-clause-front g c = rw c.in-Ok.ensures.ok at c.join-front.ensures
+
+-- the back was filmed beside its front, or after it
+pub returns-after-filmed-clause-back : goal.returns-after-filmed-clause-back
+returns-after-filmed-clause-back g c =
+    elim c.match-filmed.branch [
+      | in-Ok-filmed w ↦ joined-here _ _ _ _ w.back-is w.in-Ok-filmed.ensures.joins
+      | in-Err-filmed w ↦ joined-late _ _ _ _ _ w.back-is w.in-Err-filmed.ensures.unasked w.film_late-back.ensures.joins
+    ]
+
+pub returns-after-filmed-clause-settled : goal.returns-after-filmed-clause-settled
+returns-after-filmed-clause-settled g c plain over =
+    elim c.match-filmed.branch [
+      | in-Ok-filmed w ↦ settled-here g.D.Disk.medium g.G.Visits.gives_up _ _ w.back-is (w.in-Ok-filmed.ensures.settled plain)
+      | in-Err-filmed w ↦ settled-here g.D.Disk.medium g.G.Visits.gives_up _ _ w.back-is
+          (w.film_late-back.ensures.settled plain over)
+    ]

@@ -1,4 +1,4 @@
-use Rattle.std.proofs.Common.{◌++◌, All, ap, arith, length, map, refl, sym, subst}
+use Rattle.std.proofs.Common.{◌≡◌, ◌++◌, All, ap, arith, false, length, map, refl, sym, subst}
 use Rattle.std.proofs.lemmas.List.Elements.{All-head, All-nil, All-push, All-tail}
 use Rattle.std.specs.Vec.Iter.{into_iter_items, into_iter_len}
 use Rattle.loop_pipeline.specs.declared.several.Outcome.{Outcome}
@@ -11,7 +11,7 @@ use Rattle.loop_pipeline.proofs.several.join_all.Goals as goal
 pub loop-running-init : goal.loop-running-init
 loop-running-init g c =
     let P : Outcome g.row.S.Denot g.row.D.Denot g.row.P.Denot g.row.G.Denot → Type 0 = IsOutcome g.D.Disk.medium g.S.FrameSource.next_gives
-    g.P.PlaneMemory.plane g.G.Visits.asks g.G.Visits.gives_up g.G.Guide.due g.G.Guide.ends in
+    g.P.PlaneMemory.plane g.G.Visits.asks g.G.Visits.gives_up (g.G.Noting.NOTED ≡ false) g.G.Guide.due g.G.Guide.ends in
     let R : Running g.row.S.Denot g.row.D.Denot g.row.P.Denot g.row.G.Denot → Type 0 = IsRunning in
     let items = c.into_iter-running-iterator.ensures.into_iter_gives.0 in
     let len = c.into_iter-running-iterator.ensures.into_iter_gives.1 in
@@ -28,7 +28,7 @@ loop-running-init g c =
 pub loop-running-preserved : goal.loop-running-preserved
 loop-running-preserved g c =
     let P : Outcome g.row.S.Denot g.row.D.Denot g.row.P.Denot g.row.G.Denot → Type 0 = IsOutcome g.D.Disk.medium g.S.FrameSource.next_gives
-    g.P.PlaneMemory.plane g.G.Visits.asks g.G.Visits.gives_up g.G.Guide.due g.G.Guide.ends in
+    g.P.PlaneMemory.plane g.G.Visits.asks g.G.Visits.gives_up (g.G.Noting.NOTED ≡ false) g.G.Guide.due g.G.Guide.ends in
     let R : Running g.row.S.Denot g.row.D.Denot g.row.P.Denot g.row.G.Denot → Type 0 = IsRunning in
     let so = c.loop-running.invariant in
     let steps = c.in-Some.ensures.steps in
@@ -42,7 +42,7 @@ loop-running-preserved g c =
       threads = All-tail R _ _ threads;
       each = rw c.push_reserved.ensures.items (All-push P _ _ so.each
           (subst (λ (s : Shot g.row.S.Denot g.row.D.Denot g.row.P.Denot g.row.G.Denot). IsFilmed g.D.Disk.medium
-          g.S.FrameSource.next_gives g.P.PlaneMemory.plane g.G.Visits.asks g.G.Visits.gives_up (g.G.Guide.due s.guide)
+          g.S.FrameSource.next_gives g.P.PlaneMemory.plane g.G.Visits.asks g.G.Visits.gives_up (g.G.Noting.NOTED ≡ false) (g.G.Guide.due s.guide)
           (g.G.Guide.ends s.guide) s.camera filmed) (All-head R _ _ threads) c.join-filmed.ensures));
     }
 

@@ -1,4 +1,4 @@
-use Rattle.std.proofs.Common.{◌≡◌, ◌+◌, ◌++◌, All, length, map, vec_len}
+use Rattle.std.proofs.Common.{◌≡◌, ◌+◌, ◌++◌, All, false, length, map, vec_len}
 use Rattle.std.specs.Vec.{vec_capacity}
 use Rattle.std.specs.Vec.Iter.{into_iter_items, into_iter_len}
 use Rattle.loop_pipeline.specs.Several.{IsOutcome, IsRunning, shot_in, shot_of}
@@ -13,5 +13,5 @@ invariant-loop-running g l = record {
       ≡ map shot_in l.fn.threads.items;
   threads : All IsRunning (into_iter_items l.running-iterator);
   each : All (IsOutcome g.D.Disk.medium g.S.FrameSource.next_gives g.P.PlaneMemory.plane g.G.Visits.asks
-      g.G.Visits.gives_up g.G.Guide.due g.G.Guide.ends) l.outcomes.items;
+      g.G.Visits.gives_up (g.G.Noting.NOTED ≡ false) g.G.Guide.due g.G.Guide.ends) l.outcomes.items;
 }

@@ -1,4 +1,4 @@
-use Rattle.std.proofs.Common.{subst, sym}
+use Rattle.std.proofs.Common.{◌≡◌, false, subst, sym}
 use denote.Param.Send.{sendable}
 use Rattle.std.proofs.Crossing.{crosses}
 use Rattle.loop_pipeline.specs.declared.several.Shot.{Shot}
@@ -28,5 +28,5 @@ spawn_with-requires-send-T g c =
 pub spawn_with-requires-clause-keeps : goal.spawn_with-requires-clause-keeps
 spawn_with-requires-clause-keeps g c = λ lives outlive filmed is.
     subst (λ (s : Shot g.row.S.Denot g.row.D.Denot g.row.P.Denot g.row.G.Denot). IsFilmed g.D.Disk.medium
-    g.S.FrameSource.next_gives g.P.PlaneMemory.plane g.G.Visits.asks g.G.Visits.gives_up (g.G.Guide.due s.guide)
+    g.S.FrameSource.next_gives g.P.PlaneMemory.plane g.G.Visits.asks g.G.Visits.gives_up (g.G.Noting.NOTED ≡ false) (g.G.Guide.due s.guide)
     (g.G.Guide.ends s.guide) s.camera filmed) (sym c.of-given.ensures) is

@@ -1,4 +1,4 @@
-use Rattle.std.proofs.Common.{◌∷◌, [], map, sym}
+use Rattle.std.proofs.Common.{◌≡◌, ◌∷◌, [], false, map, sym}
 use Rattle.std.proofs.lemmas.List.{append-nil, map-append}
 use Rattle.std.proofs.lemmas.List.Elements.{All-push}
 use Rattle.loop_pipeline.specs.declared.several.Outcome.{Outcome}
@@ -8,7 +8,7 @@ use Rattle.loop_pipeline.proofs.several.with_one.Goals as goal
 pub returns-in-Some-clause-each : goal.returns-in-Some-clause-each
 returns-in-Some-clause-each g c =
     let P : Outcome g.row.S.Denot g.row.D.Denot g.row.P.Denot g.row.G.Denot → Type 0 = IsOutcome g.D.Disk.medium g.S.FrameSource.next_gives g.P.PlaneMemory.plane
-    g.G.Visits.asks g.G.Visits.gives_up g.G.Guide.due g.G.Guide.ends in
+    g.G.Visits.asks g.G.Visits.gives_up (g.G.Noting.NOTED ≡ false) g.G.Guide.due g.G.Guide.ends in
     rw c.push_reserved.ensures.items
     (All-push P c.args.outcomes.items c.in-Some.outcome c.requires.each (rw c.in-Some.is at c.requires.came))
 

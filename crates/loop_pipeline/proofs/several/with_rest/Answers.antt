@@ -1,4 +1,4 @@
-use Rattle.std.proofs.Common.{◌++◌, ap, arith, length, map, refl}
+use Rattle.std.proofs.Common.{◌≡◌, ◌++◌, ap, arith, false, length, map, refl}
 use Rattle.std.proofs.lemmas.List.Elements.{All-push}
 use Rattle.std.specs.Vec.Iter.{into_iter_items, into_iter_len}
 use Rattle.loop_pipeline.specs.declared.several.Outcome.{Outcome}
@@ -20,7 +20,7 @@ loop-shot-init g c =
 pub loop-shot-preserved : goal.loop-shot-preserved
 loop-shot-preserved g c =
     let P : Outcome g.row.S.Denot g.row.D.Denot g.row.P.Denot g.row.G.Denot → Type 0 = IsOutcome g.D.Disk.medium g.S.FrameSource.next_gives
-    g.P.PlaneMemory.plane g.G.Visits.asks g.G.Visits.gives_up g.G.Guide.due g.G.Guide.ends in
+    g.P.PlaneMemory.plane g.G.Visits.asks g.G.Visits.gives_up (g.G.Noting.NOTED ≡ false) g.G.Guide.due g.G.Guide.ends in
     let so = c.loop-shot.invariant in
     let steps = c.in-Some.ensures.steps in
     record {
@@ -28,7 +28,7 @@ loop-shot-preserved g c =
       left = omega (arith, steps.1, ap length steps.0, so.left);
       shots = rest-more shot_of _ _ _ c.push_reserved.ensures.items _ _ _ _ steps.0 c.of-given.ensures so.shots;
       each = rw c.push_reserved.ensures.items (All-push P _ _ so.each (rw c.of-given.ensures
-          (record { keeps = tt; ended = tt; again = tt; held = tt; refused = refl })));
+          (record { keeps = tt; settled = λ plain. tt; ended = tt; again = tt; held = tt; refused = refl })));
     }
 
 pub returns-clause-shots : goal.returns-clause-shots

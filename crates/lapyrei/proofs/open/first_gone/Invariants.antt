@@ -1,0 +1,6 @@
+use Rattle.std.proofs.Common.{ℕ, ◌<◌}
+use Rattle.lapyrei.specs.Told.{IsThere}
+use Rattle.lapyrei.proofs.open.first_gone.Given as goal
+
+abbrev pub invariant-loop-page : goal.invariant-loop-page
+invariant-loop-page l = (p : ℕ) → p < l.page → IsThere l.present p
