@@ -207,6 +207,8 @@ class Judge:
         chance = random.Random(f"judge {seed}")
         lines = told(lived.records)
         self.lines_of = lines
+        # Whose frames waited before they were read: they have a later time than they came.
+        self.waits = {said["camera"] for _, _, said in lines if said["kind"] == "waited"}
         self.frees = [(time, it["camera"], it["id"]) for _, time, it in lines
                       if it["kind"] == "released"]
         self.out_of_order = {it["camera"] for _, _, it in lines
@@ -550,7 +552,8 @@ class Judge:
             return
         for name, camera in self.cameras.items():
             mine = [it for it in lines if it.get("camera") == name]
-            if any(it["kind"] != "kept" for it in mine) or not mine or "times_from" in camera.words:
+            if any(it["kind"] != "kept" for it in mine) or not mine or \
+                    "times_from" in camera.words or name in self.waits:
                 continue
             rest = [it for it in words[1:] if it not in self.cameras]
             seconds = int(rest[0]) if rest and rest[0].isdigit() else camera.words["keep"]

@@ -597,7 +597,8 @@ class Kept:
         lines = self.judge.answers.get(label, [])
         for name, camera in self.judge.cameras.items():
             mine = [it for it in lines if it.get("camera") == name]
-            if not mine or "times_from" in camera.words or name in self.judge.moved or any(
+            if not mine or "times_from" in camera.words or \
+                    name in self.judge.moved | self.judge.waits or any(
                     it["kind"] in ("absent", "refused", "too_many_orders") for it in mine) or any(
                     it["kind"] == "kept" and "names" not in it for it in mine):
                 continue
@@ -617,6 +618,7 @@ class Kept:
             missing = came - there - have
             if any(it["kind"] == "event_begun" for it in lines):
                 continue
+            self.tells_gaps(camera, mine, since, until)
             if missing and not any(it["kind"] in ("held", "kept_none", "gap") for it in mine) and \
                     name not in self.judge.late and not self.judge.lived.life.is_faulty:
                 self.says(f"a keep doesn't tell that {sorted(missing)} aren't held: {mine}")
@@ -626,6 +628,21 @@ class Kept:
             if [it for it in missing if it > newest] and name not in self.judge.late and \
                     name not in self.judge.gave_up and not is_freed:
                 self.says(f"a keep isn't refused, and {sorted(missing)} aren't stored: {mine}")
+
+    def tells_gaps(self, camera: Camera, mine: list[dict], since: int, until: int) -> None:
+        """Where no frame is for more than one and a half times their distance, and a quarter of a
+        second, `held` and `gap` say so."""
+        kept = [it for it in mine if it["kind"] == "kept"]
+        if not kept or any(it["kind"] in ("held", "gap") for it in mine):
+            return
+        times = [since, until]
+        for it in kept:
+            slots = self.slots[camera.paths()[it["id"] // 64]]
+            times += [slots[at][2] for at in range(it["first"], it["last"] + 1) if at in slots]
+        times = sorted(it for it in times if since <= it <= until)
+        widest = max(two - one for one, two in zip(times, times[1:]))
+        if widest > max(camera.period * 3 // 2, 250_000) + READ:
+            self.says(f"no frame is kept for {widest} microseconds, and that isn't told: {mine}")
 
     # -------------------------------------------------------------------------------------------
     # the end

@@ -98,9 +98,10 @@ def frame_gone(world: World, lived: Lived, chance: random.Random) -> Lived | Non
 
 
 def said_otherwise(lived: Lived, kind: str, change: Callable[[dict], None],
-                   chance: random.Random) -> Lived | None:
-    """A line says something else."""
-    mine = [(index, said) for index, _, said in told(lived.records) if said["kind"] == kind]
+                   chance: random.Random, key: str = "kind") -> Lived | None:
+    """A line says something else, one that has a member of this name."""
+    mine = [(index, said) for index, _, said in told(lived.records)
+            if said["kind"] == kind and key in said]
     if not mine:
         return None
     index, said = chance.choice(mine)
@@ -195,10 +196,9 @@ def otherwise(kind: str, key: str, more: int) -> Callable[..., Lived | None]:
             line[key] += more
 
         life = lived.life
-        has = any(said["kind"] == kind and key in said for _, _, said in told(lived.records))
-        if not has or life.is_slow or life.is_faulty or life.changed or world.is_piped:
+        if life.is_slow or life.is_faulty or life.changed or world.is_piped:
             return None
-        return said_otherwise(lived, kind, change, chance)
+        return said_otherwise(lived, kind, change, chance, key)
 
     return form
 
