@@ -20,6 +20,7 @@
  *   tick N                  each call takes 1 to N microseconds
  *   uneven N                one thread of N gets the baton a hundred times less often
  *   sync NAME MICROS        syncs of these files take half of that to one and a half
+ *   reads NAME MICROS       reads of these files take half of that to one and a half
  *   slow FROM TO NAME MICROS    they take so much more in that time
  *   bad FROM TO NAME CALL ERRNO N    one such call of N on these files fails in that time; CALL is
  *                           open, read, write, sync, truncate or rename
@@ -570,6 +571,9 @@ static void take_line(char *line, int number) {
     else if (sscanf(line, "sync %63s %llu", name, &a) == 2 && rule_count < RULES) {
         rules[rule_count] = (struct rule){'l', 's', 0, NEVER, a, 1, ""};
         strcpy(rules[rule_count++].name, name);
+    } else if (sscanf(line, "reads %63s %llu", name, &a) == 2 && rule_count < RULES) {
+        rules[rule_count] = (struct rule){'l', 'r', 0, NEVER, a, 1, ""};
+        strcpy(rules[rule_count++].name, name);
     } else if (sscanf(line, "slow %llu %llu %63s %llu", &a, &b, name, &c) == 4
                && rule_count < RULES) {
         rules[rule_count] = (struct rule){'l', 's', a, b, c, 1, ""};
@@ -709,12 +713,13 @@ static int fails(const char *name, char call) {
     return 0;
 }
 
-/* Waits as long as a sync of a file takes. */
-static void takes_time(const char *name) {
+/* Waits as long as a call on a file takes. */
+static void takes_time(const char *name, char call) {
     uint64_t micros = 0;
     for (int at = 0; at < rule_count; at++) {
         struct rule *it = &rules[at];
-        if (it->kind != 'l' || now < it->from || now >= it->to || !strstr(name, it->name)) continue;
+        if (it->kind != 'l' || it->call != call || now < it->from || now >= it->to) continue;
+        if (!strstr(name, it->name)) continue;
         micros += it->value / 2 + pick(it->value + 1);
     }
     spend(micros);
@@ -968,6 +973,7 @@ ssize_t read(int fd, void *bytes, size_t count) {
 
 ssize_t pread(int fd, void *bytes, size_t count, off_t at) {
     step();
+    if (fd_of(fd)->kind == WATCHED) takes_time(name_of(fd_of(fd)), 'r');
     struct fd *it = fd_of(fd);
     if (it->kind == WATCHED && fails(name_of(it), 'r')) return -1;
     return seen(RAW(SYS_pread64, fd, bytes, count, at));
@@ -989,7 +995,7 @@ static int synced(int fd, long number) {
     if (it->kind != WATCHED && it->kind != FOLDER) return (int)seen(RAW(number, fd, 0, 0, 0));
     int index = it->index, is_folder = it->kind == FOLDER;
     uint64_t began = log_records;
-    takes_time(files[index].name);
+    takes_time(files[index].name, 's');
     if (fails(files[index].name, 's')) return -1;
     change();
     if (is_folder) note('F', index, began, strlen(files[index].name), files[index].name);

@@ -214,7 +214,7 @@ class Planted(unproved.Program):
             processes.run = plain
 
 
-def program(level: str = unproved.PLAIN) -> Planted:
+def program(level: str = "fast") -> Planted:
     """The station with all faults, each switched off."""
     plain = unproved.program("loop_station", level)
     files = with_faults({**plain.files, "switch": SWITCH}, all_faults())

@@ -604,6 +604,7 @@ class Judge:
         """Looks at the files, as they are and as a loss of power may leave them."""
         self.looks_at(self.disk.present(), time, "")
         self.goes_on(time)
+        self.kept.goes_on_by_rule(time)
         for _ in range(2):
             image = self.disk.after_loss(chooser(chance), chance.randrange)
             self.looks_at(image, time, "after a loss of power")

@@ -34,6 +34,8 @@ class Kept:
         # The events of which the answer says which cameras they mean.
         self.answered: set[int] = set()
         self.ends_at: dict[int, set[int]] = {}
+        # The cameras whose end of an event lies ahead.
+        self.ahead_of: dict[int, set[str]] = {}
         # Which clip was saved by itself, and where.
         self.itself: dict[tuple[str, int, int, int, int], str] = {}
 
@@ -66,6 +68,8 @@ class Kept:
         # The events that were ordered in this life.
         self.here: set[int] = set()
         self.stopping = 0
+        # The clips that were released since they were saved, some time before the end.
+        self.full_of: list[tuple[dict, tuple]] = []
         # The clips of which a save was told in this life.
         self.whole: set[tuple[str, int, int, int]] = set()
         for path in [it for camera in self.judge.cameras.values() for it in camera.paths()]:
@@ -115,8 +119,8 @@ class Kept:
         if said[0] == "status":
             self.rooms_at[label] = {it: self.room(camera) for it, camera
                                     in self.judge.cameras.items()}
-        if said[0] in ("save", "save!") and said[2].startswith("#"):
-            camera = self.judge.cameras.get(said[1])
+        camera = self.judge.cameras.get(said[1]) if said[0] in ("save", "save!") else None
+        if camera:
             self.tables_at[label] = {it: dict(self.now[it]) for it in camera.paths()}
         if len(said) > 1 and said[1] in self.judge.cameras and said[0] in ("keep", "release") \
                 and not any(it.startswith("+") or it == "to" for it in said) \
@@ -214,10 +218,24 @@ class Kept:
                     self.says(f"{words[0]} is made again at {record.time}, and the disk had no"
                               f" room at {self.no_room[name]}")
         path = words[-1]
+        if record.kind in "NL" and words[0] == f"{path}.new":
+            self.is_made_anew(path, record.time)
         if record.kind in "NL" and path in self.cancelled and not any(
                 said[0].startswith("save") and said[-1] == path and label not in self.over
                 for label, (_, said) in self.orders.items()):
             self.says(f"a save to {path} was cancelled, and {path} is made")
+
+    def is_made_anew(self, path: str, time: int) -> None:
+        """Where a store with a number below another's is made anew, that is printed."""
+        name = self.judge.paths.get(path)
+        if name is None:
+            return
+        paths = self.judge.cameras[name].paths()
+        higher = [it for it in paths[paths.index(path) + 1:] if it in self.judge.lived.before]
+        life = self.judge.lived.life
+        if higher and not life.is_faulty and name not in self.judge.moved and \
+                name in self.judge.opened:
+            self.judge.told.wants("store_missing", name, time, time + SECOND)
 
     # -------------------------------------------------------------------------------------------
     # what is told
@@ -263,6 +281,10 @@ class Kept:
         self.to.setdefault(event, set()).add(to)
         if said.get("label"):
             self.answered.add(event)
+            words = self.orders[said["label"]][1]
+            is_said = any(it[0] == "+" or it == "to" for it in words)
+            self.ahead_of[event] = {it for it, camera in self.judge.cameras.items()
+                                    if is_said or "after" in camera.words}
             self.here.add(event)
             self.ends_at.setdefault(event, set()).add(to)
         elif event in self.answered and min(abs(it - to) for it in self.ends_at[event]) > 2000:
@@ -373,7 +395,10 @@ class Kept:
             self.says(f"its tag is {sorted(tags)}: {said}")
         if len(closed) > 1:
             return
-        _, held, begun = closed[0]
+        (path, place, first, last, _), held, begun = closed[0]
+        self.is_not_read(said, self.judge.lived.end())
+        if rule == "release saved" and "save_to" not in self.judge.cameras[name].words:
+            self.full_of.append((said, (path, place, first, last)))
         if self.judge.lived.life.is_faulty or not all(held.values()):
             return
         if any(it.may_take_a_block() for it in held.values()):
@@ -447,12 +472,35 @@ class Kept:
         self.kept_at.pop((said["camera"], said["id"]), None)
         if label in self.doubted and why in ("NoSuchClip", "NotHeld"):
             self.says(f"{self.doubted[label]} released what a save read: {said}")
+        words = self.orders[label][1] if label in self.orders else []
+        if words and why in ("NoSuchClip", "NotHeld") and not words[2].startswith("#"):
+            self.finds_its_clip(said, label, int(words[2]))
+        if why in ("Exists", "IsStore", "NotRegular", "Busy") and self.is_own(said["path"]):
+            self.says(f"it is a file of the station: {said}")
         if why == "Cancelled":
             self.cancelled[said["path"]] = time
         given = self.orders.get(label, (time, []))[0]
         if why == "Stopped" and self.stopping and not self.judge.lived.life.changed and \
                 time - self.stopping < 690_000 and given < self.stopping - SECOND // 10:
             self.says(f"a stop gave it {time - self.stopping} microseconds: {said}")
+
+    def is_own(self, path: str) -> bool:
+        """Whether a path is one of the station's files and pipes."""
+        own = {"station.toml", "answers", "orders", *self.judge.paths}
+        for name in self.judge.cameras:
+            own |= {f"{name}.loop.events", f"{name}.y4m"}
+        return path in own
+
+    def finds_its_clip(self, said: dict, label: str, own: int) -> None:
+        """A save finds its clip, which was there when it was ordered and is there still."""
+        name = said["camera"]
+        if own // 64 >= self.judge.cameras[name].stores or not self.is_plain(name):
+            return
+        path = self.judge.cameras[name].paths()[own // 64]
+        clip = self.tables_at.get(label, {}).get(path, {}).get(own % 64)
+        if clip and clip == self.now[path].get(own % 64) and \
+                self.versions(name, own) == {clip}:
+            self.says(f"its clip is there, {clip} in {path}: {said}")
 
     def reads_saving(self, said: dict, time: int) -> None:
         """A clip whose saves have ended can be released."""
@@ -658,7 +706,10 @@ class Kept:
         end = lived.end()
         self.saves_by_itself(lived, end)
         self.events_end(lived, end)
-        self.goes_on_by_rule(lived, end)
+        self.goes_on_by_rule(end)
+        for said, span in self.full_of:
+            if span not in self.whole and self.is_plain(said["camera"]):
+                self.says(f"no save had written it: {said}")
         self.makes_all_stores(lived, end)
         self.leaves_no_part(lived)
         if "config" in lived.changed_files:
@@ -684,21 +735,22 @@ class Kept:
                         it[1][0].startswith("save") for it in self.orders.values()):
                 self.says(f"clip {own} of {name} was saved at {at}, and isn't released")
 
-    def goes_on_by_rule(self, lived: Lived, end: int) -> None:
+    def goes_on_by_rule(self, end: int) -> None:
         """Where every block is locked and a clip may go, one goes, and recording goes on."""
         for name, camera in self.judge.cameras.items():
             rule = str(camera.words["when_full"])
-            came = [it for at, it in self.judge.here[name] if at < end - SOON]
-            at = max(self.judge.opened.get(name, end), self.judge.room_at.get(name, 0))
-            if not came or rule == "stop" or not self.is_plain(name) or end - at < SOON or \
+            came = [it for at, it in self.judge.here[name] if at < end - 2 * SECOND]
+            at = max(self.judge.opened.get(name, end), self.judge.room_at.get(name, 0),
+                     self.script_pause())
+            if not came or rule == "stop" or not self.is_plain(name) or end - at < 2 * SECOND or \
                     self.stopping or name in self.judge.late or "save_to" in camera.words:
                 continue
             held = [self.judge.held(self.judge.present(it)) for it in camera.paths()]
             if not all(held) or any(it.has_room() for it in held):
                 continue
             newest = max((max(it.names.values()) for it in held if it.names), default=-1)
-            may = {(path, own) for path in camera.paths()
-                   for own, clip in self.now[path].items() if self.lets_go(rule, path, own, clip)}
+            may = {(path, own) for path in camera.paths() for own, *clip in
+                   self.judge.table(path) if self.lets_go(rule, path, own, tuple(clip))}
             if newest < came[-1] and may:
                 self.says(f"{name} stands still at frame {newest}, though {sorted(may)} may go")
 
@@ -718,7 +770,7 @@ class Kept:
                 continue
             to = max(ends)
             meant, over = self.judge.events.get(event, (set(), set()))
-            for name in meant - over:
+            for name in (meant & self.ahead_of.get(event, set())) - over:
                 camera = self.judge.cameras[name]
                 opened = self.judge.opened.get(name, end)
                 # One step of one event is done at a visit: with many, where nothing is stored, each

@@ -24,6 +24,8 @@ BEGUN = 6
 SAVED = 20
 OTHERS = ("saved3.part", "saved7")
 LINKED = ("saved5.part", "precious")
+# From this seed on worlds have more of what is rare in others.
+RARE = 10_000
 
 
 def moment(at: int) -> str:
@@ -211,6 +213,12 @@ class World:
         events += self.orders(now, now + span, orders)
         events += self.strange(now, now + span)
         files, changed = self.reloads(now, now + span, orders, events)
+        if self.seed >= RARE:
+            more, rare = self.rare(now, now + span, orders)
+            lines += more
+            events += rare
+            crawls = crawls or bool(more)
+            faults += [it for it in more if it.startswith("bad")]
         if end == "stop":
             events.append((now + span, self.order("stop", now + span, orders)))
             events.append((now + span + 100 * SECOND, f"kill {now + span + 100 * SECOND}"))
@@ -316,6 +324,31 @@ class World:
             at += camera.period + pick.randint(-camera.period // 20, camera.period // 20)
         camera.due = at
         return found
+
+    def rare(self, since: int, until: int, orders: dict[str, str]
+             ) -> tuple[list[str], list[tuple[int, str]]]:
+        """What is rare elsewhere: a disk that is slow to read, a store of several that fails for a
+        while, a save to a pipe that nobody reads and that is cancelled, and so many lines that not
+        all of them wait for a reader."""
+        pick = random.Random(f"rare {self.seed} {since}")
+        camera, lines, found = pick.choice(self.cameras), [], []
+        if pick.random() < 0.5:
+            lines.append(f"reads {camera.name} {pick.choice((1000, 5000, 20_000))}")
+        if pick.random() < 0.3 and camera.stores > 1:
+            at = pick.randint(since + SECOND, until)
+            lines.append(f"bad {at} {at + SECOND // 2} {pick.choice(camera.paths())} sync {EIO} 1")
+        at = since + 2 * SECOND
+        if pick.random() < 0.5 and until - at > 6 * SECOND:
+            texts = [f"keep {camera.name} 1 55", f"save {camera.name} 0 nobody",
+                     f"cancel {camera.name} 0"]
+            found += [(at + it * 200_000, self.order(text, at + it * 200_000, orders))
+                      for it, text in enumerate(texts)]
+            later = at + 4 * SECOND
+            found.append((later, self.order(f"release {camera.name} 0", later, orders)))
+        if self.is_piped:
+            found += [(at + it * 1000, self.order("help", at + it * 1000, orders))
+                      for it in range(120)]
+        return lines, found
 
     def line(self, camera: Camera, at: int) -> str:
         """The line of a frame."""
