@@ -432,8 +432,9 @@ class Judge:
         had = self.tables.get((path, said["id"] % 64), set())
         now = self.table(path)
         for which, clip in list(self.clips.items()):
+            # A part of an event that goes on takes with it the shorter ones that it covers.
             if clip.path == path and any(clip.is_within(*it) for it in had) and \
-                    not any(clip.is_within(*it[1:]) for it in now):
+                    (clip.tag in self.spans or not any(clip.is_within(*it[1:]) for it in now)):
                 del self.clips[which]
         self.was_freed.add((said["camera"], said["id"]))
         self.room_at[said["camera"]] = time

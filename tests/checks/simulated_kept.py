@@ -331,10 +331,11 @@ class Kept:
     def stays_released(self, time: int) -> None:
         """What an order has released of an event isn't locked again."""
         for path, tag, last in self.freed_parts:
-            again = [it for it in self.now[path].values() if it[2] == tag and it[0] <= last]
+            again = [it for it in self.now[path].values()
+                     if it[2] == tag and it[0] <= last <= it[1]]
             if again:
                 self.says(f"{again} of {path} is locked at {time}, and up to {last} was released")
-        if any(it[2] == tag and it[0] <= last for path, tag, last in self.freed_parts
+        if any(it[2] == tag and it[0] <= last <= it[1] for path, tag, last in self.freed_parts
                for it in self.now[path].values()):
             self.freed_parts = []
 
@@ -396,7 +397,6 @@ class Kept:
         if len(closed) > 1:
             return
         (path, place, first, last, _), held, begun = closed[0]
-        self.is_not_read(said, self.judge.lived.end())
         if rule == "release saved" and "save_to" not in self.judge.cameras[name].words:
             self.full_of.append((said, (path, place, first, last)))
         if self.judge.lived.life.is_faulty or not all(held.values()):
@@ -459,6 +459,8 @@ class Kept:
                 if its == tag:
                     allowed |= set(self.names(path, first, last))
             for own, clip in self.tables_at.get(label, {}).get(path, {}).items():
+                if clip[2] == tag:
+                    self.whole.add((path, own, *clip[:2]))
                 if clip[2] == tag and self.now[path].get(own) == clip and \
                         not set(self.names(path, clip[0], clip[1])) <= set(names):
                     self.says(f"the clip {own} of {path} isn't in it: {said}")
@@ -551,7 +553,7 @@ class Kept:
         is_quiet = came and time - came[-1][0] > 300_000 and \
             time - self.judge.told.last_stored.get(name, 0) > 300_000
         if is_quiet and name not in self.judge.broken and \
-                not self.judge.told.has_told("waited", name):
+                name not in self.judge.waits:
             self.counts_what_is_behind(said, camera, len(came))
             self.counts_what_is_lost(said, camera)
 
@@ -739,10 +741,10 @@ class Kept:
         """Where every block is locked and a clip may go, one goes, and recording goes on."""
         for name, camera in self.judge.cameras.items():
             rule = str(camera.words["when_full"])
-            came = [it for at, it in self.judge.here[name] if at < end - 2 * SECOND]
+            came = [it for at, it in self.judge.here[name] if at < end - SOON]
             at = max(self.judge.opened.get(name, end), self.judge.room_at.get(name, 0),
                      self.script_pause())
-            if not came or rule == "stop" or not self.is_plain(name) or end - at < 2 * SECOND or \
+            if not came or rule == "stop" or not self.is_plain(name) or end - at < SOON or \
                     self.stopping or name in self.judge.late or "save_to" in camera.words:
                 continue
             held = [self.judge.held(self.judge.present(it)) for it in camera.paths()]

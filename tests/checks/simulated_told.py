@@ -16,7 +16,7 @@ if TYPE_CHECKING:
 # Within so much time what happens is told: it is looked at ten times a second.
 TOLD = SECOND
 # So long nothing comes before a source is silent, and a writer is gone before that is told.
-SILENT, GONE = 2 * SECOND, 100_000
+SILENT, GONE = 2 * SECOND, SECOND // 2
 # A line of the output: its time, and its label.
 LINE = re.compile(rb"(\S+Z) (?:@(\S+) )?")
 
@@ -108,8 +108,8 @@ class Told:
         last, closed = self.last_frame.get(name), self.closed.get(name)
         if last is None or not self.is_plain(name) or self.stopping:
             return
-        if closed is not None and time - closed > GONE + TOLD:
-            self.was_told("source_missing", name, closed, closed + GONE + TOLD)
+        if closed is not None and time - closed > GONE:
+            self.was_told("source_missing", name, closed, closed + GONE)
         elif closed is None and time - last > SILENT + TOLD + 200_000:
             self.was_told("source_silent", name, last, last + SILENT + TOLD + 200_000)
 
@@ -130,7 +130,8 @@ class Told:
             return
         if name not in self.judge.opened:
             self.wants("store_open", name, time, time + TOLD)
-            self.wants("syncs", name, time, time + 2 * TOLD)
+            if not life.is_faulty:
+                self.wants("syncs", name, time, time + 2 * TOLD)
         self.goes_on(name, path, time)
 
     def goes_on(self, name: str, path: str, time: int) -> None:
@@ -184,7 +185,7 @@ class Told:
         flushes = -(-camera.slots // 64)
         cost = max(said["micros"], 1) * (2 * flushes + 3)
         may, rate = camera.slots * SECOND / cost, SECOND / camera.period
-        if rate > 1.5 * may:
+        if rate > 2 * may:
             self.wants("too_slow", said["camera"], time, time + TOLD // 2)
 
     def tells_given_up(self, said: dict, time: int) -> None:
