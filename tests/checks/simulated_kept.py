@@ -122,7 +122,8 @@ class Kept:
         camera = self.judge.cameras.get(said[1]) if said[0] in ("save", "save!") else None
         if camera:
             self.tables_at[label] = {it: dict(self.now[it]) for it in camera.paths()}
-        if len(said) > 1 and said[1] in self.judge.cameras and said[0] in ("keep", "release") \
+        if words[0] == "order" and len(said) > 1 and said[1] in self.judge.cameras and \
+                said[0] in ("keep", "release") \
                 and not any(it.startswith("+") or it == "to" for it in said) \
                 and "after" not in self.judge.cameras[said[1]].words:
             self.turns.setdefault(said[1], []).append(label)
@@ -442,7 +443,8 @@ class Kept:
             first, last, _ = fits[0]
             key = (store, said["id"], first, last, names[0])
             before = self.itself.setdefault(key, path)
-            if before != path and before in self.judge.disk.names:
+            is_early = time - self.judge.lived.life.begins < SECOND
+            if before != path and before in self.judge.lived.before and is_early:
                 self.says(f"it is saved already as {before}: {said}")
 
     def has_event(self, said: dict, label: str, names: list[int]) -> None:
@@ -475,7 +477,7 @@ class Kept:
         if label in self.doubted and why in ("NoSuchClip", "NotHeld"):
             self.says(f"{self.doubted[label]} released what a save read: {said}")
         words = self.orders[label][1] if label in self.orders else []
-        if words and why in ("NoSuchClip", "NotHeld") and not words[2].startswith("#"):
+        if words and why == "NotHeld" and not words[2].startswith("#"):
             self.finds_its_clip(said, label, int(words[2]))
         if why in ("Exists", "IsStore", "NotRegular", "Busy") and self.is_own(said["path"]):
             self.says(f"it is a file of the station: {said}")
