@@ -10,12 +10,14 @@ them, with a description in GenICam's XML, and faults at will. It shares no code
     jump=AT+N       at the frame AT the ids jump by N
     clock=AT+NS     at the frame AT the camera's clock jumps by NS nanoseconds, forwards or back (-)
     frames=N        so many frames, and then none
+    deaf=FILE       as long as FILE is there, it answers only who looks for cameras, and sends none
     log=FILE        a line for each frame that was sent whole: its id, its time, the CRC of its
                     pixels, exposure and line status
 
 Frames are filled by the frame's count: `picture` says with what. Pixel formats are Mono8, Mono10p,
 Mono12p, Mono12Packed, RGB8; triggers come by software. Chunks are ExposureTime and LineStatusAll.
 It ends with SIGTERM."""
+import os
 import re
 import signal
 import socket
@@ -81,6 +83,7 @@ class Words:
         self.jump = self.pair(said.get("jump", "0+0"))
         self.clock = self.pair(said.get("clock", "0+0"))
         self.frames = int(said.get("frames", 1 << 62))
+        self.deaf = said.get("deaf", "")
         self.log = open(said["log"], "a", buffering=1) if "log" in said else None
 
     @staticmethod
@@ -162,6 +165,8 @@ class Camera:
     def answer(self, order, body, number):
         """What an order is answered."""
         memory = self.memory
+        if order != DISCOVERY and os.path.exists(self.words.deaf):
+            return None
         if order == DISCOVERY:
             return self.head(order, 0xF8, number) + bytes(memory.bytes[:0xF8])
         if order == READREG:
@@ -266,7 +271,7 @@ class Camera:
             else:
                 due += 1 / max(0.1, self.memory.real(gige_xml.RATE))
                 time.sleep(max(0.0, due - time.monotonic()))
-            if self.count < self.words.frames:
+            if self.count < self.words.frames and not os.path.exists(self.words.deaf):
                 with self.lock:
                     self.film()
 

@@ -1,14 +1,16 @@
 """loop_camera over a GigE Vision camera of ours (gige.py): packed samples, colours, ids that jump
-and wrap, a clock that jumps, lost packets, triggers by software, chunks. Each frame that is given
-on is one that the camera sent whole, by the camera's own log."""
+and wrap, a clock that jumps, lost packets, triggers by software, chunks, silence. Each frame that
+is given on is one that the camera sent whole, by the camera's own log."""
 import contextlib
 import csv
 import fcntl
 import re
+import signal
 import socket
 import struct
 import subprocess
 import sys
+import time
 from pathlib import Path
 
 import gige
@@ -207,6 +209,69 @@ def test_chunks_are_those_of_each_frame_by_its_number(camera, own, tmp_path, for
     assert [(float(row[2]), int(row[3])) for row in rows] == [sent[it[0]][2:] for it in log]
     assert path.stat().st_mode & 0o777 == 0o644 and [it for it, _ in frames] == [
         int(row[1]) for row in rows]
+
+
+def stopped(it):
+    """How many seconds a stop takes. It ends well, and one that films says what it gave on."""
+    films, began = "filming" in it.told(), time.monotonic()
+    assert it.stop() == 0, it.told()
+    took = time.monotonic() - began
+    assert not films or "frames given on" in it.told(), "it doesn't say what it gave on"
+    return took
+
+
+@pytest.mark.parametrize("state", ["silent", "asked", "again", "gone", "opened"])
+def test_a_stop_waits_for_no_camera(camera, own, tmp_path, state):
+    """Within 2 s, and more where this machine takes long for any: just silent; asked whether it is
+    there; waited for; unplugged; and amid being opened."""
+    deaf = tmp_path / "deaf"
+    own.start(f"deaf={deaf}")
+    usual = camera(file_of(own))
+    usual.count(5)
+    usual = stopped(usual)
+    (tmp_path / "log").unlink()
+    if state == "opened":
+        deaf.touch()
+    it = camera(file_of(own))
+    if state == "opened":
+        until("signals are heard", lambda: hears(it.run.pid))
+        # Until it is found.
+        time.sleep(3)
+    else:
+        it.says("filming LAPGIGE")
+        it.count(len(it.log()) + 5)
+        deaf.touch()
+        if state == "asked":
+            time.sleep(3)
+        elif state in ("again", "gone"):
+            it.says("waiting for LAPGIGE: ")
+            if state == "gone":
+                own.stop()
+            time.sleep(2)
+    took = stopped(it)
+    assert took < 2 + 3 * usual, f"the stop took {took:.1f} s, and a usual one {usual:.1f} s"
+
+
+def hears(process):
+    """Whether a process hears SIGTERM."""
+    text = Path(f"/proc/{process}/status").read_text()
+    return int(re.search(r"SigCgt:\s*(\w+)", text)[1], 16) >> signal.SIGTERM - 1 & 1
+
+
+def test_a_camera_that_is_silent_for_a_while_is_filmed_again(camera, own, tmp_path):
+    """By the same process: what finds the silence, Aravis' own thread, ends nothing."""
+    deaf = tmp_path / "deaf"
+    own.start(f"deaf={deaf}")
+    it = camera(file_of(own))
+    for turn in range(3):
+        until("it films", lambda had=turn: it.told().count("filming LAPGIGE") > had)
+        before = len(it.log())
+        it.count(before + 5)
+        deaf.touch()
+        until("it waits", lambda had=turn: it.told().count("waiting for LAPGIGE") > had)
+        deaf.unlink()
+    it.count(len(it.log()) + 5)
+    assert it.stop() == 0
 
 
 def test_a_camera_without_a_chunk_is_refused_by_its_name(camera, own):

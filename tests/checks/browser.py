@@ -56,6 +56,8 @@ SIZES = {
     "390x844": (390, 844, True),
     "320x568": (320, 568, True),
 }
+# The seconds in which a busy machine has laid a page out anew.
+SETTLED = 10
 # The ratio that WCAG 2 asks of text.
 CONTRAST = 4.5
 # Texts whose contrast is too low, by the colours that stand behind them; those on pictures stand on
@@ -185,6 +187,26 @@ class Browser:
                     return found
             time.sleep(0.03)
         raise Wrong(f"no {what} within {LIMIT} s")
+
+    def still(self, look, what, seconds=1.5):
+        """What is seen once that has stayed the same for so long: what was on its way has come."""
+        seen = [look(), time.monotonic()]
+
+        def is_still():
+            """Whether it is what it was."""
+            if (now := look()) != seen[0]:
+                seen[:] = now, time.monotonic()
+            return time.monotonic() - seen[1] > seconds
+
+        self.until(is_still, what)
+        return seen[0]
+
+    def nothing(self, look, what):
+        """Waits until nothing wrong is seen any more; where something stays, it is said."""
+        end = time.monotonic() + SETTLED
+        while found := look():
+            expect(time.monotonic() < end, f"{what}: {found}")
+            time.sleep(0.1)
 
     def one(self, selector):
         """An element."""

@@ -9,6 +9,10 @@ def changed_camera(name, old, new):
 
     def make(folder):
         shutil.copytree(TOP / "python", folder / "python")
+        # Without these it doesn't even begin.
+        (folder / "tools").mkdir()
+        for needed in ("tools/about.py", "VERSION"):
+            shutil.copy(TOP / needed, folder / needed)
         changed = changed_copy(f"python/camera/station_camera/{name}", old, new)(folder)
         shutil.move(changed, folder / "python/camera/station_camera" / name)
         return str(folder / "python/camera/loop_camera")
@@ -59,5 +63,11 @@ KIND = Kind(
               "            self.file.write(line)\n",
               "            self.file.write(line) if not self.lines else None\n", "chunks_are",
               "test_chunks_are_those"),
+        wrong("that waits for a camera when it is told to end", "program.py",
+              "        signal.set_wakeup_fd(self.bell", "        signal.set_wakeup_fd(-1",
+              "a_stop_waits", "test_a_stop_waits.*the stop took"),
+        wrong("that ends without a word where a camera is silent", "program.py",
+              "        self.last()\n", "        pass\n", "a_stop_waits",
+              "test_a_stop_waits.*doesn't say what it gave on"),
     ],
 )

@@ -175,7 +175,7 @@ def run(folder, work, options, programs=(), libraries=(), seconds=3600, memory=9
     fetch()
     folder = Path(folder)
     tree(folder / "tree", work, programs, libraries)
-    image(folder / "root", "400M", folder / "tree")
+    image(folder / "root", "700M", folder / "tree")
     image(folder / "out", room)
     shutil.rmtree(folder / "tree")
     found = modules([*BASE, *options])

@@ -58,6 +58,10 @@ new MutationObserver(() => window.shown++).observe(document.querySelector('#bann
     { childList: true, characterData: true, subtree: true });"""
 
 
+SIDEWAYS = """return [...document.querySelectorAll('dialog[open]')].filter((it) =>
+    it.scrollWidth > it.clientWidth).map((it) => it.id)"""
+
+
 def wide(browser, size, is_phone):
     """Sets a size of the screen."""
     words = {"width": size[0], "height": size[1], "deviceScaleFactor": 1, "mobile": is_phone}
@@ -69,8 +73,7 @@ def lanes(browser, lab, shots):
     """Each lane has its whole name, at all widths, beside or above its track."""
     for size in (WIDE, SMALL, PHONE):
         wide(browser, size, size == PHONE)
-        found = browser.run(LANES)
-        expect(not found, f"{size[0]} wide: {found}")
+        browser.nothing(lambda: browser.run(LANES), f"{size[0]} wide")
         browser.shot(shots, f"lanes-{size[0]}")
 
 
@@ -112,13 +115,9 @@ def narrow(browser, lab, shots):
         for name, there, back in states(browser):
             there()
             time.sleep(0.4)
-            found = browser.run(BEYOND, True)
-            expect(not found, f"{size[0]}x{size[1]}, {name}: {found}")
-            found = browser.run(
-                "return [...document.querySelectorAll('dialog[open]')].filter((it) =>"
-                " it.scrollWidth > it.clientWidth).map((it) => it.id)"
-            )
-            expect(not found, f"{size[0]}x{size[1]}, {name}: {found} scrolls sideways")
+            what = f"{size[0]}x{size[1]}, {name}"
+            browser.nothing(lambda: browser.run(BEYOND, True), what)
+            browser.nothing(lambda: browser.run(SIDEWAYS), f"{what} scrolls sideways")
             browser.shot(shots, f"narrow-{size[1]}-{name.replace(' ', '-')}")
             back()
             time.sleep(0.2)
@@ -137,16 +136,19 @@ def heard_as(browser, roles=PICTURES):
             yield role, node.get("name", {}).get("value", "").strip()
 
 
+def nameless(browser):
+    """What is heard without a name or a role."""
+    return [it for it in heard_as(browser) if not it[1] or it[0] in NO_ROLE][:5]
+
+
 def names(browser, lab, shots):
     """All that has the focus, and each picture, has a name and a role, in each state."""
     with_event(browser, lab)
     for state, there, back in states(browser):
         there()
         time.sleep(0.5)
-        found = list(heard_as(browser))
-        expect(len(found) > 1, f"{state}: {len(found)} controls are heard of")
-        wrong = [it for it in found if not it[1] or it[0] in NO_ROLE]
-        expect(not wrong, f"{state}: heard without a name or a role: {wrong[:5]}")
+        browser.until(lambda: len(list(heard_as(browser))) > 1, f"{state}: controls that are heard")
+        browser.nothing(lambda: nameless(browser), f"{state}: heard without a name or a role")
         back()
         time.sleep(0.3)
     parts = {role for role, _ in heard_as(browser, PARTS)}
@@ -186,10 +188,9 @@ def aloud(browser, lab, shots):
     spoken = "return document.querySelector('#spoken').textContent"
     browser.until(lambda: "pump" in browser.run(spoken), "word aloud of a camera without frames")
     browser.run(LISTEN)
-    time.sleep(8)
-    heard, shown = browser.run("return [window.heard, window.shown]")
-    expect(shown >= 4, f"the line above the pictures changed {shown} times in 8 s")
-    expect(len(heard) <= 2, f"in 8 s {len(heard)} sentences are read aloud: {heard[:6]}")
+    browser.until(lambda: browser.run("return window.shown") >= 5, "line that counts the seconds")
+    heard = [it for it in browser.run("return window.heard") if "pump" in it]
+    expect(len(heard) <= 2, f"in 5 s {len(heard)} sentences are read aloud: {heard[:6]}")
     lab.order("!go pump")
     browser.until(lambda: "3 of 3" in browser.run(spoken), "word aloud that it is over")
 
@@ -217,4 +218,27 @@ def letters(browser, lab, shots):
     expect(re.search("on", browser.run("return localStorage.getItem('letters')")), "not remembered")
 
 
-STEPS = (lanes, narrow, names, focus, aloud, letters)
+def left(browser, lab, shots):
+    """A page that was left, which the browser keeps to go back to it, takes none of its six
+    connections to the server: the eighth has pictures as soon as the others, and waits for no
+    connection of an earlier one to be closed."""
+    took = []
+    for _ in range(OPENED):
+        browser.driver.get("about:blank")
+        begun = time.monotonic()
+        browser.open()
+        took.append(time.monotonic() - begun)
+    most = LATE + 3 * sorted(took)[OPENED // 2]
+    expect(max(took) < most, f"a page waits for others: {', '.join(f'{it:.1f} s' for it in took)}")
+    browser.driver.back()
+    browser.driver.back()
+    browser.until(browser.has_pictures, "pictures of a page that somebody goes back to")
+    count = lab.stored("pendulum")[-1].number
+    number = "return Number(document.querySelector('.cam').dataset.number)"
+    browser.until(lambda: browser.run(number) > count, "pictures that go on there")
+
+
+# A browser gives all pages of a server six connections. The server closes one of which nobody reads
+# after 20 s; so many seconds aren't noise.
+OPENED, LATE = 8, 10
+STEPS = (lanes, narrow, names, focus, aloud, letters, left)

@@ -39,6 +39,16 @@ KIND = Kind(
             says="station: the sentence is",
         ),
         Wrong(
+            "a page that doesn't say how many frames a camera lost",
+            given={
+                "LOOP_PAGE": changed_page(
+                    "standing.py", '"lost": status and status.lost', '"lost": 0'
+                )
+            },
+            words=["station"],
+            says="no 3 lost frames of the camera",
+        ),
+        Wrong(
             "a page that unpacks what strangers send",
             given={
                 "LOOP_PAGE": changed_page(

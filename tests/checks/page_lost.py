@@ -32,10 +32,10 @@ def lost(browser, lab, shots):
     browser.until(lambda: len(rows(browser)) == 1, "an event")
     expect("lost" not in rows(browser)[0], f"a whole event says {rows(browser)[0]!r}")
     before = browser.run(RED)
-    count = lab.camera("pendulum")["frames"]
+    number = lab.stored("pendulum")[-1].number
     lab.order("!lose pendulum 3")
-    lab.until(lambda: lab.camera("pendulum")["frames"] > count + 40, "frames")
-    lab.post("/api/keep", {"seconds": 3, "camera": "pendulum"})
+    lab.until(lambda: lab.stored("pendulum")[-1].number > number + 40, "frames")
+    lab.post("/api/keep", {"seconds": 10, "camera": "pendulum"})
     browser.until(lambda: "3 lost" in browser.run(TILE, "pendulum"), "lost frames on the tile")
     expect("lost" not in browser.run(TILE, "pump"), "another tile says that frames are lost")
     browser.until(lambda: any("3 frames lost." in it for it in rows(browser)), "at the event")

@@ -9,6 +9,7 @@ import threading
 import time
 
 from page_strangers import expect
+from page_true import promises_part
 
 # A camera that never ends, one that stops when the check says so, and a small one with a tag that
 # keeps on for two seconds.
@@ -152,12 +153,20 @@ def look_at_warnings(lab):
     lab.post("/api/keep", {"camera": "small", "seconds": 60})
     lab.until(lambda: lab.camera("small")["kind"] == "locked", "word that all is locked")
     lab.until(lambda: ("locked", "small") in lab.alerts(), "warning that all is locked")
-    for clip in lab.ask("/api/clips").json()["clips"]:
-        if clip["camera"] == "small":
-            lab.post("/api/release", {"camera": "small", "id": clip["id"], "first": clip["first"]})
-    lab.until(lambda: lab.camera("small")["level"] == "good", "recording again")
+    # A busy machine may film fewer frames than it should.
+    lab.until(lambda: is_free(lab, "small"), "end of that")
+    lab.filmed(lab.camera("small")["newest"][0] + 20, "small")
     lab.until(lambda: ("locked", "small") not in lab.alerts(), "end of that warning")
     return took
+
+
+def is_free(lab, name):
+    """Whether not all of a camera's room is locked. Its clips are released, also one that a keep
+    made meanwhile."""
+    for clip in lab.ask("/api/clips").json()["clips"]:
+        if clip["camera"] == name:
+            lab.post("/api/release", {"camera": name, "id": clip["id"], "first": clip["first"]})
+    return lab.camera(name)["kind"] != "locked"
 
 
 def look_at_end(lab):
@@ -213,5 +222,5 @@ def station_part(is_quick, shots):
         look_at_text(lab)
     return (
         f"station: events, holes, releases and warnings of {program}; a dead camera after"
-        f" {took:.1f} s"
+        f" {took:.1f} s; {promises_part(program)}"
     )

@@ -13,8 +13,8 @@ KIND = Kind(
         Wrong(
             "a station that SIGHUP ends",
             given={
-                "STATION_UNIT": changed_copy(
-                    "packaging/loop_station.service", 'trap "" HUP; exec ', "exec "
+                "STATION_SERVICE": changed_copy(
+                    "packaging/loop_station_service", "trap ask HUP", "trap - HUP"
                 )
             },
             says="SIGHUP ends the station",
@@ -22,8 +22,8 @@ KIND = Kind(
         Wrong(
             "a reload that does nothing",
             given={
-                "STATION_UNIT": changed_copy(
-                    "packaging/loop_station.service", "echo reload >", "echo list >"
+                "STATION_SERVICE": changed_copy(
+                    "packaging/loop_station_service", "echo reload |", "echo list |"
                 )
             },
             says="no frame was stored in 60 s",

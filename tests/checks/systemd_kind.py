@@ -28,5 +28,23 @@ KIND = Kind(
             },
             says="after a turn the answers are",
         ),
+        Wrong(
+            "a station that SIGHUP ends where all of its service get it",
+            given={
+                "SERVICE": changed_copy(
+                    "packaging/loop_station_service", "trap '' HUP\nbegin", "begin"
+                )
+            },
+            says="systemctl kill -s HUP loop_station ends the station",
+        ),
+        Wrong(
+            "a service that doesn't end as its station does",
+            given={
+                "SERVICE": changed_copy(
+                    "packaging/loop_station_service", "\nstatus=127\n", "\nexit 0\n"
+                )
+            },
+            says="station that was killed runs again",
+        ),
     ],
 )

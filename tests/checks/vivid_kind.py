@@ -9,9 +9,9 @@ KIND = Kind(
     "films the kernel's camera without hardware in a guest, and compares frames (qemu; network)",
     [
         Wrong(
-            "loop_camera with one wrong thing, 10 times",
+            "loop_camera with one wrong thing, 11 times",
             words=["--wrong"],
-            says="10 of 10 wrong forms are found",
+            says="11 of 11 wrong forms are found",
             status=0,
         )
     ],

@@ -65,8 +65,11 @@ def test_it_is_told_which_warnings_somebody_has_seen(lab):
 
 
 def test_a_warning_that_is_over_was_not_seen(lab):
+    # Polls say the same until it is over: else the next one might end it before it is looked at.
+    lab.order_done("!behind left 2.6")
     lab.say("behind", camera="left", micros=2_600_000)
     (alert,) = lab.until(lambda: lab.status()["alerts"], "warning")
+    lab.order_done("!behind left 0")
     lab.until(lambda: not lab.status()["alerts"], "end of the warning")
     assert alert["id"] not in lab.status()["seen"]
 

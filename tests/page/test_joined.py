@@ -15,6 +15,7 @@ from conftest import until
 from neighbour import EVENT, Neighbour, message
 from station_page import limits, together
 from station_page.events import NEAR_END, NEAR_START
+from station_page.settings import OtherStation
 from station_page.stations import Stations
 from station_page.together import Joined, Presses
 from test_push import Open
@@ -169,10 +170,31 @@ def test_what_was_joined_is_kept_until_a_station_says_something_else(monkeypatch
     # The same text, as it is read again.
     again = json.loads(json.dumps(own))
     assert joined.join({"": (None, own), "n": (other, again)}) == first and len(made) == 50
-    again[7]["note"] = "new"
+    again = [it | {"note": "new"} if place == 7 else it for place, it in enumerate(again)]
     events, body = joined.join({"": (None, own), "n": (other, again)})
     assert len(made) == 51 and [it["note"] for it in events].count("new") == 1
     assert json.loads(body) == events
+
+
+def test_what_a_station_says_is_prepared_as_it_comes(monkeypatch):
+    """What it alone needs is done then, and not once all are joined."""
+    made, plain = [], together.known
+    monkeypatch.setattr(
+        together, "known", lambda other, event: made.append(event) or plain(other, event)
+    )
+    console = types.SimpleNamespace(push=types.SimpleNamespace(), listed=[])
+    names = [OtherStation(name, "http://127.0.0.1:1", None) for name in ("n", "s")]
+    gate = types.SimpleNamespace(settings=types.SimpleNamespace(stations=names, notes=""))
+    page = types.SimpleNamespace(laboratory=None, console=console, gate=gate)
+    stations = Stations(page)
+    own = [EVENT | {"key": f"left.0.{n}", "from_us": n * SECOND, "to_us": n * SECOND + 1}
+           for n in range(20)]
+    for other in stations.others:
+        other.take("events", json.dumps(own).encode())
+    assert len(made) == 40
+    found, _ = stations.join.join(stations.said())
+    assert len(made) == 40 and len(found) == 20
+    assert all({it["camera"] for it in event["clips"]} == {"n:left", "s:left"} for event in found)
 
 
 def test_pages_are_sent_what_was_joined_before_while_events_are_joined():

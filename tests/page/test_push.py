@@ -5,6 +5,7 @@ import http.client
 import io
 import json
 import struct
+import subprocess
 import threading
 import time
 import types
@@ -12,10 +13,10 @@ import types
 import layout
 import numpy
 import pytest
-from conftest import LIMIT, until
+from conftest import LIMIT, PROGRAM, until
 from PIL import Image
 from station_page import limits, pictures
-from station_page.eye import Eye, Look, Moments
+from station_page.eye import Eye, Look, Moments, Turns
 from station_page.push import LEVELS, Pace, Stream, View, view_of
 from station_page.reader import Reading, newest_in
 from station_page.words import Unfit
@@ -216,7 +217,8 @@ def test_a_speed_that_is_no_number_is_refused():
 
 
 def test_a_pixel_has_the_values_of_the_store(shared):
-    number = shared.stored("right")[-1].number - 2
+    # One that the page has seen: it may be behind the store.
+    number = shared.camera("right")["newest"][0]
     frame = shared.recording_of("right", number, number).frames[number]
     for x, y in ((0, 0), (32, 20), (5, 7)):
         found = shared.ask(f"/api/cameras/right/frames/{number}/value?x={x}&y={y}")
@@ -238,7 +240,8 @@ def test_a_colour_pixel_has_its_three_values():
 
 
 def test_the_light_of_a_frame_counts_each_value(shared):
-    number = shared.stored("right")[-1].number - 2
+    # One that the page has seen: it may be behind the store.
+    number = shared.camera("right")["newest"][0]
     frame = shared.recording_of("right", number, number).frames[number]
     found = shared.ask(f"/api/cameras/right/frames/{number}/light").json()
     wanted = numpy.bincount(numpy.frombuffer(frame, numpy.uint8), minlength=256)
@@ -353,6 +356,87 @@ def test_a_camera_whose_disk_hangs_stops_the_pictures_of_no_other_one(monkeypatc
 
     found, count = asyncio.run(look())
     assert found == [b"right"] * 5 and count["left"] == 1 and count["right"] >= 5
+
+
+def test_few_frames_are_in_memory_at_a_time_and_one_that_hangs_takes_no_turn(monkeypatch):
+    """Of twelve cameras, which are all asked at once."""
+    monkeypatch.setattr(limits, "ROUND_SECONDS", 0.3)
+    monkeypatch.setattr(limits, "EYE_FRAMES", 2)
+    let_go, lock, counts = threading.Event(), threading.Lock(), [0, 0]
+    source = types.SimpleNamespace(opened=types.SimpleNamespace(identity=1))
+
+    def eye_of(name, turns):
+        watched = types.SimpleNamespace(camera=types.SimpleNamespace(name=name), reading=None)
+        watched.source = types.SimpleNamespace(of=lambda store: source)
+        eye = Eye(watched, turns)
+
+        def data(number, store):
+            """A frame, which is in memory from now on."""
+            if name in ("0", "1"):
+                assert let_go.wait(LIMIT)
+            with lock:
+                counts[:] = counts[0] + 1, max(counts[0] + 1, counts[1])
+            return b"", None
+
+        def draw(geometry, data, frame, look):
+            time.sleep(0.02)
+            with lock:
+                counts[0] -= 1
+            return types.SimpleNamespace(body=b"x", frame=frame, stretch=None)
+
+        eye.data, eye.draw = data, draw
+        return eye
+
+    async def look():
+        turns = Turns()
+        tasks = [
+            asyncio.ensure_future(
+                eye_of(str(place), turns).picture(layout.Frame(1, 0, 0, 50, 1), Look(64, None))
+            )
+            for place in range(12)
+        ]
+        done, _ = await asyncio.wait(tasks[2:], timeout=LIMIT)
+        assert len(done) == 10 and not tasks[0].done() and not tasks[1].done()
+        assert counts == [0, 2]
+        let_go.set()
+        await asyncio.gather(*tasks)
+
+    asyncio.run(look())
+
+
+@pytest.mark.parametrize("is_little, least, most", [(True, 0, 8), (False, 16, 10**6)])
+def test_frames_that_were_shown_take_no_memory(is_little, least, most):
+    """Sixteen threads have 2 MiB each, again and again; afterwards none has. Without what the
+    page's program does first most of it stays, as MiB."""
+    text = f"""
+import re, sys, threading
+sys.path.insert(1, {str(PROGRAM.resolve().parent)!r})
+from station_page import memory
+
+if {is_little}:
+    memory.keep_little()
+barrier = threading.Barrier(16)
+
+def size():
+    return int(re.search(r"VmRSS:\\s+(\\d+)", open("/proc/self/status").read())[1]) / 1024
+
+def work():
+    for _ in range(5):
+        barrier.wait()
+        found = b"x" * (2 << 20)
+        barrier.wait()
+        del found
+
+before, threads = size(), [threading.Thread(target=work) for _ in range(16)]
+for thread in threads:
+    thread.start()
+for thread in threads:
+    thread.join()
+print(size() - before)
+"""
+    words = ["/usr/bin/python3", "-B", "-c", text]
+    done = subprocess.run(words, capture_output=True, text=True, check=True)
+    assert least <= float(done.stdout) + 0.5 and float(done.stdout) < most
 
 
 def test_pages_that_look_at_the_same_time_cost_one_picture():

@@ -50,6 +50,9 @@ UNITS = {
     "spans": ["lost", "right"],
     "pictures": ["tuning", "pictures"],
     "watched": ["alerts"],
+    "others": ["joined"],
+    "eye": ["push"],
+    "memory": ["push"],
 }
 # What starts a page, or more.
 FIXTURES = {"make", "shared", "kept", "closed", "absent", "page", "lab"}
@@ -455,6 +458,14 @@ BODIES = [
         "True",
         "",
     ),
+    ("a_station_is_prepared_with_the_list", "others", "        self.prepare(events)\n", "", ""),
+    ("clips_of_one_alone_are_told", "together", "for it in events])\n    return group",
+     "for it in events[:1]])\n    return group", ""),
+    ("all_frames_are_in_memory_at_a_time", "eye", "        await self.free.acquire()\n",
+     "        await asyncio.sleep(0)\n", ""),
+    ("a_disk_that_hangs_has_its_turn", "eye", "                turn.give_up()\n",
+     "                pass\n", ""),
+    ("frames_that_were_shown_stay", "memory", "library.mallopt(word, value)", "pass", ""),
     ("an_away_camera_has_its_rate", "together", ', "rate": None}', "}", ""),
     (
         "events_are_joined_in_the_loop",

@@ -56,6 +56,8 @@ BODIES = [
      'if (!byId("letters").checked && key.length === 1 && key !== " ") return;', "", "letters"),
     ("a_switch_of_letters_is_forgotten", "page.js",
      'localStorage.setItem("letters", byId("letters").checked ? "on" : "off")', "{}", "letters"),
+    ("a_page_that_was_left_has_its_connection", "link.js",
+     'addEventListener("pagehide", () => this.leaves.abort());', "", "left"),
     ("any_word_of_a_search_is_enough", "search.js", "return this.words.every(",
      "return !this.words.length || this.words.some(", "search"),
     ("a_search_goes_by_notes_alone", "search.js", "causeWords(event), event.tag",

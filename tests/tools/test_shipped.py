@@ -88,6 +88,13 @@ def test_files_that_logrotate_and_units_name_are_made_by_it(root):
     assert "d /var/log/loop_station " in made and "-/var/log/loop_station" in unit
 
 
+def test_programs_that_units_name_are_there_and_may_be_run(root):
+    named = {path for unit in root.glob("usr/lib/systemd/system/*.service")
+             for path in re.findall(r"/usr/(?:bin/loop|share/lapyrei/)\w+", unit.read_text())}
+    assert {"/usr/bin/loop_station", "/usr/share/lapyrei/loop_station_service"} <= named
+    assert not [it for it in named if not os.access(f"{root}{it}", os.X_OK)]
+
+
 def test_the_repository_is_signed_and_says_the_packages_checksum(made, key, tmp_path):
     place = made / "repository"
     words = ["--no-default-keyring", "--keyring", place / "lapyrei.gpg", "--verify"]

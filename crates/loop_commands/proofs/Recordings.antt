@@ -20,7 +20,7 @@ use Rattle.loop_pipeline.specs.Several.{IsFilmed, IsOutcome, shot_of}
 use Rattle.loop_commands.specs.declared.cameras.Post.{Post}
 use Rattle.loop_commands.specs.declared.cameras.Take.{Take}
 use Rattle.loop_commands.specs.declared.source.RecordSource.{RecordSource}
-use Rattle.loop_commands.specs.Recorded.{AreOpened, AreRecorded, AsksNothing, GivesRecorded, HasRecorded, IsCameraOf, IsPeriod, IsReady, MayEnd, held_by, take_of, taken_of, told_of}
+use Rattle.loop_commands.specs.Recorded.{AreOpened, AreRecorded, AsksNothing, GivesRecorded, HasRecorded, IsCameraOf, IsPeriod, IsRecordingShot, MayEnd, source_and_store, take_of, taken_of, told_of}
 
 -- ---- places
 
@@ -139,8 +139,8 @@ module _ {D P : Type 0} (medium : D → Medium) (meaning : P → Plane) (frames 
 
   recorded-by : (source : RecordSource) (store : Seen D) (take : Take) (shot : Shot RecordSource D P Post)
       (filmed : Result (CameraEnd RecordSource D P Post Global) (Unfilmed RecordSource D P Post))
-      → IsShotFilmed shot filmed → told_of filmed ≡ Some take → IsReady meaning frames shot
-      → held_by shot ≡ (source, store) → HasRecorded {P = P} medium meaning frames source store take
+      → IsShotFilmed shot filmed → told_of filmed ≡ Some take → IsRecordingShot meaning frames shot
+      → source_and_store shot ≡ (source, store) → HasRecorded {P = P} medium meaning frames source store take
   recorded-by source store take shot (Err unfilmed) is told ready held = absurd (let e : None ≡ Some take = told in cc)
   recorded-by source store take shot (Ok e) is told ready held =
       let same : take_of e ≡ take = same-some (take_of e) take told in
@@ -171,8 +171,8 @@ module _ {D P : Type 0} (medium : D → Medium) (meaning : P → Plane) (frames 
       })
 
   pub are-recorded : (sources : List RecordSource) (stores : List (Seen D)) (shots : List (Shot RecordSource D P Post))
-      (outcomes : List (Outcome RecordSource D P Post)) (takes : List Take) → map held_by shots ≡ zip sources stores
-      → All (IsReady meaning frames) shots → map shot_of outcomes ≡ shots
+      (outcomes : List (Outcome RecordSource D P Post)) (takes : List Take) → map source_and_store shots ≡ zip sources stores
+      → All (IsRecordingShot meaning frames) shots → map shot_of outcomes ≡ shots
       → All (IsOutcome medium GivesRecorded meaning AsksNothing (λ fault. ⊤) (false ≡ false)
       (λ (post : Post) n now. IsPeriod post.geometry n now) (λ post n. MayEnd post.frames n)) outcomes
       → map (λ take. Some take) takes ≡ map taken_of outcomes
@@ -185,7 +185,7 @@ module _ {D P : Type 0} (medium : D → Medium) (meaning : P → Plane) (frames 
       length-map outcomes taken_of,
       length-map outcomes shot_of,
       ap length same,
-      length-map shots held_by,
+      length-map shots source_and_store,
       ap length held,
       length-zip sources stores,
     );
@@ -196,12 +196,12 @@ module _ {D P : Type 0} (medium : D → Medium) (meaning : P → Plane) (frames 
         let shot = shot_of o in
         let there : slice_get shots k ≡ Some shot =
         sym (ap (λ l. slice_get l k) same) ∙ makes shot_of outcomes k o at.1 in
-        let holds : held_by shot ≡ (source, store) =
-        same-some (held_by shot) (source, store)
-        (sym (makes held_by shots k shot there) ∙ ap (λ l. slice_get l k) held
+        let holds : source_and_store shot ≡ (source, store) =
+        same-some (source_and_store shot) (source, store)
+        (sym (makes source_and_store shots k shot there) ∙ ap (λ l. slice_get l k) held
         ∙ pair-at sources stores k source store is-source is-store) in
         recorded-by source store take shot o.filmed
         (all-at (IsOutcome medium GivesRecorded meaning AsksNothing (λ fault. ⊤) (false ≡ false)
         (λ (post : Post) n now. IsPeriod post.geometry n now) (λ post n. MayEnd post.frames n)) outcomes k o each at.1)
-        at.2 (all-at (IsReady meaning frames) shots k shot ready there) holds;
+        at.2 (all-at (IsRecordingShot meaning frames) shots k shot ready there) holds;
   }

@@ -89,11 +89,12 @@ AreOpened medium keep _ _ = ⊥
 -- ---- how it is recorded (private contracts alone)
 
 -- the source and the store of a camera
-abbrev pub held_by : {D P : Type 0} → Shot RecordSource D P Post → RecordSource × Seen D
-held_by shot = (shot.camera.device.source, shot.camera.desk.store)
+abbrev pub source_and_store : {D P : Type 0} → Shot RecordSource D P Post → RecordSource × Seen D
+source_and_store shot = (shot.camera.device.source, shot.camera.desk.store)
 
 -- a camera of its source and its store, whose guide makes so many ticks at the store's rate
-pub record IsReady {D P : Type 0} (meaning : P → Plane) (frames : ℕ) (shot : Shot RecordSource D P Post) : Type 0 where
+pub record IsRecordingShot {D P : Type 0} (meaning : P → Plane) (frames : ℕ) (shot : Shot RecordSource D P Post)
+    : Type 0 where
   pub camera : IsCameraOf meaning shot.camera.device.source shot.camera.desk.store shot.camera
   pub ticks : shot.guide.frames ≡ frames
   pub geometry : shot.guide.geometry ≡ shot.camera.desk.store.geometry

@@ -3,7 +3,7 @@ ghost use Rattle.std.specs.Prelude.{◌≡◌, ◌<◌, ◌≤◌, [], All, IfOk
 ghost use Rattle.std.specs.List.{zip};
 ghost use Rattle.std.specs.Vec.{vec_capacity};
 ghost use Rattle.loop_script.specs.Pattern.{timestamp_of};
-ghost use Rattle.loop_commands.specs.Recorded.{AreRecorded, IsCameraOf, IsReady, held_by, take_of, taken_of};
+ghost use Rattle.loop_commands.specs.Recorded.{AreRecorded, IsCameraOf, IsRecordingShot, source_and_store, take_of, taken_of};
 
 use crate::source::RecordSource;
 use loop_capture::Device;
@@ -184,8 +184,8 @@ fn shot_before(
     store: Store<FileDisk>,
     frames: u32,
 ) -> Result<RecordShot, Unrecorded>
-    ensures held { IfOk result (λ shot. held_by shot ≡ (source, store)) }
-    ensures ready { IfOk result (IsReady ⟦<MmapPlane as PlaneMemory>⟧.plane frames) }
+    ensures held { IfOk result (λ shot. source_and_store shot ≡ (source, store)) }
+    ensures ready { IfOk result (IsRecordingShot ⟦<MmapPlane as PlaneMemory>⟧.plane frames) }
 {
     let geometry = store.geometry();
     let camera = camera_before(alloc, number, source, store)?;
@@ -200,9 +200,9 @@ fn shots_of(
     stores: Vec<Store<FileDisk>>,
     frames: u32,
 ) -> Result<Vec<RecordShot>, Unrecorded>
-    ensures held { IfOk result (λ shots. map held_by shots.items ≡ zip sources.items stores.items) }
+    ensures held { IfOk result (λ shots. map source_and_store shots.items ≡ zip sources.items stores.items) }
     ensures ready { IfOk result (λ shots.
-        All (IsReady ⟦<MmapPlane as PlaneMemory>⟧.plane frames) shots.items) }
+        All (IsRecordingShot ⟦<MmapPlane as PlaneMemory>⟧.plane frames) shots.items) }
 {
     let mut shots = Vec::with_capacity(alloc, stores.len())?;
     let mut number = 0u32;

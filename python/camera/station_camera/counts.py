@@ -124,7 +124,7 @@ class Counts:
         self, tell: Callable[[str], None], now: Callable[[], float] = time.monotonic
     ) -> None:
         self.tell, self.now = tell, now
-        self.frames = 0
+        self.frames, self.is_over = 0, False
         self.whole = dict.fromkeys(WORDS, 0)
         self.told = dict(self.whole)
         self.next = now()
@@ -144,7 +144,10 @@ class Counts:
             self._tell()
 
     def end(self) -> None:
-        """Tells what wasn't told yet, and the sums."""
+        """Tells what wasn't told yet, and the sums, once."""
+        if self.is_over:
+            return
+        self.is_over = True
         if self.whole != self.told:
             self._tell()
         self.tell(

@@ -29,6 +29,10 @@ BUFFER_ROOM, BUFFERS_LEAST, BUFFERS_MOST = 256_000_000, 8, 200
 # How long a wait for a frame is, after which silence a camera is asked whether it is there, and
 # after which one that is there is started again.
 POLL, SILENCE, STUCK = 0.2, 2.0, 10.0
+# How long a camera that doesn't answer stays open: Aravis' own thread, which finds that out too,
+# must not be the last one to let it go, since it would wait for itself then, and end the program.
+HELD = 10.0
+held: list[tuple[float, Any]] = []
 # How often the clocks are compared.
 CLOCK_EVERY = 60.0
 OK = Aravis.BufferStatus.SUCCESS
@@ -187,6 +191,10 @@ class Camera:
     def close(self) -> None:
         """Gives the camera back, so that it can be opened anew."""
         self.device.disconnect(self.heard)
+        while held and time.monotonic() > held[0][0] + HELD:
+            held.pop(0)
+        if self.is_lost:
+            held.append((time.monotonic(), self.device))
         self.device = self.camera = self.parser = None
         # What refers to itself would hold the camera.
         gc.collect()
@@ -405,9 +413,10 @@ class Camera:
     def answers(self) -> bool:
         """Whether the camera is there."""
         try:
-            return not self.is_lost and self.camera.get_payload() > 0 and not self.is_lost
+            self.is_lost = self.is_lost or self.camera.get_payload() <= 0
         except GLib.Error:
-            return False
+            self.is_lost = True
+        return not self.is_lost
 
     def film(self, counts: Counts, asked: Callable[[], bool]) -> Iterator[Picture]:
         """The frames, as long as nobody asks for the end, whole ones alone. Gone where the camera
@@ -427,8 +436,12 @@ class Camera:
                 self.camera.start_acquisition()
             yield from self._frames(stream, counts, before, asked)
         finally:
-            with contextlib.suppress(GLib.Error):
-                self.camera.stop_acquisition()
+            # One that has gone takes no order, and asking takes seconds.
+            if not self.is_lost:
+                try:
+                    self.camera.stop_acquisition()
+                except GLib.Error:
+                    self.is_lost = True
 
     def _frames(
         self, stream: Any, counts: Counts, before: dict[str, int], asked: Callable[[], bool]

@@ -1,10 +1,13 @@
 """The program loop_camera: its words, and a camera from its file to the text."""
 from __future__ import annotations
 
+import os
 import signal
 import sys
+import threading
+import time
 from pathlib import Path
-from typing import Any, NamedTuple
+from typing import Any, Callable, NamedTuple
 
 from . import needed, network, v4l2, words
 from .faults import Failed, Refused
@@ -49,12 +52,23 @@ def options(given: list[str]) -> Options | None:
 
 
 class Asked:
-    """Whether somebody asks for the end, by a signal."""
+    """Whether somebody asks for the end, by a signal. A camera that doesn't answer any more is
+    waited for by calls that nothing ends: so what isn't over then after `SECONDS` is given up."""
+
+    SECONDS = 1.0
 
     def __init__(self) -> None:
         self.is_so = False
+        # Whether a frame is being taken, and what is done last.
+        self.is_busy: Callable[[], bool] = lambda: False
+        self.last: Callable[[], None] = lambda: None
         for number in (signal.SIGTERM, signal.SIGINT, signal.SIGHUP):
             signal.signal(number, self._hear)
+        # A signal is written there at once, whatever the program waits for.
+        heard, self.bell = os.pipe()
+        os.set_blocking(self.bell, False)
+        signal.set_wakeup_fd(self.bell, warn_on_full_buffer=False)
+        threading.Thread(target=self._give_up, args=(heard,), daemon=True).start()
 
     def _hear(self, _number: int, _frame: Any) -> None:
         # A second one ends the program, whatever it waits for.
@@ -62,8 +76,28 @@ class Asked:
             signal.signal(number, signal.SIG_DFL)
         self.is_so = True
 
+    def _give_up(self, heard: int) -> None:
+        """Waits for a signal, and ends the program where it doesn't end by itself. A reader that is
+        slow has time for the frame that it takes."""
+        rung = os.read(heard, 1)
+        os.close(heard)
+        if not rung:
+            return
+        end = time.monotonic() + self.SECONDS
+        while time.monotonic() < end:
+            if self.is_busy():
+                end = time.monotonic() + self.SECONDS
+            time.sleep(0.05)
+        self.last()
+        os._exit(0)
+
     def __call__(self) -> bool:
         return self.is_so
+
+    def close(self) -> None:
+        """Nobody is listened to any more."""
+        signal.set_wakeup_fd(-1)
+        os.close(self.bell)
 
 
 def list_all(fake: bool) -> int:
@@ -137,16 +171,21 @@ def film(given: Options, tell, calls: Any = None) -> int:
     asked = Asked()
     try:
         out = Text(None, given.to) if given.to else Text(1)
+        asked.is_busy = lambda: out.is_busy
         if wanted.source:
             network.film(wanted, out, tell, asked)
             return 0
         kind = OfGenicam(wanted, tell) if wanted.genicam else OfLinux(wanted, tell, calls)
         changes = Changes(content, given.set, given.state, tell)
         more = Given(given.log, given.chunks, changes if given.set or given.state else None)
-        Film(kind, out, tell, asked, given.frames, more).run()
+        it = Film(kind, out, tell, asked, given.frames, more)
+        asked.last = it.counts.end
+        it.run()
     except Ended:
         return 0
     except (NobodyReads, BadFrames, Refused, Failed, OSError) as fault:
         tell(str(fault))
         return 1
+    finally:
+        asked.close()
     return 0

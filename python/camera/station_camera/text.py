@@ -85,7 +85,7 @@ class Text:
     written whole, or the reader has gone."""
 
     def __init__(self, descriptor: int | None, path: str | None = None) -> None:
-        self.descriptor, self.path = descriptor, path
+        self.descriptor, self.path, self.is_busy = descriptor, path, False
         if descriptor is not None:
             self._widen(descriptor)
 
@@ -131,12 +131,15 @@ class Text:
         """Writes all bytes of these pieces."""
         rest = [memoryview(it).cast("B") for it in pieces]
         while rest:
+            self.is_busy = True
             try:
                 done = os.writev(self.descriptor, rest)
             except OSError as fault:
                 if fault.errno == errno.EPIPE:
                     raise NobodyReads("nobody reads the frames any more") from None
                 raise
+            finally:
+                self.is_busy = False
             while rest and done >= len(rest[0]):
                 done -= len(rest.pop(0))
             if rest:

@@ -5,6 +5,7 @@ import asyncio
 import collections
 import contextlib
 import time
+from collections.abc import AsyncIterator
 from dataclasses import dataclass
 from typing import Any
 
@@ -57,11 +58,43 @@ class Moments:
         return (min if by > 0 else max)(found, default=None)
 
 
+class Turns:
+    """Who may read a frame to draw it: so many at a time."""
+
+    def __init__(self) -> None:
+        self.free = asyncio.Semaphore(limits.EYE_FRAMES)
+
+    @contextlib.asynccontextmanager
+    async def turn(self) -> AsyncIterator["Turn"]:
+        """Waits for a turn, and has it until it is over or given up."""
+        await self.free.acquire()
+        turn = Turn(self)
+        try:
+            yield turn
+        finally:
+            turn.give_up()
+
+
+class Turn:
+    """A turn that somebody has."""
+
+    def __init__(self, turns: Turns) -> None:
+        self.turns, self.is_over = turns, False
+
+    def give_up(self) -> None:
+        """Gives the turn to the next one."""
+        if not self.is_over:
+            self.is_over = True
+            self.turns.free.release()
+
+
 class Eye:
     """A camera's pictures, made once for all pages that look at the same time."""
 
-    def __init__(self, watched: Watched) -> None:
-        self.watched = watched
+    def __init__(self, watched: Watched, turns: Turns | None = None) -> None:
+        """`turns` are those of all cameras."""
+        self.watched, self.turns = watched, turns or Turns()
+        self.most = limits.EYE_BYTES
         self.reads = Workers(f"eye {watched.camera.name}", 1, limits.EYE_READS)
         self.made: collections.OrderedDict[tuple, Picture] = collections.OrderedDict()
         self.making: dict[tuple, asyncio.Task] = {}
@@ -126,14 +159,24 @@ class Eye:
     async def make(self, key: tuple, frame: Frame, look: Look) -> Picture:
         """Makes a picture, and remembers it among so many bytes of them."""
         try:
-            data, geometry = await self.work(self.data, frame.number, store_in(frame))
-            picture = self.made[key] = await DRAWING.do(self.draw, geometry, data, frame, look)
+            picture = self.made[key] = await self.drawn(frame, look)
             self.bytes += len(picture.body)
-            while self.bytes > limits.EYE_BYTES and len(self.made) > 1:
+            while self.bytes > self.most and len(self.made) > 1:
                 self.bytes -= len(self.made.popitem(last=False)[1].body)
             return picture
         finally:
             del self.making[key]
+
+    async def drawn(self, frame: Frame, look: Look) -> Picture:
+        """Reads and draws a frame, of which few of all cameras are in memory at a time."""
+        async with self.turns.turn() as turn:
+            read = asyncio.create_task(self.work(self.data, frame.number, store_in(frame)))
+            await asyncio.wait([read], timeout=limits.ROUND_SECONDS)
+            if not read.done():
+                # Its disk hangs: it holds up no other camera.
+                turn.give_up()
+            data, geometry = await read
+            return await DRAWING.do(self.draw, geometry, data, frame, look)
 
     def head(self, number: int, store: int | None = None) -> Frame:
         """A frame by its number, also one that came after the last look; Gone where it isn't

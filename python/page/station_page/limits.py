@@ -152,8 +152,11 @@ AUTO_CALM = 3
 AUTO_NEAR = 64
 # A time without frames that is a hole: microseconds beyond the period.
 HOLE = 200_000
-# The bytes of pictures that are remembered of each camera.
+# The bytes of pictures that are remembered of each camera, and of all together; and the frames that
+# are in memory at a time, to be drawn.
 EYE_BYTES = 2 * 1024 * 1024
+EYES_BYTES = 12 * 1024 * 1024
+EYE_FRAMES = 4
 # After how many seconds another station that says nothing doesn't answer, and how often it is tried
 # again; the bytes of a message of it and of its head, and the seconds in which it has to come
 # whole; for how long it is unusable after an answer that can't be used; how many steps of frames

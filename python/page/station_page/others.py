@@ -4,7 +4,7 @@ that says something else is `unusable`, with the reason, until it says what can 
 import asyncio
 import contextlib
 import time
-from collections.abc import AsyncIterator
+from collections.abc import AsyncIterator, Callable
 
 import aiohttp
 from lapyrei import answers
@@ -36,6 +36,8 @@ class Other:
         # or a while has passed.
         self.unusable: dict[str, tuple[str, float]] = {}
         self.clock = Clock()
+        # What is done with its events as they come, beside the loop that answers requests.
+        self.prepare: Callable[[list[dict]], object] = lambda events: None
         self.session: aiohttp.ClientSession | None = None
 
     # ---------------------------------------------------------------------------------- its answers
@@ -158,9 +160,9 @@ class Other:
                 if head["kind"] == "hello":
                     view = {"stream": head["id"], "turn": 1, "cameras": []}
                     await self.ask("/api/view", view)
-                elif shape := answers.PUSHED.get(head["kind"]):
+                elif head["kind"] in answers.PUSHED:
                     try:
-                        self.hear(head["kind"], await parsed(body, shape))
+                        self.hear(head["kind"], await aside(body, self.read, head["kind"], body))
                     except Unusable as fault:
                         raise self.unfit(f"its {head['kind']}", fault) from None
                 # Half of the time is this page's own, however much a station says.
@@ -192,19 +194,29 @@ class Other:
     def take(self, kind: str, body: bytes) -> None:
         """What it says."""
         try:
-            self.hear(kind, answers.answer_in(body, answers.PUSHED[kind]))
+            self.hear(kind, self.read(kind, body))
         except Unusable as fault:
             raise self.unfit(f"its {kind}", fault) from None
 
-    def hear(self, kind: str, told) -> None:
+    def read(self, kind: str, body: bytes):
         """What it says, which has its shape: of what it shows itself, its own."""
+        told = answers.answer_in(body, answers.PUSHED[kind])
         if kind == "state":
-            self.state, self.fault = own_state(told), ""
-            self.heard = time.monotonic()
+            return own_state(told)
+        if kind == "more":
+            return {name: it for name, it in told["cameras"].items() if MARK not in name}
+        events = own_events(told)
+        self.prepare(events)
+        return events
+
+    def hear(self, kind: str, told) -> None:
+        """What it says, as it was read."""
+        if kind == "state":
+            self.state, self.fault, self.heard = told, "", time.monotonic()
         elif kind == "more":
-            self.more = {name: it for name, it in told["cameras"].items() if MARK not in name}
+            self.more = told
         else:
-            self.events = own_events(told)
+            self.events = told
         self.usable(f"its {kind}")
         self.version += 1
 

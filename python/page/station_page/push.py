@@ -19,7 +19,7 @@ from dataclasses import dataclass, field
 from aiohttp import web
 
 from . import limits
-from .eye import Eye, Look, Picture
+from .eye import Eye, Look, Picture, Turns
 from .line import Line
 from .reader import Gone, store_in
 from .words import Unfit
@@ -304,7 +304,9 @@ class Push:
         and `hello` what a page is told first."""
         self.laboratory, self.state, self.is_known = laboratory, state, is_known
         self.hello = hello
-        self.eyes = {name: Eye(watched) for name, watched in laboratory.cameras.items()}
+        self.turns = Turns()
+        self.eyes: dict[str, Eye] = {}
+        self.follow()
         self.streams: dict[str, Stream] = {}
         # What else a page is sent, by its stream, until it goes away.
         self.beside = None
@@ -316,7 +318,9 @@ class Push:
             del self.eyes[name]
         for name, watched in cameras.items():
             if name not in self.eyes:
-                self.eyes[name] = Eye(watched)
+                self.eyes[name] = Eye(watched, self.turns)
+        for eye in self.eyes.values():
+            eye.most = min(limits.EYE_BYTES, limits.EYES_BYTES // len(self.eyes))
 
     def stream(self, id_: object) -> Stream:
         """The stream of a page."""

@@ -3,6 +3,7 @@ asks for goes to the page of the station that it is about, and what they say is 
 that doesn't answer is said, and holds up no other one."""
 import asyncio
 import contextlib
+import functools
 import json
 import re
 import time
@@ -179,6 +180,8 @@ class Stations:
         # The events of all, as they were joined last and as JSON, and of what; one join at a time,
         # in a thread, so that it holds up nobody.
         self.join, self.joins = Joined(self.presses), asyncio.Lock()
+        for other in self.others:
+            other.prepare = functools.partial(self.join.prepare, other.name, other)
         self.last: tuple[list, list[dict], bytes | None] = ([], [], None)
         self.joining: asyncio.Task | None = None
         self.redrawn = Redrawn()

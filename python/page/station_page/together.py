@@ -157,10 +157,20 @@ def period(event: dict) -> float:
     return max([(it["to_us"] - it["from_us"]) / (it["frames"] - 1 or 1) for it in event["clips"]])
 
 
+# What an event of several stations is made of, beside what it has of the first of them.
+COLUMNS = itemgetter(
+    "key", "from_us", "to_us", "seconds", "bytes", "fetched", "note", "number", "until_us", "clips",
+    "cameras", "lacks", "archived", "lost", "cause", "changes",
+)
+# What pages of before don't say.
+UNSAID = {"archived": False, "lost": 0, "cause": None, "changes": []}
+
+
 class Known(NamedTuple):
     """An event of a station, with its cameras' names here, and what it is joined by: when it begins
     and ends, and two periods of its slowest camera, all in microseconds; its tag; and its number.
-    `said` is the event as its station said it."""
+    `said` is the event as its station said it, `columns` what one of several stations is made of,
+    and `clips` its clips as JSON, without brackets."""
 
     since: int
     until: int
@@ -169,13 +179,16 @@ class Known(NamedTuple):
     number: int | None
     event: dict
     said: dict
+    columns: tuple
+    clips: str
 
 
 def known(other: Other | None, event: dict) -> Known:
     """An event of another station, or of this one."""
     shown = event_of(other, event) if other else event
     since, until, slack = event["from_us"], event["to_us"], 2 * period(event)
-    return Known(since, until, slack, event["tag"], event["number"], shown, event)
+    columns, clips = COLUMNS({**UNSAID, **shown}), AS_JSON(shown["clips"])[1:-1]
+    return Known(since, until, slack, event["tag"], event["number"], shown, event, columns, clips)
 
 
 def are_near(one: Known, other: Known) -> bool:
@@ -245,38 +258,37 @@ def crowds(events: dict[str, list[Known]], presses: Presses) -> tuple[list[Crowd
     """The events of all stations in crowds: those of each press; and of those of which this page
     knows no press, those of a tag that begin near one another. No two of two crowds are one."""
     by_press: collections.defaultdict[tuple, Crowd] = collections.defaultdict(list)
-    by_tag: collections.defaultdict[int, list] = collections.defaultdict(list)
-    for place, (station, own) in enumerate(events.items()):
+    by_tag: collections.defaultdict[int, Crowd] = collections.defaultdict(list)
+    for station, own in events.items():
         for event in own:
             press = None if event.number is None else presses.of(station, event.number)
             if press:
                 by_press[press].append((station, event))
             else:
-                found = by_tag[event.tag]
-                found.append((event.since, place, len(found), station, event))
+                by_tag[event.tag].append((station, event))
     return list(by_press.values()), [it for own in by_tag.values() for it in near_by(own)]
 
 
-def near_by(found: list[tuple[int, int, int, str, Known]]) -> list[Crowd]:
-    """Events of a tag, divided where a beginning is too far from the one before it for any two to
-    be one. Each part is in the stations' order."""
-    found.sort()
-    far = NEAR_START + max([it[4].slack for it in found])
+def near_by(found: Crowd) -> list[Crowd]:
+    """Events of a tag, which are in the stations' order, divided where a beginning is too far from
+    the one before it for any two to be one. Each part is in the stations' order."""
+    begins = [event.since for _, event in found]
+    places = sorted(range(len(found)), key=begins.__getitem__)
+    begins.sort()
+    far = NEAR_START + max([event.slack for _, event in found])
     breaks = [
-        place
-        for place, (old, new) in enumerate(zip(found, found[1:]), 1)
-        if new[0] - old[0] > far
+        place for place, (old, new) in enumerate(zip(begins, begins[1:]), 1) if new - old > far
     ]
-    parts = [found[start:end] for start, end in zip([0, *breaks], [*breaks, len(found)])]
-    return [[it[3:] for it in sorted(part, key=itemgetter(1, 2))] for part in parts]
+    parts = [places[start:end] for start, end in zip([0, *breaks], [*breaks, len(found)])]
+    return [[found[place] for place in sorted(part)] for part in parts]
 
 
 def are_one(crowd: Crowd) -> bool:
     """Whether any two of a crowd are of one span, and of two stations."""
     if len({station for station, _ in crowd}) < len(crowd):
         return False
-    since, until, slack, *_ = zip(*[event for _, event in crowd])
-    least = min(slack)
+    least = min([event.slack for _, event in crowd])
+    since, until = [event.since for _, event in crowd], [event.until for _, event in crowd]
     starts = max(since) - min(since) <= NEAR_START + least
     return starts and max(until) - min(until) <= NEAR_END + least
 
@@ -311,11 +323,12 @@ def of_span(crowd: Crowd) -> list[Group]:
 class Joined:
     """The events of all stations as one list. How a crowd is divided, and what was made of an
     event, or of some that are one, is kept until a station says something else of it, so that a new
-    event costs little."""
+    event costs little. What a station alone needs is done as its answer comes (`prepare`)."""
 
     def __init__(self, presses: Presses) -> None:
         self.presses = presses
-        self.stations: dict[str, dict[str, Known]] = {}
+        # Of each station what it said, what that is here, and the same by its keys.
+        self.stations: dict[str, tuple[list[dict], list[Known], dict[str, Known]]] = {}
         self.divided: dict[tuple[int, ...], list[Group]] = {}
         self.made: dict[tuple[int, ...], tuple[Group, dict, bytes]] = {}
 
@@ -323,10 +336,7 @@ class Joined:
         """The events of all stations, the newest first, and the same as JSON. `said` has of each
         station itself, or nothing where it is this one, and its events."""
         stations = {
-            name: self.known_of(name, other, events) for name, (other, events) in said.items()
-        }
-        self.stations = {
-            name: {it.said["key"]: it for it in events} for name, events in stations.items()
+            name: self.prepare(name, other, events) for name, (other, events) in said.items()
         }
         made = {}
         for group in self.groups(stations):
@@ -352,37 +362,40 @@ class Joined:
         found = [group for groups in divided.values() for group in groups]
         return found + [group for crowd in pressed for group in of_press(crowd)]
 
-    def known_of(self, name: str, other: Other | None, events: list[dict]) -> list[Known]:
+    def prepare(self, name: str, other: Other | None, events: list[dict]) -> list[Known]:
         """The events of a station: those that it has said before are what they were."""
-        before, found = self.stations.get(name, {}), []
+        said, found, before = self.stations.get(name, (None, [], {}))
+        if said is events:
+            return found
+        found = []
         for event in events:
             old = before.get(event["key"])
             is_same = old is not None and (old.said is event or old.said == event)
             found.append(old if is_same else known(other, event))
+        self.stations[name] = events, found, {it.said["key"]: it for it in found}
         return found
 
 
 def one_made(group: Group) -> tuple[Group, dict, bytes]:
     """A group, what it is as one event, and that as JSON."""
-    found = one_of([it.event for it in group.values()])
-    return group, found, AS_JSON(found).encode()
+    events = list(group.values())
+    found = one_of(events)
+    head = AS_JSON({key: it for key, it in found.items() if key != "clips"})
+    clips = ",".join([it.clips for it in events])
+    return group, found, f'{head[:-1]},"clips":[{clips}]}}'.encode()
 
 
-COLUMNS = itemgetter(
-    "key", "from_us", "to_us", "seconds", "bytes", "fetched", "note", "number", "until_us", "clips",
-    "cameras", "lacks",
-)
-
-
-def one_of(events: list[dict]) -> dict:
+def one_of(events: list[Known]) -> dict:
     """Events of several stations as one."""
+    first = events[0].event
     if len(events) == 1:
-        return events[0]
+        return first
     # Each word of all of them at once, since this is done for thousands.
-    keys, since, until, seconds, sizes, fetched, notes, numbers, ends, clips, cameras, lacks = zip(
-        *map(COLUMNS, events)
-    )
-    return events[0] | {
+    (
+        keys, since, until, seconds, sizes, fetched, notes, numbers, ends, clips, cameras, lacks,
+        archived, lost, causes, changes,
+    ) = zip(*[it.columns for it in events])
+    return first | {
         "key": "~".join(keys),
         "number": next((it for it in numbers if it is not None), None),
         "from_us": min(since),
@@ -392,13 +405,13 @@ def one_of(events: list[dict]) -> dict:
         "bytes": sum(sizes),
         "note": "; ".join(dict.fromkeys(filter(None, notes))),
         "fetched": any(fetched),
-        "archived": all([it.get("archived", False) for it in events]),
-        "until_us": max((it for it in ends if it is not None), default=None),
+        "archived": all(archived),
+        "until_us": max([it for it in ends if it is not None], default=None),
         "lacks": [*chain.from_iterable(lacks)],
         "clips": [*chain.from_iterable(clips)],
-        "cause": next((it["cause"] for it in events if it.get("cause")), None),
-        "lost": sum([it.get("lost", 0) for it in events]),
-        "changes": [change for it in events for change in it.get("changes", ())],
+        "cause": next(filter(None, causes), None),
+        "lost": sum(lost),
+        "changes": [*chain.from_iterable(changes)],
     }
 
 

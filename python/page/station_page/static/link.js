@@ -100,6 +100,9 @@ export class Link {
     this.turn = 0;
     this.id = null;
     this.text = new TextDecoder();
+    this.leaves = new AbortController();
+    // A browser keeps pages that were left, to go back to them, and gives all pages of a server six connections together: a page that was left takes none.
+    addEventListener("pagehide", () => this.leaves.abort());
   }
 
   /** Listens, again where the server was lost. */
@@ -117,7 +120,8 @@ export class Link {
 
   /** Listens until the server is lost. */
   async once() {
-    const answer = await fetch("/api/stream");
+    this.leaves = new AbortController();
+    const answer = await fetch("/api/stream", { signal: this.leaves.signal });
     if (answer.status === 401) location.assign("/sign-in");
     // Why this page isn't let in, as where too many are open.
     this.refused = answer.ok ? "" : (await answer.json().catch(() => ({}))).error || "";

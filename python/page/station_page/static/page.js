@@ -615,6 +615,8 @@ byId("keep").onsubmit = (event) => {
   keep(event.timeStamp);
 };
 document.addEventListener("keydown", pressed);
+// Who comes back to this page hasn't lost its server.
+addEventListener("pageshow", () => { heard = performance.now(); });
 askRights();
 link.listen();
 link.clock.measure();

@@ -5,7 +5,7 @@ use Rattle.std.specs.List.{zip}
 use Rattle.std.specs.Iterator.Adapters.{zip_first, zip_second}
 use Rattle.std.specs.Vec.Iter.{into_iter_items, into_iter_len}
 use Rattle.loop_plane.specs.Kinds.{mmap_plane}
-use Rattle.loop_commands.specs.Recorded.{IsReady, held_by}
+use Rattle.loop_commands.specs.Recorded.{IsRecordingShot, source_and_store}
 use Rattle.loop_commands.proofs.Recordings.{none-paired, pair-more}
 use Rattle.loop_commands.proofs.cameras.shots_of.Goals as goal
 
@@ -23,8 +23,8 @@ loop-source-init c =
       first = omega (arith, many, ap length sources, c.args.sources.ok.0);
       second = omega (arith, count, ap length stores, c.args.stores.ok.0);
       room = omega (arith, count, c.in_ok-shots.ensures.len, c.in_ok-shots.ensures.capacity, c.len.ensures);
-      held = λ i. map held_by (none i) ++ zip (sources i) (stores i);
-      ready = subst (λ l. All (IsReady mmap_plane c.args.frames) l) (sym none) (All-nil (IsReady mmap_plane c.args.frames));
+      held = λ i. map source_and_store (none i) ++ zip (sources i) (stores i);
+      ready = subst (λ l. All (IsRecordingShot mmap_plane c.args.frames) l) (sym none) (All-nil (IsRecordingShot mmap_plane c.args.frames));
     }
 
 pub loop-source-preserved : goal.loop-source-preserved
@@ -40,15 +40,15 @@ loop-source-preserved c =
       room = omega (arith, steps.1.1, push.len, push.capacity, so.room);
       held =
           pair-more _ _ _ _ _ _ _ _ _
-          (ap (map held_by) push.items ∙ map_push held_by shots _ ∙ ap (λ h. map held_by shots ++ h ∷ []) made.held)
+          (ap (map source_and_store) push.items ∙ map_push source_and_store shots _ ∙ ap (λ h. map source_and_store shots ++ h ∷ []) made.held)
           steps.0.0 steps.1.0 so.held;
-      ready = rw push.items (All-push (IsReady mmap_plane c.args.frames) _ _ so.ready made.ready);
+      ready = rw push.items (All-push (IsRecordingShot mmap_plane c.args.frames) _ _ so.ready made.ready);
     }
 
 pub returns-clause-held : goal.returns-clause-held
 returns-clause-held c =
     let at = c.loop-source in
-    none-paired (map held_by at.shots.items) (zip c.args.sources.items c.args.stores.items)
+    none-paired (map source_and_store at.shots.items) (zip c.args.sources.items c.args.stores.items)
     (into_iter_items (zip_first at.source-iterator)) (into_iter_items (zip_second at.source-iterator))
     (into_iter_len (zip_first at.source-iterator)) (into_iter_len (zip_second at.source-iterator)) at.invariant.first
     at.invariant.second c.in-None.ensures.steps (λ u. u.1.0) (λ v. v.1.0) at.invariant.held
