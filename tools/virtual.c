@@ -407,10 +407,19 @@ static void flow(struct pipe *it) {
     }
 }
 
-static void read_by(struct pipe *it) {
-    it->readers++;
+/* When something comes next, by those pipes whose writers don't wait. */
+static uint64_t looked = 0;
+
+/* Who waits to write goes on, and what it brings then may be the next that comes. */
+static void go_on(struct pipe *it) {
+    if (it->waits) looked = 0;
     it->waits = 0;
     flow(it);
+}
+
+static void read_by(struct pipe *it) {
+    it->readers++;
+    go_on(it);
 }
 
 static void left_by(struct pipe *it) {
@@ -438,8 +447,7 @@ static ssize_t read_pipe(struct pipe *it, int is_rw, char *bytes, size_t count) 
     for (size_t at = 0; at < count; at++) bytes[at] = it->held[(it->begin + at) % CAPACITY];
     it->begin = (it->begin + count) % CAPACITY;
     it->filled -= count;
-    it->waits = 0;
-    flow(it);
+    go_on(it);
     return count;
 }
 
@@ -492,7 +500,6 @@ static uint64_t next_reader(void) {
 }
 
 static void world(void) {
-    static uint64_t looked = 0;
     if (now < looked) return;
     while (other_next < other_count && events[others[other_next]].at <= now) {
         struct event *event = &events[others[other_next++]];

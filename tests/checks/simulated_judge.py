@@ -71,10 +71,11 @@ class Held:
     blocks: list[int]
     geometry: layout.Geometry
 
-    def has_clip(self, own: int, first: int, last: int, tag: int) -> bool:
-        """Whether the clip of an id has all numbers from one to another, and they are here; or
-        another one of the same tag, of an event that has gone on."""
-        return any((it[0] == own or it[3] == tag) and it[1] <= first and last <= it[2]
+    def has_clip(self, first: int, last: int, tag: int) -> bool:
+        """Whether a clip of a tag has all numbers from one to another, and they are here. Its id
+        may be another one: an event has gone on, or its clip was released, and another one got
+        that before the answer came."""
+        return any(it[3] == tag and it[1] <= first and last <= it[2]
                    for it in self.clips) and all(it in self.names for it in range(first, last + 1))
 
     def is_locked(self, number: int) -> bool:
@@ -400,7 +401,7 @@ class Judge:
         held = self.held(bytes(file.now)) if file else None
         numbers = range(said["first"], said["last"] + 1)
         tag = said.get("tag", said["event"])
-        if held and held.has_clip(said["id"] % 64, said["first"], said["last"], tag):
+        if held and held.has_clip(said["first"], said["last"], tag):
             names = {it: held.names[it] for it in numbers}
             for old, clip in list(self.clips.items()):
                 if clip.path == path and clip.is_within(said["first"], said["last"], tag):
@@ -559,7 +560,8 @@ class Judge:
             rest = [it for it in words[1:] if it not in self.cameras]
             seconds = int(rest[0]) if rest and rest[0].isdigit() else camera.words["keep"]
             # Its end may lie ahead of the order, and before the answer of a slow disk.
-            more = sum(int(it[1:]) for it in rest if it.startswith("+") and it[1:].isdigit())
+            ahead = [int(it[1:]) for it in rest if it.startswith("+") and it[1:].isdigit()]
+            more = ahead[0] if ahead else int(str(camera.words.get("after", 0)))
             since = self.given[label] - seconds * SECOND
             until = self.given[label] + more * SECOND
             if "from" in words:
@@ -775,8 +777,7 @@ class Judge:
                     not self.frees_itself(which, self.lived.end(), clip):
                 continue
             held = self.held(files.get(clip.path))
-            place = which[1] % 64
-            if held is None or not held.has_clip(place, clip.first, clip.last, clip.tag):
+            if held is None or not held.has_clip(clip.first, clip.last, clip.tag):
                 del self.clips[which]
         for path in self.replacing & set(self.saved):
             if path in files:

@@ -3,6 +3,7 @@ file has that was saved, what may go, and which counts are told. Each question i
 name docs and tests use."""
 from __future__ import annotations
 
+import re
 from typing import TYPE_CHECKING
 
 import layout
@@ -16,6 +17,8 @@ if TYPE_CHECKING:
 SOON = 5 * SECOND
 # So much later than it came a frame may have been read.
 READ = 300_000
+# So many frames have a place at a desk, whatever memory the source's have.
+DESK = 60
 # A store that fails is left alone for so long, and one without room isn't made for so long.
 ALONE, ROOM = 50 * SECOND, 50 * SECOND
 
@@ -46,6 +49,10 @@ class Kept:
                 self.slots[path] = self.slots_in(lived.before.get(path))
         self.now: dict[str, dict[int, Span]] = {}
         self.changes: dict[str, int] = {}
+        # When clips or blocks of a camera were changed last.
+        self.changed_at: dict[str, int] = {}
+        # The stores that were told as absent in this life.
+        self.absent: set[str] = set()
         # The stores whose tables were changed since the last line.
         self.dirty: set[str] = set()
         self.closing: dict[tuple[str, int], list[tuple]] = {}
@@ -150,7 +157,9 @@ class Kept:
         """A store's file is about to be changed."""
         if names:
             self.stores(name, path, record)
-        elif layout.SUPER <= record.place < layout.FRONT:
+        else:
+            self.changed_at[name] = record.time
+        if not names and layout.SUPER <= record.place < layout.FRONT:
             own = (record.place - layout.SUPER) // layout.ENTRY
             self.changes[path] = self.changes.get(path, 0) + 1
             self.dirty.add(path)
@@ -443,7 +452,10 @@ class Kept:
             first, last, _ = fits[0]
             key = (store, said["id"], first, last, names[0])
             before = self.itself.setdefault(key, path)
-            is_early = time - self.judge.lived.life.begins < SECOND
+            # An event with a tag of one's own has a file of its own at its end, also of what the
+            # start saved as any clip.
+            is_early = time - self.judge.lived.life.begins < SECOND and \
+                (name, said["id"]) not in self.kept_at
             if before != path and before in self.judge.lived.before and is_early:
                 self.says(f"it is saved already as {before}: {said}")
 
@@ -506,6 +518,12 @@ class Kept:
                 self.versions(name, own) == {clip}:
             self.says(f"its clip is there, {clip} in {path}: {said}")
 
+    def reads_bad_order(self, said: dict, time: int) -> None:
+        """Where the computer stands still, a line without its end is joined to the next order."""
+        joined = set(re.findall(r"@(o\d+) ", said["line"]))
+        for name, labels in self.turns.items():
+            self.turns[name] = [it for it in labels if it not in joined]
+
     def reads_saving(self, said: dict, time: int) -> None:
         """A clip whose saves have ended can be released."""
         label = said.get("label")
@@ -549,19 +567,22 @@ class Kept:
             return
         before, now = self.rooms_at.get(label, {}).get(name), self.room(camera)
         is_open = said.get("stores", 1) == said.get("stores_wanted", 1) == camera.stores
-        if before == now and is_open and said["room"] != now[0]:
+        # What is told was seen at its last look.
+        is_seen = time - self.changed_at.get(name, 0) > READ
+        if before == now and is_open and is_seen and said["room"] != now[0]:
             self.says(f"{now[0]} blocks may still be locked: {said}")
         came = self.judge.here[name]
         is_quiet = came and time - came[-1][0] > 300_000 and \
             time - self.judge.told.last_stored.get(name, 0) > 300_000
-        if is_quiet and name not in self.judge.broken and \
-                name not in self.judge.waits:
-            self.counts_what_is_behind(said, camera, len(came))
+        behind = len(came) - (said["stored"] - self.judge.begin_next[name]) - said["given_up"]
+        # Where every block is locked and memory is full, the pipe holds some that aren't read.
+        is_full = self.judge.told.locked.get(name) and behind > DESK
+        if is_quiet and name not in self.judge.broken | self.judge.waits and not is_full:
+            self.counts_what_is_behind(said, camera, behind)
             self.counts_what_is_lost(said, camera)
 
-    def counts_what_is_behind(self, said: dict, camera: Camera, came: int) -> None:
+    def counts_what_is_behind(self, said: dict, camera: Camera, behind: int) -> None:
         """What came and is neither stored nor given up is behind."""
-        behind = came - (said["stored"] - self.judge.begin_next[camera.name]) - said["given_up"]
         told = round(said["behind_micros"] / (SECOND // (SECOND // camera.period)))
         if abs(told - behind) > 1 and not self.judge.cuts.get(camera.name):
             self.says(f"{behind} frames are behind: {said}")
@@ -587,6 +608,7 @@ class Kept:
 
     def reads_one_absent(self, said: dict, time: int) -> None:
         """A store of several failed."""
+        self.absent.add(said["path"])
         if said["why"].startswith("MustReopen"):
             self.alone[said["path"]] = (said["camera"], time)
         if said["why"] == "NoRoom":
@@ -596,6 +618,10 @@ class Kept:
         """The disk had no room for a store."""
         if said["why"] == "NoRoom":
             self.no_room[said["camera"]] = time
+
+    def reads_camera_ended(self, said: dict, time: int) -> None:
+        """A camera that begins anew tries its store at once."""
+        self.no_room.pop(said["camera"], None)
 
     def reads_store_open(self, said: dict, time: int) -> None:
         """A store is there again."""
@@ -662,10 +688,14 @@ class Kept:
                 since, until = moment_of(words[3]), min(until, moment_of(words[5]))
             came = {it for at, it in self.judge.here[name] if since + READ <= at <= until - READ}
             have: set[int] = set().union(*(it.get("names", set()) for it in mine))
-            held = [self.judge.held(self.judge.present(it)) for it in camera.paths()]
+            # A store that failed is left alone, with all that it has.
+            held = [self.judge.held(self.judge.present(it)) for it in camera.paths()
+                    if it not in self.absent]
             there = {it for one in held if one for it in one.names.values()}
             lacks = (came & there) - have
-            if lacks and name not in self.judge.late:
+            # A clip whose times can't be read is locked, and told neither as kept nor as refused.
+            is_unread = self.fails_to_read(given)
+            if lacks and name not in self.judge.late and not is_unread:
                 self.says(f"a keep hasn't {sorted(lacks)}, which are stored: {mine}")
             missing = came - there - have
             if any(it["kind"] == "event_begun" for it in lines):
@@ -680,6 +710,11 @@ class Kept:
             if [it for it in missing if it > newest] and name not in self.judge.late and \
                     name not in self.judge.gave_up and not is_freed:
                 self.says(f"a keep isn't refused, and {sorted(missing)} aren't stored: {mine}")
+
+    def fails_to_read(self, time: int) -> bool:
+        """Whether a disk fails to read at a time."""
+        bad = [it.split() for it in self.judge.script if it.startswith("bad ")]
+        return any(it[4] == "read" and int(it[1]) <= time <= int(it[2]) + SECOND for it in bad)
 
     def tells_gaps(self, camera: Camera, mine: list[dict], since: int, until: int) -> None:
         """Where no frame is for more than one and a half times their distance, and a quarter of a
@@ -744,8 +779,11 @@ class Kept:
         for name, camera in self.judge.cameras.items():
             rule = str(camera.words["when_full"])
             came = [it for at, it in self.judge.here[name] if at < end - SOON]
+            # What a save has read may go once that is over.
+            read = [it for label, it in self.over.items()
+                    if self.orders.get(label, (0, [""]))[1][0].startswith("save")]
             at = max(self.judge.opened.get(name, end), self.judge.room_at.get(name, 0),
-                     self.script_pause())
+                     self.script_pause(), *read)
             if not came or rule == "stop" or not self.is_plain(name) or end - at < SOON or \
                     self.stopping or name in self.judge.late or "save_to" in camera.words:
                 continue

@@ -15,6 +15,8 @@ if TYPE_CHECKING:
 
 # Within so much time what happens is told: it is looked at ten times a second.
 TOLD = SECOND
+# So short a time may pass between two looks, with what they wait for.
+LOOKED = SECOND // 5
 # So long nothing comes before a source is silent, and a writer is gone before that is told.
 SILENT, GONE = 2 * SECOND, SECOND // 2
 # A line of the output: its time, and its label.
@@ -34,6 +36,8 @@ class Told:
         self.due: list[tuple[int, str, str, str]] = []
         self.last_frame: dict[str, int] = {}
         self.first_frame: dict[str, int] = {}
+        # Since when the source is there that is to be told as on.
+        self.began: dict[str, int] = {}
         self.last_stored: dict[str, int] = {}
         self.closed: dict[str, int] = {}
         self.given_up: dict[str, int] = {}
@@ -58,6 +62,10 @@ class Told:
     def has_told(self, kind: str, name: str) -> bool:
         """Whether a line of a kind was told of a camera in this life."""
         return (kind, name) in self.kinds
+
+    def told_last(self, kind: str, name: str) -> int:
+        """When a line of a kind was told of a camera last."""
+        return self.kinds.get((kind, name), [-1])[-1]
 
     def wants(self, kind: str, name: str, since: int, until: int) -> None:
         """A line of a kind is to be told of a camera in this time."""
@@ -87,15 +95,22 @@ class Told:
             self.nobody_read(name, words, time)
         self.source_rests(name, time)
         if kind == "P" and words[0] == "frame":
-            if name not in self.first_frame:
-                self.first_frame[name] = time
-                if self.is_plain(name):
+            self.first_frame.setdefault(name, time)
+            if name not in self.began:
+                self.began[name] = time
+                is_on = self.told_last("source_on", name) > self.told_last("source_missing", name)
+                if self.is_plain(name) and not is_on:
                     self.wants("source_on", name, time, time + TOLD)
         if kind == "P":
             self.last_frame[name] = time
             self.closed.pop(name, None)
         if kind == "Q" and name in self.last_frame:
             self.closed[name] = time
+        due = [it for it in self.due if it[1:3] == ("source_on", name)]
+        if kind == "Q" and due and time - self.began[name] < LOOKED:
+            # It was there between two looks, and needn't be told: the next writer is.
+            del self.began[name]
+            self.due.remove(due[0])
 
     def nobody_read(self, name: str, words: list[str], time: int) -> None:
         """A pipe stays open when its writer has left, so no frame of the next writer is lost."""
@@ -106,7 +121,7 @@ class Told:
     def source_rests(self, name: str, time: int) -> None:
         """A source that is silent or ends is told so."""
         last, closed = self.last_frame.get(name), self.closed.get(name)
-        if last is None or not self.is_plain(name) or self.stopping:
+        if last is None or not self.is_plain(name) or self.stopping or name not in self.began:
             return
         if closed is not None and time - closed > GONE:
             self.was_told("source_missing", name, closed, closed + GONE)
@@ -130,7 +145,9 @@ class Told:
             return
         if name not in self.judge.opened:
             self.wants("store_open", name, time, time + TOLD)
-            if not life.is_faulty:
+            # What a loss of power has brought back by this name keeps the station from measuring.
+            measured = f"{name}.loop.sync"
+            if not life.is_faulty and measured not in self.judge.lived.before:
                 self.wants("syncs", name, time, time + 2 * TOLD)
         self.goes_on(name, path, time)
 
@@ -182,9 +199,12 @@ class Told:
     def too_slow(self, said: dict, time: int) -> None:
         """A disk that is too slow is told so: a block costs two syncs a flush, and three more."""
         camera = self.judge.cameras[said["camera"]]
-        flushes = -(-camera.slots // 64)
+        held = [self.judge.held(self.judge.present(it)) for it in camera.paths()]
+        # A store that the station made has its own blocks.
+        slots = max((it.geometry.slots for it in held if it), default=camera.slots)
+        flushes = -(-slots // 64)
         cost = max(said["micros"], 1) * (2 * flushes + 3)
-        may, rate = camera.slots * SECOND / cost, SECOND / camera.period
+        may, rate = slots * SECOND / cost, SECOND / camera.period
         if rate > 2 * may:
             self.wants("too_slow", said["camera"], time, time + TOLD // 2)
 
