@@ -180,6 +180,8 @@ class Judge:
         # Each event: the cameras that it means, and those for which it was told as over.
         self.events: dict[int, tuple[set[str], set[str]]] = {}
         self.spans: dict[int, tuple[int, int]] = {}
+        # The tags of events whose end lies ahead: their numbers, or those that orders gave.
+        self.grows: set[int] = set()
         self.came: dict[str, list[tuple[int, int]]] = {it: [] for it in self.cameras}
         # Events that were over while their file couldn't be written, as was told.
         self.unsure: set[int] = set()
@@ -435,7 +437,7 @@ class Judge:
         for which, clip in list(self.clips.items()):
             # A part of an event that goes on takes with it the shorter ones that it covers.
             if clip.path == path and any(clip.is_within(*it) for it in had) and \
-                    (clip.tag in self.spans or not any(clip.is_within(*it[1:]) for it in now)):
+                    (clip.tag in self.grows or not any(clip.is_within(*it[1:]) for it in now)):
                 del self.clips[which]
         self.was_freed.add((said["camera"], said["id"]))
         self.room_at[said["camera"]] = time
@@ -490,6 +492,9 @@ class Judge:
         """An event goes on, and none that was over."""
         event = said["event"]
         self.begun.add(event)
+        self.grows.add(event)
+        self.grows |= {it.get("tag", event) for it in self.answers.get(said.get("label", ""), ())
+                       if it["kind"] == "kept"}
         # Each camera may have a line of its own, without its name: what is of all counts.
         since, until = self.spans.get(event, (0, 2**63))
         self.spans[event] = (max(since, moment_of(said["from"])), min(until, moment_of(said["to"])))

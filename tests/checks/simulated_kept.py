@@ -139,6 +139,10 @@ class Kept:
         """Somebody moves a file, perhaps a store that is recorded into."""
         is_store = old in self.judge.paths
         self.dirty |= {old} & set(self.judge.paths)
+        if is_store:
+            # The camera's others are opened anew then, too, as after a start.
+            others = self.judge.cameras[self.judge.paths[old]].paths()
+            self.freed_parts = [it for it in self.freed_parts if it[0] not in others]
         for number, file in self.judge.disk.files.items() if is_store else ():
             if file is self.judge.disk.names.get(new):
                 self.away[number] = time
