@@ -678,11 +678,9 @@ class Judge:
         """A life has ended."""
         life, end = lived.life, lived.end()
         stopped = lived.why().startswith("ended")
-        # Where the computer stands still, a line without its end may be joined to the next one.
-        is_joined = "\npause" in life.script and "\nunended" in life.script
-        for label, at in self.given.items() if not is_joined else ():
+        for label, at in self.given.items():
             is_late = stopped or not life.is_faulty and end - at > 70 * SECOND
-            if label not in self.done and is_late:
+            if label not in self.done and is_late and label not in self.kept.joined:
                 self.says(f"no answer to @{label} {life.orders[label]}, given at {at}")
         if lived.status not in (0, 137) or lived.why().startswith(("all threads", "broken")):
             self.says(f"ended with {lived.status}, {lived.why()}")

@@ -75,6 +75,8 @@ class Kept:
         # The events that were ordered in this life.
         self.here: set[int] = set()
         self.stopping = 0
+        # The orders that a line without its end was joined to, as where the computer stood still.
+        self.joined: set[str] = set()
         # The clips that were released since they were saved, some time before the end.
         self.full_of: list[tuple[dict, tuple]] = []
         # The clips of which a save was told in this life.
@@ -260,6 +262,7 @@ class Kept:
         for path in self.dirty:
             self.now[path] = {own: tuple(clip) for own, *clip in self.judge.table(path)}
         self.dirty.clear()
+        self.joined |= set(re.findall(r"@(o\d+) ", str(said)))
         self.stays_released(time)
         reader = getattr(self, f"reads_{kind}", None)
         if reader:
@@ -522,12 +525,6 @@ class Kept:
                 self.versions(name, own) == {clip}:
             self.says(f"its clip is there, {clip} in {path}: {said}")
 
-    def reads_bad_order(self, said: dict, time: int) -> None:
-        """Where the computer stands still, a line without its end is joined to the next order."""
-        joined = set(re.findall(r"@(o\d+) ", said["line"]))
-        for name, labels in self.turns.items():
-            self.turns[name] = [it for it in labels if it not in joined]
-
     def reads_saving(self, said: dict, time: int) -> None:
         """A clip whose saves have ended can be released."""
         label = said.get("label")
@@ -649,7 +646,7 @@ class Kept:
         """Each camera does its own orders in their order."""
         for name, labels in self.turns.items():
             if label in labels:
-                before = labels[:labels.index(label)]
+                before = [it for it in labels[:labels.index(label)] if it not in self.joined]
                 if before and name not in self.judge.moved:
                     self.says(f"@{label} is done before {before} of {name}")
                 self.turns[name] = [it for it in labels if it != label]
