@@ -193,6 +193,8 @@ class Judge:
         # Which paths are pipes.
         self.pipes = {"nobody"}
         self.found: list[str] = []
+        # The cameras that gave up frames, in any life.
+        self.gave: set[str] = set()
         self.told, self.kept = Told(self), Kept(self)
 
     def says(self, what: str) -> None:
@@ -210,6 +212,7 @@ class Judge:
         chance = random.Random(f"judge {seed}")
         lines = told(lived.records)
         self.lines_of = lines
+        self.gave |= {it["camera"] for _, _, it in lines if it["kind"] == "given_up"}
         # Whose frames waited before they were read: they have a later time than they came.
         self.waits = {said["camera"] for _, _, said in lines if said["kind"] == "waited"}
         self.frees = [(time, it["camera"], it["id"]) for _, time, it in lines
@@ -419,11 +422,16 @@ class Judge:
 
     def lost_in(self, said: dict, held: Held, camera: Camera) -> None:
         """As many frames are told as lost as numbers of one writer are missing in a clip. Of
-        several stores, one of another may have them."""
+        several stores, one of another may have them; what a failing disk gave up is missing, too,
+        before the first frame of a writer."""
         if not camera.says_numbers or camera.stores > 1:
             return
         names = [held.names[it] for it in range(said["first"], said["last"] + 1)]
         stream = self.streams[camera.name]
+        if camera.name in self.gave and any(
+                two - one > 1 and stream.get(one, 0) != stream.get(two, 1)
+                for one, two in zip(names, names[1:])):
+            return
         gap = sum(two - one - 1 for one, two in zip(names, names[1:])
                   if stream.get(one, 0) == stream.get(two, 1))
         if said.get("lost", 0) != gap:

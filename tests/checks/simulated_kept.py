@@ -262,11 +262,18 @@ class Kept:
         for path in self.dirty:
             self.now[path] = {own: tuple(clip) for own, *clip in self.judge.table(path)}
         self.dirty.clear()
-        self.joined |= set(re.findall(r"@(o\d+) ", str(said)))
+        self.joined |= set(filter(self.may_join, re.findall(r"@(o\d+) ", str(said))))
         self.stays_released(time)
         reader = getattr(self, f"reads_{kind}", None)
         if reader:
             reader(said, time)
+
+    def may_join(self, label: str) -> bool:
+        """Whether an order may be joined to a line without its end: one that came soon after it,
+        or while the computer stood still."""
+        given = self.judge.given.get(label, 0)
+        ends = [int(it.split()[1]) for it in self.judge.script if it.startswith("unended ")]
+        return self.script_pause() > 0 or any(0 <= given - it < SECOND // 2 for it in ends)
 
     def reads_kept(self, said: dict, time: int) -> None:
         """A clip has the tag that was said, or the event's; an event's stays the same."""

@@ -7,7 +7,7 @@ import re
 from typing import TYPE_CHECKING
 
 from simulated_disk import Record
-from simulated_world import SECOND
+from simulated_world import EPOCH, SECOND
 
 if TYPE_CHECKING:
     from simulated_judge import Judge
@@ -39,6 +39,8 @@ class Told:
         # Since when the source is there that is to be told as on.
         self.began: dict[str, int] = {}
         self.last_stored: dict[str, int] = {}
+        # The cameras of which a frame was stored.
+        self.stored: set[str] = set()
         self.closed: dict[str, int] = {}
         self.given_up: dict[str, int] = {}
         self.locked: dict[str, bool] = {}
@@ -123,10 +125,17 @@ class Told:
         last, closed = self.last_frame.get(name), self.closed.get(name)
         if last is None or not self.is_plain(name) or self.stopping or name not in self.began:
             return
-        if closed is not None and time - closed > GONE:
+        if closed is not None and time - closed > GONE and not self.is_missing(name, closed):
             self.was_told("source_missing", name, closed, closed + GONE)
         elif closed is None and time - last > SILENT + TOLD + 200_000:
             self.was_told("source_silent", name, last, last + SILENT + TOLD + 200_000)
+
+    def is_missing(self, name: str, time: int) -> bool:
+        """Whether a source was told as missing last, before a time: who came since then wrote no
+        whole frame."""
+        told = [max((it for it in self.kinds.get((kind, name), ()) if it <= time), default=-1)
+                for kind in ("source_on", "source_missing")]
+        return told[1] > told[0]
 
     def was_told(self, kind: str, name: str, since: int, until: int) -> None:
         """Whether a line of a kind was told in a time."""
@@ -145,10 +154,12 @@ class Told:
             return
         if name not in self.judge.opened:
             self.wants("store_open", name, time, time + TOLD)
-            # What a loss of power has brought back by this name keeps the station from measuring.
-            measured = f"{name}.loop.sync"
-            if not life.is_faulty and measured not in self.judge.lived.before:
-                self.wants("syncs", name, time, time + 2 * TOLD)
+        # What a loss of power has brought back by this name keeps the station from measuring.
+        is_measured = f"{name}.loop.sync" not in self.judge.lived.before
+        if name not in self.stored and not life.is_faulty and is_measured and \
+                not self.has_told("syncs", name):
+            self.wants("syncs", name, time, time + 2 * TOLD)
+        self.stored.add(name)
         self.goes_on(name, path, time)
 
     def goes_on(self, name: str, path: str, time: int) -> None:
@@ -217,8 +228,11 @@ class Told:
             self.wants("given_up", name, time, time + 2 * TOLD)
 
     def one_number(self, said: dict) -> None:
-        """The number of an event is its own."""
+        """The number of an event is its own: the time at which its line was read."""
         if said.get("label") and "event" in said:
+            given = self.judge.given.get(said["label"], 0)
+            if said["event"] - EPOCH < given - 1000:
+                self.says(f"the order came at {given}: {said}")
             if self.numbers.setdefault(said["event"], said["label"]) != said["label"]:
                 self.says(f"two orders have one event: {said}")
 
