@@ -193,8 +193,8 @@ class Judge:
         # Which paths are pipes.
         self.pipes = {"nobody"}
         self.found: list[str] = []
-        # The cameras that gave up frames, in any life.
-        self.gave: set[str] = set()
+        # How many frames a camera gave up, in any life.
+        self.gave: dict[str, int] = {}
         self.told, self.kept = Told(self), Kept(self)
 
     def says(self, what: str) -> None:
@@ -212,7 +212,8 @@ class Judge:
         chance = random.Random(f"judge {seed}")
         lines = told(lived.records)
         self.lines_of = lines
-        self.gave |= {it["camera"] for _, _, it in lines if it["kind"] == "given_up"}
+        for it in [it for _, _, it in lines if it["kind"] == "given_up"]:
+            self.gave[it["camera"]] = self.gave.get(it["camera"], 0) + it["frames"]
         # Whose frames waited before they were read: they have a later time than they came.
         self.waits = {said["camera"] for _, _, said in lines if said["kind"] == "waited"}
         self.frees = [(time, it["camera"], it["id"]) for _, time, it in lines
@@ -428,13 +429,9 @@ class Judge:
             return
         names = [held.names[it] for it in range(said["first"], said["last"] + 1)]
         stream = self.streams[camera.name]
-        if camera.name in self.gave and any(
-                two - one > 1 and stream.get(one, 0) != stream.get(two, 1)
-                for one, two in zip(names, names[1:])):
-            return
         gap = sum(two - one - 1 for one, two in zip(names, names[1:])
                   if stream.get(one, 0) == stream.get(two, 1))
-        if said.get("lost", 0) != gap:
+        if not gap <= said.get("lost", 0) <= gap + self.gave.get(camera.name, 0):
             self.says(f"{gap} numbers are missing, and told was {said}")
 
     def reads_released(self, said: dict, time: int) -> None:
