@@ -1,5 +1,7 @@
 /* Runs a program by a seed: one of its threads at a time, by a clock of its own, in a world that a
  * script brings. tests/simulate builds it as a shared library, writes the script, and preloads it.
+ * All threads are stacks of one thread of the system, which goes from one to the other: so a step
+ * costs no look of the system at who is next.
  *
  *   VIRTUAL_SCRIPT   the script
  *   VIRTUAL_LOG      a file that gets all that happened, in its order
@@ -18,10 +20,12 @@
  *   tick N                  each call takes 1 to N microseconds
  *   uneven N                one thread of N gets the baton a hundred times less often
  *   sync NAME MICROS        syncs of these files take half of that to one and a half
+ *   reads NAME MICROS       reads of these files take half of that to one and a half
  *   slow FROM TO NAME MICROS    they take so much more in that time
  *   bad FROM TO NAME CALL ERRNO N    one such call of N on these files fails in that time; CALL is
  *                           open, read, write, sync, truncate or rename
  *   answers NAME            the file of answers, which no loss of power touches
+ *   reader FROM TO N        where that is a pipe: somebody reads it in that time, N bytes a second
  *   pipe AHEAD NAME HEADER  the next pipe of a source; where AHEAD is 1, its writer goes on, and
  *                           gave its header before
  *   orders NAME             the pipe of orders
@@ -141,6 +145,16 @@ static struct rule rules[RULES];
 static int rule_count;
 static char answers_name[256] = "", folder[4096];
 
+/* Who reads the answers, where they are a pipe: when, and how many bytes a second; how many of the
+ * bytes in it are read, and how many ends are open to be read besides. */
+struct reader {
+    uint64_t from, to, rate;
+};
+
+static struct reader readers[RULES];
+static int reader_count, held_ends;
+static uint64_t answers_held, drained_at;
+
 /* A number below n. */
 static uint64_t pick(uint64_t n) {
     uint64_t z = seed += 0x9e3779b97f4a7c15ull;
@@ -188,28 +202,43 @@ enum state { READY, WAITING, OVER };
 
 struct thread {
     enum state state;
-    int go, is_woken, is_detached;
+    int is_woken, is_detached;
     const void *key;
     uint64_t due, weight;
     pthread_t handle;
     void *(*run)(void *);
-    void *with;
+    void *with, *answer;
+    /* Where its stack begins, how large it is, and where it stands while another thread runs. */
+    char *stack;
+    size_t room;
+    void *at;
 };
 
 static struct thread threads[THREADS];
 static int thread_count;
 static uint64_t next_due = NEVER;
-static __thread struct thread *self __attribute__((tls_model("initial-exec")));
+static struct thread *self;
 
-static void wait_for_baton(struct thread *it) {
-    while (!__atomic_load_n(&it->go, __ATOMIC_ACQUIRE))
-        RAW(SYS_futex, &it->go, FUTEX_WAIT_PRIVATE, 0, 0);
-    __atomic_store_n(&it->go, 0, __ATOMIC_RELAXED);
-}
+/* Puts what a call keeps on this stack, notes where that stands, and goes on where another one
+ * stands. */
+void virtual_switch(void **from, void *to);
+__asm__(".text\n"
+        ".globl virtual_switch\n"
+        ".type virtual_switch, @function\n"
+        "virtual_switch:\n"
+        "    push %rbp\n    push %rbx\n    push %r12\n"
+        "    push %r13\n    push %r14\n    push %r15\n"
+        "    mov %rsp, (%rdi)\n    mov %rsi, %rsp\n"
+        "    pop %r15\n    pop %r14\n    pop %r13\n"
+        "    pop %r12\n    pop %rbx\n    pop %rbp\n"
+        "    ret\n"
+        ".size virtual_switch, .-virtual_switch\n");
 
-static void give_baton(struct thread *it) {
-    __atomic_store_n(&it->go, 1, __ATOMIC_RELEASE);
-    RAW(SYS_futex, &it->go, FUTEX_WAKE_PRIVATE, 1, 0);
+/* Another thread goes on, until this one is chosen again. */
+static void go_to(struct thread *next) {
+    struct thread *me = self;
+    self = next;
+    virtual_switch(&me->at, next->at);
 }
 
 static void wake_due(void) {
@@ -249,10 +278,8 @@ static struct thread *chosen(void) {
 }
 
 static void pass(void) {
-    struct thread *me = self, *next = chosen();
-    if (next == me) return;
-    give_baton(next);
-    wait_for_baton(me);
+    struct thread *next = chosen();
+    if (next != self) go_to(next);
 }
 
 /* Waits until somebody wakes the key, or until then. Answers whether it was woken. */
@@ -380,10 +407,19 @@ static void flow(struct pipe *it) {
     }
 }
 
-static void read_by(struct pipe *it) {
-    it->readers++;
+/* When something comes next, by those pipes whose writers don't wait. */
+static uint64_t looked = 0;
+
+/* Who waits to write goes on, and what it brings then may be the next that comes. */
+static void go_on(struct pipe *it) {
+    if (it->waits) looked = 0;
     it->waits = 0;
     flow(it);
+}
+
+static void read_by(struct pipe *it) {
+    it->readers++;
+    go_on(it);
 }
 
 static void left_by(struct pipe *it) {
@@ -401,17 +437,17 @@ static void left_by(struct pipe *it) {
     }
 }
 
-static ssize_t read_pipe(struct pipe *it, char *bytes, size_t count) {
+/* Reads from a pipe. Who has it open to be written, too, never comes to its end. */
+static ssize_t read_pipe(struct pipe *it, int is_rw, char *bytes, size_t count) {
     while (!it->filled) {
-        if (!it->has_writer) return 0;
+        if (!it->has_writer && !is_rw) return 0;
         block(it, NEVER);
     }
     if (count > it->filled) count = it->filled;
     for (size_t at = 0; at < count; at++) bytes[at] = it->held[(it->begin + at) % CAPACITY];
     it->begin = (it->begin + count) % CAPACITY;
     it->filled -= count;
-    it->waits = 0;
-    flow(it);
+    go_on(it);
     return count;
 }
 
@@ -438,8 +474,32 @@ static void move(const char *names) {
     note('V', 0, 0, count, both);
 }
 
+/* Who reads the answers now. */
+static struct reader *reader_now(void) {
+    for (int at = 0; at < reader_count; at++)
+        if (readers[at].from <= now && now < readers[at].to) return &readers[at];
+    return NULL;
+}
+
+/* What was read of the answers since that was looked at. */
+static void drain(void) {
+    struct reader *it = reader_now();
+    uint64_t micros = now - drained_at, count = it ? micros * it->rate / 1000000 : 0;
+    if (it && !count && it->rate) return;
+    drained_at = now;
+    answers_held -= count < answers_held ? count : answers_held;
+}
+
+/* When answers may be written or opened again: soon, or when the next reader comes. */
+static uint64_t next_reader(void) {
+    uint64_t least = NEVER;
+    if (reader_now()) return now + 20000;
+    for (int at = 0; at < reader_count; at++)
+        if (readers[at].from > now && readers[at].from < least) least = readers[at].from;
+    return least;
+}
+
 static void world(void) {
-    static uint64_t looked = 0;
     if (now < looked) return;
     while (other_next < other_count && events[others[other_next]].at <= now) {
         struct event *event = &events[others[other_next++]];
@@ -518,6 +578,9 @@ static void take_line(char *line, int number) {
     else if (sscanf(line, "sync %63s %llu", name, &a) == 2 && rule_count < RULES) {
         rules[rule_count] = (struct rule){'l', 's', 0, NEVER, a, 1, ""};
         strcpy(rules[rule_count++].name, name);
+    } else if (sscanf(line, "reads %63s %llu", name, &a) == 2 && rule_count < RULES) {
+        rules[rule_count] = (struct rule){'l', 'r', 0, NEVER, a, 1, ""};
+        strcpy(rules[rule_count++].name, name);
     } else if (sscanf(line, "slow %llu %llu %63s %llu", &a, &b, name, &c) == 4
                && rule_count < RULES) {
         rules[rule_count] = (struct rule){'l', 's', a, b, c, 1, ""};
@@ -527,6 +590,8 @@ static void take_line(char *line, int number) {
         rules[rule_count] = (struct rule){'b', call[0], a, b, c, d, ""};
         strcpy(rules[rule_count++].name, name);
     } else if (sscanf(line, "answers %255s", answers_name) == 1) return;
+    else if (sscanf(line, "reader %llu %llu %llu", &a, &b, &c) == 3 && reader_count < RULES)
+        readers[reader_count++] = (struct reader){a, b, c};
     else if (sscanf(line, "pipe %llu %63s %n", &a, name, &at) == 2 && pipe_count < PIPES) {
         struct pipe *it = &pipes[pipe_count++];
         it->path = strdup(name);
@@ -600,7 +665,7 @@ struct file {
     char name[256];
 };
 
-enum kind { PLAIN, WATCHED, ANSWERS, FOLDER, PIPE };
+enum kind { PLAIN, WATCHED, ANSWERS, FOLDER, PIPE, TAP };
 
 struct fd {
     enum kind kind;
@@ -655,12 +720,13 @@ static int fails(const char *name, char call) {
     return 0;
 }
 
-/* Waits as long as a sync of a file takes. */
-static void takes_time(const char *name) {
+/* Waits as long as a call on a file takes. */
+static void takes_time(const char *name, char call) {
     uint64_t micros = 0;
     for (int at = 0; at < rule_count; at++) {
         struct rule *it = &rules[at];
-        if (it->kind != 'l' || now < it->from || now >= it->to || !strstr(name, it->name)) continue;
+        if (it->kind != 'l' || it->call != call || now < it->from || now >= it->to) continue;
+        if (!strstr(name, it->name)) continue;
         micros += it->value / 2 + pick(it->value + 1);
     }
     spend(micros);
@@ -680,18 +746,42 @@ static int open_pipe(int which, const char *path, int flags) {
     int is_rw = (flags & O_ACCMODE) == O_RDWR;
     int fd = (int)seen(RAW(SYS_openat, AT_FDCWD, path, O_RDWR | O_NONBLOCK | O_CLOEXEC, 0));
     if (fd < 0) return fd;
-    if (is_rw) {
-        fds[fd] = (struct fd){PIPE, which, 1};
-        return fd;
-    }
-    fds[fd] = (struct fd){PIPE, which, 0};
+    fds[fd] = (struct fd){PIPE, which, is_rw};
     read_by(it);
-    if (!it->is_orders && !(flags & O_NONBLOCK))
+    if (!it->is_orders && !is_rw && !(flags & O_NONBLOCK))
         while (!it->has_writer) {
             /* Its next writer is there with its next frame. */
             block(it, NEVER);
         }
     return fd;
+}
+
+/* Opens the pipe of answers. Who opens it to be written waits until it is read. */
+static int open_answers(const char *path, int flags) {
+    int is_rw = (flags & O_ACCMODE) == O_RDWR;
+    int fd = (int)seen(RAW(SYS_openat, AT_FDCWD, path, O_RDWR | O_NONBLOCK | O_CLOEXEC, 0));
+    if (fd < 0) return fd;
+    if (is_rw) held_ends++;
+    else while (!reader_now() && !held_ends) block(NULL, next_reader());
+    fds[fd] = (struct fd){TAP, 0, is_rw};
+    return fd;
+}
+
+/* A line is written to the pipe of answers, whole or not at all. */
+static ssize_t tapped(const void *bytes, size_t count) {
+    for (;;) {
+        drain();
+        if (!reader_now() && !held_ends) {
+            errno = EPIPE;
+            return -1;
+        }
+        if (answers_held + count <= CAPACITY) break;
+        block(NULL, next_reader());
+    }
+    answers_held += count;
+    note('A', 0, 0, count, bytes);
+    if (answered++ == last_answer) ends("killed by lines,");
+    return count;
 }
 
 static int open_uptime(void) {
@@ -716,6 +806,8 @@ static int opened(const char *path, int flags, int mode) {
     if (fails(name, 'o')) return -1;
     struct stat before, found;
     int was_there = RAW(SYS_stat, path, &before, 0, 0) == 0;
+    if (was_there && S_ISFIFO(before.st_mode) && answers_name[0] && !strcmp(name, answers_name))
+        return open_answers(path, flags);
     int is_made = (flags & O_CREAT) && !was_there;
     if (is_made) change();
     int fd = (int)seen(RAW(SYS_openat, AT_FDCWD, path, flags, mode));
@@ -771,7 +863,7 @@ int openat64(int at, const char *path, int flags, ...) {
 static void copied(int from, int to) {
     if (to < 0 || to >= FDS || !is_on) return;
     fds[to] = *fd_of(from);
-    if (fds[to].kind == PIPE && !fds[to].is_rw) pipes[fds[to].index].readers++;
+    if (fds[to].kind == PIPE) pipes[fds[to].index].readers++;
 }
 
 int fcntl(int fd, int what, ...) {
@@ -801,7 +893,8 @@ int dup(int fd) {
 int close(int fd) {
     step();
     struct fd *it = fd_of(fd);
-    if (it->kind == PIPE && !it->is_rw) left_by(&pipes[it->index]);
+    if (it->kind == PIPE) left_by(&pipes[it->index]);
+    if (it->kind == TAP && it->is_rw) held_ends--;
     if (is_on && fd >= 0 && fd < FDS) fds[fd] = (struct fd){PLAIN, 0, 0};
     return (int)seen(RAW(SYS_close, fd, 0, 0, 0));
 }
@@ -828,6 +921,8 @@ static ssize_t written(int fd, const void *bytes, size_t count, off_t at) {
         RAW(SYS_write, fd, bytes, count, 0);
         if (answered++ == last_answer) ends("killed by lines,");
         return count;
+    } else if (it->kind == TAP) {
+        return tapped(bytes, count);
     } else if (fd == 1 || fd == 2) {
         note('O', fd, 0, count, bytes);
     }
@@ -878,13 +973,14 @@ ssize_t pwritev64(int fd, const struct iovec *pieces, int many, off_t at) {
 ssize_t read(int fd, void *bytes, size_t count) {
     step();
     struct fd *it = fd_of(fd);
-    if (it->kind == PIPE) return read_pipe(&pipes[it->index], bytes, count);
+    if (it->kind == PIPE) return read_pipe(&pipes[it->index], it->is_rw, bytes, count);
     if (it->kind == WATCHED && fails(name_of(it), 'r')) return -1;
     return seen(RAW(SYS_read, fd, bytes, count, 0));
 }
 
 ssize_t pread(int fd, void *bytes, size_t count, off_t at) {
     step();
+    if (fd_of(fd)->kind == WATCHED) takes_time(name_of(fd_of(fd)), 'r');
     struct fd *it = fd_of(fd);
     if (it->kind == WATCHED && fails(name_of(it), 'r')) return -1;
     return seen(RAW(SYS_pread64, fd, bytes, count, at));
@@ -906,7 +1002,7 @@ static int synced(int fd, long number) {
     if (it->kind != WATCHED && it->kind != FOLDER) return (int)seen(RAW(number, fd, 0, 0, 0));
     int index = it->index, is_folder = it->kind == FOLDER;
     uint64_t began = log_records;
-    takes_time(files[index].name);
+    takes_time(files[index].name, 's');
     if (fails(files[index].name, 's')) return -1;
     change();
     if (is_folder) note('F', index, began, strlen(files[index].name), files[index].name);
@@ -1143,17 +1239,33 @@ ssize_t getrandom(void *bytes, size_t count, unsigned flags) {
 /* ------------------------------------------------------------------------------------------------
  * threads begin and end */
 
-static void *in_thread(void *given) {
-    struct thread *me = given;
-    self = me;
-    wait_for_baton(me);
-    void *answer = me->run(me->with);
-    self = NULL;
+/* How a thread begins, which is chosen for the first time, and how it ends. */
+static void in_thread(void) {
+    struct thread *me = self;
+    me->answer = me->run(me->with);
     me->state = OVER;
     if (me->is_detached) me->handle = 0;
     wake(&me->state, THREADS);
-    give_baton(chosen());
-    return answer;
+    go_to(chosen());
+}
+
+/* The stack of a thread, below which nothing is; that of one that is over serves again. */
+static int has_stack(struct thread *it, const pthread_attr_t *how) {
+    size_t room = 8 << 20;
+    if (how) pthread_attr_getstacksize(how, &room);
+    if (!it->stack || it->room < room) {
+        it->stack = (char *)raw(SYS_mmap, 0, room, PROT_READ | PROT_WRITE,
+                                MAP_PRIVATE | MAP_ANONYMOUS | MAP_NORESERVE, -1, 0);
+        if ((long)it->stack < 0 && (long)it->stack > -4096) return it->stack = NULL, 0;
+        RAW(SYS_mprotect, it->stack, 4096, PROT_NONE, 0);
+        it->room = room;
+    }
+    /* What it begins with: six registers, and where it goes on, called from nowhere. */
+    void **top = (void **)(it->stack + it->room);
+    *--top = NULL;
+    *--top = (void *)in_thread;
+    it->at = top - 6;
+    return 1;
 }
 
 int pthread_create(pthread_t *thread, const pthread_attr_t *how, void *(*run)(void *), void *with) {
@@ -1166,17 +1278,26 @@ int pthread_create(pthread_t *thread, const pthread_attr_t *how, void *(*run)(vo
     if (at == THREADS) ends("too many threads,");
     if (at == thread_count) thread_count++;
     struct thread *it = &threads[at];
-    *it = (struct thread){.state = READY, .run = run, .with = with};
+    *it = (struct thread){.state = OVER, .stack = it->stack, .room = it->room};
+    if (!has_stack(it, how)) return EAGAIN;
+    it->state = READY;
+    it->run = run;
+    it->with = with;
     it->weight = uneven && pick(uneven) == 0 ? 1 : 100;
-    int answer = real(&it->handle, how, in_thread, it);
-    if (answer) it->state = OVER, it->handle = 0;
-    else *thread = it->handle;
-    return answer;
+    it->handle = *thread = (pthread_t)it;
+    return 0;
+}
+
+pthread_t pthread_self(void) {
+    static pthread_t (*real)(void);
+    if (is_on && self && self->handle) return self->handle;
+    if (!real) real = dlsym(RTLD_NEXT, "pthread_self");
+    return real();
 }
 
 static struct thread *thread_of(pthread_t handle) {
     for (int at = 0; at < thread_count; at++)
-        if (threads[at].handle && pthread_equal(threads[at].handle, handle)) return &threads[at];
+        if (threads[at].handle && threads[at].handle == handle) return &threads[at];
     return NULL;
 }
 
@@ -1187,17 +1308,17 @@ int pthread_join(pthread_t handle, void **answer) {
     if (!it) return real(handle, answer);
     step();
     while (it->state != OVER) block(&it->state, NEVER);
-    int done = real(handle, answer);
+    if (answer) *answer = it->answer;
     it->handle = 0;
-    return done;
+    return 0;
 }
 
 int pthread_detach(pthread_t handle) {
     static int (*real)(pthread_t);
     if (!real) real = dlsym(RTLD_NEXT, "pthread_detach");
     struct thread *it = is_on && self ? thread_of(handle) : NULL;
-    int done = real(handle);
-    if (it) it->is_detached = 1;
-    if (it && it->state == OVER) it->handle = 0;
-    return done;
+    if (!it) return real(handle);
+    it->is_detached = 1;
+    if (it->state == OVER) it->handle = 0;
+    return 0;
 }

@@ -5,15 +5,21 @@ from __future__ import annotations
 
 import dataclasses
 import datetime
+import functools
 import random
 import re
+import struct
 from pathlib import Path
 
 import layout
 from simulated_disk import Disk, File, Record
+from simulated_kept import Kept
 from simulated_run import Lived, chooser, told
+from simulated_told import Told
 from simulated_world import EPOCH, SECOND, SIZE, Camera, World
 
+# What the entry of a clip says: its first and last number, and its tag.
+ENTRY = struct.Struct("<8xQQQ")
 REFERENCE = Path(__file__).resolve().parents[2] / "docs/reference.md"
 # Within so much time a frame that came is stored, an order answered, and what is unlocked told.
 SOON = 5 * SECOND
@@ -65,10 +71,11 @@ class Held:
     blocks: list[int]
     geometry: layout.Geometry
 
-    def has_clip(self, own: int, first: int, last: int, tag: int) -> bool:
-        """Whether the clip of an id has all numbers from one to another, and they are here; or
-        another one of the same tag, of an event that has gone on."""
-        return any((it[0] == own or it[3] == tag) and it[1] <= first and last <= it[2]
+    def has_clip(self, first: int, last: int, tag: int) -> bool:
+        """Whether a clip of a tag has all numbers from one to another, and they are here. Its id
+        may be another one: an event has gone on, or its clip was released, and another one got
+        that before the answer came."""
+        return any(it[3] == tag and it[1] <= first and last <= it[2]
                    for it in self.clips) and all(it in self.names for it in range(first, last + 1))
 
     def is_locked(self, number: int) -> bool:
@@ -85,6 +92,15 @@ class Held:
             return True
         return any(map(self.may_go, self.blocks))
 
+    def may_take_a_block(self) -> bool:
+        """Whether another block has a place."""
+        return len(self.blocks) < self.geometry.segments or any(map(self.may_go, self.blocks))
+
+    def free_blocks(self) -> int:
+        """How many blocks may still be locked: all but the newest, and those that clips meet."""
+        met = [it for it in self.blocks if it != max(self.blocks) and not self.may_go(it)]
+        return self.geometry.segments - 1 - len(met)
+
     def first_of(self, block: int) -> int | None:
         """The name of a block's first frame."""
         return self.names.get(block * self.geometry.slots)
@@ -96,6 +112,7 @@ class Held:
             map(self.is_locked, range(block * slots, (block + 1) * slots)))
 
 
+@functools.lru_cache(300)
 def held_in(image: bytes) -> Held:
     """What an image holds; refuses one that isn't whole, and pixels that no source gave."""
     found = layout.read_once(lambda at, count: image[at:at + count], len(image))
@@ -107,6 +124,13 @@ def held_in(image: bytes) -> Held:
             names[number] = name_of(image[at:at + SIZE])
     blocks = [it.block for it in found.segments if it.open and it.whole]
     return Held(names, list(found.clips), blocks, geometry)
+
+
+@functools.lru_cache(300)
+def clips_of(table: bytes) -> list[tuple[int, int, int, int]]:
+    """The clips of a table."""
+    open_ones = [it for it, gate in enumerate(table[::layout.ENTRY]) if gate == layout.OPEN]
+    return [(it, *ENTRY.unpack_from(table, layout.ENTRY * it)) for it in open_ones]
 
 
 def moment_of(text: str) -> int:
@@ -149,12 +173,15 @@ class Judge:
     def __init__(self, world: World) -> None:
         self.world = world
         self.cameras = {it.name: it for it in world.cameras}
+        self.paths = {path: it.name for it in world.cameras for path in it.paths()}
         self.kinds = kinds_of_lines()
         self.clips: dict[tuple[str, int], Clip] = {}
         self.saved: dict[str, bytes] = {}
         # Each event: the cameras that it means, and those for which it was told as over.
         self.events: dict[int, tuple[set[str], set[str]]] = {}
         self.spans: dict[int, tuple[int, int]] = {}
+        # The tags of events whose end lies ahead: their numbers, or those that orders gave.
+        self.grows: set[int] = set()
         self.came: dict[str, list[tuple[int, int]]] = {it: [] for it in self.cameras}
         # Events that were over while their file couldn't be written, as was told.
         self.unsure: set[int] = set()
@@ -163,7 +190,12 @@ class Judge:
         self.streams: dict[str, dict[int, int]] = {it: {} for it in self.cameras}
         self.writer = dict.fromkeys(self.cameras, 0)
         self.kept_of: dict[tuple[int, str], set[int]] = {}
+        # Which paths are pipes.
+        self.pipes = {"nobody"}
         self.found: list[str] = []
+        # How many frames a camera gave up, in any life.
+        self.gave: dict[str, int] = {}
+        self.told, self.kept = Told(self), Kept(self)
 
     def says(self, what: str) -> None:
         """Something is wrong."""
@@ -179,6 +211,11 @@ class Judge:
         self.begins(lived)
         chance = random.Random(f"judge {seed}")
         lines = told(lived.records)
+        self.lines_of = lines
+        for it in [it for _, _, it in lines if it["kind"] == "given_up"]:
+            self.gave[it["camera"]] = self.gave.get(it["camera"], 0) + it["frames"]
+        # Whose frames waited before they were read: they have a later time than they came.
+        self.waits = {said["camera"] for _, _, said in lines if said["kind"] == "waited"}
         self.frees = [(time, it["camera"], it["id"]) for _, time, it in lines
                       if it["kind"] == "released"]
         self.out_of_order = {it["camera"] for _, _, it in lines
@@ -189,13 +226,20 @@ class Judge:
         count = len(lived.records)
         looks = {chance.randrange(count) for _ in range(LOOKS)} if count else set()
         looks |= set(chance.sample(sorted(by_record), min(LINES, len(by_record))))
+        if self.world.is_piped:
+            self.reads_alone(lived, lines)
+            return self.found
         self.looks_at(lived.before, lived.life.begins, "at the start")
         for index, record in enumerate(lived.records):
             if record.kind == "W":
                 self.writes(record)
+                self.kept.is_away(record)
+            if record.kind in "CNL":
+                self.kept.names_change(record)
             self.disk.take(record)
             if record.kind == "V":
                 self.moves(record.data.decode().split("\0")[0])
+                self.kept.moves(*record.data.decode().split("\0"), record.time)
             if record.kind in "PDQ":
                 self.comes(record.number, record.place, record.time, record.kind)
             for said in by_record.get(index, ()):
@@ -204,6 +248,23 @@ class Judge:
                 self.look(chance, record.time)
         self.ends(lived, lines)
         return self.found
+
+    def reads_alone(self, lived: Lived, lines: list) -> None:
+        """Where answers are a pipe whose reader comes and goes lines may be dropped: each that is
+        there is a line, and it is told how many aren't."""
+        for _, time, said in lines:
+            self.reads(said, time)
+        if lived.status not in (0, 1, 137) or lived.why().startswith(("all threads", "broken")):
+            self.says(f"ended with {lived.status}, {lived.why()}")
+        dropped = any(said["kind"] == "dropped_lines" for _, _, said in lines)
+        asked = {it.split()[2][1:] for it in self.script if it.startswith("order ")}
+        done = {said.get("label") for _, _, said in lines if said["kind"] == "done"}
+        readers = [list(map(int, it.split()[1:])) for it in self.script
+                   if it.startswith("reader ")]
+        is_read = any(since < lived.end() - SECOND and until > lived.end() and rate > 10_000
+                      for since, until, rate in readers)
+        if lived.why().startswith("ended") and not dropped and is_read and asked - done:
+            self.says(f"lines are missing, and that isn't told: {sorted(asked - done)}")
 
     def begins(self, lived: Lived) -> None:
         """A life begins."""
@@ -233,6 +294,12 @@ class Judge:
         self.begun: set[int] = set()
         self.begin_next = {it: self.stored_in(lived.before, it) for it in self.cameras}
         self.late = {it for it in self.cameras if self.cameras[it].is_ahead}
+        # Which cameras' writers left amid a frame, and the times that their frames say.
+        self.cuts: dict[str, int] = {}
+        self.said_at: dict[str, dict[int, int]] = {it: {} for it in self.cameras}
+        self.came_at: dict[str, dict[int, int]] = {it: {} for it in self.cameras}
+        self.told.begins(lived)
+        self.kept.begins(lived)
 
     def stored_in(self, files: dict[str, bytes], name: str) -> int:
         """How many frames the stores of a camera say that they ever had."""
@@ -241,7 +308,7 @@ class Judge:
 
     def held(self, image: bytes | None) -> Held | None:
         """What a store's image holds, if there is one."""
-        if image is None:
+        if image is None or image[:8] == b"no store":
             return None
         try:
             return held_in(image)
@@ -268,12 +335,17 @@ class Judge:
             self.here[name].append((time, int(words[3])))
             self.came[name].append((time, int(words[3])))
             self.streams[name][int(words[3])] = self.writer[name]
+            self.said_at[name][int(words[3])] = int(words[1]) - 20_000
+            self.came_at[name][int(words[3])] = time
         elif words[0] in ("frame", "part", "close"):
             self.writer[name] += 1
+            self.cuts[name] = self.cuts.get(name, 0) + (words[0] == "part")
             if kind == "D":
                 self.broken.add(name)
         elif words[0] in ("order", "unended"):
             self.ordered(words[2].removeprefix("@"), words[3:], time)
+        self.told.comes(name, words, time, kind)
+        self.kept.comes(name, words, time, kind)
 
     def ordered(self, label: str, words: list[str], time: int) -> None:
         """An order came."""
@@ -298,6 +370,8 @@ class Judge:
             return
         if not always <= members <= always | sometimes:
             self.says(f"members that the reference doesn't name: {said}")
+        if self.world.is_piped:
+            return
         if label is not None:
             if label not in self.given or label in self.done:
                 self.says(f"an answer to no order, or after its end: {said}")
@@ -305,6 +379,8 @@ class Judge:
         reader = getattr(self, f"reads_{kind}", None)
         if reader:
             reader(said, time)
+        self.told.reads(said, time)
+        self.kept.reads(said, time)
 
     def reads_done(self, said: dict, time: int) -> None:
         """An order is answered, once; a release by its id is done, or refused."""
@@ -331,7 +407,7 @@ class Judge:
         held = self.held(bytes(file.now)) if file else None
         numbers = range(said["first"], said["last"] + 1)
         tag = said.get("tag", said["event"])
-        if held and held.has_clip(said["id"] % 64, said["first"], said["last"], tag):
+        if held and held.has_clip(said["first"], said["last"], tag):
             names = {it: held.names[it] for it in numbers}
             for old, clip in list(self.clips.items()):
                 if clip.path == path and clip.is_within(said["first"], said["last"], tag):
@@ -347,14 +423,15 @@ class Judge:
 
     def lost_in(self, said: dict, held: Held, camera: Camera) -> None:
         """As many frames are told as lost as numbers of one writer are missing in a clip. Of
-        several stores, one of another may have them."""
+        several stores, one of another may have them; what a failing disk gave up is missing, too,
+        before the first frame of a writer."""
         if not camera.says_numbers or camera.stores > 1:
             return
         names = [held.names[it] for it in range(said["first"], said["last"] + 1)]
         stream = self.streams[camera.name]
         gap = sum(two - one - 1 for one, two in zip(names, names[1:])
                   if stream.get(one, 0) == stream.get(two, 1))
-        if said.get("lost", 0) != gap:
+        if not gap <= said.get("lost", 0) <= gap + self.gave.get(camera.name, 0):
             self.says(f"{gap} numbers are missing, and told was {said}")
 
     def reads_released(self, said: dict, time: int) -> None:
@@ -363,8 +440,9 @@ class Judge:
         had = self.tables.get((path, said["id"] % 64), set())
         now = self.table(path)
         for which, clip in list(self.clips.items()):
+            # A part of an event that goes on takes with it the shorter ones that it covers.
             if clip.path == path and any(clip.is_within(*it) for it in had) and \
-                    not any(clip.is_within(*it[1:]) for it in now):
+                    (clip.tag in self.grows or not any(clip.is_within(*it[1:]) for it in now)):
                 del self.clips[which]
         self.was_freed.add((said["camera"], said["id"]))
         self.room_at[said["camera"]] = time
@@ -372,14 +450,15 @@ class Judge:
     def table(self, path: str) -> list[tuple[int, int, int, int]]:
         """The clips of a store's file now."""
         file = self.disk.names.get(path)
-        return layout.clips_in(bytes(file.now[layout.SUPER:layout.FRONT]), 2) if file else []
+        if file is None or file.now[:1] != bytes([layout.OPEN]):
+            return []
+        return clips_of(bytes(file.now[layout.SUPER:layout.FRONT]))
 
-    def sees_tables(self) -> None:
-        """A file is about to be changed: remembers which clip each id was."""
-        for camera in self.cameras.values():
-            for path in camera.paths():
-                for own, *clip in self.table(path):
-                    self.tables.setdefault((path, own), set()).add(tuple(clip))
+    def sees_tables(self, *paths: str) -> None:
+        """Files are about to be changed, or all are looked at: remembers which clip each id was."""
+        for path in paths or self.paths:
+            for own, *clip in self.table(path):
+                self.tables.setdefault((path, own), set()).add(tuple(clip))
 
     def reads_saved(self, said: dict, time: int) -> None:
         """The file is there, whole, and has as many frames."""
@@ -418,6 +497,9 @@ class Judge:
         """An event goes on, and none that was over."""
         event = said["event"]
         self.begun.add(event)
+        self.grows.add(event)
+        self.grows |= {it.get("tag", event) for it in self.answers.get(said.get("label", ""), ())
+                       if it["kind"] == "kept"}
         # Each camera may have a line of its own, without its name: what is of all counts.
         since, until = self.spans.get(event, (0, 2**63))
         self.spans[event] = (max(since, moment_of(said["from"])), min(until, moment_of(said["to"])))
@@ -482,12 +564,14 @@ class Judge:
             return
         for name, camera in self.cameras.items():
             mine = [it for it in lines if it.get("camera") == name]
-            if any(it["kind"] != "kept" for it in mine) or not mine or "times_from" in camera.words:
+            if any(it["kind"] != "kept" for it in mine) or not mine or \
+                    "times_from" in camera.words or name in self.waits:
                 continue
             rest = [it for it in words[1:] if it not in self.cameras]
             seconds = int(rest[0]) if rest and rest[0].isdigit() else camera.words["keep"]
             # Its end may lie ahead of the order, and before the answer of a slow disk.
-            more = sum(int(it[1:]) for it in rest if it.startswith("+") and it[1:].isdigit())
+            ahead = [int(it[1:]) for it in rest if it.startswith("+") and it[1:].isdigit()]
+            more = ahead[0] if ahead else int(str(camera.words.get("after", 0)))
             since = self.given[label] - seconds * SECOND
             until = self.given[label] + more * SECOND
             if "from" in words:
@@ -533,6 +617,7 @@ class Judge:
         """Looks at the files, as they are and as a loss of power may leave them."""
         self.looks_at(self.disk.present(), time, "")
         self.goes_on(time)
+        self.kept.goes_on_by_rule(time)
         for _ in range(2):
             image = self.disk.after_loss(chooser(chance), chance.randrange)
             self.looks_at(image, time, "after a loss of power")
@@ -556,6 +641,7 @@ class Judge:
                 del self.clips[which]
         for path, text in list(self.saved.items()):
             self.looks_at_text(files, path, text, time, when)
+        self.kept.look(files, time, when)
 
     def looks_at_text(self, files: dict[str, bytes], path: str, text: bytes, time: int,
                       when: str) -> None:
@@ -597,11 +683,9 @@ class Judge:
         """A life has ended."""
         life, end = lived.life, lived.end()
         stopped = lived.why().startswith("ended")
-        # Where the computer stands still, a line without its end may be joined to the next one.
-        is_joined = "\npause" in life.script and "\nunended" in life.script
-        for label, at in self.given.items() if not is_joined else ():
+        for label, at in self.given.items():
             is_late = stopped or not life.is_faulty and end - at > 70 * SECOND
-            if label not in self.done and is_late:
+            if label not in self.done and is_late and label not in self.kept.joined:
                 self.says(f"no answer to @{label} {life.orders[label]}, given at {at}")
         if lived.status not in (0, 137) or lived.why().startswith(("all threads", "broken")):
             self.says(f"ended with {lived.status}, {lived.why()}")
@@ -610,24 +694,30 @@ class Judge:
         self.looks_at(lived.left, end, "at the end")
         self.looks_at(lived.after, end, "at the end, after it")
         self.all_stored()
+        self.told.ends(lived, lines)
+        self.kept.ends(lived, lines)
         self.goes_on_with_events(lived)
         self.forgets(lived.after)
 
     def writes(self, record: Record) -> None:
         """A store's file is about to be changed."""
         file = self.disk.files.get(record.number)
-        for name, camera in self.cameras.items():
-            for path in camera.paths() if file else ():
-                if self.disk.names.get(path) is file:
-                    if layout.SUPER <= record.place < layout.FRONT:
-                        self.sees_tables()
-                        self.locked_at[name] = record.time
-                        if record.data[:1] == bytes([layout.CLOSED]):
-                            self.room_at[name] = record.time
-                    else:
-                        self.goes(name, path, file, record)
-                        self.stored_at[name] = record.time
-                        self.stored[name].update(names_in_slots(record.data))
+        path = next((it for it in self.paths if self.disk.names.get(it) is file), None)
+        if file is None or path is None:
+            return
+        name, is_table = self.paths[path], layout.SUPER <= record.place < layout.FRONT
+        names = set() if is_table else names_in_slots(record.data)
+        self.told.writes(name, path, record, names)
+        if is_table:
+            self.sees_tables(path)
+            self.locked_at[name] = record.time
+            if record.data[:1] == bytes([layout.CLOSED]):
+                self.room_at[name] = record.time
+        else:
+            self.goes(name, path, file, record)
+            self.stored_at[name] = record.time
+            self.stored[name].update(names)
+        self.kept.writes(name, path, record, names)
 
     def goes(self, name: str, path: str, file: File, record: Record) -> None:
         """A block that goes is the oldest of all that no clip locks and that aren't the newest of
@@ -643,6 +733,11 @@ class Judge:
                                                    range(held.geometry.segments)):
             return
         block = int.from_bytes(file.now[record.place + layout.BLOCK_AT:][:8], "little")
+        free = [it for it, other in stores.items() if other and it != path
+                and len(other.blocks) < other.geometry.segments]
+        is_open = record.time - self.opened.get(name, record.time) > SOON
+        if free and is_open and not self.lived.life.is_slow and not self.world.strange_files:
+            self.says(f"{path} gives up a block at {record.time}, and {free} have room")
         gone = held.first_of(block)
         may = [it.first_of(block) for it in stores.values() if it
                for block in it.blocks if it.may_go(block)]
@@ -650,6 +745,11 @@ class Judge:
             self.says(f"{path} gives up frame {gone} of {name}, and {min(may)} came before it,"
                       f" isn't locked, and isn't in the newest block of its store, at"
                       f" {record.time}")
+
+    def single(self, name: str) -> bool:
+        """Whether a camera that is to have several stores has an old one, which is its only one."""
+        return f"{name}.loop" in self.disk.names or bool(
+            self.world.strange_files & set(self.cameras[name].paths()))
 
     def present(self, path: str) -> bytes | None:
         """What a file holds."""
@@ -685,8 +785,7 @@ class Judge:
                     not self.frees_itself(which, self.lived.end(), clip):
                 continue
             held = self.held(files.get(clip.path))
-            place = which[1] % 64
-            if held is None or not held.has_clip(place, clip.first, clip.last, clip.tag):
+            if held is None or not held.has_clip(clip.first, clip.last, clip.tag):
                 del self.clips[which]
         for path in self.replacing & set(self.saved):
             if path in files:

@@ -11,8 +11,9 @@ import tempfile
 from pathlib import Path
 from typing import NamedTuple
 
+import unproved
 from simulated_disk import Disk, Record, log_of
-from simulated_world import Life, World
+from simulated_world import LINKED, Life, World
 
 TOOLS = Path(__file__).resolve().parents[2] / "tools"
 # So many seconds a life may take.
@@ -22,11 +23,16 @@ OUTSIDE = ("station.toml", "answers")
 ADDRESSES_STAY = 0x0040000
 
 
-def library(folder: Path) -> Path:
-    """The preloaded library, built into a folder."""
-    path = folder / "virtual.so"
-    words = ["cc", "-shared", "-fPIC", "-O2", "-o", path, TOOLS / "virtual.c", "-ldl"]
-    subprocess.run(words, check=True)
+def library() -> Path:
+    """The preloaded library, built once for the same source."""
+    path = unproved.KEPT / unproved.checksum((TOOLS / "virtual.c").read_text()) / "virtual.so"
+    if not path.exists():
+        path.parent.mkdir(parents=True, exist_ok=True)
+        made = path.with_suffix(f".{os.getpid()}")
+        words = ["cc", "-shared", "-fPIC", "-O2", "-o", made, TOOLS / "virtual.c", "-ldl"]
+        subprocess.run(words, check=True)
+        made.rename(path)
+    os.utime(path.parent)
     return path
 
 
@@ -35,12 +41,18 @@ class Lived(NamedTuple):
     left and those with which the next one begins, and its standard output."""
 
     life: Life
+    log: bytes
     records: list[Record]
     before: dict[str, bytes]
     left: dict[str, bytes]
     after: dict[str, bytes]
     output: bytes
     status: int
+    # Whether the file of answers is there, which links are, and what was changed of the files that
+    # the station only reads.
+    has_answers: bool
+    links: set[str]
+    changed_files: set[str]
 
     def end(self) -> int:
         """When it ended."""
@@ -80,7 +92,9 @@ class Runner:
     def __init__(self, program: str, top: str) -> None:
         self.program, self.top = os.path.abspath(program), top
         self.made = Path(tempfile.mkdtemp(prefix="simulate", dir=top))
-        self.preload, self.lived, self.config = library(self.made), 0, ""
+        self.preload, self.lived, self.config = library(), 0, ""
+        # The number of the fault that is switched on, of a program that has some.
+        self.wrong = 0
         self.place = self.made / "seed"
         self.folder = self.place / "files"
 
@@ -96,13 +110,16 @@ class Runner:
         for name in ("orders", "nobody"):
             os.mkfifo(self.folder / name)
         self.lays(world.files())
+        (self.folder / LINKED[0]).symlink_to(LINKED[1])
+        if world.is_piped:
+            os.mkfifo(self.folder / "answers")
 
     def held(self) -> dict[str, bytes]:
         """What the files of the folder hold."""
-        paths = sorted(it for it in self.folder.rglob("*") if it.is_file())
+        paths = sorted(it for it in self.folder.rglob("*") if it.is_file() and not it.is_symlink())
         names = ((str(it.relative_to(self.folder)), it) for it in paths)
         return {name: path.read_bytes() for name, path in names
-                if name not in OUTSIDE and not name.startswith("next.")}
+                if name not in OUTSIDE and not name.startswith(("next.", "answers."))}
 
     def lays(self, files: dict[str, bytes]) -> None:
         """Makes the folder's files these."""
@@ -111,8 +128,8 @@ class Runner:
         for name, data in sorted(files.items()):
             (self.folder / name).write_bytes(data)
 
-    def lives(self, life: Life, seed: str) -> Lived:
-        """Lives a life, and what comes after it."""
+    def lives(self, life: Life, seed: str, known: Lived | None = None) -> Lived:
+        """Lives a life, and what comes after it. Where it is as one that is known, that is it."""
         at, self.lived = self.lived, self.lived + 1
         script, log = self.place / f"script.{at}", self.place / f"log.{at}"
         script.write_text(life.script)
@@ -120,8 +137,13 @@ class Runner:
             (self.folder / name).write_text(text)
         before = self.held()
         env = {"LD_PRELOAD": str(self.preload), "VIRTUAL_SCRIPT": str(script),
-               "VIRTUAL_LOG": str(log), "PATH": os.environ["PATH"]}
+               "VIRTUAL_LOG": str(log), "PATH": os.environ["PATH"],
+               "LOOP_WRONG": f"{self.wrong:06}"}
         output, status = self.runs(env, self.place / f"output.{at}")
+        data = log.read_bytes().rstrip(b"\0") if log.exists() else b""
+        if known and data == known.log and output == known.output:
+            self.lays(known.after)
+            return known
         records = log_of(str(log))
         left = self.held()
         after = left
@@ -133,7 +155,11 @@ class Runner:
             choose = chooser(chance)
             after = disk.after_loss(choose, chance.randrange)
             self.lays(after)
-        return Lived(life, records, before, left, after, output, status)
+        links = {it.name for it in self.folder.iterdir() if it.is_symlink()}
+        config = (self.folder / "station.toml").read_text()
+        changed = set() if config in (self.config, *life.files.values()) else {"config"}
+        return Lived(life, data, records, before, left, after, output, status,
+                     (self.folder / "answers").exists(), links, changed)
 
     def runs(self, env: dict[str, str], out: Path) -> tuple[bytes, int]:
         """Runs the program; answers its output and its status."""

@@ -5,6 +5,7 @@ it alone."""
 from __future__ import annotations
 
 import dataclasses
+import functools
 import random
 import time
 
@@ -18,12 +19,27 @@ NAMES = ("left", "right", "belt", "gate")
 EIO, ENOSPC = 5, 28
 # So many bytes of a header's beginning the station knows as such at the end of a frame.
 BEGUN = 6
+# How much is saved to names of this kind, and what stands beside the stores that is no file of
+# the station: what has the name of an unfinished text, and a store of somebody else.
+SAVED = 20
+OTHERS = ("saved3.part", "saved7")
+LINKED = ("saved5.part", "precious")
+# From this seed on worlds have more of what is rare in others.
+RARE = 10_000
 
 
 def moment(at: int) -> str:
     """A time of the world, as an order has it."""
     whole = time.strftime("%Y-%m-%dT%H:%M:%S", time.gmtime((EPOCH + at) // SECOND))
     return f"{whole}.{(EPOCH + at) % SECOND:06}Z"
+
+
+@functools.cache
+def paths_of(name: str, stores: int) -> list[str]:
+    """The files of a camera's stores."""
+    if stores == 1:
+        return [f"{name}.loop"]
+    return [f"{name}.{it:03}.loop" for it in range(stores)]
 
 
 @dataclasses.dataclass
@@ -50,9 +66,7 @@ class Camera:
 
     def paths(self) -> list[str]:
         """Its stores' files."""
-        if self.stores == 1:
-            return [f"{self.name}.loop"]
-        return [f"{self.name}.{it:03}.loop" for it in range(self.stores)]
+        return paths_of(self.name, self.stores)
 
     def header(self) -> str:
         """The first line of its source."""
@@ -100,8 +114,17 @@ class World:
         pick = self.chance
         self.has_faults = pick.random() < 0.5
         self.kills_early = pick.random() < 0.3
+        # The only folder into which orders may write, in some worlds.
+        self.saves = "clips" if pick.random() < 0.15 else ""
         self.cameras = [self.camera(at) for at in range(pick.choice((1, 1, 1, 2, 2, 3)))]
         self.count = 0
+        # The answers are a pipe, whose reader comes and goes: lines may be dropped.
+        self.is_piped = pick.random() < 0.04
+        # Stores of layout 1, and files with the name of a store that aren't one.
+        self.old: set[str] = set()
+        self.strange_files: set[str] = set()
+        # What nobody may change.
+        self.foreign: dict[str, bytes] = {}
 
     def camera(self, at: int) -> Camera:
         """A camera of any kind."""
@@ -118,6 +141,8 @@ class World:
             words["memory"] = pick.choice((1000, 5000, "1 s"))
         if pick.random() < 0.2:
             words["buffers"] = pick.choice((4, 32))
+        if pick.random() < 0.15:
+            words["tag"] = 7
         if pick.random() < 0.25:
             words["save_to"] = "clips"
             words["release"] = pick.random() < 0.5
@@ -130,6 +155,8 @@ class World:
     def config(self, without: str = "") -> str:
         """The station's file, perhaps without a camera."""
         head = 'orders = "orders"\nanswers = "answers"\nanswers_form = "json"\n'
+        if self.saves:
+            head += f'saves = "{self.saves}"\n'
         return head + "".join(it.lines() for it in self.cameras if it.name != without)
 
     def files(self) -> dict[str, bytes]:
@@ -140,8 +167,16 @@ class World:
             for at, path in enumerate(camera.paths()):
                 likely = 0.7 if camera.stores == 1 else 0.93 if at else 1
                 if self.chance.random() < likely:
-                    found[path] = layout.fresh(camera.geometry())
-        return found
+                    is_old = self.chance.random() < 0.03
+                    if is_old:
+                        self.old.add(path)
+                    found[path] = layout.fresh(camera.geometry(), 1 if is_old else 2)
+                elif at and self.chance.random() < 0.3:
+                    self.strange_files.add(path)
+                    found[path] = b"no store" * 100
+        other = layout.fresh(self.cameras[0].geometry())
+        self.foreign = {OTHERS[0]: b"somebody's own", OTHERS[1]: other, LINKED[1]: b"precious"}
+        return {**found, **self.foreign}
 
     def life(self, now: int, is_first: bool, is_last: bool) -> Life:
         """The next life, which begins now."""
@@ -161,7 +196,15 @@ class World:
             camera.is_ahead = not is_first and pick.random() < 0.25
             lines.append(f"pipe {int(camera.is_ahead)} {camera.name}.y4m {camera.header()}")
         lines.append("orders orders")
-        lines += [f"sync {it.name} {pick.choice((50, 500, 3000, 8000))}" for it in self.cameras]
+        if self.is_piped:
+            at = now + pick.choice((0, SECOND, span // 2, span - SECOND))
+            while at < now + span:
+                until = at + pick.choice((SECOND, span))
+                lines.append(f"reader {at} {until} {pick.choice((0, 2000, 100_000))}")
+                at = until + pick.choice((SECOND, span // 3))
+        crawls = pick.random() < 0.05
+        syncs = (30_000, 60_000) if crawls else (50, 500, 3000, 8000)
+        lines += [f"sync {it.name} {pick.choice(syncs)}" for it in self.cameras]
         faults = self.faults(now, now + span) if self.has_faults else []
         orders: dict[str, str] = {}
         events = []
@@ -170,6 +213,12 @@ class World:
         events += self.orders(now, now + span, orders)
         events += self.strange(now, now + span)
         files, changed = self.reloads(now, now + span, orders, events)
+        if self.seed >= RARE:
+            more, rare = self.rare(now, now + span, orders)
+            lines += more
+            events += rare
+            crawls = crawls or bool(more)
+            faults += [it for it in more if it.startswith("bad")]
         if end == "stop":
             events.append((now + span, self.order("stop", now + span, orders)))
             events.append((now + span + 100 * SECOND, f"kill {now + span + 100 * SECOND}"))
@@ -184,8 +233,8 @@ class World:
         script = "\n".join(lines + faults + [it for _, it in events]) + "\n"
         down = pick.choice((100_000, SECOND, 5 * SECOND))
         is_faulty = any(it.startswith("bad") for it in faults)
-        return Life(now, now + span, script, end, orders, is_faulty, bool(faults), down, files,
-                    changed)
+        return Life(now, now + span, script, end, orders, is_faulty, bool(faults) or crawls, down,
+                    files, changed)
 
     def reloads(self, since: int, until: int, orders: dict[str, str],
                 events: list[tuple[int, str]]) -> tuple[dict[str, str], set[str]]:
@@ -217,12 +266,15 @@ class World:
                 stall = pick.choice((100_000, 400_000, 2 * SECOND))
                 found.append(f"slow {begin} {end} {name} {stall}")
             elif what < 0.8:
-                call = pick.choice(("sync", "write", "sync"))
+                call = pick.choice(("sync", "write", "sync", "read"))
                 found.append(f"bad {begin} {end} {name} {call} {EIO} {pick.choice((1, 3, 10))}")
             else:
-                kind = pick.choice((".part", ".new", ".events"))
+                kind = pick.choice((".part", ".new", ".events", ".new"))
                 call = pick.choice(("open", "write", "sync", "rename"))
                 error = pick.choice((EIO, ENOSPC))
+                if kind == ".new" and pick.random() < 0.5:
+                    # The disk is full.
+                    begin, end, call, error = since, until, "truncate", ENOSPC
                 found.append(f"bad {begin} {end} {kind} {call} {error} {pick.choice((1, 2))}")
         return found
 
@@ -235,9 +287,12 @@ class World:
         if pick.random() < 0.1:
             at = pick.randint(since, until)
             found.append((at, f"pause {at} {pick.choice((200_000, SECOND, 4 * SECOND))}"))
-        if pick.random() < 0.05:
+        if pick.random() < 0.07:
             at, path = pick.randint(since, until), pick.choice(pick.choice(self.cameras).paths())
             found.append((at, f"move {at} {path} moved{at}"))
+        if pick.random() < 0.05 and not self.is_piped:
+            at = pick.randint(since, until)
+            found.append((at, f"move {at} answers answers.{at}"))
         return found
 
     def frames(self, camera: Camera, since: int, until: int) -> list[tuple[int, str]]:
@@ -269,6 +324,31 @@ class World:
             at += camera.period + pick.randint(-camera.period // 20, camera.period // 20)
         camera.due = at
         return found
+
+    def rare(self, since: int, until: int, orders: dict[str, str]
+             ) -> tuple[list[str], list[tuple[int, str]]]:
+        """What is rare elsewhere: a disk that is slow to read, a store of several that fails for a
+        while, a save to a pipe that nobody reads and that is cancelled, and so many lines that not
+        all of them wait for a reader."""
+        pick = random.Random(f"rare {self.seed} {since}")
+        camera, lines, found = pick.choice(self.cameras), [], []
+        if pick.random() < 0.5:
+            lines.append(f"reads {camera.name} {pick.choice((1000, 5000, 20_000))}")
+        if pick.random() < 0.3 and camera.stores > 1:
+            at = pick.randint(since + SECOND, until)
+            lines.append(f"bad {at} {at + SECOND // 2} {pick.choice(camera.paths())} sync {EIO} 1")
+        at = since + 2 * SECOND
+        if pick.random() < 0.5 and until - at > 6 * SECOND:
+            texts = [f"keep {camera.name} 1 55", f"save {camera.name} 0 nobody",
+                     f"cancel {camera.name} 0"]
+            found += [(at + it * 200_000, self.order(text, at + it * 200_000, orders))
+                      for it, text in enumerate(texts)]
+            later = at + 4 * SECOND
+            found.append((later, self.order(f"release {camera.name} 0", later, orders)))
+        if self.is_piped:
+            found += [(at + it * 1000, self.order("help", at + it * 1000, orders))
+                      for it in range(120)]
+        return lines, found
 
     def line(self, camera: Camera, at: int) -> str:
         """The line of a frame."""
@@ -346,10 +426,16 @@ class World:
             if pick.random() < 0.1:
                 # A pipe that nobody reads.
                 return f"save {camera.name} {clip} nobody"
+            out = f"saved{pick.randint(0, SAVED)}"
+            if self.saves and pick.random() < 0.7:
+                out = f"{self.saves}/{out}"
+            if pick.random() < 0.05:
+                # What the station itself reads or writes.
+                out = pick.choice((*camera.paths(), "station.toml", "answers", "orders",
+                                   f"{camera.name}.loop.events", f"{camera.name}.y4m"))
             if pick.random() < 0.2:
-                tag, out = pick.choice((7, 1, 2)), f"saved{pick.randint(0, 20)}"
-                return f"save{bang} {camera.name} #{tag} {out}"
-            return f"save{bang} {camera.name} {clip} saved{pick.randint(0, 20)}"
+                return f"save{bang} {camera.name} #{pick.choice((7, 1, 2))} {out}"
+            return f"save{bang} {camera.name} {clip} {out}"
         if what < 0.78:
             return f"cancel {camera.name} {clip}"
         if what < 0.88:

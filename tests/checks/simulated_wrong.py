@@ -98,9 +98,11 @@ def frame_gone(world: World, lived: Lived, chance: random.Random) -> Lived | Non
 
 
 def said_otherwise(lived: Lived, kind: str, change: Callable[[dict], None],
-                   chance: random.Random) -> Lived | None:
-    """A line says something else."""
-    mine = [(index, said) for index, _, said in told(lived.records) if said["kind"] == kind]
+                   chance: random.Random, key: str = "kind",
+                   fits: Callable[[dict], bool] = bool) -> Lived | None:
+    """A line says something else, one that fits, and has a member of this name."""
+    mine = [(index, said) for index, _, said in told(lived.records)
+            if said["kind"] == kind and key in said and fits(said)]
     if not mine:
         return None
     index, said = chance.choice(mine)
@@ -128,11 +130,13 @@ def other_frames(world: World, lived: Lived, chance: random.Random) -> Lived | N
     def change(line: dict) -> None:
         line["last"] += 500
 
+    def fits(said: dict) -> bool:
+        is_freed = f" release {said['camera']} {said['id']}\n" in lived.life.script
+        return said["camera"] in names and not is_freed
+
     names = {it.name for it in world.cameras if it.words["when_full"] == "stop"
-             and not it.words.get("release")}
-    if not any(said["kind"] == "kept" for _, _, said in told(lived.records)) or not names:
-        return None
-    return said_otherwise(lived, "kept", change, chance)
+             and not it.words.get("release")} - lived.life.changed
+    return said_otherwise(lived, "kept", change, chance, fits=fits)
 
 
 def other_kind(world: World, lived: Lived, chance: random.Random) -> Lived | None:
@@ -168,7 +172,48 @@ def file_gone(world: World, lived: Lived, chance: random.Random) -> Lived | None
     return with_more(lived, index, [Record("U", time, 0, 0, said["path"].encode())])
 
 
+def untold(*kinds: str) -> Callable[[World, Lived, random.Random], Lived | None]:
+    """What is told of a camera, or of the computer, isn't told: all lines of these kinds."""
+    def form(world: World, lived: Lived, chance: random.Random) -> Lived | None:
+        life, end = lived.life, lived.end()
+        mine = [time for _, time, said in told(lived.records) if said["kind"] in kinds]
+        if not mine or life.is_slow or life.is_faulty or life.changed or world.is_piped or \
+                end - max(mine) < 3_200_000 or "\nmove" in life.script:
+            return None
+        records = []
+        for record in lived.records:
+            if record.kind == "A":
+                lines = [it for it in record.data.split(b"\n")
+                         if it and json.loads(it)["kind"] not in kinds]
+                record = record._replace(data=b"".join(it + b"\n" for it in lines))
+            records.append(record)
+        return lived._replace(records=records)
+
+    return form
+
+
+def otherwise(kind: str, key: str, more: int) -> Callable[..., Lived | None]:
+    """A line of a kind says another number, of all that have one."""
+    def form(world: World, lived: Lived, chance: random.Random) -> Lived | None:
+        def change(line: dict) -> None:
+            line[key] += more
+
+        life = lived.life
+        if life.is_slow or life.is_faulty or life.changed or world.is_piped:
+            return None
+        return said_otherwise(lived, kind, change, chance, key)
+
+    return form
+
+
 FORMS = {
+    "a store that opens isn't told": untold("store_open"),
+    "how a disk syncs isn't told": untold("syncs"),
+    "a set clock isn't told": untold("system_clock_steps"),
+    "a source that begins isn't told": untold("source_on"),
+    "a kept clip has another tag": otherwise("kept", "tag", 1),
+    "a saved file has other frames": otherwise("saved", "id", 1),
+    "an event is another order's": otherwise("event_begun", "event", -1_000_000),
     "a kept clip is unlocked": unlocked,
     "a kept frame is another": frame_changed,
     "a kept block is gone": frame_gone,
