@@ -502,11 +502,12 @@ def sixteen(shots):
             browser.until(lambda: "no frames" in browser.text(".cam.bad .chip.bad"), "dead camera")
             for size in ("1440x900", "1024x768", "390x844"):
                 browser.dress(size, "dark")
-                time.sleep(0.6)
-                cut = browser.run(CUT)
+                # A busy machine lays all out anew in its time.
+                with contextlib.suppress(Wrong):
+                    browser.until(lambda: not browser.run(CUT) + browser.run(OVER), "whole words")
                 browser.shot(shots, f"dead-of-16-{size}")
+                cut, over = browser.run(CUT), browser.run(OVER)
                 expect(not cut, f"{size}: the names of {cut} are cut off")
-                over = browser.run(OVER)
                 expect(not over, f"{size}: other words stand on {over}")
             banner_names_all(browser, lab, shots)
     return "names are whole"
