@@ -3,7 +3,7 @@ use Rattle.std.proofs.Common.{◌≡◌, ◌⊎◌, inl, inr, ⊎_elim, ℕ, zer
 use Rattle.std.proofs.lemmas.Bool.Decides.{nat_tests}
 use Rattle.lapyrei.specs.declared.answer.Answer.{Answer}
 use Rattle.lapyrei.specs.Laws.{AskInTurn}
-use Rattle.lapyrei.specs.Told.{IsThere}
+use Rattle.loop_overlay.specs.Pages.{IsThere}
 
 -- how many of the first pages aren't there
 abbrev absent : List ℕ → ℕ → ℕ
@@ -51,8 +51,9 @@ asked_absent pages bytes present (answer ∷ answers) fits ask =
     let lacks = ask.0.lacks in
     let next = ask.1.0 in
     let there = ask.1.1.0 in
-    let one = absent_one_less present next pages lacks.page (λ page was. there page (inl was))
-    (omega (arith, lacks.within, lacks.meets.0, fits)) lacks.gone (there lacks.page (inr lacks.meets)) in
+    let one = absent_one_less present next pages lacks.lacks.page (λ page was. there page (inl was))
+    (omega (arith, lacks.within, lacks.lacks.meets.1.0, fits)) lacks.lacks.gone
+    (there lacks.lacks.page (inr lacks.lacks.meets)) in
     let rest = asked_absent pages bytes next answers fits ask.1.1.1 in
     omega (arith, one, rest)
 

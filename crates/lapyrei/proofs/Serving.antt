@@ -1,7 +1,6 @@
 -- What an exported call answers, by what its parts say.
 use Rattle.std.proofs.Common.{◌≡◌, inl, ℕ, List, [], Option, Some, Result, Ok, Err, refl, sym, subst}
 use Rattle.loop_disk.specs.Calls.{no_failures}
-use Rattle.loop_disk.specs.Crashing.{Tape, medium_after}
 use Rattle.loop_disk.specs.History.{at_rest}
 use Rattle.loop_disk.specs.Medium.{IsSound}
 use Rattle.loop_disk.specs.Sound.{sound_of}
@@ -13,14 +12,15 @@ use Rattle.loop_record.specs.declared.geometry.Geometry.{Geometry}
 use Rattle.loop_store.specs.Make.{Formats}
 use Rattle.loop_store.specs.Reopen.{OpensKeeping}
 use Rattle.loop_store.specs.Seen.{Seen}
+use Rattle.loop_overlay.specs.Pages.{Logged, logged}
 use Rattle.lapyrei.specs.declared.answer.Answer.{Answer}
 use Rattle.lapyrei.specs.declared.answer.Shape.{Shape}
 use Rattle.lapyrei.specs.Shown.{shaped, version_asked}
 use Rattle.lapyrei.specs.Told.{Deed, Given, AnswersFor, MakesStore, Serves, ServesNew, untouched}
 
 -- the store was opened, and did this
-pub served : (it : Given) (keep : ℕ) (Did : Deed) (old new : Seen Tape) (outcome : Result ℕ StoreFault)
-    (handed : Tape) (log : List ℕ) (answer : Answer) → OpensKeeping medium_after keep (untouched it.bytes) (Ok old)
+pub served : (it : Given) (keep : ℕ) (Did : Deed) (old new : Seen Logged) (outcome : Result ℕ StoreFault)
+    (handed : Logged) (log : List ℕ) (answer : Answer) → OpensKeeping logged keep (untouched it.bytes it.present) (Ok old)
     → Did old new outcome → handed ≡ new.disk
     → AnswersFor it outcome handed log answer → Serves it keep Did log answer
 served it keep Did old new outcome handed log answer opens did left told = record {
@@ -31,8 +31,8 @@ served it keep Did old new outcome handed log answer opens did left told = recor
 }
 
 -- there is no store
-pub unserved : (it : Given) (keep : ℕ) (Did : Deed) (refused : OpenRefused Tape) (log : List ℕ) (answer : Answer)
-    → OpensKeeping medium_after keep (untouched it.bytes) (Err refused)
+pub unserved : (it : Given) (keep : ℕ) (Did : Deed) (refused : OpenRefused Logged) (log : List ℕ) (answer : Answer)
+    → OpensKeeping logged keep (untouched it.bytes it.present) (Err refused)
     → AnswersFor it (Err refused.fault) refused.disk log answer → Serves it keep Did log answer
 unserved it keep Did refused log answer opens told = record {
   outcome = Err refused.fault;
@@ -42,10 +42,11 @@ unserved it keep Did refused log answer opens told = record {
 }
 
 -- what opens a disk may refuse for want of memory before the disk is called
-no_memory : (keep : ℕ) (start : List ℕ)
-    → OpensKeeping medium_after keep (untouched start) (Err (record { fault = NoMemory; disk = untouched start }))
-no_memory keep start =
-    let m = medium_after (untouched start) in
+no_memory : (keep : ℕ) (start present : List ℕ)
+    → OpensKeeping logged keep (untouched start present)
+    (Err (record { fault = NoMemory; disk = untouched start present }))
+no_memory keep start present =
+    let m = logged (untouched start present) in
     let sound : IsSound m = sound_of no_failures (at_rest start) [] in record {
       opened = λ honest. tt;
       found = tt;
@@ -66,22 +67,22 @@ no_memory keep start =
 
 -- memory was refused before the store was opened
 pub unopened : (it : Given) (keep : ℕ) (Did : Deed) (log : List ℕ) (answer : Answer)
-    → AnswersFor it (Err NoMemory) (untouched it.bytes) log answer → Serves it keep Did log answer
+    → AnswersFor it (Err NoMemory) (untouched it.bytes it.present) log answer → Serves it keep Did log answer
 unopened it keep Did log answer told =
-    unserved it keep Did (record { fault = NoMemory; disk = untouched it.bytes }) log answer (no_memory keep it.bytes)
+    unserved it keep Did (record { fault = NoMemory; disk = untouched it.bytes it.present }) log answer (no_memory keep it.bytes it.present)
     told
 
 -- a store was made
-pub served_new : (it : Given) (shape : Shape) (g : Geometry) (disk : Tape) (store : Seen Tape)
-    (handed : Tape) (log : List ℕ) (answer : Answer) → shaped shape ≡ Some g → disk ≡ untouched it.bytes
-    → Formats medium_after (record { geometry = g; version = version_asked shape.version }) disk (Ok store)
+pub served_new : (it : Given) (shape : Shape) (g : Geometry) (disk : Logged) (store : Seen Logged)
+    (handed : Logged) (log : List ℕ) (answer : Answer) → shaped shape ≡ Some g → disk ≡ untouched it.bytes it.present
+    → Formats logged (record { geometry = g; version = version_asked shape.version }) disk (Ok store)
     → handed ≡ store.disk → AnswersFor it (Ok 0) handed log answer → ServesNew it shape log answer
 served_new it shape g disk store handed log answer shown over makes left told =
-    let formats = subst (λ (d : Tape). Formats medium_after
+    let formats = subst (λ (d : Logged). Formats logged
     (record { geometry = g; version = version_asked shape.version }) d (Ok store)) over makes in record {
       outcome = Ok 0;
       disk = handed;
-      made = subst (λ (o : Option Geometry). MakesStore it.bytes (version_asked shape.version) o (Ok 0) handed)
+      made = subst (λ (o : Option Geometry). MakesStore (untouched it.bytes it.present) (version_asked shape.version) o (Ok 0) handed)
           (sym shown) (record {
             store = Ok store;
             opens = formats;
@@ -91,16 +92,16 @@ served_new it shape g disk store handed log answer shown over makes left told =
     }
 
 -- no store was made
-pub unserved_new : (it : Given) (shape : Shape) (g : Geometry) (disk : Tape) (refused : OpenRefused Tape)
-    (log : List ℕ) (answer : Answer) → shaped shape ≡ Some g → disk ≡ untouched it.bytes
-    → Formats medium_after (record { geometry = g; version = version_asked shape.version }) disk (Err refused)
+pub unserved_new : (it : Given) (shape : Shape) (g : Geometry) (disk : Logged) (refused : OpenRefused Logged)
+    (log : List ℕ) (answer : Answer) → shaped shape ≡ Some g → disk ≡ untouched it.bytes it.present
+    → Formats logged (record { geometry = g; version = version_asked shape.version }) disk (Err refused)
     → AnswersFor it (Err refused.fault) refused.disk log answer → ServesNew it shape log answer
 unserved_new it shape g disk refused log answer shown over makes told =
-    let formats = subst (λ (d : Tape). Formats medium_after
+    let formats = subst (λ (d : Logged). Formats logged
     (record { geometry = g; version = version_asked shape.version }) d (Err refused)) over makes in record {
       outcome = Err refused.fault;
       disk = refused.disk;
-      made = subst (λ (o : Option Geometry). MakesStore it.bytes (version_asked shape.version) o (Err refused.fault)
+      made = subst (λ (o : Option Geometry). MakesStore (untouched it.bytes it.present) (version_asked shape.version) o (Err refused.fault)
           refused.disk) (sym shown) (record { store = Err refused; opens = formats; done = (refl, refl) });
       told = told;
     }

@@ -1,8 +1,9 @@
 -- What the calls do to an open store.
-use Rattle.std.specs.Prelude.{◌≡◌, ◌⊎◌, ℕ, ◌+◌, ◌-◌, ◌*◌, ◌%◌, ◌^◌, Bool, true, false, ◌==◌, ◌&&◌, nat_le, List, [], ◌∷◌, drop, length, map, take, Option, unwrap_or, Result, Ok, Err, IsTrue}
+use Rattle.std.specs.Prelude.{◌≡◌, ◌⊎◌, ◌↔◌, ℕ, ◌+◌, ◌-◌, ◌*◌, ◌%◌, ◌^◌, Bool, true, false, ◌==◌, ◌&&◌, nat_le, List, [], ◌∷◌, drop, length, map, take, Option, unwrap_or, Result, Ok, Err, IfErr, IfOk, IsTrue}
 use Rattle.std.specs.Int.{from_bool}
+use Rattle.loop_clips.specs.declared.clip.Clip.{Clip}
 use Rattle.loop_clips.specs.Table.{clip_list}
-use Rattle.loop_disk.specs.Crashing.{Tape, medium_after}
+use Rattle.loop_overlay.specs.Pages.{Logged, logged}
 use Rattle.loop_record.specs.declared.clip.Span.{Span}
 use Rattle.loop_record.specs.declared.frame.FrameHead.{FrameHead}
 use Rattle.loop_record.specs.declared.geometry.Geometry.{Geometry}
@@ -23,8 +24,8 @@ use Rattle.lapyrei.specs.Shown.{clip_run, shown_head, put_over, shown_shape, spa
 use Rattle.lapyrei.specs.Told.{Deed}
 
 -- these calls of the model were made
-abbrev pub Calls : Seen Tape → Seen Tape → List Call → Type 0
-Calls old new calls = Goes medium_after old new calls
+abbrev pub Calls : Seen Logged → Seen Logged → List Call → Type 0
+Calls old new calls = Goes logged old new calls
 
 -- an outcome as a number
 abbrev pub as_number : {T : Type 0} → (T → ℕ) → Result T StoreFault → Result ℕ StoreFault
@@ -106,11 +107,11 @@ or_none number = unwrap_or number (2 ^ 64 - 1)
 
 -- what a store knows: its next number, how many frames are held, the least number from one on that a frame has, the
 -- block that goes next, the most frames of an append, and of any group
-pub record ShowsKnown (from : ℕ) (store : Seen Tape) (known : Known) : Type 0 where
+pub record ShowsKnown (from : ℕ) (store : Seen Logged) (known : Known) : Type 0 where
   pub next : known.next ≡ store.next
   pub held : known.held ≡ length store.numbers
   pub least : (found : Option ℕ) × (IsLeastFrom (is_among store.numbers) from found × (known.from ≡ or_none found))
-  pub victim : (r : Recording) → StandsFor medium_after store r
+  pub victim : (r : Recording) → StandsFor logged store r
       → known.victim ≡ or_none (victim (ring_in store) store.keep r)
   pub room : known.room ≡ store.geometry.slots - store.next % store.geometry.slots
   pub group : known.group ≡ 64
@@ -124,23 +125,26 @@ abbrev pub PutsRuns : List Run → List Run → Result (List Run) StoreFault →
 PutsRuns before after (Ok runs) outcome = (after ≡ put_over runs before) × (outcome ≡ Ok (length runs))
 PutsRuns before after (Err fault) outcome = (after ≡ before) × (outcome ≡ Err fault)
 
--- the clips of a store; or memory was refused, or it has to be opened again
-abbrev pub AreClips : Seen Tape → Result (List Run) StoreFault → Type 0
-AreClips store (Ok runs) = runs ≡ map clip_run (clip_list 0 store.clips)
-AreClips store (Err fault) = ((fault ≡ MustReopen) × IsTrue store.must_reopen) ⊎ (fault ≡ NoMemory)
+-- runs of C's
+abbrev pub runs_of : {T : Type 0} → (T → Run) → Result (List T) StoreFault → Result (List Run) StoreFault
+runs_of run (Ok found) = Ok (map run found)
+runs_of run (Err fault) = Err fault
+
+-- The clips that a store gives, as its own clauses say: it has to be opened again, exactly where it says so; or they are
+-- its clips by rising id; or memory was refused.
+pub record AreClips (store : Seen Logged) (clips : Result (List Clip) StoreFault) : Type 0 where
+  pub must_reopen : (clips ≡ Err MustReopen) ↔ IsTrue store.must_reopen
+  pub found : IfOk clips (λ found. found ≡ clip_list 0 store.clips)
+  pub refusals : IfErr clips (λ fault. (fault ≡ MustReopen) ⊎ (fault ≡ NoMemory))
 
 -- the clips are put into memory, and their count told
 abbrev pub PutsClips : List Run → List Run → Deed
 PutsClips before after old new outcome =
-    (new ≡ old) × ((clips : Result (List Run) StoreFault) × (AreClips old clips × PutsRuns before after clips outcome))
+    (new ≡ old) × ((clips : Result (List Clip) StoreFault)
+    × (AreClips old clips × PutsRuns before after (runs_of clip_run clips) outcome))
 
--- runs of C's
-abbrev pub span_runs : Result (List Span) StoreFault → Result (List Run) StoreFault
-span_runs (Ok spans) = Ok (map span_run spans)
-span_runs (Err fault) = Err fault
-
--- the runs of the frames of a time are put into memory, and their count told
+-- the runs of the frames of a time that the store's search gives are put into memory, and their count told
 abbrev pub PutsSought : Times → List Run → List Run → Deed
 PutsSought times before after old new outcome =
     (found : Result (List Span) StoreFault)
-    × (Calls old new (sought times found ∷ []) × PutsRuns before after (span_runs found) outcome)
+    × (Calls old new (sought times found ∷ []) × PutsRuns before after (runs_of span_run found) outcome)

@@ -1,7 +1,8 @@
 -- What follows from the definitions of what C is told.
 use Rattle.std.specs.Prelude.{◌⊎◌, ℕ, ◌*◌, ◌≤◌, List, [], ◌∷◌, length}
 use Rattle.lapyrei.specs.declared.answer.Answer.{Answer}
-use Rattle.lapyrei.specs.Told.{AllThere, AsksForBytes, IsThere, Meets}
+use Rattle.loop_overlay.specs.Pages.{IsThere, Meets}
+use Rattle.lapyrei.specs.Told.{AllThere, AsksForBytes}
 
 -- where all pages of the file are there, no answer asks for bytes
 abbrev pub WholeFilesSuffice : Type 0

@@ -1,15 +1,15 @@
 // What the calls share: the store over the file's bytes, and the answer with the log.
-ghost use Rattle.std.specs.Prelude.{Err, IfNone, IfSome, IsFalse, IsTrue};
+ghost use Rattle.std.specs.Prelude.{◌≡◌, Err, IfNone, IfSome, Some};
 ghost use Rattle.loop_store.specs.Make.{Formats};
 ghost use Rattle.loop_store.specs.Reopen.{OpensKeeping};
-ghost use Rattle.loop_disk.specs.Crashing.{medium_after};
+ghost use Rattle.loop_overlay.specs.Pages.{Lacks, logged};
 ghost use Rattle.lapyrei.specs.Shown.{version_asked};
-ghost use Rattle.lapyrei.specs.Told.{AllThere, AnswersFailed, AnswersFor, IsThere, LacksPage, given, untouched};
+ghost use Rattle.lapyrei.specs.Told.{AllThere, AnswersFailed, AnswersFor, given, untouched};
 
 use crate::answer::{Answer, WANTS_BYTES, WANTS_LOG};
 use crate::bytes::{log_length, put_calls};
 use loop_disk::Failures;
-use loop_overlay::{LogDisk, PAGE, Wanted};
+use loop_overlay::{LogDisk, PAGE, Wanted, is_gone, is_lacking};
 use loop_record::Geometry;
 use loop_store::{OpenRefused, Store, StoreFault, format, format_v1};
 use std::alloc::Global;
@@ -19,7 +19,7 @@ pub(crate) type Opened<'a> = Result<Store<LogDisk<'a>>, OpenRefused<LogDisk<'a>>
 
 /// Opens the store over the file's bytes.
 pub(crate) fn open<'a>(alloc: Global, image: &'a [u8], present: &'a [u8], keep: u32) -> Opened<'a>
-    ensures { OpensKeeping medium_after keep (untouched image.now) result }
+    ensures { OpensKeeping logged keep (untouched image.now present.now) result }
 {
     Store::open_keeping(alloc, LogDisk::new(alloc, image, present), keep)
 }
@@ -31,7 +31,7 @@ pub(crate) fn make<'a>(
     geometry: Geometry,
     version: u32,
 ) -> Opened<'a>
-    ensures { Formats medium_after (record { geometry = geometry; version = version_asked version })
+    ensures { Formats logged (record { geometry = geometry; version = version_asked version })
         disk.entry result }
 {
     if version == 1 {
@@ -41,34 +41,9 @@ pub(crate) fn make<'a>(
     }
 }
 
-// Whether the bytes of a page aren't there.
-fn is_gone(present: &[u8], page: u64) -> bool
-    ensures gone { IsTrue result → IsThere present.now page → ⊥ }
-    ensures there { IsFalse result → IsThere present.now page }
-{
-    present.get(page as usize) != Some(&1)
-}
-
-// Whether these are bytes of the file, of which a page isn't there.
-fn lacks_page(image: &[u8], present: &[u8], wanted: Wanted) -> bool
-    ensures { IsTrue result → LacksPage image.now present.now wanted.at wanted.count }
-{
-    let size = image.len() as u64;
-    if wanted.count == 0 || size < wanted.count || size - wanted.count < wanted.at {
-        return false;
-    }
-    let last = (wanted.at + wanted.count - 1) / PAGE;
-    for page in wanted.at / PAGE..last + 1 {
-        if is_gone(present, page) {
-            return true;
-        }
-    }
-    false
-}
-
 // The first byte of a page of the file that isn't there.
 fn first_gone(image: &[u8], present: &[u8]) -> Option<Wanted>
-    ensures gone { IfSome result (λ byte. LacksPage image.now present.now byte.at byte.count) }
+    ensures gone { IfSome result (λ byte. Lacks image.now present.now byte.at byte.count) }
     ensures there { IfNone result (AllThere image.now present.now) }
 {
     let pages = (image.len() as u64).div_ceil(PAGE);
@@ -83,26 +58,28 @@ fn first_gone(image: &[u8], present: &[u8]) -> Option<Wanted>
     None
 }
 
-// What to ask for where a read failed: the bytes of that read. The contracts of a disk don't say that these aren't
-// there, so it is looked into, and otherwise others are asked for that aren't.
-fn lacking(image: &[u8], present: &[u8], read: Option<Wanted>) -> Option<Wanted>
-    ensures gone { IfSome result (λ bytes. LacksPage image.now present.now bytes.at bytes.count) }
+// What to ask for where this read failed: its bytes. The contracts of a store don't say that its disk's marks are still
+// these, so it is looked into whether they lack, and otherwise others are asked for that do.
+fn lacking(image: &[u8], present: &[u8], read: Wanted) -> Option<Wanted>
+    ensures read { Lacks image.now present.now read.at read.count → result ≡ Some read }
+    ensures gone { IfSome result (λ bytes. Lacks image.now present.now bytes.at bytes.count) }
     ensures there { IfNone result (AllThere image.now present.now) }
 {
-    match read {
-        Some(bytes) if lacks_page(image, present, bytes) => Some(bytes),
-        _ => first_gone(image, present),
+    if is_lacking(image, present, read) {
+        Some(read)
+    } else {
+        first_gone(image, present)
     }
 }
 
-// The answer where calls of the disk failed: bytes that aren't there, where a read did, or `NoMemory`.
+// The answer where calls of the disk failed: the bytes of the last read that did, or `NoMemory` where none did.
 fn fail<'a>(disk: &LogDisk<'a>, image: &[u8], present: &[u8]) -> Answer
-    ensures { AnswersFailed image.now present.now disk.now.failures result }
+    ensures { AnswersFailed image.now present.now disk.now result }
 {
-    if disk.failures().reads == 0 {
+    let Some(read) = disk.wanted() else {
         return Answer::made(Err(StoreFault::NoMemory), 0);
-    }
-    match lacking(image, present, disk.wanted()) {
+    };
+    match lacking(image, present, read) {
         Some(bytes) => Answer::needs(WANTS_BYTES, bytes),
         None => Answer::made(Err(StoreFault::NoMemory), 0),
     }
@@ -145,7 +122,7 @@ pub(crate) fn refuse<'a>(
 
 /// The same where memory was refused before the store was opened.
 pub(crate) fn refuse_unopened(alloc: Global, image: &[u8], present: &[u8], log: &mut [u8]) -> Answer
-    ensures { AnswersFor (given image.now present.now log.old) (Err StoreFault.NoMemory) (untouched image.now)
+    ensures { AnswersFor (given image.now present.now log.old) (Err StoreFault.NoMemory) (untouched image.now present.now)
         log.new result }
 {
     let disk = LogDisk::new(alloc, image, present);

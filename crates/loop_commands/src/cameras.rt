@@ -12,8 +12,8 @@ use loop_disk::Disk;
 use loop_file::FileDisk;
 use loop_pages::PageFault;
 use loop_pipeline::{
-    Camera, CameraEnd, Guide, Noting, Outcome, Shot, Visits, film_all, mapped_start, new_queue,
-    start_queue,
+    Camera, CameraEnd, Guide, Noting, Outcome, Reports, Shot, Visits, film_all, mapped_start,
+    new_queue, start_queue,
 };
 use loop_plane::{MmapPlane, PlaneMemory};
 use loop_record::Geometry;
@@ -128,6 +128,12 @@ impl Visits for Post {
     const VISITED: bool = false;
 }
 
+impl Reports for Post {
+    fn flushes_again<R: Wait>(&self, _rt: &R, _fault: StoreFault) -> bool {
+        false
+    }
+}
+
 impl Guide for Post {
     ghost use Rattle.loop_commands.specs.Recorded.{IsPeriod, MayEnd};
 
@@ -140,10 +146,6 @@ impl Guide for Post {
             return None;
         }
         Some(tick_time(n, &self.geometry))
-    }
-
-    fn flushes_again<R: Wait>(&self, _rt: &R, _fault: StoreFault) -> bool {
-        false
     }
 }
 

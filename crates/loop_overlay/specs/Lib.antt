@@ -1,4 +1,5 @@
 pub mod Layers
 pub mod Log
+pub mod Pages
 pub mod Parts
 pub mod Sound

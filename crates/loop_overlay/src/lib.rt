@@ -6,18 +6,20 @@
 //! when it is dropped, its writes are gone.
 //!
 //! `log` has a disk over bytes that writes down each write and each sync, so that whoever has these bytes in a file
-//! makes them there. `carry` makes them on another disk: its contract says that a crash at any moment leaves what one
-//! of the log's disk might have left.
+//! makes them there; `pages` says which of the bytes are there already. `carry` makes them on another disk: its
+//! contract says that a crash at any moment leaves what one of the log's disk might have left.
 //!
-//! `specs/Layers` and `specs/Log` have the definitions, `proofs/` the lemmas. docs/store.md and docs/disk-model.md say
-//! why it is so.
+//! `specs/Layers`, `specs/Log` and `specs/Pages` have the definitions, `proofs/` the lemmas. docs/store.md and
+//! docs/disk-model.md say why it is so.
 #![tactic(auto)]
 
 mod carry;
 mod log;
 mod overlaid_write;
 mod overlay;
+mod pages;
 
 pub use carry::carry_out;
-pub use log::{LogDisk, PAGE, Wanted};
+pub use log::LogDisk;
 pub use overlay::OverlayDisk;
+pub use pages::{PAGE, Wanted, is_gone, is_lacking};

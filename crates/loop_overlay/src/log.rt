@@ -1,5 +1,5 @@
 // A disk over bytes that stay as they are: what is to be done to them is written down.
-ghost use Rattle.std.specs.Prelude.{⊤, ◌≡◌, ◌+◌, ◌≤◌, ◌++◌, [], ◌∷◌, ℕ, List, All, IfErr, OnErr, OnOk, length, map};
+ghost use Rattle.std.specs.Prelude.{⊤, ◌≡◌, ◌+◌, ◌≤◌, ◌++◌, [], ◌∷◌, ℕ, List, All, IfErr, None, OnErr, OnOk, length, map};
 ghost use Rattle.loop_disk.specs.declared.fault.DiskFault.TheVariants.{Read, Write, Sync};
 ghost use Rattle.loop_disk.specs.declared.crash.DeviceCall.TheVariants as call;
 ghost use Rattle.loop_disk.specs.Rows.{joined};
@@ -7,24 +7,23 @@ ghost use Rattle.loop_disk.specs.Medium.{LeavesEach, LeavesEachTorn, MayBe, piec
 ghost use Rattle.loop_disk.specs.Calls.{Called, Stays, Syncs, Writes, failed_call, no_failures, with_failed};
 ghost use Rattle.loop_disk.specs.History.{Moment, at_rest};
 ghost use Rattle.loop_disk.specs.Sound.{sound_of};
-ghost use Rattle.loop_disk.specs.Crashing.{IsWithin, Tape, after_call, call_of, medium_after, moment_after, moments_from};
+ghost use Rattle.loop_disk.specs.Crashing.{IsWithin, after_call, call_of, moment_after, moments_from};
+ghost use Rattle.loop_overlay.specs.Pages.{AllAreThere, Awaits, Lacks, logged, refused_read, with_calls, with_failures};
 ghost use Rattle.loop_overlay.specs.Parts.{IsBufferOf};
 
 use crate::overlaid_write::lay;
+use crate::pages::{Wanted, are_present};
 use loop_disk::{DeviceCall, Disk, DiskFault, Failures, join_rows};
 use std::alloc::{AllocError, Allocator, Global};
 use std::marker::Model;
-
-/// How many bytes one mark of `present` stands for.
-pub const PAGE: u64 = 4096;
 
 /// A disk over bytes that it never changes. It writes down each write, with its bytes, and each sync, in their order,
 /// and a read gives the bytes with these writes over them. So whoever has the bytes in a file makes these writes and
 /// syncs there afterwards. By its contracts that is right at every moment: `carry_out` says what a crash leaves.
 ///
-/// Only some of the bytes may be there: each page of `PAGE` bytes has a mark, 1 where its bytes are. A read of a page
-/// that isn't there fails, and `wanted` says which read it was. Nothing is merged: each write takes the memory of its
-/// bytes, and a read passes over all of them.
+/// Only some of the bytes may be there: each page of `PAGE` bytes has a mark, 1 where its bytes are. A read fails
+/// exactly where one of its pages isn't there, and `wanted` says which read it was. Nothing is merged: each write takes
+/// the memory of its bytes, and a read passes over all of them.
 #[derive(Drop)]
 pub struct LogDisk<'a, A: Allocator = Global> {
     alloc: A,
@@ -35,39 +34,38 @@ pub struct LogDisk<'a, A: Allocator = Global> {
     wanted: Option<Wanted>,
 }
 
-/// A read of bytes that weren't there.
-#[derive(Clone, Copy, Debug, PartialEq, Eq)]
-pub struct Wanted {
-    /// The place of the first byte.
-    pub at: u64,
-    /// How many bytes.
-    pub count: u64,
-}
-
 impl<'a, A: Allocator> Model for LogDisk<'a, A> {
     ghost use Rattle.std.specs.Prelude.{map};
-    ghost use Rattle.loop_disk.specs.Crashing.{Tape, call_of, moment_after};
-    ghost use Rattle.loop_disk.specs.Replay.{IsRecorded};
+    ghost use Rattle.loop_disk.specs.Crashing.{call_of};
+    ghost use Rattle.loop_overlay.specs.Pages.{IsSoundLog, Logged};
 
-    ghost Value = { Tape };
+    ghost Value = { Logged };
 
     ghost view = { λ log.
         record {
-          start = log.start.now;
-          calls = map (call_of (λ v.
-              v.items)) log.calls.items;
-          failures = log.failures;
+          tape = record {
+            start = log.start.now;
+            calls = map (call_of (λ v.
+                v.items)) log.calls.items;
+            failures = log.failures;
+          };
+          present = log.present.now;
+          wanted = log.wanted;
         } };
 
     ghost invariant = { λ log.
-        IsRecorded log.start.now (map (call_of (λ v. v.items)) log.calls.items)
-        (moment_after log.start.now (map (call_of (λ v. v.items)) log.calls.items)).bytes };
+        IsSoundLog log.start.now (map (call_of (λ v. v.items)) log.calls.items) log.present.now log.failures.reads
+        log.wanted };
 }
 
 impl<'a, A: Allocator + Copy> LogDisk<'a, A> {
     /// A disk over these bytes, with nothing written down. A mark that is missing counts as 0.
     pub fn new(alloc: A, start: &'a [u8], present: &'a [u8]) -> Self
-        ensures { result ≡ record { start = start.now; calls = []; failures = no_failures } }
+        ensures { result ≡ record {
+          tape = record { start = start.now; calls = []; failures = no_failures };
+          present = present.now;
+          wanted = None;
+        } }
     {
         LogDisk {
             alloc,
@@ -81,56 +79,60 @@ impl<'a, A: Allocator + Copy> LogDisk<'a, A> {
 
     /// What was written down, the oldest first. There is no `DeviceCall::Read` among it.
     pub fn calls(&self) -> &[DeviceCall<Vec<u8, A>>]
-        ensures { map (call_of (λ v. v.items)) result.now ≡ self.now.calls }
+        ensures { map (call_of (λ v. v.items)) result.now ≡ self.now.tape.calls }
     {
         &self.calls
     }
 
-    /// The read that failed since its bytes weren't there, the last one; nothing where no read failed so.
-    pub fn wanted(&self) -> Option<Wanted> {
+    /// The last read that failed, one of whose pages isn't there; nothing where no read failed.
+    pub fn wanted(&self) -> Option<Wanted>
+        ensures wanted { result ≡ self.now.wanted }
+        ensures awaits { Awaits self.now.tape.start self.now.present self.now.tape.failures.reads result }
+    {
         self.wanted
     }
 
     /// How many of its calls have failed. A read fails where its bytes aren't there, the others where memory is
     /// refused.
     pub fn failures(&self) -> Failures
-        ensures { result ≡ self.now.failures }
+        ensures { result ≡ self.now.tape.failures }
     {
         self.failures
     }
 }
 
 impl<'a, A: Allocator + Copy> Disk for LogDisk<'a, A> {
-    ghost medium = { medium_after };
+    ghost medium = { logged };
 
-    ghost harsh = { λ tape. ⊤ };
+    ghost harsh = { λ log. ⊤ };
 
-    ghost sound = { λ tape honest.
-        sound_of tape.failures (moment_after tape.start tape.calls) (moments_from (at_rest tape.start) [] tape.calls) };
+    ghost sound = { λ log honest.
+        sound_of log.tape.failures (moment_after log.tape.start log.tape.calls)
+        (moments_from (at_rest log.tape.start) [] log.tape.calls) };
 
     fn size(&self) -> u64 {
         self.start.len() as u64
     }
 
-    /// It fails where a page of the bytes isn't there.
+    /// It fails exactly where a page of the bytes isn't there.
     fn read(&mut self, at: u64, buf: &mut [u8]) -> Result<(), DiskFault>
-        requires { at + length buf.old ≤ (medium_after self.old).size }
-        ensures gives { (image : List ℕ) → MayBe (medium_after self.new) image → MayBe (medium_after self.old) image
+        requires { at + length buf.old ≤ (logged self.old).size }
+        ensures gives { (image : List ℕ) → MayBe (logged self.new) image → MayBe (logged self.old) image
             × OnOk result (buf.new ≡ piece at (length buf.old) image) }
-        ensures disk { (medium_after self.old).honest → Stays (medium_after self.old) (medium_after self.new) }
+        ensures disk { (logged self.old).honest → Stays (logged self.old) (logged self.new) }
         ensures done { OnOk result (self.new ≡ self.old) }
-        ensures failed { OnErr result (self.new
-            ≡ record self.old { failures = with_failed (failed_call result) self.old.failures }) }
+        ensures failed { OnErr result (self.new ≡ refused_read at (length buf.old)
+            (with_failures (with_failed (failed_call result) self.old.tape.failures) self.old)) }
+        ensures there { OnOk result (AllAreThere self.old.present at (length buf.old)) }
+        ensures lacks { OnErr result (Lacks self.old.tape.start self.old.present at (length buf.old)) }
         ensures each { ⟦<LogDisk<'a, A> as Disk>⟧.harsh self.old → ⟦<LogDisk<'a, A> as Disk>⟧.harsh self.new
-            × LeavesEach (medium_after self.old) (medium_after self.new) }
+            × LeavesEach (logged self.old) (logged self.new) }
         ensures fault { IfErr result (λ fault. fault ≡ Read) }
-        ensures called { Called (medium_after self.old) (medium_after self.new) (failed_call result) }
+        ensures called { Called (logged self.old) (logged self.new) (failed_call result) }
     {
-        if !are_present(self.present, at, buf.len()) {
-            self.wanted = Some(Wanted {
-                at,
-                count: buf.len() as u64,
-            });
+        let count = buf.len() as u64;
+        if !are_present(self.start, self.present, at, count) {
+            self.wanted = Some(Wanted { at, count });
             return self.failures.note(Err(DiskFault::Read));
         }
         copy_part(self.start, at, buf);
@@ -140,18 +142,18 @@ impl<'a, A: Allocator + Copy> Disk for LogDisk<'a, A> {
 
     /// It fails where memory for the write is refused. Then nothing has changed but the count of failed calls.
     fn write_at(&mut self, at: u64, bytes: &[u8]) -> Result<(), DiskFault>
-        requires { at + length bytes.now ≤ (medium_after self.old).size }
-        ensures disk { (medium_after self.old).honest
-            → Writes at bytes.now (medium_after self.old) (medium_after self.new) result }
+        requires { at + length bytes.now ≤ (logged self.old).size }
+        ensures disk { (logged self.old).honest
+            → Writes at bytes.now (logged self.old) (logged self.new) result }
         ensures done { OnOk result (self.new
-            ≡ record self.old { calls = self.old.calls ++ call.Write at bytes.now ∷ [] }) }
+            ≡ with_calls (self.old.tape.calls ++ call.Write at bytes.now ∷ []) self.old) }
         ensures failed { OnErr result (self.new
-            ≡ record self.old { failures = with_failed (failed_call result) self.old.failures }) }
+            ≡ with_failures (with_failed (failed_call result) self.old.tape.failures) self.old) }
         ensures each { ⟦<LogDisk<'a, A> as Disk>⟧.harsh self.old
             → ⟦<LogDisk<'a, A> as Disk>⟧.harsh self.new
-            × OnOk result (LeavesEachTorn at (length bytes.now) (medium_after self.old) (medium_after self.new)) }
+            × OnOk result (LeavesEachTorn at (length bytes.now) (logged self.old) (logged self.new)) }
         ensures fault { IfErr result (λ fault. fault ≡ Write) }
-        ensures called { Called (medium_after self.old) (medium_after self.new) (failed_call result) }
+        ensures called { Called (logged self.old) (logged self.new) (failed_call result) }
     {
         match note_write(self.alloc, &mut self.calls, at, bytes) {
             Ok(()) => Ok(()),
@@ -161,18 +163,18 @@ impl<'a, A: Allocator + Copy> Disk for LogDisk<'a, A> {
 
     /// It writes down the joined bytes as one write. It fails where memory for them is refused.
     fn write_rows(&mut self, at: u64, rows: &[&[u8]]) -> Result<(), DiskFault>
-        requires { at + length (joined rows.now) ≤ (medium_after self.old).size }
-        ensures disk { (medium_after self.old).honest
-            → Writes at (joined rows.now) (medium_after self.old) (medium_after self.new) result }
+        requires { at + length (joined rows.now) ≤ (logged self.old).size }
+        ensures disk { (logged self.old).honest
+            → Writes at (joined rows.now) (logged self.old) (logged self.new) result }
         ensures done { OnOk result (self.new
-            ≡ record self.old { calls = self.old.calls ++ call.Write at (joined rows.now) ∷ [] }) }
+            ≡ with_calls (self.old.tape.calls ++ call.Write at (joined rows.now) ∷ []) self.old) }
         ensures failed { OnErr result (self.new
-            ≡ record self.old { failures = with_failed (failed_call result) self.old.failures }) }
+            ≡ with_failures (with_failed (failed_call result) self.old.tape.failures) self.old) }
         ensures each { ⟦<LogDisk<'a, A> as Disk>⟧.harsh self.old
             → ⟦<LogDisk<'a, A> as Disk>⟧.harsh self.new × OnOk result
-            (LeavesEachTorn at (length (joined rows.now)) (medium_after self.old) (medium_after self.new)) }
+            (LeavesEachTorn at (length (joined rows.now)) (logged self.old) (logged self.new)) }
         ensures fault { IfErr result (λ fault. fault ≡ Write) }
-        ensures called { Called (medium_after self.old) (medium_after self.new) (failed_call result) }
+        ensures called { Called (logged self.old) (logged self.new) (failed_call result) }
     {
         match join_rows(self.alloc, rows) {
             Ok(bytes) => self.write_at(at, &bytes),
@@ -182,32 +184,19 @@ impl<'a, A: Allocator + Copy> Disk for LogDisk<'a, A> {
 
     /// It fails where memory for its mark is refused.
     fn sync(&mut self) -> Result<(), DiskFault>
-        ensures disk { (medium_after self.old).honest → Syncs (medium_after self.old) (medium_after self.new) result }
-        ensures gives { (image : List ℕ) → MayBe (medium_after self.new) image → MayBe (medium_after self.old) image }
-        ensures done { OnOk result (self.new ≡ record self.old { calls = self.old.calls ++ call.Sync ∷ [] }) }
+        ensures disk { (logged self.old).honest → Syncs (logged self.old) (logged self.new) result }
+        ensures gives { (image : List ℕ) → MayBe (logged self.new) image → MayBe (logged self.old) image }
+        ensures done { OnOk result (self.new ≡ with_calls (self.old.tape.calls ++ call.Sync ∷ []) self.old) }
         ensures failed { OnErr result (self.new
-            ≡ record self.old { failures = with_failed (failed_call result) self.old.failures }) }
+            ≡ with_failures (with_failed (failed_call result) self.old.tape.failures) self.old) }
         ensures each { ⟦<LogDisk<'a, A> as Disk>⟧.harsh self.old → ⟦<LogDisk<'a, A> as Disk>⟧.harsh self.new }
         ensures fault { IfErr result (λ fault. fault ≡ Sync) }
-        ensures called { Called (medium_after self.old) (medium_after self.new) (failed_call result) }
+        ensures called { Called (logged self.old) (logged self.new) (failed_call result) }
     {
         match note_call(&mut self.calls, DeviceCall::Sync) {
             Ok(()) => Ok(()),
             Err(_) => self.failures.note(Err(DiskFault::Sync)),
         }
-    }
-}
-
-// Whether all pages of a part are there.
-fn are_present(present: &[u8], at: u64, count: usize) -> bool {
-    if count == 0 {
-        return true;
-    }
-    let first = at / PAGE;
-    let last = at.saturating_add(count as u64 - 1) / PAGE;
-    match present.get(first as usize..=last as usize) {
-        Some(marks) => marks.iter().all(|mark| *mark == 1),
-        None => false,
     }
 }
 

@@ -1,6 +1,6 @@
 //! A store: a disk that holds a recording, and what is known of it in memory.
 
-ghost use Rattle.std.specs.Prelude.{◌≡◌, ◌≢◌, ◌+◌, ◌-◌, ◌%◌, ◌≤◌, ◌↔◌, ◌⊎◌, ◌∷◌, [], All, Ok, Err, List, ℕ, IfErr, IfOk, IsTrue, false, length, map, option_map, ◌<◌, IfSome, Some};
+ghost use Rattle.std.specs.Prelude.{◌≡◌, ◌≢◌, ◌+◌, ◌-◌, ◌%◌, ◌≤◌, ◌↔◌, ◌⊎◌, ◌∷◌, [], All, Ok, Err, List, ℕ, IfErr, IfOk, IsTrue, false, length, map, option_map, ◌<◌, IfSome, None, Some, slice_index_or};
 ghost use Rattle.loop_clips.specs.Table.{clip_list};
 ghost use Rattle.loop_disk.specs.Calls.{Stays};
 ghost use Rattle.loop_record.specs.Geometry.{frame_bytes, is_good};
@@ -162,6 +162,13 @@ impl<D: Disk + Drop, A: Allocator> Store<D, A> {
             return None;
         }
         Some(stamp_under(&self.index, number).sequence)
+    }
+
+    /// The clip of an id, if it has one. It takes no memory, makes no call of the disk and is never refused.
+    pub fn clip(&self, id: u32) -> Option<Span>
+        ensures { result ≡ slice_index_or self.now.clips id None }
+    {
+        self.index.clips.get(id)
     }
 
     /// The disk, as the calls left it.

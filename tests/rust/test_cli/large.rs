@@ -4,8 +4,8 @@ use loop_capture::{Device, Pattern};
 use loop_desk::Desk;
 use loop_disk::MemDisk;
 use loop_pipeline::{
-    Camera, CameraEnd, Guide, Link, Noting, Seat, Unfilmed, Visits, film_camera, heap_start,
-    new_queue, start_queue,
+    Camera, CameraEnd, Guide, Link, Noting, Reports, Seat, Unfilmed, Visits, film_camera,
+    heap_start, new_queue, start_queue,
 };
 use loop_plane::HeapPlane;
 use loop_record::{Geometry, PixelFormat};
@@ -46,13 +46,15 @@ impl Visits for Four {
     const VISITED: bool = false;
 }
 
+impl Reports for Four {
+    fn flushes_again<R: Wait>(&self, _rt: &R, _fault: StoreFault) -> bool {
+        false
+    }
+}
+
 impl Guide for Four {
     fn next_tick<R: Wait + Clock>(&self, _rt: &R, n: u64) -> Option<u64> {
         if n < 4 { Some(n * 40_000) } else { None }
-    }
-
-    fn flushes_again<R: Wait>(&self, _rt: &R, _fault: StoreFault) -> bool {
-        false
     }
 }
 

@@ -15,6 +15,8 @@ const ANSWERS: &str =
 kept left 63 3..9 from 2026-11-22T15:38:00.123Z to 2026-11-22T15:38:04.123Z event 5 tag 1795361880123456\n\
 kept left 0 3..3 from 1970-01-01T00:00:00.000Z to 1970-01-01T00:00:00.000Z event 7\n\
 kept left 1 3..9 from 1970-01-01T00:00:00.000Z to 1970-01-01T00:00:00.000Z event 7 tag 4 lost 65535\n\
+kept left 63 3..9 unread Disk event 7\n\
+kept left 1 3..9 unread MustReopen event 7 tag 4\n\
 kept left none event 7\n\
 held left 10.6 s of 60.0 s event 7\n\
 gap left 720.0 s at 2026-11-22T15:38:00.123Z event 7\n\
@@ -65,6 +67,8 @@ const ANSWERS_JSON: &str =
 \"kind\":\"kept\",\"camera\":\"left\",\"id\":63,\"first\":3,\"last\":9,\"from\":\"2026-11-22T15:38:00.123Z\",\"to\":\"2026-11-22T15:38:04.123Z\",\"event\":5,\"tag\":1795361880123456,\"lost\":0}\n\
 \"kind\":\"kept\",\"camera\":\"left\",\"id\":0,\"first\":3,\"last\":3,\"from\":\"1970-01-01T00:00:00.000Z\",\"to\":\"1970-01-01T00:00:00.000Z\",\"event\":7,\"lost\":0}\n\
 \"kind\":\"kept\",\"camera\":\"left\",\"id\":1,\"first\":3,\"last\":9,\"from\":\"1970-01-01T00:00:00.000Z\",\"to\":\"1970-01-01T00:00:00.000Z\",\"event\":7,\"tag\":4,\"lost\":65535}\n\
+\"kind\":\"kept_unread\",\"camera\":\"left\",\"id\":63,\"first\":3,\"last\":9,\"why\":\"Disk\",\"event\":7}\n\
+\"kind\":\"kept_unread\",\"camera\":\"left\",\"id\":1,\"first\":3,\"last\":9,\"why\":\"MustReopen\",\"event\":7,\"tag\":4}\n\
 \"kind\":\"kept_none\",\"camera\":\"left\",\"event\":7}\n\
 \"kind\":\"held\",\"camera\":\"left\",\"held_micros\":10600000,\"asked_micros\":60000000,\"event\":7,\"lost\":0}\n\
 \"kind\":\"gap\",\"camera\":\"left\",\"micros\":720000000,\"at\":\"2026-11-22T15:38:00.123Z\",\"event\":7,\"lost\":0}\n\
@@ -244,6 +248,12 @@ fn tells_event(lines: &mut Lines) -> bool {
             .is_ok()
         && lines.kept("left", &clip(0, 3, 0), (0, 0), 7, 0).is_ok()
         && lines.kept("left", &clip(1, 9, 4), (0, 0), 7, 65_535).is_ok()
+        && lines
+            .kept_unread("left", &clip(63, 9, 7), &"Disk", 7)
+            .is_ok()
+        && lines
+            .kept_unread("left", &clip(1, 9, 4), &"MustReopen", 7)
+            .is_ok()
         && lines.kept_none("left", 7).is_ok()
         && lines.held("left", 10_600_000, 60_000_000, 7, 0).is_ok()
         && lines.gap("left", 720_000_000, NOVEMBER, 7, 0).is_ok()

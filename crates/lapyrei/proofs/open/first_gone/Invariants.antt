@@ -1,5 +1,5 @@
 use Rattle.std.proofs.Common.{ℕ, ◌<◌}
-use Rattle.lapyrei.specs.Told.{IsThere}
+use Rattle.loop_overlay.specs.Pages.{IsThere}
 use Rattle.lapyrei.proofs.open.first_gone.Given as goal
 
 abbrev pub invariant-loop-page : goal.invariant-loop-page
