@@ -7,6 +7,12 @@ use Rattle.loop_y4m.specs.declared.fault.Y4mFault.{Y4mFault}
 use Rattle.loop_y4m.specs.Header.{size_of_frame}
 use Rattle.loop_y4m.specs.Reader.{GivesNext, OpenReader}
 
+-- Where a source goes over from one state to another, what it gave up to the first it has given up to the second: no
+-- frame is given by that, and none is taken back.
+abbrev pub StillGave : {S : Type 0} → (S → Next → List ℕ → S → Type 0) → S → S → Type 0
+StillGave gives old new =
+    (before : _) (answer : Next) (bytes : List ℕ) → gives before answer bytes old → gives before answer bytes new
+
 -- the pattern gives its next frame
 abbrev pub GivesPattern : ℕ → Next → List ℕ → ℕ → Type 0
 GivesPattern n answer out after = (answer ≡ More) × (out ≡ pattern_bytes n (length out)) × (after ≡ (n + 1) % 256)

@@ -1,6 +1,7 @@
 // The device: a source's frames for a queue's buffers. docs/capture.md says why it is so.
 ghost use Rattle.std.specs.Prelude.{◌≡◌, IfErr, IfOk, length};
 ghost use Rattle.loop_capture.specs.declared.source.Next.TheVariants.{More};
+ghost use Rattle.loop_capture.specs.Sources.{StillGave};
 ghost use Rattle.loop_capture.specs.Ticks.{Ends, GoesOnFrom, IsLongest, IsNew, SeenDevice, SeenRest, Ticks, sequence_after, sequence_at};
 ghost use Rattle.loop_vb2.specs.Planes.{frame_size};
 
@@ -133,7 +134,7 @@ impl<S: FrameSource, A: Allocator + Copy> Device<S, A> {
         match self.source.make_ready(self.frame.len()) {
             Some(answer) => {
                 self.next = sequence_after(answer, sequence);
-                end_frame(queue, active, answer, stamp, self.source.lent())
+                end_lent(queue, active, answer, stamp, &mut self.source)
             }
             None => {
                 let answer = ask(&mut self.source, &mut self.frame);
@@ -263,5 +264,33 @@ fn end_frame<P: PlaneMemory, A: Allocator + Copy>(
             Ok(()) => Tick::Failed(index),
             Err(_) => Tick::Missed,
         },
+    }
+}
+
+// The same with the frame that a source lends. Where it gives the row of a frame, a plane may take that for its own.
+fn end_lent<S: FrameSource, P: PlaneMemory, A: Allocator + Copy>(
+    queue: &mut Queue<P, A>,
+    active: Option<u32>,
+    answer: Next,
+    stamp: Stamp,
+    source: &mut S,
+) -> Tick
+    requires whole { answer ≡ More → length (S.lends source.old) ≡ frame_size queue.old.body.shape }
+    requires active { IsLongest P.plane active queue.old }
+    ensures ends { Ends P.plane answer stamp (S.lends source.old) result queue.old queue.new }
+    ensures shape { queue.new.body.shape ≡ queue.old.body.shape }
+    ensures gave { StillGave S.next_gives source.old source.new }
+{
+    let (Next::More, Some(index)) = (answer, active) else {
+        return end_frame(queue, active, answer, stamp, source.lent());
+    };
+    let Some(mut row) = source.give_row() else {
+        return end_frame(queue, active, answer, stamp, source.lent());
+    };
+    let ended = queue.complete_from(index, stamp, &mut row);
+    source.return_row(row);
+    match ended {
+        Ok(()) => Tick::Completed(index),
+        Err(_) => Tick::Missed,
     }
 }

@@ -25,6 +25,14 @@ impl<'a, S: FrameSource> FrameSource for Loan<'a, S> {
         self.source.lent()
     }
 
+    fn give_row(&mut self) -> Option<Vec<u8>> {
+        self.source.give_row()
+    }
+
+    fn return_row(&mut self, row: Vec<u8>) {
+        self.source.return_row(row);
+    }
+
     fn mark(&self) -> u32 {
         self.source.mark()
     }

@@ -1,6 +1,7 @@
 // What gives frames.
 ghost use Rattle.std.specs.Prelude.{◌≡◌, List, ℕ, ⊤, [], IfSome, None, Some, length};
 ghost use Rattle.loop_capture.specs.declared.source.Next.TheVariants.{More};
+ghost use Rattle.loop_capture.specs.Sources.{StillGave};
 
 /// What a source answers when it is asked for a frame.
 #[derive(Clone, Copy, PartialEq, Eq, Debug)]
@@ -40,6 +41,21 @@ pub trait FrameSource: Drop {
     /// The frame that was made ready last.
     fn lent(&self) -> &[u8]
         ensures { result.now ≡ lends self.now };
+
+    /// The row in which the frame that was made ready last lies, for whoever takes it over: the source lends that frame
+    /// no longer. None: it keeps its memory, and nothing changed.
+    fn give_row(&mut self) -> Option<Vec<u8>>
+        ensures row { IfSome result (λ row. row.items ≡ lends self.old) }
+        ensures gave { StillGave next_gives self.old self.new }
+        ensures none { result ≡ None → self.new ≡ self.old }
+    {
+        None
+    }
+
+    /// Gets a row of as many bytes, of any value, for the one that it gave.
+    fn return_row(&mut self, _row: Vec<u8>)
+        ensures gave { StillGave next_gives self.old self.new }
+    {}
 
     /// What is to be among the flags of the frame that it gave last: nothing, unless the source says more. It promises
     /// nothing.

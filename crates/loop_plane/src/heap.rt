@@ -3,12 +3,14 @@ ghost use Rattle.std.specs.Prelude.{◌≡◌, ◌≤◌, [], IfOk, vec_len};
 
 use crate::memory::{Memory, PlaneMemory};
 use crate::room::overwrite;
-use std::alloc::{AllocError, Allocator, Global};
+use std::alloc::{AllocError, Global};
+use std::mem;
 
-/// Memory of the application, of any length, that nobody else has: a row of its own.
+/// Memory of the application, of any length, that nobody else has: a row of its own. A frame's row of that length becomes
+/// the plane's, and isn't copied; so both are of one allocator.
 #[derive(Drop)]
-pub struct HeapPlane<A: Allocator = Global> {
-    bytes: Vec<u8, A>,
+pub struct HeapPlane {
+    bytes: Vec<u8>,
     used: u32,
     size: u32,
     ghost whole: { vec_len bytes ≡ size },
@@ -16,13 +18,13 @@ pub struct HeapPlane<A: Allocator = Global> {
     ghost small: { size ≤ 16777216 },
 }
 
-impl<A: Allocator> HeapPlane<A> {
+impl HeapPlane {
     ghost use Rattle.loop_plane.specs.Plane.{plane_of};
     ghost use Rattle.loop_plane.specs.Kinds.{heap_plane};
     ghost use Rattle.loop_plane.specs.declared.memory.Memory.TheVariants.{UserPtr};
 
     /// A plane of `size` bytes with none in use: at most 16,777,216, as many as a frame may have.
-    pub fn new(alloc: A, size: u32) -> Result<HeapPlane<A>, AllocError>
+    pub fn new(alloc: Global, size: u32) -> Result<HeapPlane, AllocError>
         requires { size ≤ 16777216 }
         ensures ok { IfOk result (λ p. heap_plane p ≡ plane_of UserPtr size [] []) }
     {
@@ -35,7 +37,7 @@ impl<A: Allocator> HeapPlane<A> {
     }
 }
 
-impl<A: Allocator> PlaneMemory for HeapPlane<A> {
+impl PlaneMemory for HeapPlane {
     ghost use Rattle.loop_plane.specs.Kinds.{heap_plane};
 
     ghost plane = { heap_plane };
@@ -55,6 +57,15 @@ impl<A: Allocator> PlaneMemory for HeapPlane<A> {
     fn fill(&mut self, bytes: &[u8]) {
         overwrite(&mut self.bytes, 0, bytes);
         self.used = bytes.len() as u32;
+    }
+
+    fn fill_from(&mut self, row: &mut Vec<u8>) {
+        if row.len() != self.bytes.len() {
+            self.fill(row.as_slice());
+            return;
+        }
+        mem::swap(&mut self.bytes, row);
+        self.used = self.size;
     }
 
     fn copy_out(&self, at: u32, out: &mut [u8]) {

@@ -3,7 +3,7 @@ ghost use Rattle.std.specs.Prelude.{◌≡◌, ◌∷◌, [], ◌≤◌, IfSome,
 
 use loop_pages::PageLedger;
 use loop_plane::{HeapPlane, PlaneMemory, UserPlane};
-use std::alloc::Allocator;
+use std::alloc::{Allocator, Global};
 
 // Fills a plane of any kind with three bytes, and copies the last two out.
 fn refilled<P: PlaneMemory>(plane: &mut P) -> [u8; 2]
@@ -33,7 +33,7 @@ pub fn a_window_is_filled<A: Allocator + Copy>(alloc: A) -> Option<[u8; 2]>
 }
 
 /// A plane on the heap.
-pub fn a_heap_plane_is_filled<A: Allocator>(alloc: A) -> Option<[u8; 2]>
+pub fn a_heap_plane_is_filled(alloc: Global) -> Option<[u8; 2]>
     ensures { IfSome result (λ out. out ≡ 8 ∷ 9 ∷ []) }
 {
     match HeapPlane::new(alloc, 3) {

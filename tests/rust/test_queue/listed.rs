@@ -5,6 +5,7 @@ use loop_capture::{FrameSource, Next};
 use loop_plane::{Memory, PlaneMemory};
 use loop_vb2::Queue;
 use std::alloc::Allocator;
+use std::mem;
 
 /// Returns what its list has, then `End`. Byte i of each `out` is the number of the call.
 #[derive(Drop)]
@@ -66,6 +67,42 @@ impl FrameSource for Lender {
 
     fn lent(&self) -> &[u8] {
         &self.frame
+    }
+}
+
+/// Gives the rows of frames that all have the byte `next`, which rises by one a frame.
+#[derive(Drop)]
+pub(crate) struct Giver {
+    pub next: u8,
+    pub row: Vec<u8>,
+}
+
+impl FrameSource for Giver {
+    ghost next_gives = { ? };
+
+    ghost lends = { ? };
+
+    fn next(&mut self, _out: &mut [u8]) -> Next {
+        Next::Bad
+    }
+
+    fn make_ready(&mut self, _size: usize) -> Option<Next> {
+        self.row.fill(self.next);
+        self.next = self.next.saturating_add(1);
+        Some(Next::More)
+    }
+
+    fn lent(&self) -> &[u8] {
+        &self.row
+    }
+
+    fn give_row(&mut self) -> Option<Vec<u8>> {
+        let none = Vec::new(*self.row.allocator());
+        Some(mem::replace(&mut self.row, none))
+    }
+
+    fn return_row(&mut self, row: Vec<u8>) {
+        self.row = row;
     }
 }
 

@@ -3,7 +3,8 @@
 use crate::claimed::{claimed, refused};
 use loop_pages::{PageFault, PageHold, PageLedger, PageSeat};
 use loop_plane::{
-    DmabufPlane, DmabufTable, FdFault, FdTable, Memory, MmapPlane, PlaneMemory, UserPlane,
+    DmabufPlane, DmabufTable, FdFault, FdTable, HeapPlane, Memory, MmapPlane, PlaneMemory,
+    UserPlane,
 };
 use std::alloc::Global;
 use std::process::Abort;
@@ -131,6 +132,45 @@ fn a_window_and_a_scatter_list_cross_the_edge_of_a_page(rt: HostRuntime) -> Resu
     let (one, two) = ledger.split(seat);
     window_reads_back(&rt, alloc, claimed(&rt, alloc, &ledger, one, 2))?;
     list_reads_back(&rt, alloc, claimed(&rt, alloc, &ledger, two, 2))
+}
+
+// What a plane has after it is filled from a row, and the row then. It has three bytes in use before, all 1.
+fn filled_from(alloc: Global, plane: &mut Plane, bytes: &[u8]) -> Result<(Vec<u8>, Vec<u8>), Fail> {
+    plane.fill(&[1, 1, 1]);
+    let mut row = Vec::new(alloc);
+    row.extend_from_slice(bytes)?;
+    plane.fill_from(&mut row);
+    let mut out = vec![in alloc; 0u8; plane.used() as usize]?;
+    plane.copy_out(0, out.as_mut_slice());
+    Ok((out, row))
+}
+
+#[test]
+fn a_plane_on_the_heap_takes_a_row_of_its_length_for_its_own(rt: HostRuntime) -> Result<(), Fail> {
+    let alloc = rt.alloc();
+    let mut plane: Plane = Box::new(alloc, HeapPlane::new(alloc, 3)?)?;
+    let (out, row) = filled_from(alloc, &mut plane, &[7, 8, 9])?;
+    assert!(rt; out.as_slice() == [7, 8, 9].as_slice());
+    assert!(rt; row.as_slice() == [1, 1, 1].as_slice());
+    // A shorter row is copied.
+    let (out, row) = filled_from(alloc, &mut plane, &[7, 8])?;
+    assert!(rt; out.as_slice() == [7, 8].as_slice() && row.as_slice() == [7, 8].as_slice());
+    assert_eq!(rt; plane.length(), 3);
+    Ok(())
+}
+
+#[test]
+fn planes_of_pages_copy_a_row(rt: HostRuntime) -> Result<(), Fail> {
+    let alloc = rt.alloc();
+    let (ledger, seat) = PageLedger::new(alloc, 4)?;
+    let mut planes = three_planes(&rt, alloc, &ledger, seat)?;
+    for plane in planes.iter_mut() {
+        let (out, row) = filled_from(alloc, plane, &[7, 8, 9])?;
+        assert!(rt;
+            out.as_slice() == [7, 8, 9].as_slice() && row.as_slice() == [7, 8, 9].as_slice()
+        );
+    }
+    Ok(())
 }
 
 // Attaches the one plane of a table, brings it back and closes its fd. Another plane isn't accepted in its place.

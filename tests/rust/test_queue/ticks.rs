@@ -1,12 +1,12 @@
 //! What a tick does to a queue, and which sequence a frame has.
 
 use self::Step::{Starts, Stops, Takes, Ticks};
-use crate::listed::{Frame, Lender, Listed, round};
-use loop_capture::{Device, FrameSource, Next, Pattern, Tick, Y4mSource};
+use crate::listed::{Frame, Giver, Lender, Listed, round};
+use loop_capture::{Device, FrameSource, Loan, Next, Pattern, Tick, Y4mSource};
 use loop_pages::{PageLedger, PageSeat};
-use loop_plane::{Memory, MmapPlane};
+use loop_plane::{HeapPlane, Memory, MmapPlane, PlaneMemory};
 use loop_record::PixelFormat;
-use loop_vb2::{PlaneSet, Queue};
+use loop_vb2::{PlaneSet, Queue, Shape};
 use loop_y4m::Y4mReader;
 use std::alloc::{AllocError, Global};
 use std::process::Abort;
@@ -276,5 +276,109 @@ fn a_frame_that_is_lent_is_copied_into_the_buffer(rt: HostRuntime) -> Result<(),
         Ticks(50, Tick::Ended),
     ];
     plays(&rt, &mut device, &mut queue, &steps);
+    Ok(())
+}
+
+// The planes of a frame of this shape, each filled with the byte 1.
+fn filled_planes(alloc: Global, shape: &Shape) -> Result<PlaneSet<HeapPlane>, Fail> {
+    let [y, cb, cr] = shape.sizes;
+    let y = filled_plane(alloc, y)?;
+    if shape.count == 1 {
+        return Ok(PlaneSet::one(y));
+    }
+    Ok(PlaneSet::three(y, filled_plane(alloc, cb)?, filled_plane(alloc, cr)?))
+}
+
+// A plane of so many bytes, all 1.
+fn filled_plane(alloc: Global, size: u32) -> Result<HeapPlane, Fail> {
+    let mut plane = HeapPlane::new(alloc, size)?;
+    plane.fill(vec![in alloc; 1u8; size as usize]?.as_slice());
+    Ok(plane)
+}
+
+// A queue of 2 by 2 pixels that streams, with one buffer, whose bytes are all 1.
+fn filled_queue(
+    rt: &impl Abort,
+    alloc: Global,
+    format: PixelFormat,
+) -> Result<Queue<HeapPlane>, Fail> {
+    let mut queue = Queue::new(alloc, format, 2, 2, 1);
+    let planes = filled_planes(alloc, &queue.shape())?;
+    assert!(rt; queue.request(1, Memory::UserPtr, Vec::new(alloc)).is_ok());
+    assert!(rt; queue.queue(0, Memory::UserPtr, Some(planes)).is_ok());
+    assert!(rt; queue.stream_on().is_ok());
+    Ok(queue)
+}
+
+// A source of frames of this length, the first of which has bytes of 7.
+fn giver(alloc: Global, size: usize) -> Result<Giver, Fail> {
+    Ok(Giver {
+        next: 7,
+        row: vec![in alloc; 0u8; size]?,
+    })
+}
+
+// The bytes of each plane of the buffer that is dequeued.
+fn dequeued(alloc: Global, queue: &mut Queue<HeapPlane>) -> Result<Vec<u8>, Fail> {
+    let Ok(frame) = queue.dequeue() else {
+        return Err("a frame".into());
+    };
+    let Some(planes) = frame.planes else {
+        return Err("planes".into());
+    };
+    let mut all = Vec::new(alloc);
+    for plane in 0..3 {
+        let mut bytes = vec![in alloc; 0u8; planes.used_of(plane) as usize]?;
+        planes.copy_out(plane, 0, bytes.as_mut_slice());
+        all.extend_from_slice(bytes.as_slice())?;
+    }
+    Ok(all)
+}
+
+// One tick of a device that has this source.
+fn ticks_once(
+    alloc: Global,
+    source: &mut Giver,
+    queue: &mut Queue<HeapPlane>,
+    size: u32,
+) -> Result<Tick, Fail> {
+    match Device::new(alloc, Loan { source }, size) {
+        Ok(mut device) => Ok(device.tick(queue, 10)),
+        Err(_) => Err("memory for a frame".into()),
+    }
+}
+
+#[test]
+fn a_frame_in_one_plane_is_moved_there(rt: HostRuntime) -> Result<(), Fail> {
+    let alloc = rt.alloc();
+    let mut queue = filled_queue(&rt, alloc, PixelFormat::Grey)?;
+    let mut source = giver(alloc, 4)?;
+    assert_eq!(rt;
+        ticks_once(alloc, &mut source, &mut queue, 4)?,
+        Tick::Completed(0)
+    );
+    // What was in the plane's row is with the source.
+    assert!(rt; source.row.as_slice() == [1, 1, 1, 1].as_slice());
+    // A frame without a buffer stays with the source.
+    assert_eq!(rt;
+        ticks_once(alloc, &mut source, &mut queue, 4)?,
+        Tick::Missed
+    );
+    assert!(rt; source.row.as_slice() == [8, 8, 8, 8].as_slice());
+    assert!(rt; dequeued(alloc, &mut queue)?.as_slice() == [7, 7, 7, 7].as_slice());
+    Ok(())
+}
+
+#[test]
+fn a_frame_in_three_planes_is_copied(rt: HostRuntime) -> Result<(), Fail> {
+    let alloc = rt.alloc();
+    let mut queue = filled_queue(&rt, alloc, PixelFormat::Ym12)?;
+    let mut source = giver(alloc, 6)?;
+    assert_eq!(rt;
+        ticks_once(alloc, &mut source, &mut queue, 6)?,
+        Tick::Completed(0)
+    );
+    assert!(rt; source.row.as_slice() == [7; 6].as_slice());
+    assert!(rt; dequeued(alloc, &mut queue)?.as_slice() == [7; 6].as_slice());
     Ok(())
 }
