@@ -1,6 +1,6 @@
 //! A desk: frames that wait, before a store.
 
-ghost use Rattle.std.specs.Prelude.{◌≡◌, ◌≢◌, ◌≤◌, ◌+◌, ◌-◌, ◌%◌, ◌∷◌, [], Err, List, None, Ok, ℕ, IfErr, IfOk, drop, false, length, true};
+ghost use Rattle.std.specs.Prelude.{◌≡◌, ◌≢◌, ◌≤◌, ◌+◌, ◌-◌, ◌%◌, ◌∷◌, [], Err, List, None, Ok, ℕ, IfErr, IfOk, drop, false, length, slice_index_or, true};
 ghost use Rattle.circular_buffer.specs.Buffer.{buffer};
 ghost use Rattle.loop_record.specs.Geometry.{frame_bytes};
 ghost use Rattle.loop_record.specs.Plain.{pictures};
@@ -260,6 +260,13 @@ impl<D: Disk + Drop, A: Allocator> Desk<D, A> {
         ensures refused { Refused self.old.store self.new.store result }
     {
         self.store.unlock(id)
+    }
+
+    /// The clip of an id, as `Store::clip`.
+    pub fn clip(&self, id: u32) -> Option<Span>
+        ensures { result ≡ slice_index_or self.now.store.clips id None }
+    {
+        self.store.clip(id)
     }
 
     /// Reads the head of a stored frame and none of its bytes, as `Store::read_head`. A frame that waits isn't held

@@ -6,3 +6,4 @@ mod Sets
 mod Rule
 mod Turns
 mod Runs
+mod Filmings

@@ -5,11 +5,16 @@
 //! an append (`loop_record`). `specs/Laws` says how much they hold then. The functions do nothing: their contracts are
 //! the laws.
 //!
-//! The laws are of plain recordings. That a camera's stores stand for such ones, and that a back turns by this rule, is
-//! said by the contracts of `loop_store`, `loop_desk` and `loop_pipeline`.
+//! The laws are of plain recordings. That a camera's stores stand for such ones is said by the contracts of
+//! `loop_store` and `loop_desk`; `a_filming_chooses` says of what happens to a camera's desks (`DeskEvents` of
+//! `loop_pipeline`, `specs/Filmings`) that each choice of a store is one by this rule. No law says that a whole filming
+//! is a `Run`: for that its flushes have to be put together to groups that stores take.
 #![tactic(auto)]
 
+ghost use Rattle.loop_laws.specs.Filmings.{FrameIsChoice, TurnIsChoice};
 ghost use Rattle.loop_laws.specs.Laws.{StoresGoOn, StoresHoldNewest};
+
+use loop_disk::Disk;
 
 /// Stores in which nothing was recorded at first and nothing is locked hold the newest of all frames that came, each
 /// store those that it took, over any groups of frames, starts of a filming, and empty stores that join. Of the frames
@@ -25,3 +30,12 @@ pub fn stores_hold_the_newest()
 pub fn stores_go_on()
     ensures { StoresGoOn }
 {}
+
+/// What a filming chooses is chosen by the rule of these laws, of the recordings for which its desks stand: the desk to
+/// which it turns, and the one to which a frame is brought between two blocks, where any store has room for a block.
+pub fn a_filming_chooses<D: Disk + Drop>(disk: &D)
+    ensures turns { TurnIsChoice D.medium }
+    ensures frames { FrameIsChoice D.medium }
+{
+    let _any = disk;
+}

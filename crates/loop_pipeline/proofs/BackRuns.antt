@@ -1,5 +1,5 @@
 -- What a back has done, and a call, a frame or a desk more.
-use Rattle.std.proofs.Common.{◌≡◌, ◌==◌, ◌++◌, ◌<◌, ◌⊎◌, inl, inr, ne_eqb, ℕ, ◌+◌, Bool, true, false, cond, zero, suc, List, [], ◌∷◌, All, length, map, slice_get, slice_index_or, slice_set, Some, Result, Ok, Err, refl, sym, ap, ◌∙◌, subst, arith}
+use Rattle.std.proofs.Common.{◌≡◌, ◌==◌, ◌++◌, ◌<◌, ◌≤◌, ◌⊎◌, inl, inr, ne_eqb, ℕ, ◌+◌, Bool, true, false, cond, zero, suc, List, [], ◌∷◌, All, length, map, slice_get, slice_index_or, slice_set, Option, Some, None, Result, Ok, Err, refl, sym, ap, ◌∙◌, subst, arith}
 use Rattle.std.proofs.lemmas.Bool.{eqb-true, eqb-false, eq-eqb}
 use Rattle.std.proofs.lemmas.Grind.{flat_map-append}
 use Rattle.std.proofs.lemmas.List.{append-nil, length-append, length-set, map-append}
@@ -18,7 +18,13 @@ use Rattle.loop_desk.specs.declared.limits.Flushed.{Flushed}
 use Rattle.loop_desk.specs.Desk.{DeskCall, flushed, submitted}
 use Rattle.loop_desk.specs.Seen.{DeskGoes, SeenDesk}
 use Rattle.loop_desk.proofs.CallRuns.{desk-joined, desk-none}
-use Rattle.loop_pipeline.specs.Backs.{BackKeeps, Came, EachServed, GoesBy, IsFed, IsLast, IsRightful, MayGiveUp, MayGiveUpAt, Part, Served, WasRefused, asked, calls_at, calls_by, calls_of, is_placed_submit, is_submit, lost_by, own, part_for, parts_at, picture_of, placed_calls, unasked, unasked_by}
+use Rattle.loop_pipeline.specs.Backs.{Came, EachServed, GoesBy, IsFed, IsLast, IsRightful, IsSoAt, MayGiveUp, MayGiveUpAt, Part, Served, WasRefused, asked, calls_at, calls_by, calls_of, is_placed_submit, is_submit, lost_by, own, part_for, parts_at, picture_of, placed_calls, unasked, unasked_by}
+use Rattle.loop_pipeline.specs.DeskEvents.{DesksNow, Happened, IsDue, TakesFrame, desk_in, done, end_by, joined_by, part_in, turned_to}
+use Rattle.loop_pipeline.specs.KeptBacks.{BackKeeps}
+use Rattle.loop_pipeline.specs.Nexts.{end_past}
+use Rattle.loop_pipeline.specs.Turns.{Chooses, IsBetween, TurnsTo, turned_by}
+use Rattle.loop_pipeline.proofs.Happening.{events-more, events-still, happened-more, quiet-due, quiet-end}
+use Rattle.loop_pipeline.proofs.Turning.{between-or-not}
 use Rattle.loop_pipeline.proofs.Places.{get-joined, get-set-other, get-set-same, some-same, some-there}
 
 plus-none : (n : ℕ) → n + 0 ≡ n
@@ -158,12 +164,17 @@ module _ {D A : Type 0} (medium : D → Medium) (asks : DeskCall → Type 0) (gi
   -- a new back has one desk, and has done nothing
   pub begun : {end : ℕ} (desk : SeenDesk D) (from : Consumer (Frame A) A AnyItems) → TellsOne desk.store
       → ((medium desk.store.disk).honest → IsSound (medium desk.store.disk)) → received from ≡ []
-      → BackKeeps medium asks gives_up (record { began = desk ∷ []; from = from; desks = desk ∷ []; active = 0; end = end }) from 0 false
+      → BackKeeps medium asks gives_up (record { began = desk ∷ []; from = from; start = end; desks = desk ∷ []; active = 0; end = end }) from 0 false
   begun {end} desk from one sound none = record {
     ring = ((refl, refl, refl, refl), refl);
     all = refl;
     inside = omega arith;
+    first = desk;
+    events = [];
+    happened = refl;
+    began = refl;
     parts = [];
+    are = refl;
     among = λ k d l. absurd (omega (arith, l));
     served = alone;
     rightful = λ k d l. absurd (omega (arith, l));
@@ -188,14 +199,17 @@ module _ {D A : Type 0} (medium : D → Medium) (asks : DeskCall → Type 0) (gi
   same-ring a b c first second =
       ((second.0.0 ∙ first.0.0, second.0.1 ∙ first.0.1, second.0.2 ∙ first.0.2, second.0.3 ∙ first.0.3), second.1 ∙ first.1)
 
-  module _ {end : ℕ} (began desks : List (SeenDesk D)) (active : ℕ) (before from up : Consumer (Frame A) A AnyItems) (given_up : ℕ)
+  module _ {start end : ℕ} (began desks : List (SeenDesk D)) (active : ℕ) (before from up : Consumer (Frame A) A AnyItems) (given_up : ℕ)
       (refused : Bool)
-      (keeps : BackKeeps medium asks gives_up (record { began = began; from = before; desks = desks; active = active; end = end })
+      (keeps : BackKeeps medium asks gives_up (record { began = began; from = before; start = start; desks = desks; active = active; end = end })
       from given_up refused)
     where
+      abbrev pub now : DesksNow D
+      now = record { desks = desks; active = active; end = end }
+
       -- a flush was refused
       pub was-refused : refused ≡ true
-          → WasRefused medium gives_up (record { began = began; from = before; desks = desks; active = active; end = end })
+          → WasRefused medium gives_up (record { began = began; from = before; start = start; desks = desks; active = active; end = end })
       was-refused is =
           let why = keeps.tried is in
           let old = some-there began why.place why.among in
@@ -226,6 +240,30 @@ module _ {D A : Type 0} (medium : D → Medium) (asks : DeskCall → Type 0) (gi
             All-append (λ part. IsRightful asks part.1) keeps.parts ((place, part) ∷ []) keeps.rightful
             (All-cons (λ part. IsRightful asks part.1) (place, part) [] is (All-nil (λ part. IsRightful asks part.1)))
 
+        happened-part : {next : ℕ} (part : Part) → IsDue medium now place part → next ≡ end_by part end
+            → DeskGoes medium old new (calls_of part)
+            → Happened medium (record { desks = keeps.first ∷ []; active = 0; end = start })
+            (keeps.events ++ done place part ∷ [])
+            (record { desks = slice_set desks place new; active = active; end = next })
+        happened-part {next} part due ends goes =
+            happened-more medium (record { desks = keeps.first ∷ []; active = 0; end = start }) now
+            (record { desks = slice_set desks place new; active = active; end = next }) keeps.events (done place part)
+            keeps.happened (record {
+              goes = record { before = old; after = new; at = at; goes = goes; same = refl };
+              active = refl;
+              end = ends;
+              due = due;
+            })
+
+        began-still : (part : Part) → began ≡ keeps.first ∷ flat_map desk_in (keeps.events ++ done place part ∷ [])
+        began-still part =
+            keeps.began ∙ ap (λ l. keeps.first ∷ l) (sym (events-still desk_in keeps.events (done place part) refl))
+
+        are-more : (part : Part)
+            → keeps.parts ++ (place, part) ∷ [] ≡ flat_map part_in (keeps.events ++ done place part ∷ [])
+        are-more part =
+            ap (λ l. l ++ (place, part) ∷ []) keeps.are ∙ sym (events-more part_in keeps.events (done place part))
+
         fed-quiet : (part : Part) → filter is_submit (calls_of part) ≡ []
             → IsFed (map picture (received from)) (flat_map placed_calls (keeps.parts ++ (place, part) ∷ [])) given_up keeps.came
         fed-quiet part none =
@@ -238,12 +276,17 @@ module _ {D A : Type 0} (medium : D → Medium) (asks : DeskCall → Type 0) (gi
         pub called : (part : Part) → IsRightful asks part → filter is_submit (calls_of part) ≡ []
             → DeskGoes medium old new (calls_of part)
             → BackKeeps medium asks gives_up
-            (record { began = began; from = before; desks = slice_set desks place new; active = active; end = end }) from given_up refused
+            (record { began = began; from = before; start = start; desks = slice_set desks place new; active = active; end = end }) from given_up refused
         called part is none goes = record {
           ring = keeps.ring;
           all = length-set desks place new ∙ keeps.all;
           inside = subst (λ n. active < n) (sym (length-set desks place new)) keeps.inside;
+          first = keeps.first;
+          events = keeps.events ++ done place part ∷ [];
+          happened = happened-part part (quiet-due medium now place part none) (quiet-end part end none) goes;
+          began = began-still part;
           parts = keeps.parts ++ (place, part) ∷ [];
+          are = are-more part;
           among = among-more part;
           served = each-more medium began desks keeps.parts place old new part keeps.served at goes;
           rightful = rightful-more part is;
@@ -256,19 +299,24 @@ module _ {D A : Type 0} (medium : D → Medium) (asks : DeskCall → Type 0) (gi
         -- a flush that was answered
         pub flushed-on : (answer : Result Flushed StoreFault) → DeskGoes medium old new (flushed answer ∷ [])
             → BackKeeps medium asks gives_up
-            (record { began = began; from = before; desks = slice_set desks place new; active = active; end = end }) from given_up refused
+            (record { began = began; from = before; start = start; desks = slice_set desks place new; active = active; end = end }) from given_up refused
         flushed-on answer goes = called (own (flushed answer)) refl refl goes
 
         -- a flush that was refused, and isn't tried again
         pub refused-flush : (fault : StoreFault) → gives_up fault → DeskGoes medium old new (flushed (Err fault) ∷ [])
             → BackKeeps medium asks gives_up
-            (record { began = began; from = before; desks = slice_set desks place new; active = active; end = end }) from given_up true
+            (record { began = began; from = before; start = start; desks = slice_set desks place new; active = active; end = end }) from given_up true
         refused-flush fault gives goes =
             let part = own (flushed (Err fault)) in record {
               ring = keeps.ring;
               all = length-set desks place new ∙ keeps.all;
               inside = subst (λ n. active < n) (sym (length-set desks place new)) keeps.inside;
+              first = keeps.first;
+              events = keeps.events ++ done place part ∷ [];
+              happened = happened-part part (quiet-due medium now place part refl) refl goes;
+              began = began-still part;
               parts = keeps.parts ++ (place, part) ∷ [];
+              are = are-more part;
               among = among-more part;
               served = each-more medium began desks keeps.parts place old new part keeps.served at goes;
               rightful = rightful-more part refl;
@@ -291,19 +339,25 @@ module _ {D A : Type 0} (medium : D → Medium) (asks : DeskCall → Type 0) (gi
         came-out frame got = ap (map picture) got ∙ map-append picture (received from) (frame ∷ [])
 
         -- and the desk was asked for it
-        pub brought : (frame : Frame A) (answer : Result ℕ StoreFault) → SameConsumer from up
+        pub brought : (frame : Frame A) (answer : Result ℕ StoreFault) → place ≡ active
+            → (2 ≤ length desks → TakesFrame medium now) → SameConsumer from up
             → received up ≡ received from ++ frame ∷ []
             → DeskGoes medium old new (submitted (picture frame) (length frame.bytes.items) answer ∷ [])
             → BackKeeps medium asks gives_up
-            (record { began = began; from = before; desks = slice_set desks place new; active = active; end = end }) up
+            (record { began = began; from = before; start = start; desks = slice_set desks place new; active = active; end = end_past frame.sequence }) up
             (given_up + length (lost_by (asked place (picture frame) answer))) refused
-        brought frame answer same got goes =
+        brought frame answer here due same got goes =
             let part = own (submitted (picture frame) (length frame.bytes.items) answer) in
             let x = asked place (picture frame) answer in record {
               ring = same-ring before from up keeps.ring same;
               all = length-set desks place new ∙ keeps.all;
               inside = subst (λ n. active < n) (sym (length-set desks place new)) keeps.inside;
+              first = keeps.first;
+              events = keeps.events ++ done place part ∷ [];
+              happened = happened-part part (λ _. (here, due)) refl goes;
+              began = began-still part;
               parts = keeps.parts ++ (place, part) ∷ [];
+              are = are-more part;
               among = among-more part;
               served = each-more medium began desks keeps.parts place old new part keeps.served at goes;
               rightful = rightful-more part refl;
@@ -322,14 +376,15 @@ module _ {D A : Type 0} (medium : D → Medium) (asks : DeskCall → Type 0) (gi
             }
 
         -- and accepted it
-        pub accepted : (frame : Frame A) (number : ℕ) → SameConsumer from up → received up ≡ received from ++ frame ∷ []
+        pub accepted : (frame : Frame A) (number : ℕ) → place ≡ active → (2 ≤ length desks → TakesFrame medium now)
+            → SameConsumer from up → received up ≡ received from ++ frame ∷ []
             → DeskGoes medium old new (submitted (picture frame) (length frame.bytes.items) (Ok number) ∷ [])
             → BackKeeps medium asks gives_up
-            (record { began = began; from = before; desks = slice_set desks place new; active = active; end = end }) up given_up refused
-        accepted frame number same got goes =
+            (record { began = began; from = before; start = start; desks = slice_set desks place new; active = active; end = end_past frame.sequence }) up given_up refused
+        accepted frame number here due same got goes =
             subst (λ n. BackKeeps medium asks gives_up
-            (record { began = began; from = before; desks = slice_set desks place new; active = active; end = end }) up n refused)
-            (plus-none given_up) (brought frame (Ok number) same got goes)
+            (record { began = began; from = before; start = start; desks = slice_set desks place new; active = active; end = end_past frame.sequence }) up n refused)
+            (plus-none given_up) (brought frame (Ok number) here due same got goes)
 
       -- the call that the active desk answered last
       pub last : (old new : SeenDesk D) (call : DeskCall) → slice_get desks active ≡ Some old
@@ -349,13 +404,18 @@ module _ {D A : Type 0} (medium : D → Medium) (asks : DeskCall → Type 0) (gi
 
       -- none came out of the ring
       pub nothing : SameConsumer from up → received up ≡ received from
-          → BackKeeps medium asks gives_up (record { began = began; from = before; desks = desks; active = active; end = end }) up
+          → BackKeeps medium asks gives_up (record { began = began; from = before; start = start; desks = desks; active = active; end = end }) up
           given_up refused
       nothing same none = record {
         ring = same-ring before from up keeps.ring same;
         all = keeps.all;
         inside = keeps.inside;
+        first = keeps.first;
+        events = keeps.events;
+        happened = keeps.happened;
+        began = keeps.began;
         parts = keeps.parts;
+        are = keeps.are;
         among = keeps.among;
         served = keeps.served;
         rightful = keeps.rightful;
@@ -367,14 +427,19 @@ module _ {D A : Type 0} (medium : D → Medium) (asks : DeskCall → Type 0) (gi
 
       -- or it was given up unasked
       pub dropped : (frame : Frame A) → refused ≡ true → SameConsumer from up → received up ≡ received from ++ frame ∷ []
-          → BackKeeps medium asks gives_up (record { began = began; from = before; desks = desks; active = active; end = end }) up
+          → BackKeeps medium asks gives_up (record { began = began; from = before; start = start; desks = desks; active = active; end = end }) up
           (given_up + 1) refused
       dropped frame is same got =
           let x = unasked (picture frame) in record {
             ring = same-ring before from up keeps.ring same;
             all = keeps.all;
             inside = keeps.inside;
+            first = keeps.first;
+            events = keeps.events;
+            happened = keeps.happened;
+            began = keeps.began;
             parts = keeps.parts;
+            are = keeps.are;
             among = keeps.among;
             served = keeps.served;
             rightful = keeps.rightful;
@@ -389,18 +454,27 @@ module _ {D A : Type 0} (medium : D → Medium) (asks : DeskCall → Type 0) (gi
           }
 
   -- a desk more
-  pub one-more : {end : ℕ} (began desks : List (SeenDesk D)) (active : ℕ) (before from : Consumer (Frame A) A AnyItems)
+  pub one-more : {start end : ℕ} (began desks : List (SeenDesk D)) (active : ℕ) (before from : Consumer (Frame A) A AnyItems)
       (given_up : ℕ) (refused : Bool) (desk : SeenDesk D) → TellsOne desk.store
       → ((medium desk.store.disk).honest → IsSound (medium desk.store.disk))
-      → BackKeeps medium asks gives_up (record { began = began; from = before; desks = desks; active = active; end = end }) from
+      → BackKeeps medium asks gives_up (record { began = began; from = before; start = start; desks = desks; active = active; end = end }) from
       given_up refused
       → BackKeeps medium asks gives_up
-      (record { began = began ++ desk ∷ []; from = before; desks = desks ++ desk ∷ []; active = active; end = end }) from given_up refused
-  one-more {end} began desks active before from given_up refused desk one sound keeps = record {
+      (record { began = began ++ desk ∷ []; from = before; start = start; desks = desks ++ desk ∷ []; active = active; end = end }) from given_up refused
+  one-more {start} {end} began desks active before from given_up refused desk one sound keeps = record {
     ring = keeps.ring;
     all = length-append desks (desk ∷ []) ∙ (ap (λ n. n + 1) keeps.all ∙ sym (length-append began (desk ∷ [])));
     inside = subst (λ n. active < n) (sym (length-append desks (desk ∷ []))) (omega (arith, keeps.inside));
+    first = keeps.first;
+    events = keeps.events ++ joined_by desk ∷ [];
+    happened = happened-more medium (record { desks = keeps.first ∷ []; active = 0; end = start })
+        (record { desks = desks; active = active; end = end })
+        (record { desks = desks ++ desk ∷ []; active = active; end = end }) keeps.events (joined_by desk) keeps.happened
+        refl;
+    began = ap (λ l. l ++ desk ∷ []) keeps.began
+        ∙ ap (λ l. keeps.first ∷ l) (sym (events-more desk_in keeps.events (joined_by desk)));
     parts = keeps.parts;
+    are = keeps.are ∙ sym (events-still part_in keeps.events (joined_by desk) refl);
     among = λ k part l. subst (λ n. (slice_index_or keeps.parts k part).0 < n) (sym (length-append began (desk ∷ [])))
         (omega (arith, keeps.among k part l));
     served = λ place d e first last. go place d e (get-joined began desk d place first) (get-joined desks desk e place last);
@@ -428,23 +502,69 @@ module _ {D A : Type 0} (medium : D → Medium) (asks : DeskCall → Type 0) (gi
           (subst (λ x. Served medium x e []) (sym first.1) (subst (λ x. Served medium desk x []) (sym last.1)
           (record { goes = desk-none medium desk one sound; went = refl })))
 
-  -- another desk is active
-  pub turned-to : {end : ℕ} (began desks : List (SeenDesk D)) (active place : ℕ) (before from : Consumer (Frame A) A AnyItems)
-      (given_up : ℕ) (refused : Bool) → place < length desks
-      → BackKeeps medium asks gives_up (record { began = began; from = before; desks = desks; active = active; end = end }) from
+  -- a turn, after which another desk may be active
+  pub turned-on : {start end : ℕ} (began desks : List (SeenDesk D)) (active place : ℕ) (before from : Consumer (Frame A) A AnyItems)
+      (given_up : ℕ) (refused locked : Bool) → place < length desks → IsSoAt active desks IsBetween
+      → TurnsTo medium desks end active place locked
+      → BackKeeps medium asks gives_up (record { began = began; from = before; start = start; desks = desks; active = active; end = end }) from
       given_up refused
-      → BackKeeps medium asks gives_up (record { began = began; from = before; desks = desks; active = place; end = end }) from
+      → BackKeeps medium asks gives_up (record { began = began; from = before; start = start; desks = desks; active = place; end = end }) from
       given_up refused
-  turned-to {end} began desks active place before from given_up refused inside keeps = record {
-    ring = keeps.ring;
-    all = keeps.all;
-    inside = inside;
-    parts = keeps.parts;
-    among = keeps.among;
-    served = keeps.served;
-    rightful = keeps.rightful;
-    came = keeps.came;
-    fed = keeps.fed;
-    tried = keeps.tried;
-    excused = keeps.excused;
-  }
+  turned-on {start} {end} began desks active place before from given_up refused locked inside between turns keeps =
+      go turns.next turns.chosen turns.turns
+    where
+      go : (next : Option ℕ) → Chooses medium desks end active next → place ≡ turned_by next active
+          → BackKeeps medium asks gives_up
+          (record { began = began; from = before; start = start; desks = desks; active = place; end = end }) from
+          given_up refused
+      go None chosen is =
+          subst (λ n. BackKeeps medium asks gives_up
+          (record { began = began; from = before; start = start; desks = desks; active = n; end = end }) from given_up
+          refused) (sym is) keeps
+      go (Some other) chosen is = record {
+        ring = keeps.ring;
+        all = keeps.all;
+        inside = inside;
+        first = keeps.first;
+        events = keeps.events ++ turned_to place ∷ [];
+        happened = happened-more medium (record { desks = keeps.first ∷ []; active = 0; end = start })
+            (record { desks = desks; active = active; end = end }) (record { desks = desks; active = place; end = end })
+            keeps.events (turned_to place) keeps.happened (record {
+              between = between;
+              chosen = subst (λ n. Chooses medium desks end active (Some n)) (sym is) chosen;
+              is = refl;
+            });
+        began = keeps.began ∙ ap (λ l. keeps.first ∷ l) (sym (events-still desk_in keeps.events (turned_to place) refl));
+        parts = keeps.parts;
+        are = keeps.are ∙ sym (events-still part_in keeps.events (turned_to place) refl);
+        among = keeps.among;
+        served = keeps.served;
+        rightful = keeps.rightful;
+        came = keeps.came;
+        fed = keeps.fed;
+        tried = keeps.tried;
+        excused = keeps.excused;
+      }
+
+  -- as a back turns, or stays where its active desk isn't between two blocks
+  pub turned-once : {start end : ℕ} (began desks : List (SeenDesk D)) (active place : ℕ) (before from : Consumer (Frame A) A AnyItems)
+      (given_up : ℕ) (refused locked : Bool) → place < length desks
+      → (IsSoAt active desks IsBetween → TurnsTo medium desks end active place locked)
+      → ((IsSoAt active desks IsBetween → ⊥) → place ≡ active)
+      → BackKeeps medium asks gives_up (record { began = began; from = before; start = start; desks = desks; active = active; end = end }) from
+      given_up refused
+      → BackKeeps medium asks gives_up (record { began = began; from = before; start = start; desks = desks; active = place; end = end }) from
+      given_up refused
+  turned-once {start} {end} began desks active place before from given_up refused locked inside turns stays keeps =
+      go (between-or-not desks active keeps.inside)
+    where
+      go : IsSoAt active desks IsBetween ⊎ (IsSoAt active desks IsBetween → ⊥)
+          → BackKeeps medium asks gives_up
+          (record { began = began; from = before; start = start; desks = desks; active = place; end = end }) from
+          given_up refused
+      go (inl between) =
+          turned-on began desks active place before from given_up refused locked inside between (turns between) keeps
+      go (inr never) =
+          subst (λ n. BackKeeps medium asks gives_up
+          (record { began = began; from = before; start = start; desks = desks; active = n; end = end }) from given_up
+          refused) (sym (stays never)) keeps

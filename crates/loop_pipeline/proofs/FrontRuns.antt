@@ -1,5 +1,5 @@
 -- What a front has done, and a step more.
-use Rattle.std.proofs.Common.{◌≡◌, inl, inr, ◌||◌, ◌+◌, ◌<◌, ◌≤◌, ℕ, Bool, true, false, List, [], ◌∷◌, ◌++◌, length, map, refl, sym, ap, ◌∙◌, subst, arith}
+use Rattle.std.proofs.Common.{◌≡◌, inl, inr, ◌&&◌, ◌||◌, ◌+◌, ◌<◌, ◌≤◌, ℕ, Bool, true, false, not, cond, Option, Some, None, Result, Ok, Err, List, [], ◌∷◌, ◌++◌, length, map, refl, sym, ap, ◌∙◌, subst, arith}
 use Rattle.std.proofs.lemmas.Grind.{flat_map-append}
 use Rattle.std.proofs.lemmas.List.{append-nil, length-append, map-append}
 use Rattle.std.proofs.lemmas.List.Folds.{list_any-append}
@@ -15,7 +15,9 @@ use Rattle.loop_record.specs.declared.frame.Frame.{Frame}
 use Rattle.loop_record.specs.Recording.{picture}
 use Rattle.loop_record.specs.Turns.{EachIn, after_all}
 use Rattle.loop_record.proofs.TurnRuns.{after-behind, each-behind, told-behind}
-use Rattle.loop_vb2.specs.Events.{Event, MayHappen, after_event, stops}
+use Rattle.loop_vb2.specs.Buffers.{queued_with}
+use Rattle.loop_vb2.specs.Effects.{awake, body_stopped, device_runs, settle_device, with_buffer}
+use Rattle.loop_vb2.specs.Events.{Event, MayHappen, after_event, complete, copy_plane, dqbuf, fail, fatal, mmap, munmap, prepare_buf, qbuf, querybuf, reqbufs, stops, streamoff, streamon, take_fresh, take_planes}
 use Rattle.loop_vb2.specs.State.{Body, Lined, QueueState, StandsQueue}
 use Rattle.loop_vb2.proofs.PlaneMeanings.{length_read, state_read}
 use Rattle.loop_ioctl.specs.Attached.{values_by_fd}
@@ -27,7 +29,7 @@ use Rattle.loop_desk.specs.Front.{Front, StandsFront, empty, hand_state, hand_fr
 use Rattle.loop_desk.specs.Waiting.{AllHeld, FramesAreKept, IsCounted, IsSoundQueue, QueuesStaySound, dequeued_frame, frames_dequeued, frames_waiting, completed_frame, without_flags}
 use Rattle.loop_capture.specs.declared.device.Tick.{Tick}
 use Rattle.loop_capture.specs.declared.device.Tick.TheVariants.{Idle, Completed, Failed, Missed, Ended, WrongSize}
-use Rattle.loop_pipeline.specs.Fronts.{AreDue, AreTicksTold, FrontKeeps, GoesOn, HasMoved, IsApart, HandIsSpent, IsOut, IsRegular, Leaves, SeenFront, TickRecord, count_failed, count_missed, fails, is_last, misses, shown_of, shown_given, StandsPort}
+use Rattle.loop_pipeline.specs.Fronts.{AreDue, AreTicksTold, FrontKeeps, GoesFrom, GoesOn, HasMoved, IsApart, IsNoticed, HandIsSpent, IsOut, IsRegular, Leaves, SeenFront, TickRecord, asks_source, count_failed, count_missed, fails, first_after, is_last, misses, shown_of, shown_given, StandsPort}
 use Rattle.loop_pipeline.proofs.OutPlanes.{forgotten}
 
 add-assoc : (a b c : ℕ) → (a + b) + c ≡ a + (b + c)
@@ -35,11 +37,15 @@ add-assoc a b c = omega arith
 
 module _ {S : Type 0} (gives : S → Next → List ℕ → S → Type 0) where
   -- ticks, and others after them
-  pub goes-behind : (d b e : SeenDevice S) (xs ys : List TickRecord) → GoesOn gives d xs b → GoesOn gives b ys e
-      → GoesOn gives d (xs ++ ys) e
-  goes-behind d b e [] ys first second = subst (λ x. GoesOn gives x ys e) first second
-  goes-behind d b e (x ∷ xs) ys first second =
-      (first.0, first.1, goes-behind first.0 b e xs ys first.2 second)
+  pub goes-behind : (f : Bool) (d b e : SeenDevice S) (xs ys : List TickRecord) → GoesFrom gives f d xs b
+      → GoesFrom gives (first_after f xs) b ys e → GoesFrom gives f d (xs ++ ys) e
+  goes-behind f d b e [] ys first second = subst (λ x. GoesFrom gives f x ys e) first second
+  goes-behind f d b e (x ∷ xs) ys first second =
+      (first.0, first.1, goes-behind (f && not (asks_source x.tick)) first.0 b e xs ys first.2 second)
+
+pub first-behind : (f : Bool) (xs ys : List TickRecord) → first_after f (xs ++ ys) ≡ first_after (first_after f xs) ys
+first-behind f [] ys = refl
+first-behind f (x ∷ xs) ys = first-behind (f && not (asks_source x.tick)) xs ys
 
 none-plus : (n : ℕ) → 0 + n ≡ n
 none-plus n = omega arith
@@ -116,12 +122,14 @@ pub record Adds {S P A : Type 0} (gives : S → Next → List ℕ → S → Type
   pub source : GoesOn gives d given e
   pub shows : map shown_of (flat_map completed_frame events) ≡ flat_map shown_given given
 
--- what a tick adds: itself, at this time
+-- what a tick adds: itself, at this time; where the start was noticed before, it isn't the first after it
 abbrev pub TickAdds : {S P A : Type 0} → (S → Next → List ℕ → S → Type 0) → (P → Plane) → Fds P → QueueState
     → SeenDevice S → SeenDevice S → Lined P → Lined P → Hand P A → Producer (Frame A) A AnyItems
     → Producer (Frame A) A AnyItems → ℕ → Tick → Type 0
 TickAdds gives m table s d e old queue hand to up now tick =
-    (g : TickRecord) × (g.now ≡ now) × (g.tick ≡ tick) × Adds gives m table s d e old queue hand to up (g ∷ [])
+    (g : TickRecord) × (g.now ≡ now) × (g.tick ≡ tick) × (adds : Adds gives m table s d e old queue hand to up (g ∷ []))
+    × (IsNoticed s → GoesFrom gives false d (g ∷ []) e)
+    × (first_after true (g ∷ []) ≡ false → IsNoticed adds.now.queue.queue)
 
 each-may : (s : QueueState) (events : List Event) → EachIn after_event IsCounted s events
     → EachIn after_event MayHappen s events
@@ -169,6 +177,7 @@ module _ {S P G A : Type 0} (gives : S → Next → List ℕ → S → Type 0) (
     went = ap (λ l. map without_flags (map picture l)) none;
     given = [];
     source = refl;
+    noticed = λ is. absurd (cc);
     counted = refl;
     told = record { timed = tt; missing = refl; failing = refl; ended = λ e. absurd (cc) };
     shows = refl;
@@ -275,6 +284,63 @@ module _ {S P G A : Type 0} (gives : S → Next → List ℕ → S → Type 0) (
         shaped = (is.shaped.0, is.shaped.1, is.shaped.2, has.formed ∙ is.shaped.3);
       }
 
+-- ---- a start that was noticed
+
+settled-noticed : (b : Body Plane) → b.started ≡ true → b.fresh ≡ false
+    → ((settle_device b).started ≡ true) × ((settle_device b).fresh ≡ false)
+settled-noticed b started fresh = by (device_runs b)
+  where
+    by : (t : Bool) → ((cond t (awake b) b).started ≡ true) × ((cond t (awake b) b).fresh ≡ false)
+    by true = (refl, λ i. fresh i || not (started i))
+    by false = (started, fresh)
+
+-- an event that doesn't stop the stream leaves it so
+noticed-on : (s : QueueState) (x : Event) → stops x ≡ false → IsNoticed s → IsNoticed (after_event s x)
+noticed-on s (reqbufs count kind sets (Ok g)) flows is =
+    subst (λ (t : Bool). ((cond t (body_stopped s.body) s.body).started ≡ true)
+    × ((cond t (body_stopped s.body) s.body).fresh ≡ false)) (sym flows) is
+noticed-on s (reqbufs count kind sets (Err e)) flows is = is
+noticed-on s (prepare_buf index kind given None) flows is = is
+noticed-on s (prepare_buf index kind given (Some e)) flows is = is
+noticed-on s (qbuf index kind given None) flows is =
+    settled-noticed (with_buffer (queued_with given) index s.body) is.0 is.1
+noticed-on s (qbuf index kind given (Some e)) flows is = is
+noticed-on s (dqbuf (Ok d)) flows is = is
+noticed-on s (dqbuf (Err e)) flows is = is
+noticed-on s (streamon None) flows is = by s.body.streaming
+  where
+    by : (t : Bool) → ((cond t s.body (settle_device (record s.body { streaming = true }))).started ≡ true)
+        × ((cond t s.body (settle_device (record s.body { streaming = true }))).fresh ≡ false)
+    by true = is
+    by false = settled-noticed (record s.body { streaming = true }) is.0 is.1
+noticed-on s (streamon (Some e)) flows is = is
+noticed-on s streamoff flows is = absurd (cc)
+noticed-on s (querybuf index result) flows is = is
+noticed-on s (mmap index None) flows is = is
+noticed-on s (mmap index (Some e)) flows is = is
+noticed-on s (munmap index None) flows is = is
+noticed-on s (munmap index (Some e)) flows is = is
+noticed-on s (take_planes index (Ok set)) flows is = is
+noticed-on s (take_planes index (Err e)) flows is = is
+noticed-on s (copy_plane index plane at count result) flows is = is
+noticed-on s (complete index stamp bytes None) flows is = is
+noticed-on s (complete index stamp bytes (Some e)) flows is = is
+noticed-on s (fail index stamp None) flows is = is
+noticed-on s (fail index stamp (Some e)) flows is = is
+noticed-on s fatal flows is = is
+noticed-on s (take_fresh fresh) flows is = (is.0, refl)
+
+either-false : (a b : Bool) → (a || b) ≡ false → (a ≡ false) × (b ≡ false)
+either-false true b is = absurd (cc)
+either-false false b is = (refl, is)
+
+stays-noticed : (s : QueueState) (events : List Event) → list_any stops events ≡ false → IsNoticed s
+    → IsNoticed (after_all after_event s events)
+stays-noticed s [] flows is = is
+stays-noticed s (x ∷ xs) flows is =
+    let each = either-false (stops x) (list_any stops xs) flows in
+    stays-noticed (after_event s x) xs each.1 (noticed-on s x each.0 is)
+
 -- ---- what a front has done, and a step more
 
 module _ (due : ℕ → ℕ → Type 0) (ends : ℕ → Type 0) where
@@ -313,11 +379,14 @@ module _ {S P G A : Type 0} (gives : S → Next → List ℕ → S → Type 0) (
   moved : (d e : SeenDevice S) (q r : Lined P) (h k : Hand P A) (to up : Producer (Frame A) A AnyItems)
       (ticks missed failed : ℕ) (over : Bool) (new_ticks new_missed new_failed : ℕ) (new_over : Bool)
       (given : List TickRecord) (before : HasMoved gives m due ends seen d q table h to ticks missed failed over)
-      → Adds gives m table before.now.queue.queue d e q r k to up given
+      → (adds : Adds gives m table before.now.queue.queue d e q r k to up given)
+      → (IsNoticed before.now.queue.queue → GoesFrom gives false d given e)
+      → (first_after true given ≡ false → IsNoticed adds.now.queue.queue)
       → length (before.given ++ given) ≡ new_ticks
       → AreTicksTold due ends new_missed new_failed new_over (before.given ++ given)
       → HasMoved gives m due ends seen e r table k up new_ticks new_missed new_failed new_over
-  moved d e q r h k to up ticks missed failed over new_ticks new_missed new_failed new_over given before adds counted told =
+  moved d e q r h k to up ticks missed failed over new_ticks new_missed new_failed new_over given before adds firm asked
+      counted told =
       let s = before.first in
       let old = before.events in
       let new = adds.events in
@@ -343,7 +412,10 @@ module _ {S P G A : Type 0} (gives : S → Next → List ℕ → S → Type 0) (
             ∙ ap (map without_flags) (ap (λ t. frames_dequeued s old ++ frames_dequeued t new) here
             ∙ sym (told-behind after_event dequeued_frame s old new)))));
         given = before.given ++ given;
-        source = goes-behind gives seen.device d e before.given given before.source adds.source;
+        source = goes-behind gives true seen.device d e before.given given before.source
+            (numbered (first_after true before.given) refl);
+        noticed = λ is. seen-then (first_after true before.given) refl
+            (sym (first-behind true before.given given) ∙ is);
         counted = counted;
         told = told;
         shows = ap (map shown_of) (flat_map-append completed_frame old new)
@@ -352,6 +424,16 @@ module _ {S P G A : Type 0} (gives : S → Next → List ℕ → S → Type 0) (
             ∙ (ap (λ l. flat_map shown_given before.given ++ l) adds.shows
             ∙ sym (flat_map-append shown_given before.given given))));
       }
+    where
+      numbered : (f : Bool) → first_after true before.given ≡ f → GoesFrom gives f d given e
+      numbered true is = adds.source
+      numbered false is = firm (before.noticed is)
+
+      seen-then : (f : Bool) → first_after true before.given ≡ f → first_after f given ≡ false
+          → IsNoticed adds.now.queue.queue
+      seen-then true was is = asked is
+      seen-then false was is = subst IsNoticed (sym adds.reached)
+          (stays-noticed before.now.queue.queue adds.events adds.flows (before.noticed was))
 
   -- a step without a tick
   pub stirred : (d e : SeenDevice S) (q r : Lined P) (h k : Hand P A) (to up : Producer (Frame A) A AnyItems)
@@ -361,8 +443,8 @@ module _ {S P G A : Type 0} (gives : S → Next → List ℕ → S → Type 0) (
       → HasMoved gives m due ends seen e r table k up ticks missed failed over
   stirred d e q r h k to up ticks missed failed over before adds =
       let none : before.given ++ [] ≡ before.given = append-nil before.given in
-      moved d e q r h k to up ticks missed failed over ticks missed failed over [] before adds
-      (ap length none ∙ before.counted) (subst (AreTicksTold due ends missed failed over) (sym none) before.told)
+      moved d e q r h k to up ticks missed failed over ticks missed failed over [] before adds (λ n. adds.source)
+      (λ is. absurd (cc)) (ap length none ∙ before.counted) (subst (AreTicksTold due ends missed failed over) (sym none) before.told)
 
   -- a tick, at a time that is due
   pub ticked : (d e : SeenDevice S) (q r : Lined P) (h k : Hand P A) (to up : Producer (Frame A) A AnyItems)
@@ -375,7 +457,7 @@ module _ {S P G A : Type 0} (gives : S → Next → List ℕ → S → Type 0) (
       let told = told-more due ends missed failed over before.given g before.told
       (subst (λ n. due n g.now) (sym before.counted) (subst (due ticks) (sym adds.1) is)) in
       moved d e q r h k to up ticks missed failed over (ticks + 1) (missed + misses tick) (failed + fails tick) (is_last tick)
-      (g ∷ []) before adds.3
+      (g ∷ []) before adds.3 adds.4 adds.5
       (length-append before.given (g ∷ []) ∙ ap (λ n. n + 1) before.counted)
       (subst (λ t. AreTicksTold due ends (missed + misses t) (failed + fails t) (is_last t) (before.given ++ g ∷ [])) adds.2 told)
 

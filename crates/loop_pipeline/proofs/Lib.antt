@@ -1,12 +1,17 @@
 pub mod Seating
 mod Alone
 mod BackRuns
+mod Bringing
 mod CountedTicks
 mod EmptyQueue
 mod FrameSteps
 mod FrontRuns
+mod Happening
 mod Joining
+mod Doors
 mod KeepCalls
+mod Leaves
+mod Leaving
 mod Oldest
 mod OldestGoes
 mod OutPlanes

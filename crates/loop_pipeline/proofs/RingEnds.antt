@@ -1,5 +1,5 @@
 -- A camera's front and back, on the two ends of one ring.
-use Rattle.std.proofs.Common.{◌≡◌, ◌⊎◌, inl, inr, ◌++◌, ◌+◌, ℕ, Bool, true, false, List, [], ◌∷◌, length, map, refl, sym, ap, ◌∙◌, subst, arith}
+use Rattle.std.proofs.Common.{◌≡◌, ◌⊎◌, inl, inr, ◌++◌, ◌+◌, ℕ, Bool, true, false, List, [], ◌∷◌, drop, length, map, slice_get, refl, sym, ap, ◌∙◌, subst, arith}
 use Rattle.std.proofs.lemmas.Grind.{flat_map-append}
 use Rattle.std.proofs.lemmas.List.{append-nil, length-append, length-map, map-append}
 use Rattle.std.specs.List.{flat_map}
@@ -19,9 +19,12 @@ use Rattle.loop_desk.specs.Desk.{DeskCall}
 use Rattle.loop_desk.specs.Seen.{SeenDesk}
 use Rattle.loop_desk.specs.Waiting.{frames_waiting, without_flags}
 use Rattle.loop_desk.proofs.FootageRuns.{keeps-footage}
-use Rattle.loop_pipeline.specs.Backs.{BackKeeps, Came, IsFed, MayGiveUpAt, SeenBack, calls_at, calls_by, lost_by, picture_of, placed_calls, unasked, unasked_by}
+use Rattle.loop_pipeline.specs.Backs.{Came, IsFed, MayGiveUpAt, SeenBack, calls_at, calls_by, lost_by, picture_of, placed_calls, unasked, unasked_by}
 use Rattle.loop_pipeline.specs.Cameras.{CameraKeeps}
+use Rattle.loop_pipeline.proofs.Places.{some-same}
 use Rattle.loop_pipeline.specs.Fronts.{FrontKeeps, SeenFront}
+use Rattle.loop_pipeline.specs.DeskEvents.{Happened, desk_in}
+use Rattle.loop_pipeline.specs.KeptBacks.{BackKeeps}
 
 -- frames that nobody brought
 left-pictures : (ps : List Picture) → map picture_of (map unasked ps) ≡ ps
@@ -59,14 +62,14 @@ module _ {S D P G A : Type 0} (medium : D → Medium) (gives : S → Next → Li
   pub both : (seen : SeenFront S P G A) (back : SeenBack D A) (first desk : SeenDesk D) (others joined : List (SeenDesk D))
       (device : SeenDevice S) (queue : Lined P) (to up : Producer (Frame A) A AnyItems)
       (from down : Consumer (Frame A) A AnyItems) (given_up left missed failed : ℕ) (over refused : Bool)
-      → back.began ≡ first ∷ others → desk ∷ joined ≡ back.desks
+      → back.began ≡ first ∷ others → back.start ≡ seen.device.next → desk ∷ joined ≡ back.desks
       → FrontKeeps gives m due ends seen device queue to missed failed over → BackKeeps medium asks gives_up back from given_up refused
       → ProducerLooked to up → ConsumerLooked from down → received down ++ known_items down ≡ sent up
       → left ≡ length (known_items down)
       → CameraKeeps medium gives m asks gives_up due ends
       (record { device = seen.device; queue = seen.queue; desk = first; joined = others })
       (record { device = device; queue = queue; desk = desk; joined = joined }) given_up left missed failed over
-  both seen back first desk others joined device queue to up from down given_up left missed failed over refused was is front kept
+  both seen back first desk others joined device queue to up from down given_up left missed failed over refused was starts is front kept
       up_looked down_looked fifo count =
       let items = map picture (known_items down) in
       let fed = fed-all (map picture (received from)) (flat_map placed_calls keeps.parts) given_up keeps.came items keeps.fed in
@@ -89,7 +92,14 @@ module _ {S D P G A : Type 0} (medium : D → Medium) (gives : S → Next → Li
             (sym (fed.whole ∙ all));
         lost = fed.lost ∙ ap (λ n. given_up + n) (length-map (known_items down) picture ∙ sym count);
         all = omega (arith, keeps.all);
+        events = keeps.events;
+        active = back.active;
+        end = back.end;
+        happened = subst (λ d. Happened medium (record { desks = d ∷ []; active = 0; end = seen.device.next }) keeps.events
+            (record { desks = desk ∷ joined; active = back.active; end = back.end })) (sym only.0) keeps.happened;
+        joins = sym only.1;
         parts = keeps.parts;
+        are = keeps.are;
         among = keeps.among;
         submits = fed.submits;
         served = keeps.served;
@@ -100,9 +110,12 @@ module _ {S D P G A : Type 0} (medium : D → Medium) (gives : S → Next → Li
       }
     where
       keeps : BackKeeps medium asks gives_up
-          (record { began = first ∷ others; from = back.from; desks = desk ∷ joined; active = back.active; end = back.end }) from given_up refused
+          (record { began = first ∷ others; from = back.from; start = seen.device.next; desks = desk ∷ joined; active = back.active; end = back.end }) from given_up refused
       keeps = subst (λ b. BackKeeps medium asks gives_up b from given_up refused)
-          (λ i. record { began = was i; from = back.from; desks = (sym is) i; active = back.active; end = back.end }) kept
+          (λ i. record { began = was i; from = back.from; start = starts i; desks = (sym is) i; active = back.active; end = back.end }) kept
+
+      only : (first ≡ keeps.first) × (others ≡ flat_map desk_in keeps.events)
+      only = (some-same first keeps.first (ap (λ l. slice_get l 0) keeps.began), ap (drop 1) keeps.began)
 
       none-asked : refused ≡ false → length (flat_map unasked_by (keeps.came ++ map unasked (map picture (known_items down)))) ≡ left
       none-asked on =

@@ -34,7 +34,7 @@ module _ (ring : Ring) (keep : ℕ) (r : Recording) (s : Space) (tells : TellsSp
       go false is None chosen = absurd (never (is, tells.oldest.none chosen))
 
 -- the first that passes
-first-passes : {X : Type 0} (p : X → Bool) (xs : List X) (place : ℕ) → position p xs ≡ Some place
+pub first-passes : {X : Type 0} (p : X → Bool) (xs : List X) (place : ℕ) → position p xs ≡ Some place
     → (x : X) × (slice_get xs place ≡ Some x) × (p x ≡ true)
 first-passes {X} p xs place is = go (ltb first (length xs)) refl
   where

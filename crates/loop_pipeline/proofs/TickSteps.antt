@@ -1,5 +1,5 @@
 -- A tick, as what it adds to what a front has done.
-use Rattle.std.proofs.Common.{◌≡◌, ◌⊎◌, inl, inr, ◌++◌, ℕ, ◌<◌, ◌==◌, Bool, true, false, cond, List, [], ◌∷◌, length, map, Option, Some, None, refl, sym, ap, ◌∙◌, subst, option_to_list}
+use Rattle.std.proofs.Common.{◌≡◌, ◌⊎◌, inl, inr, ◌++◌, ℕ, ◌<◌, ◌==◌, ◌&&◌, Bool, true, false, not, cond, List, [], ◌∷◌, length, map, Option, Some, None, refl, sym, ap, ◌∙◌, subst, option_to_list}
 use Rattle.std.proofs.lemmas.List.{append-nil}
 use Rattle.std.specs.List.{flat_map, list_any}
 use Rattle.rtrb.specs.declared.AnyItems.{AnyItems}
@@ -35,7 +35,7 @@ use Rattle.loop_capture.proofs.TickLinks.{tick-linked}
 use Rattle.loop_desk.specs.declared.hand.Hand.{Hand}
 use Rattle.loop_desk.specs.Front.{Front, HandState, StandsFront, empty, full, planes_held, spent, hand_frame}
 use Rattle.loop_desk.specs.Waiting.{IsCounted, frames_dequeued, completed_frame, without_flags}
-use Rattle.loop_pipeline.specs.Fronts.{GaveBy, IsApart, IsOut, TickRecord, IsToldBy, shown_of, shown_given}
+use Rattle.loop_pipeline.specs.Fronts.{GaveBy, IsApart, IsNoticed, IsOut, asks_source, TickRecord, IsToldBy, shown_of, shown_given}
 use Rattle.loop_pipeline.proofs.FrontRuns.{TickAdds}
 
 -- for such a tick the source was asked
@@ -67,11 +67,16 @@ told-by Idle answer active is asks = absurd asks
 told-by WrongSize answer active is asks = absurd asks
 
 -- after a start 0, otherwise the next one
-fresh-or-next : (goes_on fresh : Bool) (next : ℕ)
-    → (sequence_at goes_on fresh next ≡ next) ⊎ (sequence_at goes_on fresh next ≡ 0) × (goes_on ≡ false)
+fresh-or-next : (goes_on fresh : Bool) (next : ℕ) → (sequence_at goes_on fresh next ≡ next)
+    ⊎ (true ≡ true) × (sequence_at goes_on fresh next ≡ 0) × (goes_on ≡ false)
 fresh-or-next true fresh next = inl refl
-fresh-or-next false true next = inr (refl, refl)
+fresh-or-next false true next = inr (refl, refl, refl)
 fresh-or-next false false next = inl refl
+
+next-one : (goes_on fresh : Bool) (next : ℕ) → fresh ≡ false → sequence_at goes_on fresh next ≡ next
+next-one true fresh next is = refl
+next-one false true next is = absurd (cc)
+next-one false false next is = refl
 
 -- ---- what the end of a buffer is, or none
 
@@ -130,6 +135,15 @@ end-streams Missed stamp bytes s = refl
 end-streams Ended stamp bytes s = refl
 end-streams WrongSize stamp bytes s = refl
 
+end-noticed : (tick : Tick) (stamp : Stamp) (bytes : List ℕ) (s : QueueState) → IsNoticed s
+    → IsNoticed (after_all after_event s (end_event tick stamp bytes))
+end-noticed (Completed i) stamp bytes s is = is
+end-noticed (Failed i) stamp bytes s is = is
+end-noticed Idle stamp bytes s is = is
+end-noticed Missed stamp bytes s is = is
+end-noticed Ended stamp bytes s is = is
+end-noticed WrongSize stamp bytes s is = is
+
 -- ---- a buffer that is out of the queue stays so
 
 -- it isn't the one that the device ends
@@ -178,10 +192,11 @@ module _ {S P A : Type 0} (gives : S → Next → List ℕ → S → Type 0) (m 
   given-at tick sequence bytes = record { now = now; tick = tick; sequence = sequence; bytes = bytes }
 
   -- a tick that changes nothing
-  nothing-adds : (tick : Tick) (f : Front) → GaveBy gives tick 0 [] d e → flat_map shown_given (given-at tick 0 [] ∷ []) ≡ []
+  nothing-adds : (tick : Tick) (f : Front) → asks_source tick ≡ false → ((first : Bool) → GaveBy gives first tick 0 [] d e)
+      → flat_map shown_given (given-at tick 0 [] ∷ []) ≡ []
       → after ≡ before → hand_frame f.hand ≡ [] → IsApart f.queue.queue.body f.hand → StandsFront m before table h f
       → TickAdds gives m table f.queue.queue d e before after h to to now tick
-  nothing-adds tick f gave none still free apart stands = (
+  nothing-adds tick f quiet gave none still free apart stands = (
     given-at tick 0 [],
     refl,
     refl,
@@ -198,9 +213,12 @@ module _ {S P A : Type 0} (gives : S → Next → List ℕ → S → Type 0) (m 
       streams = refl;
       ring = ((refl, refl, refl, refl), refl);
       went = ap (map without_flags) (sym (append-nil (map picture (sent to))));
-      source = (e, gave, refl);
+      source = (e, gave true, refl);
       shows = sym none;
     },
+    λ noticed. (e, gave false, refl),
+    λ is. absurd (let other : true && not (asks_source tick) ≡ true = ap (λ t. true && not t) quiet in
+        let both : true ≡ false = sym other ∙ is in cc),
   )
 
   -- the front after a tick for which the source was asked: the queue's events have happened, the rest is as it was
@@ -228,9 +246,11 @@ module _ {S P A : Type 0} (gives : S → Next → List ℕ → S → Type 0) (m 
   -- a tick for which the source was asked
   took-adds : (tick : Tick) (f : Front) → after.body.shape ≡ before.body.shape → Asks tick
       → hand_frame f.hand ≡ [] → IsApart f.queue.queue.body f.hand → StandsFront m before table h f
-      → (took : Took gives m now tick d e before after f.queue.queue) → GaveBy gives tick (sequence_of d f.queue.queue) took.bytes d e
+      → (took : Took gives m now tick d e before after f.queue.queue)
+      → GaveBy gives true tick (sequence_of d f.queue.queue) took.bytes d e
+      → (IsNoticed f.queue.queue → GaveBy gives false tick (sequence_of d f.queue.queue) took.bytes d e)
       → TickAdds gives m table f.queue.queue d e before after h to to now tick
-  took-adds tick f formed asks free apart stands took gave =
+  took-adds tick f formed asks free apart stands took gave firm =
       let s = f.queue.queue in
       let bytes = took.bytes in
       let told = told-by tick took.answer (longest_active s) took.tick_is asks in
@@ -260,12 +280,19 @@ module _ {S P A : Type 0} (gives : S → Next → List ℕ → S → Type 0) (m 
           source = (e, gave, refl);
           shows = end-shown tick stamp.sequence now bytes;
         },
+        λ noticed. (e, firm noticed, refl),
+        λ is. end-noticed tick stamp bytes (on_body body_seen s) (took.started, refl),
       )
 
-  gave-of : (tick : Tick) (s : QueueState) → Asks tick → (took : Took gives m now tick d e before after s)
-      → (answer : Next) × IsToldBy tick answer × gives d.source answer took.bytes e.source × (e.size ≡ d.size)
-      × (e.goes_on ≡ d.goes_on) × ((sequence_of d s ≡ d.next) ⊎ (sequence_of d s ≡ 0) × (d.goes_on ≡ false))
+  abbrev Gave : Bool → (tick : Tick) → (s : QueueState) → Took gives m now tick d e before after s → Type 0
+  Gave first tick s took =
+      (answer : Next) × IsToldBy tick answer × gives d.source answer took.bytes e.source × (e.size ≡ d.size)
+      × (e.goes_on ≡ d.goes_on)
+      × ((sequence_of d s ≡ d.next) ⊎ (first ≡ true) × (sequence_of d s ≡ 0) × (d.goes_on ≡ false))
       × (e.next ≡ sequence_after answer (sequence_of d s))
+
+  gave-of : (tick : Tick) (s : QueueState) → Asks tick → (took : Took gives m now tick d e before after s)
+      → Gave true tick s took
   gave-of tick s asks took = (
     took.answer,
     told-by tick took.answer (longest_active s) took.tick_is asks,
@@ -276,22 +303,38 @@ module _ {S P A : Type 0} (gives : S → Next → List ℕ → S → Type 0) (m 
     took.next,
   )
 
+  gave-next : (tick : Tick) (s : QueueState) → Asks tick → (took : Took gives m now tick d e before after s)
+      → IsNoticed s → Gave false tick s took
+  gave-next tick s asks took noticed = (
+    took.answer,
+    told-by tick took.answer (longest_active s) took.tick_is asks,
+    took.given,
+    took.size,
+    took.goes_on,
+    inl (next-one d.goes_on s.body.fresh d.next noticed.1),
+    took.next,
+  )
+
   pub tick-adds : (tick : Tick) (f : Front) → after.body.shape ≡ before.body.shape → hand_frame f.hand ≡ []
       → IsApart f.queue.queue.body f.hand → StandsFront m before table h f → Ticks gives m now tick d e before after
       → TickAdds gives m table f.queue.queue d e before after h to to now tick
   tick-adds WrongSize f formed free apart stands ticks =
-      let t = ticks f.queue.queue stands.queue.queue in nothing-adds WrongSize f t.1 refl t.2 free apart stands
+      let t = ticks f.queue.queue stands.queue.queue in nothing-adds WrongSize f refl (λ first. t.1) refl t.2 free apart stands
   tick-adds Idle f formed free apart stands ticks =
-      let t = ticks f.queue.queue stands.queue.queue in nothing-adds Idle f t.2 refl t.3 free apart stands
+      let t = ticks f.queue.queue stands.queue.queue in nothing-adds Idle f refl (λ first. t.2) refl t.3 free apart stands
   tick-adds (Completed i) f formed free apart stands ticks =
       let t = ticks f.queue.queue stands.queue.queue in
       took-adds (Completed i) f formed tt free apart stands t (gave-of (Completed i) f.queue.queue tt t)
+      (gave-next (Completed i) f.queue.queue tt t)
   tick-adds (Failed i) f formed free apart stands ticks =
       let t = ticks f.queue.queue stands.queue.queue in
       took-adds (Failed i) f formed tt free apart stands t (gave-of (Failed i) f.queue.queue tt t)
+      (gave-next (Failed i) f.queue.queue tt t)
   tick-adds Missed f formed free apart stands ticks =
       let t = ticks f.queue.queue stands.queue.queue in
       took-adds Missed f formed tt free apart stands t (gave-of Missed f.queue.queue tt t)
+      (gave-next Missed f.queue.queue tt t)
   tick-adds Ended f formed free apart stands ticks =
       let t = ticks f.queue.queue stands.queue.queue in
       took-adds Ended f formed tt free apart stands t (gave-of Ended f.queue.queue tt t)
+      (gave-next Ended f.queue.queue tt t)

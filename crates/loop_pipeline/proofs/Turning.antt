@@ -1,8 +1,9 @@
 -- The search for the desk that takes the next block, and the turn to it.
-use Rattle.std.proofs.Common.{◌≡◌, ◌==◌, ◌++◌, ◌<◌, ◌-◌, ◌%◌, ◌⊎◌, ◌↔◌, inl, inr, ℕ, ◌+◌, Bool, true, false, not, Option, Some, None, List, [], ◌∷◌, length, slice_get, refl, sym, ap, ◌∙◌, subst}
-use Rattle.std.proofs.lemmas.Bool.{eqb-true, eq-eqb}
+use Rattle.std.proofs.Common.{◌≡◌, ◌==◌, ◌++◌, ◌<◌, ◌-◌, ◌%◌, ◌⊎◌, ◌↔◌, inl, inr, ℕ, ◌+◌, Bool, true, false, not, Option, Some, None, List, [], ◌∷◌, length, slice_get, slice_set, refl, sym, ap, ◌∙◌, subst}
+use Rattle.std.proofs.lemmas.Bool.{eqb-true, eqb-false, eq-eqb}
 use Rattle.std.proofs.lemmas.List.{length-append, nil_from_length}
 use Rattle.loop_disk.specs.Medium.{Medium}
+use Rattle.loop_record.specs.Recording.{Picture}
 use Rattle.loop_desk.specs.declared.limits.Space.{Space}
 use Rattle.loop_desk.specs.Seen.{SeenDesk}
 use Rattle.loop_pipeline.specs.declared.next.Search.{Search}
@@ -11,7 +12,7 @@ use Rattle.loop_pipeline.specs.Desks.{SeenDesks, turned}
 use Rattle.loop_pipeline.specs.Nexts.{IsFull, TakesNext, IsSearch}
 use Rattle.loop_pipeline.specs.Turns.{AllLocked, Chooses, IsBetween, MayBegin, Searches, TellsRoom}
 use Rattle.loop_pipeline.proofs.DeskPlaces.{same-desk}
-use Rattle.loop_pipeline.proofs.Places.{get-joined, some-same}
+use Rattle.loop_pipeline.proofs.Places.{get-joined, some-same, some-there}
 use Rattle.loop_pipeline.proofs.Searching.{all-full}
 
 module _ {D : Type 0} (medium : D → Medium) where
@@ -116,3 +117,24 @@ module _ {D : Type 0} (desks : List (SeenDesk D)) (active : ℕ) (b : Bool)
   is-between is =
       let both = same-desk (λ d. (b ≡ true) ↔ IsBetween d) desks active said.0 said.1 said in
       (said.0, said.1, both.0 is)
+
+-- the active desk is between two blocks, or it isn't
+pub between-or-not : {D : Type 0} (desks : List (SeenDesk D)) (active : ℕ) → active < length desks
+    → IsSoAt active desks IsBetween ⊎ (IsSoAt active desks IsBetween → ⊥)
+between-or-not {D} desks active less = go there.0.pending refl (left there.0 == there.0.store.geometry.slots) refl
+  where
+    there : (x : SeenDesk D) × (slice_get desks active ≡ Some x) × (slice_set desks active x ≡ desks)
+    there = some-there desks active less
+
+    left : SeenDesk D → ℕ
+    left d = d.store.geometry.slots - d.store.next % d.store.geometry.slots
+
+    go : (waits : List Picture) → there.0.pending ≡ waits → (b : Bool)
+        → (left there.0 == there.0.store.geometry.slots) ≡ b
+        → IsSoAt active desks IsBetween ⊎ (IsSoAt active desks IsBetween → ⊥)
+    go [] none true is = inl (there.0, there.1, (none, eqb-true (left there.0) there.0.store.geometry.slots is))
+    go [] none false is =
+        inr (λ so. eqb-false (left there.0) there.0.store.geometry.slots is (same-desk IsBetween desks active there.0 there.1 so).1)
+    go (p ∷ ps) some b is = inr (λ so.
+        let both = same-desk IsBetween desks active there.0 there.1 so in
+        absurd (let e : p ∷ ps ≡ [] = sym some ∙ both.0 in cc))

@@ -15,9 +15,12 @@ use Rattle.loop_record.specs.Recording.{picture}
 use Rattle.loop_store.specs.declared.fault.StoreFault.{StoreFault}
 use Rattle.loop_desk.specs.Desk.{DeskCall, flushed}
 use Rattle.loop_desk.specs.Seen.{DeskGoes, SeenDesk}
-use Rattle.loop_pipeline.specs.Backs.{BackKeeps, GoesBy, IsFed, IsLast, IsRightful, IsSoAt, MayGiveUp, MayGiveUpAt, Part, SeenBack, Served, calls_at, calls_of, is_placed_submit, is_submit, part_for, parts_at, placed_calls, visited}
+use Rattle.loop_pipeline.specs.Backs.{GoesBy, IsFed, IsLast, IsRightful, IsSoAt, MayGiveUp, MayGiveUpAt, Part, SeenBack, Served, calls_at, calls_of, is_placed_submit, is_submit, part_for, parts_at, placed_calls, visited}
 use Rattle.loop_pipeline.specs.Desks.{AreVisited, EachWent, Lent, SeenDesks, turned}
 use Rattle.loop_pipeline.specs.Turns.{IsBetween}
+use Rattle.loop_pipeline.specs.DeskEvents.{desk_in, part_in}
+use Rattle.loop_pipeline.specs.KeptBacks.{BackKeeps}
+use Rattle.loop_pipeline.proofs.Happening.{done_by, happened-both, none-joined, parts-done, visit-happened}
 use Rattle.loop_pipeline.proofs.BackRuns.{all-more, by-more, fed-beside, parts-elsewhere, parts-here, placed-none, served-more}
 use Rattle.loop_pipeline.proofs.Places.{get-set-other, get-set-same, set-same, some-same, some-there}
 
@@ -152,18 +155,31 @@ refused-still gives_up count parts more why = record {
 
 module _ {D A : Type 0} (medium : D → Medium) (asks : DeskCall → Type 0) (gives_up : StoreFault → Type 0) where
   -- what the back kept before the visit it keeps after it
-  pub kept-since : (began : List (SeenDesk D)) (before from : Consumer (Frame A) A AnyItems) (given_up : ℕ) (refused : Bool)
+  pub kept-since : {start : ℕ} (began : List (SeenDesk D)) (before from : Consumer (Frame A) A AnyItems) (given_up : ℕ) (refused : Bool)
       (seen : SeenDesks D) → AreVisited medium asks seen
       → BackKeeps medium asks gives_up
-      (record { began = began; from = before; desks = seen.lent.began; active = seen.lent.active; end = seen.lent.end }) from given_up refused
+      (record { began = began; from = before; start = start; desks = seen.lent.began; active = seen.lent.active; end = seen.lent.end }) from given_up refused
       → BackKeeps medium asks gives_up
-      (record { began = began; from = before; desks = seen.desks; active = seen.lent.active; end = seen.lent.end })
+      (record { began = began; from = before; start = start; desks = seen.desks; active = seen.lent.active; end = seen.lent.end })
       from given_up refused
-  kept-since began before from given_up refused seen so keeps = record {
+  kept-since {start} began before from given_up refused seen so keeps = record {
     ring = keeps.ring;
     all = so.all ∙ keeps.all;
     inside = so.inside;
+    first = keeps.first;
+    events = keeps.events ++ map done_by so.parts;
+    happened = happened-both medium (record { desks = keeps.first ∷ []; active = 0; end = start })
+        (record { desks = seen.lent.began; active = seen.lent.active; end = seen.lent.end })
+        (record { desks = seen.desks; active = seen.lent.active; end = seen.lent.end }) keeps.events
+        (map done_by so.parts) keeps.happened
+        (visit-happened medium seen.lent.active seen.lent.end seen.lent.began seen.desks so.parts so.all so.among
+        so.went so.quiet);
+    began = keeps.began ∙ ap (λ l. keeps.first ∷ l) (sym (flat_map-append desk_in keeps.events (map done_by so.parts)
+        ∙ (ap (λ l. flat_map desk_in keeps.events ++ l) (none-joined D so.parts)
+        ∙ append-nil (flat_map desk_in keeps.events))));
     parts = keeps.parts ++ so.parts;
+    are = (λ i. keeps.are i ++ sym (parts-done D so.parts) i)
+        ∙ sym (flat_map-append part_in keeps.events (map done_by so.parts));
     among = All-append (λ part. part.0 < length began) keeps.parts so.parts keeps.among
         (subst (λ n. All (λ part. part.0 < n) so.parts) keeps.all so.among);
     served = λ place d f first last.
@@ -182,52 +198,37 @@ module _ {D A : Type 0} (medium : D → Medium) (asks : DeskCall → Type 0) (gi
   }
 
   -- so it is of the desks that were lent
-  pub kept-lent : {end : ℕ} (began desks : List (SeenDesk D)) (active : ℕ) (before from : Consumer (Frame A) A AnyItems) (given_up : ℕ)
+  pub kept-lent : {start end : ℕ} (began desks : List (SeenDesk D)) (active : ℕ) (before from : Consumer (Frame A) A AnyItems) (given_up : ℕ)
       (refused : Bool) (seen : SeenDesks D) → seen.lent ≡ record { began = desks; active = active; end = end }
       → AreVisited medium asks seen
-      → BackKeeps medium asks gives_up (record { began = began; from = before; desks = desks; active = active; end = end }) from
+      → BackKeeps medium asks gives_up (record { began = began; from = before; start = start; desks = desks; active = active; end = end }) from
       given_up refused
       → BackKeeps medium asks gives_up
-      (record { began = began; from = before; desks = seen.desks; active = seen.lent.active; end = seen.lent.end })
+      (record { began = began; from = before; start = start; desks = seen.desks; active = seen.lent.active; end = seen.lent.end })
       from given_up refused
-  kept-lent {end} began desks active before from given_up refused seen lent so keeps =
+  kept-lent {start} {end} began desks active before from given_up refused seen lent so keeps =
       kept-since began before from given_up refused seen so
       (subst (λ (l : Lent D). BackKeeps medium asks gives_up
-      (record { began = began; from = before; desks = l.began; active = l.active; end = l.end }) from given_up refused) (sym lent) keeps)
+      (record { began = began; from = before; start = start; desks = l.began; active = l.active; end = l.end }) from given_up refused) (sym lent) keeps)
 
-  -- wherever the order ends
-  ends-at : (began desks : List (SeenDesk D)) (active : ℕ) (before from : Consumer (Frame A) A AnyItems)
-      (given_up : ℕ) (refused : Bool) (old new : ℕ)
-      → BackKeeps medium asks gives_up
-      (record { began = began; from = before; desks = desks; active = active; end = old }) from given_up refused
-      → BackKeeps medium asks gives_up
-      (record { began = began; from = before; desks = desks; active = active; end = new }) from given_up refused
-  ends-at began desks active before from given_up refused old new keeps = record {
-    ring = keeps.ring;
-    all = keeps.all;
-    inside = keeps.inside;
-    parts = keeps.parts;
-    among = keeps.among;
-    served = keeps.served;
-    rightful = keeps.rightful;
-    came = keeps.came;
-    fed = keeps.fed;
-    tried = keeps.tried;
-    excused = keeps.excused;
-  }
-
-  -- what it keeps of desks and of the active one's place it keeps of those that are seen
-  pub kept-as : {end : ℕ} (began desks : List (SeenDesk D)) (active : ℕ) (before from : Consumer (Frame A) A AnyItems) (given_up : ℕ)
-      (refused : Bool) (seen : SeenDesks D) → seen.desks ≡ desks → seen.lent.active ≡ active
-      → BackKeeps medium asks gives_up (record { began = began; from = before; desks = desks; active = active; end = end }) from
+  -- what it keeps of desks, of the active one's place and of the end it keeps of those that are seen
+  pub kept-as : {start end : ℕ} (began desks : List (SeenDesk D)) (active : ℕ) (before from : Consumer (Frame A) A AnyItems) (given_up : ℕ)
+      (refused : Bool) (seen : SeenDesks D) → seen.desks ≡ desks → seen.lent.active ≡ active → seen.lent.end ≡ end
+      → BackKeeps medium asks gives_up (record { began = began; from = before; start = start; desks = desks; active = active; end = end }) from
       given_up refused
       → BackKeeps medium asks gives_up
-      (record { began = began; from = before; desks = seen.desks; active = seen.lent.active; end = seen.lent.end })
+      (record { began = began; from = before; start = start; desks = seen.desks; active = seen.lent.active; end = seen.lent.end })
       from given_up refused
-  kept-as {end} began desks active before from given_up refused seen is same keeps =
+  kept-as {start} {end} began desks active before from given_up refused seen is same still keeps =
       subst (λ (b : SeenBack D A). BackKeeps medium asks gives_up b from given_up refused)
-      (λ i. record { began = began; from = before; desks = (sym is) i; active = (sym same) i; end = seen.lent.end })
-      (ends-at began desks active before from given_up refused end seen.lent.end keeps)
+      (λ i. record {
+        began = began;
+        from = before;
+        start = start;
+        desks = (sym is) i;
+        active = (sym same) i;
+        end = (sym still) i;
+      }) keeps
 
 -- and so the last call
 pub last-as : {D : Type 0} (medium : D → Medium) (began desks : List (SeenDesk D)) (active : ℕ) (call : DeskCall)

@@ -3,12 +3,11 @@ use Rattle.std.specs.Prelude.{◌≡◌, ◌==◌, ◌<◌, ◌≤◌, ◌-◌, 
 use Rattle.std.specs.List.{filter, flat_map}
 use Rattle.rtrb.specs.declared.AnyItems.{AnyItems}
 use Rattle.rtrb.specs.declared.consumer.Consumer.{Consumer}
-use Rattle.rtrb.specs.Ring.{SameConsumer, received}
 use Rattle.loop_disk.specs.Medium.{Medium}
 use Rattle.loop_record.specs.declared.clip.Span.{Span}
 use Rattle.loop_record.specs.declared.frame.Frame.{Frame}
 use Rattle.loop_record.specs.declared.times.Times.{Times}
-use Rattle.loop_record.specs.Recording.{Picture, picture}
+use Rattle.loop_record.specs.Recording.{Picture}
 use Rattle.loop_store.specs.declared.fault.StoreFault.{StoreFault}
 use Rattle.loop_desk.specs.Desk.{DeskCall, clip_locked, flushed, run_told, submitted}
 use Rattle.loop_desk.specs.Seen.{DeskGoes, SeenDesk}
@@ -135,12 +134,13 @@ pub record IsFed (got : List Picture) (calls : List (ℕ × DeskCall)) (given_up
 
 -- ---- a back
 
--- a back as its callers see it: its desks as they were when it took them, the end of its ring as it was when it was
--- made, the desks as they are now, the place of the one to which frames are brought, and one past the sequence of the
--- last frame that was brought to any
+-- a back as its callers see it: its desks as they were when it took them, the end of its ring and one past the newest
+-- sequence as they were when it was made, the desks as they are now, the place of the one to which frames are brought,
+-- and one past the sequence of the last frame that was brought to any
 pub record SeenBack (D A : Type 0) : Type 0 where
   pub began : List (SeenDesk D)
   pub from : Consumer (Frame A) A AnyItems
+  pub start : ℕ
   pub desks : List (SeenDesk D)
   pub active : ℕ
   pub end : ℕ
@@ -180,6 +180,7 @@ pub record Joins {D A : Type 0} (shut : Type 0) (old new : SeenBack D A) : Type 
   pub none : shut → others ≡ []
   pub began : new.began ≡ old.began ++ others
   pub from : new.from ≡ old.from
+  pub start : new.start ≡ old.start
 
 -- ---- what was answered last
 
@@ -236,23 +237,3 @@ abbrev pub IsBrought : {D A : Type 0} → (D → Medium) → ℕ → SeenBack D 
 IsBrought medium end seen (Submitted number) = IsAccepted medium seen number
 IsBrought medium end seen (GivenUp fault lost) = IsTurnedDown medium seen lost
 IsBrought medium end seen _ = seen.end ≡ end
-
--- ---- what a back keeps
-
--- From the desks that the back took to the desks as they are, whatever their disks, there were just these calls, each
--- desk's own; their submits are of the frames that came out of the ring, and `asks` says which calls visits may make.
-pub record BackKeeps {D A : Type 0} (medium : D → Medium) (asks : DeskCall → Type 0) (gives_up : StoreFault → Type 0)
-    (seen : SeenBack D A) (from : Consumer (Frame A) A AnyItems) (given_up : ℕ) (refused : Bool) : Type 0 where
-  pub ring : SameConsumer seen.from from
-  pub all : length seen.desks ≡ length seen.began
-  pub inside : seen.active < length seen.desks
-  -- in the order in which they were made over all desks, each with the place of its desk
-  pub parts : List (ℕ × Part)
-  pub among : All (λ part. part.0 < length seen.began) parts
-  pub served : EachServed medium seen.began seen.desks parts
-  pub rightful : All (λ part. IsRightful asks part.1) parts
-  pub came : List Came
-  pub fed : IsFed (map picture (received from)) (flat_map placed_calls parts) given_up came
-  -- no frame is given up without asking a desk, unless a flush was refused by such a fault
-  pub tried : refused ≡ true → MayGiveUpAt gives_up (length seen.began) parts
-  pub excused : refused ≡ false → flat_map unasked_by came ≡ []

@@ -14,7 +14,8 @@ use Rattle.loop_desk.specs.Desk.{DeskCall, submitted}
 use Rattle.loop_desk.specs.Footage.{KeepsFootage}
 use Rattle.loop_desk.specs.Waiting.{frames_waiting, without_flags}
 use Rattle.loop_desk.specs.Seen.{DeskGoes, SeenDesk}
-use Rattle.loop_pipeline.specs.Backs.{Came, EachServed, GoesBy, IsRightful, MayGiveUp, MayGiveUpAt, Part, asked, calls_at, calls_by, calls_of, is_placed_submit, is_submit, lost_by, picture_of, placed_calls, unasked, unasked_by}
+use Rattle.loop_pipeline.specs.Backs.{Came, EachServed, GoesBy, IsRightful, IsSoAt, MayGiveUp, MayGiveUpAt, Part, asked, calls_at, calls_by, calls_of, is_placed_submit, is_submit, lost_by, picture_of, placed_calls, unasked, unasked_by}
+use Rattle.loop_pipeline.specs.DeskEvents.{DeskEvent, Happened, desk_in, part_in}
 use Rattle.loop_pipeline.specs.Fronts.{AreTicksTold, GoesOn, TickRecord, shown_of, shown_given}
 
 -- a camera: its device, its queue, its desk, and those that joined it
@@ -52,9 +53,17 @@ pub record CameraKeeps {S D P : Type 0} (medium : D → Medium) (gives : S → N
   pub whole : map without_flags (frames_waiting old.queue first) ++ completed
       ≡ map without_flags (map picture_of came) ++ map without_flags (frames_waiting new.queue last)
   pub lost : length (flat_map lost_by came) ≡ given_up + left
+  -- what happened to the desks, in order: the first was alone, and the others joined it
+  pub events : List (DeskEvent D)
+  pub active : ℕ
+  pub end : ℕ
+  pub happened : Happened medium (record { desks = old.desk ∷ []; active = 0; end = old.device.next }) events
+      (record { desks = desks_of new; active = active; end = end })
+  pub joins : flat_map desk_in events ≡ old.joined
   -- the desks, each by the calls of its place, in the order in which they were made over all
   pub all : length new.joined ≡ length old.joined
   pub parts : List (ℕ × Part)
+  pub are : parts ≡ flat_map part_in events
   pub among : All (λ part. part.0 < length (desks_of old)) parts
   pub submits : flat_map calls_by came ≡ filter is_placed_submit (flat_map placed_calls parts)
   pub served : EachServed medium (desks_of old) (desks_of new) parts
@@ -91,19 +100,39 @@ pub record HasRefusedFlush {D : Type 0} (medium : D → Medium) (gives_up : Stor
 abbrev pub IsSettledDesk : {D : Type 0} → (D → Medium) → (StoreFault → Type 0) → SeenDesk D → SeenDesk D → Type 0
 IsSettledDesk medium gives_up old new = (new.pending ≡ []) ⊎ HasRefusedFlush medium gives_up old new
 
+-- one of several desks has refused a flush so
+pub record HasRefusedOne {D : Type 0} (medium : D → Medium) (gives_up : StoreFault → Type 0)
+    (old new : List (SeenDesk D)) : Type 0 where
+  pub place : ℕ
+  pub before : SeenDesk D
+  pub after : SeenDesk D
+  pub was : slice_get old place ≡ Some before
+  pub is : slice_get new place ≡ Some after
+  pub refused : HasRefusedFlush medium gives_up before after
+
+-- no frame was brought to this desk
+pub record GotNone {D : Type 0} (medium : D → Medium) (old new : SeenDesk D) : Type 0 where
+  pub parts : List Part
+  pub went : GoesBy medium old parts new
+  pub none : filter is_submit (flat_map calls_of parts) ≡ []
+
+-- at each desk but the active one no frame waits, or none was brought to it
+abbrev pub AreLeft : {D : Type 0} → (D → Medium) → List (SeenDesk D) → List (SeenDesk D) → ℕ → Type 0
+AreLeft {D} medium old new active =
+    (place : ℕ) (d e : SeenDesk D) → slice_get old place ≡ Some d → slice_get new place ≡ Some e
+    → (place ≡ active → ⊥) → (e.pending ≡ []) ⊎ GotNone medium d e
+
 -- What a filming leaves that began with the desk `old`: `new` are this one and the others that came meanwhile, in their
--- order; none came where the door is shut. One of them at least is settled so, since it came.
+-- order; none came where the door is shut. No frame waits at the last active one, or one of them has refused a flush
+-- so; at each other one no frame waits, or none was brought to it since it came.
 pub record EndsSettled {D : Type 0} (medium : D → Medium) (gives_up : StoreFault → Type 0) (shut : Type 0)
     (old : SeenDesk D) (new : List (SeenDesk D)) : Type 0 where
   pub others : List (SeenDesk D)
   pub none : shut → others ≡ []
   pub all : length new ≡ length (old ∷ others)
-  pub place : ℕ
-  pub before : SeenDesk D
-  pub after : SeenDesk D
-  pub was : slice_get (old ∷ others) place ≡ Some before
-  pub is : slice_get new place ≡ Some after
-  pub settled : IsSettledDesk medium gives_up before after
+  pub active : ℕ
+  pub settled : IsSoAt active new (λ desk. desk.pending ≡ []) ⊎ HasRefusedOne medium gives_up (old ∷ others) new
+  pub left : AreLeft medium (old ∷ others) new active
 
 -- ---- one desk alone
 

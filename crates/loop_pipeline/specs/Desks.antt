@@ -1,12 +1,15 @@
 -- A camera's desks, as they are lent to a visit.
-use Rattle.std.specs.Prelude.{◌≡◌, ◌<◌, ℕ, Some, List, [], All, length, slice_get, slice_set}
+use Rattle.std.specs.Prelude.{◌≡◌, ◌≢◌, ◌⊎◌, ◌<◌, ℕ, ⊤, Err, None, Result, Some, List, [], ◌∷◌, All, length, slice_get, slice_index_or, slice_set}
 use Rattle.std.specs.List.{filter, flat_map}
 use Rattle.rtrb.specs.declared.AnyItems.{AnyItems}
 use Rattle.rtrb.specs.declared.consumer.Consumer.{Consumer}
 use Rattle.loop_disk.specs.Medium.{Medium}
+use Rattle.loop_record.specs.declared.clip.Span.{Span}
 use Rattle.loop_record.specs.declared.frame.Frame.{Frame}
-use Rattle.loop_desk.specs.Desk.{DeskCall}
-use Rattle.loop_desk.specs.Seen.{SeenDesk}
+use Rattle.loop_store.specs.declared.fault.StoreFault.{StoreFault}
+use Rattle.loop_store.specs.declared.fault.StoreFault.TheVariants.{NoSuchClip}
+use Rattle.loop_desk.specs.Desk.{DeskCall, clip_unlocked}
+use Rattle.loop_desk.specs.Seen.{DeskGoes, SeenDesk}
 use Rattle.loop_pipeline.specs.declared.seat.Taken.{Taken}
 use Rattle.loop_pipeline.specs.declared.seat.Taken.TheVariants.{Asked}
 use Rattle.loop_pipeline.specs.Backs.{GoesBy, IsRightful, Part, is_placed_submit, parts_at, placed_calls}
@@ -44,6 +47,14 @@ pub record AreVisited {D : Type 0} (medium : D → Medium) (asks : DeskCall → 
   pub went : EachWent medium seen.lent.began seen.desks parts
   pub rightful : All (λ part. IsRightful asks part.1) parts
   pub quiet : filter is_placed_submit (flat_map placed_calls parts) ≡ []
+
+-- What leave to unlock does to a desk: if the clip of its id is the one that it is for, that is unlocked, and this is the
+-- desk's answer. Otherwise nothing is done, and the answer is that there is no such clip.
+abbrev pub UnlocksThis : {D : Type 0} → (D → Medium) → ℕ → Span → SeenDesk D → SeenDesk D → Result ⊤ StoreFault
+    → Type 0
+UnlocksThis medium id clip old new answer = let is = slice_index_or old.store.clips id None in
+    (is ≡ Some clip) × DeskGoes medium old new (clip_unlocked id answer ∷ [])
+    ⊎ (is ≢ Some clip) × (new ≡ old) × (answer ≡ Err NoSuchClip)
 
 -- ---- between visits (private contracts alone)
 

@@ -1,5 +1,5 @@
 -- What one thread keeps that has a camera's device, its queue and the end of a ring.
-use Rattle.std.specs.Prelude.{◌≡◌, ◌≢◌, ◌⊎◌, ℕ, ◌+◌, ◌^◌, ◌<◌, ◌≤◌, Bool, true, false, bit_or, get_or, List, [], ◌∷◌, ◌++◌, length, map}
+use Rattle.std.specs.Prelude.{◌≡◌, ◌≢◌, ◌⊎◌, ℕ, ◌+◌, ◌^◌, ◌<◌, ◌≤◌, ◌&&◌, Bool, true, false, not, bit_or, get_or, List, [], ◌∷◌, ◌++◌, length, map}
 use Rattle.std.specs.Global.{Global}
 use Rattle.std.specs.List.{flat_map, list_any}
 use Rattle.rtrb.specs.declared.AnyItems.{AnyItems}
@@ -47,21 +47,34 @@ IsToldBy Missed answer = answer ≢ End
 IsToldBy Ended answer = answer ≡ End
 IsToldBy _ answer = ⊥
 
+-- at such a tick the source is asked
+abbrev pub asks_source : Tick → Bool
+asks_source Idle = false
+asks_source WrongSize = false
+asks_source tick = true
+
 module _ {S : Type 0} (gives : S → Next → List ℕ → S → Type 0) where
   -- one tick: Idle and WrongSize change nothing; at any other the source was asked, and gave these bytes; the frame's
-  -- sequence is the device's next one, or 0 after a start where the device doesn't go on
-  abbrev pub GaveBy : Tick → ℕ → List ℕ → SeenDevice S → SeenDevice S → Type 0
-  GaveBy Idle sequence bytes d e = e ≡ d
-  GaveBy WrongSize sequence bytes d e = e ≡ d
-  GaveBy tick sequence bytes d e =
+  -- sequence is the device's next one, or 0 where it may be the first after a start and the device doesn't go on
+  abbrev pub GaveBy : Bool → Tick → ℕ → List ℕ → SeenDevice S → SeenDevice S → Type 0
+  GaveBy first Idle sequence bytes d e = e ≡ d
+  GaveBy first WrongSize sequence bytes d e = e ≡ d
+  GaveBy first tick sequence bytes d e =
       (answer : Next) × IsToldBy tick answer × gives d.source answer bytes e.source × (e.size ≡ d.size)
-      × (e.goes_on ≡ d.goes_on) × ((sequence ≡ d.next) ⊎ (sequence ≡ 0) × (d.goes_on ≡ false))
+      × (e.goes_on ≡ d.goes_on)
+      × ((sequence ≡ d.next) ⊎ (first ≡ true) × (sequence ≡ 0) × (d.goes_on ≡ false))
       × (e.next ≡ sequence_after answer sequence)
 
-  -- ticks, one after the other
+  -- ticks, one after the other: none but the first that asks the source may be the first after a start
+  abbrev pub GoesFrom : Bool → SeenDevice S → List TickRecord → SeenDevice S → Type 0
+  GoesFrom first d [] e = e ≡ d
+  GoesFrom first d (g ∷ gs) e =
+      (between : SeenDevice S) × GaveBy first g.tick g.sequence g.bytes d between
+      × GoesFrom (first && not (asks_source g.tick)) between gs e
+
+  -- so it is of ticks between a start and a stop
   abbrev pub GoesOn : SeenDevice S → List TickRecord → SeenDevice S → Type 0
-  GoesOn d [] e = e ≡ d
-  GoesOn d (g ∷ gs) e = (between : SeenDevice S) × GaveBy g.tick g.sequence g.bytes d between × GoesOn between gs e
+  GoesOn d given e = GoesFrom true d given e
 
 -- what a frame shows of its source: its sequence, its time and its bytes
 abbrev pub shown_of : Picture → ℕ × ℕ × List ℕ
@@ -247,6 +260,15 @@ IsApart body empty = Unit {0}
 IsApart body (full index p planes) = IsOut body index
 IsApart body (spent index planes) = IsOut body index
 
+-- after these ticks the first that asks the source may still come
+abbrev pub first_after : Bool → List TickRecord → Bool
+first_after first [] = first
+first_after first (g ∷ gs) = first_after (first && not (asks_source g.tick)) gs
+
+-- the device has started, and that was noticed
+abbrev pub IsNoticed : QueueState → Type 0
+IsNoticed s = (s.body.started ≡ true) × (s.body.fresh ≡ false)
+
 -- The queue's events since the front was made: each may happen at its point, none stops the stream, the frames that
 -- they dequeued are in the ring, with marks in their flags, and those that they completed are the ticks'.
 pub record HasMoved {S P G A : Type 0} (gives : S → Next → List ℕ → S → Type 0) (meaning : P → Plane)
@@ -269,6 +291,7 @@ pub record HasMoved {S P G A : Type 0} (gives : S → Next → List ℕ → S �
   pub went : map without_flags (map picture (sent to)) ≡ map without_flags (frames_dequeued first events)
   pub given : List TickRecord
   pub source : GoesOn gives seen.device given device
+  pub noticed : first_after true given ≡ false → IsNoticed now.queue.queue
   pub counted : length given ≡ ticks
   pub told : AreTicksTold due ends missed failed over given
   pub shows : map shown_of (flat_map completed_frame events) ≡ flat_map shown_given given

@@ -3,10 +3,13 @@ pub mod Seats
 pub mod Backs
 pub mod Cameras
 pub mod Desks
+pub mod Doors
 pub mod Fronts
 pub mod TickCounts
 pub mod Legal
 pub mod Returns
 pub mod Nexts
 pub mod Turns
+pub mod DeskEvents
+pub mod KeptBacks
 pub mod Several

@@ -1,11 +1,11 @@
 //! A camera's desks: what a visit is lent.
 
-ghost use Rattle.std.specs.Prelude.{◌≡◌, ◌∷◌, ◌<◌, ◌≤◌, ◌↔◌, ◌+◌, ◌++◌, ℕ, ⊤, List, IfErr, IfOk, IfSome, IsSome, None, Result, [], length, vec_len, false, true};
+ghost use Rattle.std.specs.Prelude.{◌≡◌, ◌∷◌, ◌<◌, ◌≤◌, ◌↔◌, ◌+◌, ◌++◌, ℕ, ⊤, List, IfErr, IfOk, IfSome, IsSome, None, Result, Some, [], length, slice_index_or, vec_len, false, true};
 ghost use Rattle.loop_desk.specs.Desk.{clip_unlocked, flushed, frame_read};
 ghost use Rattle.loop_desk.specs.Keeps.{HaveTime, KeepsTime};
 ghost use Rattle.loop_desk.specs.Seen.{DeskGoes, OutlineRefuses, TellsOutline, TellsStatus};
 ghost use Rattle.loop_pipeline.specs.Backs.{GoesAt, HasRoom, IsLast, IsSoAt, MayKeep};
-ghost use Rattle.loop_pipeline.specs.Desks.{AreVisited, SubmitsAt, end_with, turned};
+ghost use Rattle.loop_pipeline.specs.Desks.{AreVisited, SubmitsAt, UnlocksThis, end_with, turned};
 ghost use Rattle.loop_pipeline.specs.Turns.{AllLocked, Chooses, IsBetween, MayBegin, Searches, TurnsTo};
 ghost use Rattle.loop_record.specs.declared.frame.FrameHead.{FrameHead};
 ghost use Rattle.loop_store.specs.declared.fault.StoreFault.{StoreFault};
@@ -13,10 +13,10 @@ ghost use Rattle.loop_store.specs.Calls.{read_with};
 ghost use Rattle.loop_store.specs.Runs.{read_of};
 
 use crate::next::{Search, is_full};
-use crate::{Seat, Taken, Visits};
+use crate::{Leave, Seat, Taken, Unlocks, Visits};
 use loop_desk::{Flushed, Kept, Outline, Status};
 use loop_disk::Disk;
-use loop_record::{Frame, FrameHead, Times};
+use loop_record::{Frame, FrameHead, Span, Times};
 use loop_store::{ReadFrame, StoreFault};
 use rtrb::Consumer;
 use std::alloc::{Allocator, Global};
@@ -34,6 +34,13 @@ fn end_with(taken: Taken, end: u32) -> u32
         Taken::Asked(info, _) => info.sequence.wrapping_add(1),
         _ => end,
     }
+}
+
+// Whether what an id has is this clip.
+fn is_clip(there: Option<Span>, clip: Span) -> bool
+    ensures { (result ≡ true) ↔ (there ≡ Some clip) }
+{
+    there == Some(clip)
 }
 
 /// A camera's desks, one of which is active. A desk is named by its place: the order in which they came. Contracts see
@@ -111,11 +118,6 @@ impl<D: Disk + Drop, K: Visits, A: Allocator + Copy> Desks<D, K, A> {
         self.before = Snapshot::of(&self.seats);
         self.end = end_with(taken, self.end);
         taken
-    }
-
-    // Whether it has memory for another desk. It promises nothing.
-    pub(crate) fn may_join(&self) -> bool {
-        self.seats.len() < self.seats.capacity()
     }
 
     // Takes another desk, and returns its place; if there is no memory for it, it comes back. No visit is on.
@@ -431,8 +433,25 @@ impl<D: Disk + Drop, K: Visits, A: Allocator + Copy> Desks<D, K, A> {
         self.seats[place].keep_time(alloc, times, tag)
     }
 
-    /// Unlocks the clip of an id at a place, as `Desk::unlock_clip`, where calls aren't noted.
-    pub fn unlock_clip(&mut self, place: usize, id: u32) -> Result<(), StoreFault>
+    /// The clip of an id at a place, as `Desk::clip`.
+    pub fn clip(&self, place: usize, id: u32) -> Option<Span>
+        requires { place < length self.now.desks }
+        ensures { IsSoAt place self.now.desks (λ desk. result ≡ slice_index_or desk.store.clips id None) }
+    {
+        self.seats[place].desk().clip(id)
+    }
+
+    // Whether the clip of an id at a place is this one.
+    fn has_clip(&self, place: usize, id: u32, clip: Span) -> bool
+        requires { place < length self.now.desks }
+        ensures { IsSoAt place self.now.desks (λ desk. (result ≡ true)
+            ↔ (slice_index_or desk.store.clips id None ≡ Some clip)) }
+    {
+        is_clip(self.clip(place, id), clip)
+    }
+
+    // Unlocks the clip of an id at a place, as `Desk::unlock_clip`, where calls aren't noted.
+    pub(crate) fn unlock(&mut self, place: usize, id: u32) -> Result<(), StoreFault>
         requires place { place < length self.old.desks }
         requires plain { K.NOTED ≡ false }
         requires may { (answer : Result ⊤ StoreFault) → K.asks (clip_unlocked id answer) }
@@ -444,5 +463,24 @@ impl<D: Disk + Drop, K: Visits, A: Allocator + Copy> Desks<D, K, A> {
             Some(answer) => answer,
             None => unreachable!(),
         }
+    }
+}
+
+impl<D: Disk + Drop, K: Unlocks, A: Allocator + Copy> Desks<D, K, A> {
+    /// Unlocks a clip at a place by leave, as `Desk::unlock_clip`, where calls aren't noted. Where another clip has that
+    /// id by now, or none, nothing is done: `NoSuchClip`.
+    pub fn unlock_clip(&mut self, place: usize, leave: K::Leave) -> Result<(), StoreFault>
+        requires place { place < length self.old.desks }
+        requires plain { K.NOTED ≡ false }
+        requires may { (answer : Result ⊤ StoreFault) → K.asks (clip_unlocked (K.Leave.id leave) answer) }
+        ensures goes { GoesAt place self.old.desks self.new.desks
+            (λ d e. UnlocksThis D.medium (K.Leave.id leave) (K.Leave.clip leave) d e result) }
+        ensures lent { self.new.lent ≡ self.old.lent }
+    {
+        let id = leave.id();
+        if !self.has_clip(place, id, leave.clip()) {
+            return Err(StoreFault::NoSuchClip);
+        }
+        self.unlock(place, id)
     }
 }

@@ -1,19 +1,26 @@
 //! Where desks wait that join a camera while it is filmed.
 
-ghost use Rattle.std.specs.Prelude.{◌≡◌, IfOk, None, false, true};
+ghost use Rattle.std.specs.Prelude.{◌≡◌, IfOk, false, true};
+ghost use Rattle.loop_pipeline.specs.Doors.{HasArrived};
+ghost use Rattle.loop_pipeline.specs.declared.waiting.Arrival.TheVariants.{Nobody};
 
+use crate::waiting::Waiting;
+use crate::{Arrival, Back, Visits};
 use loop_desk::Desk;
 use loop_disk::Disk;
 use std::alloc::{AllocError, Global};
 use std::marker::Model;
+use std::sync::atomic::{AtomicBool, Ordering};
 use std::sync::{Mutex, Wait};
 
-/// Where desks wait until a camera's thread takes them, the first first. Any thread may put one there. Who wakes that
-/// thread (`Link::wake`) has it taken at once. Contracts see whether it is open: no desk comes through a shut one.
-#[derive(Drop)]
+/// Where desks wait until a camera's thread lets them in, the first first. Any thread may put one there. Who wakes that
+/// thread (`Link::wake`) has it let in at once. It can't be dropped: after the filming its owner takes the desks that
+/// still wait. Contracts see whether it is open: no desk comes through a shut one.
 pub struct Door<D: Disk + Drop> {
     is_open: bool,
-    desks: Mutex<Vec<Desk<D>>>,
+    // The last desk that was looked at waits on.
+    is_full: AtomicBool,
+    waiting: Mutex<Waiting<D>>,
 }
 
 impl<D: Disk + Drop> Model for Door<D> {
@@ -31,7 +38,8 @@ impl<D: Disk + Drop> Door<D> {
     {
         Ok(Door {
             is_open: true,
-            desks: Mutex::new(Vec::with_capacity(alloc, most)?),
+            is_full: AtomicBool::new(false),
+            waiting: Mutex::new(Waiting::new(alloc, most)?),
         })
     }
 
@@ -41,7 +49,8 @@ impl<D: Disk + Drop> Door<D> {
     {
         Door {
             is_open: false,
-            desks: Mutex::new(Vec::new(alloc)),
+            is_full: AtomicBool::new(false),
+            waiting: Mutex::new(Waiting::none(alloc)),
         }
     }
 
@@ -54,25 +63,38 @@ impl<D: Disk + Drop> Door<D> {
 
     /// Puts a desk behind those that wait. If there is no memory for it, it comes back.
     pub fn put<R: Wait>(&self, rt: &R, desk: Desk<D>) -> Result<(), Desk<D>> {
-        let mut desks = self.desks.lock(rt);
-        if desks.len() == desks.capacity() {
-            return Err(desk);
-        }
-        desks.push_reserved(desk);
-        Ok(())
+        let mut waiting = self.waiting.lock(rt);
+        waiting.put(desk)
     }
 
-    /// Takes the desk that has waited longest.
-    pub fn take<R: Wait>(&self, rt: &R) -> Option<Desk<D>>
-        ensures { self.now ≡ false → result ≡ None }
+    /// Lets the desk that has waited longest join a back. If that has no memory for it, the desk waits on.
+    pub fn let_in<R: Wait, K: Visits>(&self, rt: &R, back: &mut Back<D, K>) -> Arrival
+        requires plain { K.NOTED ≡ false }
+        ensures told { HasArrived result back.old back.new }
+        ensures shut { self.now ≡ false → result ≡ Nobody }
     {
         if !self.is_open {
-            return None;
+            return Arrival::Nobody;
         }
-        let mut desks = self.desks.lock(rt);
-        if desks.is_empty() {
-            return None;
-        }
-        Some(desks.remove(0))
+        let mut waiting = self.waiting.lock(rt);
+        let arrival = waiting.let_in(back);
+        self.is_full
+            .store(arrival == Arrival::Full, Ordering::SeqCst);
+        arrival
+    }
+
+    /// Whether desks waited when one was let in last, and there was no memory for another one. It promises nothing.
+    pub fn is_full(&self) -> bool {
+        self.is_full.load(Ordering::SeqCst)
+    }
+
+    /// The desks that still wait, the first first.
+    pub fn into_desks(self) -> Vec<Desk<D>> {
+        let Door {
+            is_open: _,
+            is_full: _,
+            waiting,
+        } = self;
+        waiting.into_inner().into_desks()
     }
 }

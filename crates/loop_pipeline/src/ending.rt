@@ -3,7 +3,7 @@
 ghost use Rattle.std.specs.Prelude.{◌≡◌, ◌∷◌, List, length};
 ghost use Rattle.rtrb.specs.Ring.{IsPair};
 ghost use Rattle.loop_desk.specs.Seen.{SeenDesk};
-ghost use Rattle.loop_pipeline.specs.Cameras.{CameraKeeps};
+ghost use Rattle.loop_pipeline.specs.Cameras.{AreLeft, CameraKeeps};
 ghost use Rattle.loop_pipeline.specs.Fronts.{HandIsSpent, IsRegular, Leaves, StaysOpen, made_of};
 
 use crate::{Back, BackParts, Begun, FrontParts, Guide, Seat, Visits};
@@ -58,7 +58,8 @@ pub fn end<S: FrameSource + Drop, D: Disk + Drop, P: PlaneMemory, G: Guide, A: A
         (made_of begun) front }
     requires pair { IsPair begun.to.value back.from }
     ensures keeps { (first : SeenDesk D) (others : List (SeenDesk D)) → back.began ≡ first ∷ others
-        → IsRegular P.plane begun.queue.value → CameraKeeps D.medium S.next_gives P.plane G.asks G.gives_up
+        → back.start ≡ begun.device.value.next → IsRegular P.plane begun.queue.value
+        → CameraKeeps D.medium S.next_gives P.plane G.asks G.gives_up
         (G.due begun.guide.value) (G.ends begun.guide.value)
         (record { device = begun.device.value; queue = begun.queue.value; desk = first; joined = others })
         (record { device = result.device; queue = result.queue; desk = result.desk; joined = result.joined.items })
@@ -67,6 +68,7 @@ pub fn end<S: FrameSource + Drop, D: Disk + Drop, P: PlaneMemory, G: Guide, A: A
     ensures held { HandIsSpent result.queue result.hand }
     ensures desks { result.desk ∷ result.joined.items ≡ back.desks }
     ensures all { length back.desks ≡ length back.began }
+    ensures left { AreLeft D.medium back.began back.desks back.active }
     ensures front { (result.device ≡ front.device) × (result.queue ≡ front.queue) × (result.over ≡ front.over) }
 {
     let Begun {

@@ -3,7 +3,7 @@
 ghost use Rattle.std.specs.Prelude.{◌≡◌, ◌∷◌, [], IfErr, IfOk, List, None, false, length, true};
 ghost use Rattle.loop_desk.specs.Seen.{SeenDesk};
 ghost use Rattle.loop_pipeline.specs.Backs.{IsSettledBack, Joins};
-ghost use Rattle.loop_pipeline.specs.Cameras.{CameraKeeps, EndsSettled, IsSettledDesk, KeepsJoined};
+ghost use Rattle.loop_pipeline.specs.Cameras.{AreLeft, CameraKeeps, EndsSettled, IsSettledDesk, KeepsJoined};
 ghost use Rattle.loop_pipeline.specs.Returns.{IsReturned, GivesJoined};
 ghost use Rattle.rtrb.specs.Ring.{IsPair, sent};
 ghost use Rattle.loop_pipeline.specs.Fronts.{HandIsSpent, IsRegular, Leaves, LeavesCarried, StaysOpen, made_of, StandsPort};
@@ -12,7 +12,7 @@ use crate::bell::Bell;
 use crate::guided::visit;
 use crate::start_barrier::StartBarrier;
 use crate::{
-    Back, Begun, Brought, Camera, CameraEnd, Door, Front, FrontParts, Guide, Seat, TakeOutcome,
+    Arrival, Back, Begun, Brought, Camera, CameraEnd, Door, Front, FrontParts, Guide, TakeOutcome,
     Visits, end,
 };
 use loop_capture::{Device, FrameSource};
@@ -196,7 +196,7 @@ fn run_front<R: Wait + Clock, S: FrameSource + Drop, P: PlaneMemory, G: Guide>(
     'ticks: for _ in rt.forever() {
         if let Some(tick) = front.tick(rt, guide) {
             take_all(rt, alloc, link, guide, &mut front);
-            guide.ticked(rt, tick);
+            tick.tell(rt, guide);
         }
         front = match front.into_ended() {
             Ok(parts) => return parts,
@@ -213,8 +213,8 @@ struct Bounds {
     anyway: bool,
 }
 
-// Brings the frames in the ring to the active desk, within these bounds; returns whether one came out of it. If that
-// has no room and no flush is tried any more, frames are given up.
+// Brings the frames in the ring to the desks that take them, within these bounds; returns whether one came out of it.
+// If the active desk has no room and no flush is tried any more, frames are given up.
 fn bring_all<R: Wait, D: Disk + Drop, G: Guide>(
     rt: &R,
     link: &Link,
@@ -222,20 +222,22 @@ fn bring_all<R: Wait, D: Disk + Drop, G: Guide>(
     back: &mut Back<D, G>,
     bounds: Bounds,
 ) -> bool
-    ensures { back.new ≡ record back.old { desks = back.new.desks; end = back.new.end } }
+    ensures { back.new ≡ record back.old {
+      desks = back.new.desks;
+      active = back.new.active;
+      end = back.new.end;
+    } }
 {
     let mut some = false;
     let most = back.desks().group();
     'frames: for _ in 0..most {
         match back.bring(bounds.alone, bounds.anyway) {
-            Brought::Submitted(number) => guide.brought(rt, back, number),
-            Brought::GivenUp(_, frame) => guide.gave_up(rt, back, frame),
-            Brought::NoRoom => {
-                let Some(frame) = back.give_up() else {
-                    break;
-                };
-                guide.gave_up(rt, back, frame);
-            }
+            Brought::Submitted(number) => number.tell_brought(rt, guide, back),
+            Brought::GivenUp(_, frame) => frame.tell_given_up(rt, guide, back),
+            Brought::NoRoom => match back.give_up() {
+                Some(frame) => frame.tell_given_up(rt, guide, back),
+                None => break,
+            },
             Brought::Nothing => break,
         }
         some = true;
@@ -259,19 +261,17 @@ fn give_memory<R: Wait, D: Disk + Drop, K: Visits>(rt: &R, link: &Link, back: &m
     }
 }
 
-// Takes the desks that wait at the door; none where calls are noted.
+// Lets in the desks that wait at the door, while there is memory for them; none where calls are noted.
 fn join_all<R: Wait, D: Disk + Drop, K: Visits>(rt: &R, door: &Door<D>, back: &mut Back<D, K>)
     ensures { Joins (door.now ≡ false) back.old back.new }
 {
+    if K::NOTED {
+        return;
+    }
     'desks: for _ in 0..DESKS {
-        if K::NOTED || !back.may_join() {
+        if door.let_in(rt, back) != Arrival::Joined {
             break;
         }
-        let Some(desk) = door.take(rt) else {
-            break;
-        };
-        // There is memory for it.
-        let _joined = back.join(Seat::alone(desk));
     }
 }
 
@@ -335,7 +335,7 @@ fn flush_some<R: Wait, D: Disk + Drop, G: Guide>(
     guide.flushing(rt);
     match back.flush_for(rt, guide)? {
         Ok(flushed) => {
-            guide.stored(rt, back, flushed);
+            flushed.tell_stored(rt, guide, back);
             Some(0)
         }
         Err(_) if back.is_refused() => Some(0),
@@ -669,7 +669,8 @@ fn end_both<S: FrameSource + Drop, D: Disk + Drop, P: PlaneMemory, G: Guide, W: 
         (G.due begun.guide.value) (G.ends begun.guide.value) (made_of begun) front }
     requires pair { IsPair begun.to.value back.from }
     ensures keeps { (first : SeenDesk D) (others : List (SeenDesk D)) → back.began ≡ first ∷ others
-        → IsRegular P.plane begun.queue.value → CameraKeeps D.medium S.next_gives P.plane G.asks G.gives_up
+        → back.start ≡ begun.device.value.next → IsRegular P.plane begun.queue.value
+        → CameraKeeps D.medium S.next_gives P.plane G.asks G.gives_up
         (G.due begun.guide.value) (G.ends begun.guide.value)
         (record { device = begun.device.value; queue = begun.queue.value; desk = first; joined = others })
         (record { device = result.device; queue = result.queue; desk = result.desk; joined = result.joined.items })
@@ -677,6 +678,7 @@ fn end_both<S: FrameSource + Drop, D: Disk + Drop, P: PlaneMemory, G: Guide, W: 
     ensures again { StaysOpen P.plane begun.queue.value result.queue result.table }
     ensures held { HandIsSpent result.queue result.hand }
     ensures desks { (result.desk ∷ result.joined.items ≡ back.desks) × (length back.desks ≡ length back.began) }
+    ensures left { AreLeft D.medium back.began back.desks back.active }
     ensures over { result.over ≡ front.over }
     ensures rests { result.over ≡ false
         → (result.device ≡ begun.device.value) × (result.queue ≡ begun.queue.value) }
@@ -726,8 +728,8 @@ pub struct GuidedCamera<'s, S: FrameSource + Drop, D: Disk + Drop, P: PlaneMemor
 }
 
 /// Films a camera until its guide or its source ends it and nothing is left to flush. The front runs in a new thread of
-/// this scope, the back in the caller's thread. Desks that are put at the door meanwhile join the camera's own, which
-/// has 256 at most.
+/// this scope, the back in the caller's thread. Desks that are put at the door meanwhile join the camera's own, 256 in
+/// all at most; those that don't join wait there on, and none can be dropped (`Door::into_desks`).
 pub fn film_desks<
     's,
     E,
@@ -845,5 +847,8 @@ pub fn film_camera<
         guide,
         camera,
     };
-    film_desks(rt, alloc, scope, guided, &door)
+    let filmed = film_desks(rt, alloc, scope, guided, &door);
+    // None waits at a door that is shut.
+    let _none = door.into_desks();
+    filmed
 }

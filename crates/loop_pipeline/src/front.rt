@@ -5,7 +5,7 @@ ghost use Rattle.rtrb.specs.Ring.{SameProducer, known_free, sent};
 ghost use Rattle.loop_desk.specs.Front.{hand_state};
 ghost use Rattle.loop_pipeline.specs.Fronts.{Leaves, emptied, fails, is_last, made_of, marked_frame, misses, StandsPort};
 
-use crate::Guide;
+use crate::{Guide, UntoldTick};
 use loop_capture::{Device, FrameSource, Tick};
 use loop_desk::front::{dequeue, requeue};
 use loop_desk::laws::{frames_are_kept, queues_stay_sound};
@@ -254,7 +254,7 @@ impl<S: FrameSource + Drop, P: PlaneMemory, G: Guide, A: Allocator + Copy> Front
 
     /// The next tick of the device, as `Device::tick`, when its guide says so; frames that it lost are counted. None:
     /// the guide ends the device, or no more ticks can be counted.
-    pub fn tick<R: Wait + Clock>(&mut self, rt: &R, guide: &G) -> Option<Tick>
+    pub fn tick<R: Wait + Clock>(&mut self, rt: &R, guide: &G) -> Option<UntoldTick>
         requires { guide.now ≡ self.old.guide }
         ensures { self.new ≡ self.old }
     {
@@ -266,13 +266,14 @@ impl<S: FrameSource + Drop, P: PlaneMemory, G: Guide, A: Allocator + Copy> Front
             self.over = true;
             return None;
         };
-        let tick = self.device.tick(&mut self.queue, now);
+        let untold = UntoldTick::of(&mut self.device, &mut self.queue, now);
+        let tick = untold.tick();
         keep_mark(&mut self.marks, tick, self.device.mark());
         self.ticks += 1;
         self.missed += missed_by(tick);
         self.failed += failed_by(tick);
         self.over = is_last(tick);
-        Some(tick)
+        Some(untold)
     }
 
     /// Whether a buffer is done, or its frame was given up, and can be dequeued. It promises nothing.

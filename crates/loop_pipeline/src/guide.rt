@@ -1,22 +1,88 @@
 //! What a camera's threads ask and report.
 
-ghost use Rattle.std.specs.Prelude.{◌≡◌, IfSome, None, Ok, false};
-ghost use Rattle.loop_desk.specs.Desk.{flushed};
-ghost use Rattle.loop_pipeline.specs.Backs.{IsAccepted, IsGivenUp, IsLastOf};
+ghost use Rattle.std.specs.Prelude.{◌≡◌, IfSome, None};
+ghost use Rattle.loop_capture.specs.Ticks.{Ticks};
 ghost use Rattle.loop_pipeline.specs.Turns.{AllLocked};
 
-use crate::{Back, Desks, LostFrame, Visits};
-use loop_capture::Tick;
-use loop_desk::Flushed;
+use crate::{Back, Desks, Reports};
+use loop_capture::{Device, FrameSource, Tick};
 use loop_disk::Disk;
+use loop_plane::PlaneMemory;
 use loop_store::StoreFault;
-use std::alloc::Global;
+use loop_vb2::Queue;
+use std::alloc::{Allocator, Global};
+use std::marker::Model;
 use std::sync::Wait;
 use std::time::Clock;
 
+/// What a tick did, before the guide is told: it can't be let go, and there is no copy.
+pub struct UntoldTick {
+    tick: Tick,
+}
+
+/// What a tick did. Nothing makes one but telling it to a guide, once a tick.
+#[derive(Drop)]
+pub struct ToldTick {
+    tick: Tick,
+}
+
+impl Model for UntoldTick {
+    ghost use Rattle.loop_capture.specs.declared.device.Tick.{Tick};
+
+    ghost Value = { Tick };
+
+    ghost view = { λ untold. untold.tick };
+}
+
+impl Model for ToldTick {
+    ghost use Rattle.loop_capture.specs.declared.device.Tick.{Tick};
+
+    ghost Value = { Tick };
+
+    ghost view = { λ told. told.tick };
+}
+
+impl ToldTick {
+    /// What the tick did.
+    pub fn tick(&self) -> Tick
+        ensures { result ≡ self.now }
+    {
+        self.tick
+    }
+}
+
+impl UntoldTick {
+    /// The next tick of a device, as `Device::tick`. Nothing else makes one.
+    pub(crate) fn of<S: FrameSource, P: PlaneMemory, A: Allocator + Copy>(
+        device: &mut Device<S, A>,
+        queue: &mut Queue<P, A>,
+        now: u64,
+    ) -> UntoldTick
+        ensures tick { Ticks S.next_gives P.plane now result device.old device.new queue.old queue.new }
+        ensures shape { queue.new.body.shape ≡ queue.old.body.shape }
+    {
+        UntoldTick {
+            tick: device.tick(queue, now),
+        }
+    }
+
+    /// What the tick did.
+    pub fn tick(&self) -> Tick
+        ensures { result ≡ self.now }
+    {
+        self.tick
+    }
+
+    /// Tells the guide. A tick that isn't told can't be let go.
+    pub fn tell<R: Wait, G: Guide>(self, rt: &R, guide: &G) {
+        let UntoldTick { tick } = self;
+        guide.ticked(rt, ToldTick { tick });
+    }
+}
+
 /// What the two threads of a camera ask and report. Each call may wait. The calls that only report do nothing by
-/// default. What is reported of the desk is so: the contract asks the caller for the desk's own answer.
-pub trait Guide: Visits {
+/// default.
+pub trait Guide: Reports {
     ghost use Rattle.std.specs.Prelude.{ℕ, ⊤};
 
     /// Holds of the number of a tick and of each time, in microseconds, at which it may be.
@@ -34,33 +100,13 @@ pub trait Guide: Visits {
     fn dequeued<R: Wait>(&self, rt: &R) {}
 
     /// What a tick did.
-    fn ticked<R: Wait>(&self, rt: &R, tick: Tick) {}
+    fn ticked<R: Wait>(&self, rt: &R, tick: ToldTick) {}
 
     /// A buffer came back without a frame, which its tick couldn't get.
     fn lacked<R: Wait>(&self, rt: &R) {}
 
-    /// The active desk accepted a frame under this number.
-    fn brought<R: Wait, D: Disk + Drop>(&self, rt: &R, back: &Back<D, Self>, number: u64)
-        requires { IsAccepted D.medium back.now number }
-    {}
-
-    /// This frame was given up: the desk refused it, or a flush was refused.
-    fn gave_up<R: Wait, D: Disk + Drop>(&self, rt: &R, back: &Back<D, Self>, frame: LostFrame)
-        requires { IsGivenUp D.medium Self.gives_up back.now frame }
-    {}
-
     /// A flush begins; the disk isn't written yet.
     fn flushing<R: Wait>(&self, rt: &R) {}
-
-    /// A flush stored frames.
-    fn stored<R: Wait, D: Disk + Drop>(&self, rt: &R, back: &Back<D, Self>, done: Flushed)
-        requires { IsLastOf D.medium back.now (flushed (Ok done)) }
-    {}
-
-    /// Whether a flush that was refused with this fault is tried again, after a while or once the desk's thread is
-    /// woken. If not, frames for which the desk has no room are given up.
-    fn flushes_again<R: Wait>(&self, rt: &R, fault: StoreFault) -> bool
-        ensures { result ≡ false → Self.gives_up fault };
 
     /// All is locked: the active desk is between two blocks, and no store has a free segment or a block that may go. It
     /// is called each time round in which that is so, but not for one desk that no other joins. Whether frames wait in

@@ -1,10 +1,10 @@
 //! What holds of a camera that was filmed. The functions do nothing: their contracts are the laws.
 
-ghost use Rattle.std.specs.Prelude.{◌≡◌, ◌%◌, ◌^◌, Bool, List, ℕ, Some, [], false, slice_get, true};
+ghost use Rattle.std.specs.Prelude.{◌≡◌, ◌∷◌, ◌%◌, ◌^◌, Bool, List, ℕ, Some, [], false, slice_get, true};
 ghost use Rattle.loop_desk.specs.Seen.{SeenDesk};
 ghost use Rattle.loop_pipeline.specs.Backs.{IsSoAt, calls_at};
 ghost use Rattle.loop_pipeline.specs.Cameras.{CameraKeeps, OneDeskKeeps, desks_of};
-ghost use Rattle.loop_pipeline.specs.Fronts.{GoesOn, TickRecord};
+ghost use Rattle.loop_pipeline.specs.Fronts.{GoesOn, TickRecord, asks_source};
 ghost use Rattle.loop_pipeline.specs.Legal.{IsLegalRun};
 ghost use Rattle.loop_pipeline.specs.Nexts.{OldestGoes};
 ghost use Rattle.loop_pipeline.specs.TickCounts.{CountsTicks};
@@ -62,6 +62,14 @@ pub fn ticks_are_counted<S: FrameSource + Drop>(before: &Device<S>, after: &Devi
     ensures { (given : List TickRecord) (count : ℕ) → GoesOn S.next_gives before.now given after.now
         → before.now.goes_on ≡ true → before.now.next ≡ count % 2 ^ 32
         → (end : ℕ) × CountsTicks count given end × (after.now.next ≡ end % 2 ^ 32) }
+{}
+
+/// From the first tick on that asks its source, a device's ticks are counted, whether it goes on at a start or not: each
+/// that got a frame or lost one has the next count. So the sequence begins anew at most once.
+pub fn a_start_is_numbered_once<S: FrameSource + Drop>(before: &Device<S>, after: &Device<S>)
+    ensures { (g : TickRecord) (given : List TickRecord) (count : ℕ) → asks_source g.tick ≡ true
+        → GoesOn S.next_gives before.now (g ∷ given) after.now → g.sequence ≡ count % 2 ^ 32
+        → (end : ℕ) × CountsTicks count (g ∷ given) end }
 {}
 
 /// Of all stores of a camera, no held frame of a block that may go is older than the first frame of the block that

@@ -3,9 +3,9 @@
 //! - `front`: a device, its queue with the buffers, and the end of the ring to which its frames go; `back`: the other
 //!   end of the ring, and the desks; `desks`: desks before stores, which are lent to visits; `guided`: what a back does
 //!   by its guide; `ending`: both halves, brought together; `camera`: what is filmed;
-//! - `film`: `film_camera` and `film_desks`, which run both, and what each does; `door`: where desks wait that join a
-//!   camera meanwhile; `guide`: what they ask and report; `visits`: what visitors of the desks may call; `bell`: where
-//!   one sleeps until the other has work for it; `laws`: what follows;
+//! - `film`: `film_camera` and `film_desks`, which run both, and what each does; `door`: where desks wait (`waiting`)
+//!   that join a camera meanwhile; `guide`: what they ask and report; `visits`: what visitors of the desks may call;
+//!   `bell`: where one sleeps until the other has work for it; `laws`: what follows;
 //! - `next`: which desk takes the next block;
 //! - `seat`: a desk that one thread owns, alone or with its calls noted; `entry`: what is noted of a call, and a
 //!   caller's pass; `notes`: how it is noted;
@@ -46,8 +46,9 @@ mod several;
 mod start;
 mod start_barrier;
 mod visits;
+mod waiting;
 
-pub use back::{Back, BackParts, Brought, LostFrame};
+pub use back::{Back, BackParts, Brought, LostFrame, Reports, Told, Untold};
 pub use bell::Bell;
 pub use buffers::{Start, heap_start, mapped_start};
 pub use camera::Camera;
@@ -59,9 +60,10 @@ pub use film::{
     GuidedCamera, Inlet, Link, Unfilmed, film_back, film_camera, film_desks, film_front,
 };
 pub use front::{Begun, Front, FrontParts, TakeOutcome};
-pub use guide::Guide;
+pub use guide::{Guide, ToldTick, UntoldTick};
 pub use seat::{Notes, Noting, Seat, Taken};
 pub use several::{Filmed, Outcome, Shot, film_all};
 pub use start::{new_queue, start_queue};
 pub use start_barrier::StartBarrier;
-pub use visits::Visits;
+pub use visits::{Leave, Unlocks, Visits};
+pub use waiting::Arrival;

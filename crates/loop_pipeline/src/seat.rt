@@ -203,8 +203,8 @@ impl<D: Disk + Drop, N: Noting, A: Allocator> Seat<D, N, A> {
         Some(answer)
     }
 
-    /// Unlocks the clip of an id, as `Desk::unlock_clip`. None: the call couldn't be noted, and the desk wasn't asked.
-    pub fn unlock_clip(&mut self, id: u32) -> Option<Result<(), StoreFault>>
+    // Unlocks the clip of an id, as `Desk::unlock_clip`. None: the call couldn't be noted, and the desk wasn't asked.
+    pub(crate) fn unlock_clip(&mut self, id: u32) -> Option<Result<(), StoreFault>>
         ensures asked { IfSome result (λ answer. DeskGoes D.medium self.old self.new (clip_unlocked id answer ∷ [])) }
         ensures unasked { result ≡ None → self.new ≡ self.old }
         ensures alone { N.NOTED ≡ false → IsSome result }

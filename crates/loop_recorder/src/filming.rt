@@ -104,7 +104,8 @@ pub struct NotedCameras<D: Disk + Drop, P: PlaneMemory> {
 
 /// Films cameras that are out of their locks, each with the device at its place, whose source is lent. Their calls are
 /// noted in the sessions' histories and in their passes. Returns what is left of each, in their order; or the cameras
-/// and the passes, if memory is refused before anything is lent.
+/// and the passes, if memory is refused before anything is lent. Where no count of lost frames comes with a camera, it
+/// wasn't filmed: its device and its queue are as they were, and what waited is kept.
 ///
 /// A camera is filmed by two threads: one ticks and takes its frames out of the queue, one brings them to the desk,
 /// flushes, and reads the newest frame that a flush stored. Each device makes `frames` ticks, or as many as its source

@@ -3,10 +3,9 @@
 ghost use Rattle.loop_recorder.specs.Recordings.{IsTickTime};
 
 use crate::{Pace, Step};
-use loop_capture::Tick;
 use loop_desk::Flushed;
 use loop_disk::Disk;
-use loop_pipeline::{Back, Desks, Guide, Noting, Visits};
+use loop_pipeline::{Back, Desks, Guide, Noting, Reports, Told, ToldTick, Visits};
 use loop_record::Geometry;
 use loop_store::StoreFault;
 use std::alloc::Global;
@@ -67,6 +66,27 @@ impl<W: Pace> Visits for Post<W> {
     const VISITED: bool = true;
 }
 
+impl<W: Pace> Reports for Post<W> {
+    fn brought<R: Wait, D: Disk + Drop>(&self, _rt: &R, _back: &Back<D, Self>, _number: Told<u64>) {
+        self.pace.reached(self.camera, Step::Submitted);
+    }
+
+    fn stored<R: Wait, D: Disk + Drop>(&self, _rt: &R, _back: &Back<D, Self>, done: Told<Flushed>) {
+        let done = done.what();
+        if done.stored > 0 {
+            let behind = done.first.saturating_add(u64::from(done.stored));
+            self.unread.store(behind, Ordering::SeqCst);
+        }
+        self.pace.reached(self.camera, Step::Flushed);
+    }
+
+    // Only after a flush that was refused.
+    fn flushes_again<R: Wait>(&self, _rt: &R, _fault: StoreFault) -> bool {
+        self.pace.reached(self.camera, Step::Flushed);
+        false
+    }
+}
+
 impl<W: Pace> Guide for Post<W> {
     ghost use Rattle.std.specs.Prelude.{◌≤◌};
     ghost use Rattle.loop_recorder.specs.Recordings.{IsTickTime};
@@ -86,30 +106,12 @@ impl<W: Pace> Guide for Post<W> {
         self.pace.reached(self.camera, Step::Dequeued);
     }
 
-    fn ticked<R: Wait>(&self, _rt: &R, _tick: Tick) {
+    fn ticked<R: Wait>(&self, _rt: &R, _tick: ToldTick) {
         self.pace.reached(self.camera, Step::Ticked);
-    }
-
-    fn brought<R: Wait, D: Disk + Drop>(&self, _rt: &R, _back: &Back<D, Self>, _number: u64) {
-        self.pace.reached(self.camera, Step::Submitted);
     }
 
     fn flushing<R: Wait>(&self, _rt: &R) {
         self.pace.reached(self.camera, Step::FlushLocked);
-    }
-
-    fn stored<R: Wait, D: Disk + Drop>(&self, _rt: &R, _back: &Back<D, Self>, done: Flushed) {
-        if done.stored > 0 {
-            let behind = done.first.saturating_add(u64::from(done.stored));
-            self.unread.store(behind, Ordering::SeqCst);
-        }
-        self.pace.reached(self.camera, Step::Flushed);
-    }
-
-    // Only after a flush that was refused.
-    fn flushes_again<R: Wait>(&self, _rt: &R, _fault: StoreFault) -> bool {
-        self.pace.reached(self.camera, Step::Flushed);
-        false
     }
 
     // A camera of a recording has one desk, so this isn't reached.

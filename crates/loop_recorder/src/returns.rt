@@ -1,7 +1,7 @@
 //! How the cameras of a recording come back.
 
 ghost use Rattle.std.specs.Prelude.{◌≡◌, ◌+◌, ◌++◌, ◌∷◌, ℕ, [], All, None, Some, map, vec_len};
-ghost use Rattle.loop_recorder.specs.Recordings.{AreFilmed, HoldsAll, StandsAfter, StandsOutcome, outcome_left, lost_of, outcome_rest, rest_left, seen_filmed, seen_left, without_source};
+ghost use Rattle.loop_recorder.specs.Recordings.{AreFilmed, HoldsAll, StandsAfter, StandsOutcome, outcome_left, lost_of, outcome_rest, rest_left, seen_filmed, seen_left, shot_left, shot_rest, without_source};
 ghost use Rattle.loop_pipeline.specs.Fronts.{StandsPort};
 
 use crate::post::{Post, Watch};
@@ -155,7 +155,8 @@ fn shots_back<'a, S: FrameSource + Drop, D: Disk + Drop, P: PlaneMemory, Q: Pace
     requires none { (returned.rests.items ≡ []) × (returned.filmed.items ≡ []) }
     requires room { HoldsAll (vec_len shots) returned }
     ensures count { (vec_len result.rests ≡ vec_len shots.entry) × (vec_len result.filmed ≡ vec_len shots.entry) }
-    ensures none { All (λ l. l.lost ≡ None) (map seen_filmed result.filmed.items) }
+    ensures rests { result.rests.items ≡ map shot_rest shots.entry.items }
+    ensures filmed { map seen_filmed result.filmed.items ≡ map shot_left shots.entry.items }
 {
     for shot in shots {
         let Shot { guide: _, camera } = shot;

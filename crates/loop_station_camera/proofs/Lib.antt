@@ -2,3 +2,5 @@ pub mod SaveFrames
 pub mod FlushRuns
 pub mod KeepRuns
 pub mod SavePieces
+pub mod ReadRuns
+pub mod KeepTurns

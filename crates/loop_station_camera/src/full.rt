@@ -3,6 +3,7 @@
 
 ghost use Rattle.std.specs.Prelude.{◌≡◌};
 
+use crate::leave::shown;
 use crate::reading::find;
 use crate::releasing::unlock_part;
 use crate::state::CameraState;
@@ -31,15 +32,15 @@ impl CameraState {
         rule != FullRule::Waits
             && self.whole.looks(self.timeline.now(rt), self.is_locked(rt))
             && !self.stored.is_opening(rt)
+            && !self.stored.is_making(rt)
             && rule.releases(self.room(rt).free)
     }
 
     // A clip, of which it isn't known yet when its first frame came.
     fn locked_clip<R: Wait>(&self, rt: &R, clip: &Clip) -> LockedClip {
         LockedClip {
-            id: clip.id,
+            clip: shown(clip),
             since: 0,
-            tag: clip.tag,
             saved: self.whole.may_have(rt, clip),
             read: self.is_read(rt, clip.id, Some(clip.tag)),
         }
@@ -63,17 +64,19 @@ pub(crate) fn free_block<R: Wait + Clock, D: Disk + Drop>(
     let Some(clips) = state.stored.clips(rt, alloc) else {
         return;
     };
-    let Some(oldest) = clip_to_go(rt, alloc, state, desks, rule, &clips) else {
+    let oldest = clip_to_go(rt, alloc, state, desks, rule, &clips);
+    let Some(leave) = rule.leave(state.room(rt).free, oldest) else {
         return;
     };
-    let released = unlock_part(rt, state, desks, oldest.id);
-    if !state.whole.is_told(oldest.id, released.is_ok()) {
+    let id = leave.clip().id;
+    let released = unlock_part(rt, state, desks, leave);
+    if !state.whole.is_told(id, released.is_ok()) {
         return;
     }
     let (mut lines, name) = (state.lines(alloc), state.config.name.as_str());
     // Where memory for the line is refused, it isn't printed.
     let _ = match released {
-        Ok(()) => lines.released_full(name, oldest.id),
+        Ok(clip) => lines.released_full(name, clip.id()),
         Err(fault) => lines.refused(name, fault),
     };
     state.tell(rt, lines, None);

@@ -1,8 +1,11 @@
 //! Events whose end lies ahead: what is there is locked at once, and the rest as it comes.
 
+ghost use Rattle.std.specs.Prelude.{◌≡◌};
+
+use crate::leave::shown;
 use circular_buffer::HeapCircularBuffer;
 use loop_desk::Kept;
-use loop_station_core::{ClipSpan, Keep, SaveKey, is_covered};
+use loop_station_core::{Keep, MayUnlock, SaveKey};
 use loop_station_shared::{Answering, Stored, store_of};
 use loop_store::{Clip, StoreFault};
 use std::alloc::{AllocError, Global};
@@ -44,12 +47,13 @@ impl Growing {
         }
     }
 
-    /// Its camera's store was moved away, with all that is locked of it, and another one is made.
+    /// One of its camera's stores was moved away, with all that is locked there, and another one is made; the others
+    /// are opened again, with what is locked in them. What an order has released isn't locked again in these, and the
+    /// new one has later frames.
     fn begin_anew(&mut self) {
         self.keep = self.keep.anew();
         self.clips.clear();
         self.covered.clear();
-        self.ended.clear();
         self.settled.clear();
     }
 
@@ -61,14 +65,18 @@ impl Growing {
     }
 
     /// All that the store of a number holds of it is locked, up to this next number.
-    pub fn settle(&mut self, store: u32, next: u64) {
+    pub fn settle(&mut self, store: u32, next: u64)
+        ensures { self.new.keep ≡ self.old.keep }
+    {
         self.unsettle(store);
         // Where memory is refused, it is locked once more.
         let _again = self.settled.push((store, next));
     }
 
     /// What the store of a number holds of it may be locked no more.
-    pub fn unsettle(&mut self, store: u32) {
+    pub fn unsettle(&mut self, store: u32)
+        ensures { self.new.keep ≡ self.old.keep }
+    {
         if let Some(at) = self.settled.iter().position(|known| known.0 == store) {
             self.settled.remove(at);
         }
@@ -84,6 +92,17 @@ impl Growing {
         self.covered.pop()
     }
 
+    /// Leave to release a part of it that a longer one covered. Where there is none, since a save reads it, or no clip
+    /// covers it any more, the part is one of its clips again: it is asked once more when the event grows.
+    pub fn leave_for(&mut self, part: Clip, is_read: bool) -> Option<MayUnlock> {
+        let leave = leave_among(&part, is_read, self.clips.as_slice());
+        if leave.is_none() {
+            // Where memory is refused, the clip stays locked, and isn't named at the end.
+            let _unnamed = self.clips.push(part);
+        }
+        leave
+    }
+
     /// The first microsecond of which frames are locked in the store of a number.
     pub fn since_in(&self, store: u32) -> u64 {
         let mut since = self.keep.since;
@@ -95,9 +114,9 @@ impl Growing {
         since
     }
 
-    /// Whether a clip is locked as a part of it.
+    /// Whether a clip is locked as a part of it, which a longer one may cover by now.
     pub fn owns(&self, clip: &Clip) -> bool {
-        is_among(clip, self.clips.as_slice())
+        self.knows(clip)
     }
 
     /// An order has released a clip, whose last frame came at this time. Where that was a part of the event, the part
@@ -176,7 +195,7 @@ impl Growing {
 
 // Whether two clips are one: an id may be another clip's once it is free.
 fn is_same(clip: &Clip, other: &Clip) -> bool {
-    clip.id == other.id && clip.from == other.from
+    clip.id == other.id && clip.from == other.from && clip.to == other.to && clip.tag == other.tag
 }
 
 // Whether a clip is one of others.
@@ -186,9 +205,20 @@ fn is_among(clip: &Clip, others: &[Clip]) -> bool {
 
 // Whether a clip lies within one of others of its store.
 fn is_covered_by(clip: &Clip, others: &[Clip]) -> bool {
-    let span = span_of(clip);
-    others.iter().any(|other| store_of(other.id) == store_of(clip.id)
-        && is_covered(&span, &[span_of(other)]))
+    others
+        .iter()
+        .any(|other| shown(clip).is_covered_by(shown(other)))
+}
+
+// Leave to release a part of an event, where it lies within one of others of its store.
+fn leave_among(part: &Clip, is_read: bool, others: &[Clip]) -> Option<MayUnlock> {
+    for other in others {
+        let leave = shown(part).leave_for_part(is_read, shown(other));
+        if leave.is_some() {
+            return leave;
+        }
+    }
+    None
 }
 
 // Takes the first of some clips, if there is one.
@@ -197,14 +227,6 @@ fn take_first(saved: &mut Vec<SaveKey>) -> Option<SaveKey> {
         return None;
     }
     Some(saved.remove(0))
-}
-
-// The numbers of a clip.
-fn span_of(clip: &Clip) -> ClipSpan {
-    ClipSpan {
-        from: clip.from,
-        to: clip.to,
-    }
 }
 
 /// A keep that waits for the frames that had come before it, and the order that asked for it.

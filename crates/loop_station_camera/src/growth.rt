@@ -1,20 +1,21 @@
 //! How events grow whose end lies ahead: what has come of them is locked, up to their end.
 
 ghost use Rattle.std.specs.Prelude.{◌≡◌};
+ghost use Rattle.loop_station_camera.specs.Keeping.{GrowsByTurn};
 
 use crate::growing::Growing;
 use crate::keeping::{part_of, store_and_keep_more, turn_of};
-use crate::reading::{runs_of, times_of};
-use crate::releasing::unlock_same;
-use crate::replies::{tell_clips, tell_shortfall};
+use crate::reading::{UnreadClip, runs_of, times_of};
+use crate::replies::{tell_clips, tell_shortfall, tell_unread_clips};
 use crate::state::CameraState;
+use crate::unlocking::unlock;
 use loop_disk::Disk;
 use loop_pipeline::Desks;
 use loop_record::Times;
 use loop_station_core::{EventEnd, GrowthTurn, Keep, OpenEvent, Run, event_end, next_growth};
-use loop_station_shared::{Announcement, FoundClip, Note};
+use loop_station_shared::{Announcement, FoundClip};
 use loop_station_words::Lines;
-use loop_store::Clip;
+use loop_store::{Clip, StoreFault};
 use std::alloc::Global;
 use std::io;
 use std::sync::Wait;
@@ -35,7 +36,7 @@ impl CameraState {
             self.note_open(rt, alloc, told);
             return true;
         }
-        self.posts.announce(rt, told);
+        self.announce(rt, told);
         let mut lines = self.lines(alloc);
         // Where memory for the line is refused, it isn't printed.
         let _ = self.tell_too_many(keep.event, &mut lines);
@@ -67,17 +68,36 @@ impl CameraState {
         rt: &R,
         alloc: Global,
         growing: Growing,
-        found: &[FoundClip],
+        (found, unread): (&[FoundClip], &[UnreadClip]),
         runs: &[Run],
     ) {
         let mut lines = self.lines(alloc);
         // Where memory for the lines is refused, they aren't printed.
-        let _ = self.tell_event(&growing, found, runs, &mut lines);
+        let _ = match unread.first() {
+            Some(one) => self.tell_unread(&growing, found, unread, one.fault, &mut lines),
+            None => self.tell_event(&growing, found, runs, &mut lines),
+        };
         let kept = match self.kept_clips(alloc, found) {
             Some(kept) => kept,
             None => Vec::new(alloc),
         };
         self.note_open(rt, alloc, Announcement::Told(lines, kept));
+    }
+
+    // Tells how an event ended of which not all clips' times can be read: then it isn't known how much of it is held.
+    fn tell_unread(
+        &self,
+        growing: &Growing,
+        found: &[FoundClip],
+        unread: &[UnreadClip],
+        fault: StoreFault,
+        lines: &mut Lines,
+    ) -> io::Result<()> {
+        let (name, keep) = (self.config.name.as_str(), growing.keep);
+        tell_clips(self, &keep, found, lines)?;
+        tell_unread_clips(self, &keep, unread, lines)?;
+        let fault = growing.fault().unwrap_or(fault);
+        lines.event_not_whole(keep.event, name, &fault.name(), 0)
     }
 
     // Tells how an event ended.
@@ -108,8 +128,8 @@ impl CameraState {
     /// The events that are open now go into the camera's file of events, and then this is told.
     pub fn note_open<R: Wait>(&self, rt: &R, alloc: Global, told: Announcement) {
         match self.open_events(rt, alloc) {
-            Some(open) => self.notes.put(rt, Note::Open(open, told)),
-            None => self.posts.announce(rt, told),
+            Some(open) => self.notes.note(rt, open, told),
+            None => self.announce(rt, told),
         }
     }
 
@@ -153,9 +173,9 @@ pub(crate) fn grow<R: Wait + Clock, D: Disk + Drop>(
     ) {
         GrowthTurn::Release => release_covered(rt, state, desks, growing),
         GrowthTurn::End => {
-            let mut found = times_of(rt, alloc, state, desks, growing.clips());
+            let (mut found, unread) = times_of(rt, alloc, state, desks, growing.clips());
             let runs = runs_of(rt, alloc, state, desks, found.as_mut_slice());
-            state.end_growing(rt, alloc, growing, &found, &runs);
+            state.end_growing(rt, alloc, growing, (&found, &unread), &runs);
         }
         GrowthTurn::Leave => {
             state.desk.put_growing(rt, growing);
@@ -164,7 +184,7 @@ pub(crate) fn grow<R: Wait + Clock, D: Disk + Drop>(
     }
 }
 
-// Releases a part of an event that a longer one covers.
+// Releases a part of an event that a longer one covers, unless a save reads it.
 fn release_covered<R: Wait, D: Disk + Drop>(
     rt: &R,
     state: &CameraState,
@@ -174,9 +194,12 @@ fn release_covered<R: Wait, D: Disk + Drop>(
     ensures { desks.new.lent ≡ desks.old.lent }
 {
     let mut growing = growing;
-    if let Some(clip) = growing.next_covered() {
-        // Where that is refused, it stays locked.
-        let _stays = unlock_same(rt, state, desks, &clip);
+    if let Some(part) = growing.next_covered() {
+        let is_read = state.is_read(rt, part.id, Some(part.tag));
+        if let Some(leave) = growing.leave_for(part, is_read) {
+            // Where that is refused, it stays locked.
+            let _stays = unlock(rt, state, desks, leave);
+        }
     }
     state.desk.put_growing(rt, growing);
 }
@@ -189,14 +212,18 @@ fn lengthen<R: Wait + Clock, D: Disk + Drop>(
     desks: &mut Desks<D, CameraState>,
     growing: Growing,
 )
-    ensures { desks.new.lent ≡ desks.old.lent }
+    ensures turn { GrowsByTurn D.medium growing.keep desks.old.lent.active desks.old.desks desks.new.desks }
+    ensures lent { desks.new.lent ≡ desks.old.lent }
 {
     let mut growing = growing;
     let (keep, turn) = turn_of(rt, state, growing.keep);
     growing.keep = keep;
-    let Some(part) = part_of(keep, turn) else {
-        state.desk.put_growing(rt, growing);
-        return;
+    let part = match part_of(keep, turn) {
+        Some(part) => part,
+        None => {
+            state.desk.put_growing(rt, growing);
+            return;
+        }
     };
     let times = Times {
         since: keep.since,

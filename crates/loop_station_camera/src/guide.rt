@@ -5,7 +5,7 @@ use crate::state::CameraState;
 use loop_capture::Tick;
 use loop_desk::Flushed;
 use loop_disk::Disk;
-use loop_pipeline::{Back, Desks, Guide, LostFrame};
+use loop_pipeline::{Back, Desks, Guide, LostFrame, Reports, Told, ToldTick};
 use loop_station_core::{Act, FilmingEvent};
 use loop_store::StoreFault;
 use std::alloc::Global;
@@ -14,6 +14,45 @@ use std::time::{Clock, Duration};
 
 // How many milliseconds a device waits for a frame before it looks whether its filming is over.
 const LOOK_AGAIN: u64 = 50;
+
+impl Reports for CameraState {
+    fn brought<R: Wait, D: Disk + Drop>(
+        &self,
+        rt: &R,
+        _back: &Back<D, CameraState>,
+        _number: Told<u64>,
+    ) {
+        self.life.bring(rt, self.come(rt));
+    }
+
+    fn gave_up<R: Wait, D: Disk + Drop>(
+        &self,
+        rt: &R,
+        _back: &Back<D, CameraState>,
+        _frame: Told<LostFrame>,
+    ) {
+        self.give_up(rt);
+    }
+
+    fn stored<R: Wait, D: Disk + Drop>(
+        &self,
+        rt: &R,
+        back: &Back<D, CameraState>,
+        done: Told<Flushed>,
+    ) {
+        self.count_stored(rt, back.desks().active(), done.what());
+    }
+
+    /// Where each block is locked, the frames wait until the program ends. Where the disk failed, the filming ends, and
+    /// the store is opened again.
+    fn flushes_again<R: Wait>(&self, rt: &R, fault: StoreFault) -> bool {
+        let event = match fault {
+            StoreFault::AllLocked => FilmingEvent::AllLocked,
+            _ => FilmingEvent::Break,
+        };
+        self.life.on(rt, event) == Act::FlushAgain
+    }
+}
 
 impl Guide for CameraState {
     /// A tick for each frame of the source, at the time when it came. While stores are still to be opened, frames wait
@@ -41,8 +80,8 @@ impl Guide for CameraState {
         unreachable!()
     }
 
-    fn ticked<R: Wait>(&self, rt: &R, tick: Tick) {
-        match tick {
+    fn ticked<R: Wait>(&self, rt: &R, tick: ToldTick) {
+        match tick.tick() {
             Tick::Completed(_) | Tick::Failed(_) => {}
             Tick::Missed => self.lose(rt),
             Tick::Idle | Tick::Ended | Tick::WrongSize => {
@@ -53,33 +92,6 @@ impl Guide for CameraState {
 
     fn lacked<R: Wait>(&self, rt: &R) {
         self.lose(rt);
-    }
-
-    fn brought<R: Wait, D: Disk + Drop>(&self, rt: &R, _back: &Back<D, CameraState>, _number: u64) {
-        self.life.bring(rt, self.come(rt));
-    }
-
-    fn gave_up<R: Wait, D: Disk + Drop>(
-        &self,
-        rt: &R,
-        _back: &Back<D, CameraState>,
-        _frame: LostFrame,
-    ) {
-        self.give_up(rt);
-    }
-
-    fn stored<R: Wait, D: Disk + Drop>(&self, rt: &R, back: &Back<D, CameraState>, done: Flushed) {
-        self.count_stored(rt, back.desks().active(), done);
-    }
-
-    /// Where each block is locked, the frames wait until the program ends. Where the disk failed, the filming ends, and
-    /// the store is opened again.
-    fn flushes_again<R: Wait>(&self, rt: &R, fault: StoreFault) -> bool {
-        let event = match fault {
-            StoreFault::AllLocked => FilmingEvent::AllLocked,
-            _ => FilmingEvent::Break,
-        };
-        self.life.on(rt, event) == Act::FlushAgain
     }
 
     /// While further stores are opened, one of them may have room: the frames wait for it, and nothing is told.

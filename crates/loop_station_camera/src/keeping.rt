@@ -3,7 +3,9 @@
 ghost use Rattle.std.specs.Prelude.{◌≡◌, ◌≢◌, ◌<◌, ◌++◌, None, Ok, [], false, length, map, true};
 ghost use Rattle.loop_desk.specs.Desk.{flushed};
 ghost use Rattle.loop_pipeline.specs.Backs.{GoesAt, IsLast};
-ghost use Rattle.loop_station_camera.specs.Keeping.{StoresAll, StoresAndKeepsEach, TakesKept, known, or_fault};
+ghost use Rattle.loop_station_core.specs.Keeps.{step_keep};
+ghost use Rattle.loop_station_core.specs.declared.keep.Look.{Look};
+ghost use Rattle.loop_station_camera.specs.Keeping.{IsOnlyRead, LocksTime, StoresAll, StoresAndKeepsEach, StoresAndKeepsMore, TakesKept, known, or_fault, part_of};
 
 use crate::growing::Growing;
 use crate::reading::head_at;
@@ -27,11 +29,9 @@ pub(crate) struct KeepPart {
 }
 
 /// What a keep does now.
-pub(crate) fn turn_of<R: Wait + Clock>(
-    rt: &R,
-    state: &CameraState,
-    keep: Keep,
-) -> (Keep, KeepTurn) {
+pub(crate) fn turn_of<R: Wait + Clock>(rt: &R, state: &CameraState, keep: Keep) -> (Keep, KeepTurn)
+    ensures { (look : Look) × (result ≡ step_keep keep look) }
+{
     let now = state.timeline.now(rt);
     let now = shown_at(rt, state, now, now.min(keep.since));
     let come = state.feed.come(rt, now.min(keep.until));
@@ -47,7 +47,9 @@ pub(crate) fn turn_of<R: Wait + Clock>(
 }
 
 /// What a keep locks now; None where it waits.
-pub(crate) fn part_of(keep: Keep, turn: KeepTurn) -> Option<KeepPart> {
+pub(crate) fn part_of(keep: Keep, turn: KeepTurn) -> Option<KeepPart>
+    ensures { result ≡ part_of keep turn }
+{
     match turn {
         KeepTurn::Wait => None,
         KeepTurn::Part { until } => Some(KeepPart {
@@ -79,7 +81,7 @@ pub(crate) fn store_and_keep<R: Wait, D: Disk + Drop>(
     let mut all = nothing_kept(alloc);
     let count = desks.count();
     'places: for place in 0..count {
-        let kept = desks.keep(alloc, place, times, tag);
+        let kept = keep_at(alloc, desks, place, times, tag);
         take_kept(rt, state, place, kept, &mut all);
     }
     (all, refused)
@@ -194,7 +196,9 @@ pub(crate) fn store_and_keep_more<R: Wait, D: Disk + Drop>(
     times: Times,
     growing: &mut Growing,
 ) -> (Kept, Option<StoreFault>)
-    ensures { desks.new.lent ≡ desks.old.lent }
+    ensures keeps { StoresAndKeepsMore D.medium times growing.old.keep.tag desks.old.lent.active desks.old.desks
+        desks.new.desks result.0 result.1 }
+    ensures lent { desks.new.lent ≡ desks.old.lent }
 {
     let unstored = store_all(rt, state, desks);
     let mut all = nothing_kept(alloc);
@@ -230,6 +234,7 @@ fn keep_at<D: Disk + Drop>(
     tag: u64,
 ) -> Kept
     requires { place < length desks.old.desks }
+    ensures locks { GoesAt place desks.old.desks desks.new.desks (λ d e. LocksTime D.medium times tag d e result) }
     ensures lent { desks.new.lent ≡ desks.old.lent }
     ensures still { length desks.new.desks ≡ length desks.old.desks }
 {
@@ -244,6 +249,7 @@ fn is_before<D: Disk + Drop>(
     until: u64,
 ) -> bool
     requires { place < length desks.old.desks }
+    ensures reads { GoesAt place desks.old.desks desks.new.desks (IsOnlyRead D.medium) }
     ensures lent { desks.new.lent ≡ desks.old.lent }
     ensures still { length desks.new.desks ≡ length desks.old.desks }
 {

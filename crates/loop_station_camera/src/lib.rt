@@ -1,12 +1,14 @@
 //! A camera of a station: what its threads share, and the orders that the thread of its desks does.
 //!
 //! Each module names only those before it. `growing` has the events whose end lies ahead, and what else waits at the
-//! desk; `saves` which saves run and wait, and `whole` which clips were saved. `state` is what the threads of a camera share. `times` tells what a source
-//! says of its frames.
+//! desk; `saves` which saves run and wait, and `whole` which clips were saved. `state` is what the threads of a camera
+//! share. `times` tells what a source says of its frames.
 //!
 //! `reading` reads at the desks, `keeping` locks in each of a camera's stores, `replies` prints answers as lines, and
-//! `releasing` unlocks, and `full` where every block is locked. `event` finds the clips of an event, `growth` goes on with one, and `save` writes clips
-//! meanwhile; `fleet` has the cameras that record now. `clerk` does a camera's orders by these, one after the other, between the flushes, and `guide` lets it.
+//! `unlocking` unlocks by `leave`: `releasing` what orders and saves let go, and `full` where every block is locked.
+//! `event` finds the clips of an event, `growth` goes on with one, and `save` writes clips meanwhile; `fleet` has the
+//! cameras that record now. `clerk` does a camera's orders by these, one after the other, between the flushes, and
+//! `guide` lets it.
 //!
 //! A keep locks exactly the held frames of its time, as `Desks::keep` of loop_pipeline ensures.
 #![tactic(auto)]
@@ -20,6 +22,7 @@ mod growing;
 mod growth;
 mod guide;
 mod keeping;
+mod leave;
 mod reading;
 mod releasing;
 mod replies;
@@ -27,6 +30,7 @@ mod save;
 mod saves;
 mod state;
 mod times;
+mod unlocking;
 mod whole;
 
 pub use ends::{StoreEnds, ends_on, free_frames, going_blocks};

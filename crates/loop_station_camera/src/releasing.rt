@@ -1,50 +1,33 @@
-//! Which clips may be released, and how they are unlocked.
+//! Which clips may be released, and what is told of it.
 
 ghost use Rattle.std.specs.Prelude.{◌≡◌};
 
-use crate::reading::{find, head_at, place_in};
+use crate::leave::{clip_of, shown};
+use crate::reading::{clip_at, find, head_at, place_in};
 use crate::replies::tell_released;
 use crate::state::CameraState;
+use crate::unlocking::{Unlocked, unlock};
 use loop_disk::Disk;
 use loop_pipeline::Desks;
-use loop_station_core::{MayRelease, SaveKey, id_parts, may_release, may_release_saved};
+use loop_station_core::{MayRelease, MayUnlock, SaveKey, may_release, may_release_saved};
 use loop_station_shared::FoundClip;
 use loop_station_words::Lines;
 use loop_store::{Clip, StoreFault};
 use std::alloc::Global;
-use std::io;
 use std::sync::Wait;
 
-// Why a clip isn't released.
-#[derive(Clone, Copy)]
-enum NotReleased {
-    /// It is being saved.
-    Saving,
-    /// The clip of its id begins with another frame than the order says.
-    Other(u64),
-}
-
-impl NotReleased {
-    // Tells it.
-    fn tell(self, state: &CameraState, id: u32, lines: &mut Lines) -> io::Result<()> {
-        let name = state.config.name.as_str();
-        match self {
-            NotReleased::Saving => lines.saving(name),
-            NotReleased::Other(first) => lines.not_released(name, id, first),
-        }
-    }
-}
-
 impl CameraState {
-    // Whether a clip may be released now: it isn't being saved, and begins with the frame that is given, if one is.
-    fn may_release<R: Wait>(&self, rt: &R, id: u32, first: Option<u64>) -> Result<(), NotReleased> {
-        let clip = self.stored.clip_of(rt, id);
-        let is_read = self.is_read(rt, id, clip.map(|clip| clip.tag));
-        match may_release(is_read, first, clip.map(|clip| clip.from)) {
-            MayRelease::Now => Ok(()),
-            MayRelease::Saving => Err(NotReleased::Saving),
-            MayRelease::Other(first) => Err(NotReleased::Other(first)),
-        }
+    // Whether the clip of an id may be released now: it isn't being saved, and begins with the frame that is given, if
+    // one is. `there`: that clip, if there is one.
+    fn may_release<R: Wait>(
+        &self,
+        rt: &R,
+        id: u32,
+        first: Option<u64>,
+        there: Option<Clip>,
+    ) -> MayRelease {
+        let is_read = self.is_read(rt, id, there.map(|clip| clip.tag));
+        may_release(is_read, first, there.map(|clip| shown(&clip)))
     }
 
     // Whether a clip is released now that is saved; `there`: the clip that has its id by now, if one has.
@@ -74,14 +57,18 @@ pub(crate) fn release<R: Wait, D: Disk + Drop>(
 )
     ensures { desks.new.lent ≡ desks.old.lent }
 {
-    let may = state.may_release(rt, id, first);
-    match may {
-        Ok(()) => unlock_and_tell(rt, state, desks, id, lines),
-        Err(why) => {
-            // Where memory for the line is refused, it isn't printed.
-            let _ = why.tell(state, id, lines);
+    let there = clip_at(rt, state, desks, id);
+    let name = state.config.name.as_str();
+    // Where memory for the line is refused, it isn't printed.
+    let _ = match state.may_release(rt, id, first, there) {
+        MayRelease::Now(leave) => {
+            unlock_and_tell(rt, state, desks, leave, lines);
+            Ok(())
         }
-    }
+        MayRelease::Saving => lines.saving(name),
+        MayRelease::Other(first) => lines.not_released(name, id, first),
+        MayRelease::NoClip => lines.refused(name, StoreFault::NoSuchClip),
+    };
 }
 
 // Unlocks a clip, and tells it.
@@ -89,14 +76,14 @@ fn unlock_and_tell<R: Wait, D: Disk + Drop>(
     rt: &R,
     state: &CameraState,
     desks: &mut Desks<D, CameraState>,
-    id: u32,
+    leave: MayUnlock,
     lines: &mut Lines,
 )
     ensures { desks.new.lent ≡ desks.old.lent }
 {
-    let released = unlock_part(rt, state, desks, id);
+    let released = unlock_part(rt, state, desks, leave);
     // Where memory for the line is refused, it isn't printed.
-    let _ = tell_released(state, id, released, lines);
+    let _ = tell_released(state, released, lines);
 }
 
 /// Unlocks a clip. Where it is a part of an event that goes on, that part ends; where the time of its last frame can't
@@ -105,23 +92,18 @@ pub(crate) fn unlock_part<R: Wait, D: Disk + Drop>(
     rt: &R,
     state: &CameraState,
     desks: &mut Desks<D, CameraState>,
-    id: u32,
-) -> Result<(), StoreFault>
+    leave: MayUnlock,
+) -> Result<Unlocked, StoreFault>
     ensures { desks.new.lent ≡ desks.old.lent }
 {
-    let part = match state.stored.clip_of(rt, id) {
-        Some(clip) if state.desk.owns(rt, &clip) => Some(clip),
-        _ => None,
-    };
-    let Some(clip) = part else {
-        return unlock(rt, state, desks, id);
-    };
-    let last = time_of_last(rt, state, desks, &clip)?;
-    let released = unlock(rt, state, desks, id);
-    if released.is_ok() {
-        state.desk.end_part(rt, &clip, last);
+    let clip = clip_of(leave.clip());
+    if !state.desk.owns(rt, &clip) {
+        return unlock(rt, state, desks, leave);
     }
-    released
+    let last = time_of_last(rt, state, desks, &clip)?;
+    let released = unlock(rt, state, desks, leave)?;
+    state.desk.end_part(rt, &clip, last);
+    Ok(released)
 }
 
 // When the last frame of a clip came.
@@ -156,14 +138,14 @@ pub(crate) fn release_saved<R: Wait, D: Disk + Drop>(
         Ok(there) => there,
         Err(fault) => {
             // Where memory for the line is refused, it isn't printed.
-            let _ = tell_released(state, saved.id, Err(fault), lines);
+            let _ = lines.refused(state.config.name.as_str(), fault);
             return;
         }
     };
     match state.may_release_saved(rt, saved, there) {
-        MayRelease::Now => unlock_and_tell(rt, state, desks, saved.id, lines),
+        MayRelease::Now(leave) => unlock_and_tell(rt, state, desks, leave, lines),
         MayRelease::Saving => state.desk.put_saved(rt, saved),
-        MayRelease::Other(_) => {}
+        MayRelease::Other(_) | MayRelease::NoClip => {}
     }
 }
 
@@ -187,38 +169,4 @@ pub(crate) fn release_later<R: Wait, D: Disk + Drop>(
     if !lines.is_empty() {
         state.tell(rt, lines, None);
     }
-}
-
-/// Unlocks a clip in the store that has it, unless its id is another clip's by now.
-pub(crate) fn unlock_same<R: Wait, D: Disk + Drop>(
-    rt: &R,
-    state: &CameraState,
-    desks: &mut Desks<D, CameraState>,
-    clip: &Clip,
-) -> Result<(), StoreFault>
-    ensures { desks.new.lent ≡ desks.old.lent }
-{
-    match state.stored.clip_of(rt, clip.id) {
-        Some(there) if there.from == clip.from => unlock(rt, state, desks, clip.id),
-        _ => Err(StoreFault::NoSuchClip),
-    }
-}
-
-// Unlocks a clip in the store that has it.
-fn unlock<R: Wait, D: Disk + Drop>(
-    rt: &R,
-    state: &CameraState,
-    desks: &mut Desks<D, CameraState>,
-    id: u32,
-) -> Result<(), StoreFault>
-    ensures { desks.new.lent ≡ desks.old.lent }
-{
-    let Some(place) = place_in(rt, state, desks, id) else {
-        return Err(StoreFault::NoSuchClip);
-    };
-    let released = desks.unlock_clip(place, id_parts(id).1);
-    if released.is_ok() {
-        state.remove_clip(rt, id);
-    }
-    released
 }

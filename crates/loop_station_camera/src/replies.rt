@@ -1,8 +1,10 @@
 //! The answers of cameras, as lines.
 
 use crate::keeping::KeepPart;
+use crate::reading::UnreadClip;
 use crate::state::CameraState;
 use crate::times::{clock_of, gaps_of};
+use crate::unlocking::Unlocked;
 use loop_desk::{Kept, Outline};
 use loop_script::Listing;
 use loop_station_core::{Keep, Run, clip_id, kept_answer, shortfall_of};
@@ -16,8 +18,8 @@ use std::sync::Wait;
 // Where the next frame comes within so many microseconds, none is missing: it came late.
 const LEAST_GAP: u64 = 250_000;
 
-/// What came of a keep: what was locked of a part of its time, the times of its clips, when their frames came, and why
-/// not all that waited could be stored before, if so.
+/// What came of a keep: what was locked of a part of its time, the times of its clips, those whose times can't be read,
+/// when their frames came, and why not all that waited could be stored before, if so.
 #[derive(Drop)]
 pub(crate) struct KeepOutcome {
     pub keep: Keep,
@@ -25,11 +27,13 @@ pub(crate) struct KeepOutcome {
     pub kept: Kept,
     pub refused: Option<StoreFault>,
     pub found: Vec<FoundClip>,
+    pub unread: Vec<UnreadClip>,
     pub runs: Vec<Run>,
 }
 
 /// Tells what a keep has locked up to a time, a line for each clip, and why not everything was locked. Where nothing
-/// of its time lies ahead, it also tells how much of it is held, and where frames are missing.
+/// of its time lies ahead, it also tells how much of it is held, and where frames are missing, unless the times of a
+/// clip can't be read.
 pub(crate) fn tell_kept(
     state: &CameraState,
     outcome: &KeepOutcome,
@@ -42,13 +46,14 @@ pub(crate) fn tell_kept(
         lines.kept_none(name, keep.event)?;
     }
     tell_clips(state, keep, &outcome.found, lines)?;
+    tell_unread_clips(state, keep, &outcome.unread, lines)?;
     if let Some(fault) = outcome.refused {
         lines.refused(name, fault)?;
     }
     if let Some(fault) = kept.fault {
         lines.refused(name, fault)?;
     }
-    if answer.held {
+    if answer.held && outcome.unread.is_empty() {
         tell_shortfall(state, keep, part.until, &outcome.runs, lines)?;
     }
     if answer.begun {
@@ -71,6 +76,24 @@ pub(crate) fn tell_clips(
             (clip.first, clip.last),
             keep.event,
             clip.lost,
+        )?;
+    }
+    Ok(())
+}
+
+/// Tells which clips a keep has whose times can't be read.
+pub(crate) fn tell_unread_clips(
+    state: &CameraState,
+    keep: &Keep,
+    unread: &[UnreadClip],
+    lines: &mut Lines,
+) -> io::Result<()> {
+    for one in unread {
+        lines.kept_unread(
+            state.config.name.as_str(),
+            &one.clip,
+            &one.fault.name(),
+            keep.event,
         )?;
     }
     Ok(())
@@ -107,13 +130,12 @@ fn least_gap(state: &CameraState) -> u64 {
 /// Tells the result of a release.
 pub(crate) fn tell_released(
     state: &CameraState,
-    id: u32,
-    released: Result<(), StoreFault>,
+    released: Result<Unlocked, StoreFault>,
     lines: &mut Lines,
 ) -> io::Result<()> {
     let name = state.config.name.as_str();
     match released {
-        Ok(()) => lines.released(name, id),
+        Ok(clip) => lines.released(name, clip.id()),
         Err(fault) => lines.refused(name, fault),
     }
 }

@@ -46,7 +46,7 @@ impl CameraState {
         };
         // Where memory for the line is refused, it isn't printed.
         let _ = told;
-        self.posts.answer(rt, order.answering, place, lines, None);
+        self.answer(rt, order.answering, place, lines, None);
     }
 
     /// The clips of the event that an order saves were looked for: the save begins, and they are read from now on.
@@ -72,8 +72,7 @@ impl CameraState {
         let mut lines = self.lines(alloc);
         // Where memory for the line is refused, it isn't printed.
         let _ = lines.refused(self.config.name.as_str(), fault);
-        self.posts
-            .answer(rt, order.answering, order.place, lines, None);
+        self.answer(rt, order.answering, order.place, lines, None);
     }
 
     /// Ends a save of the clip of an id, and tells that of the save. Returns whether there was one.
@@ -303,7 +302,7 @@ fn tell_for<R: Wait>(rt: &R, state: &CameraState, save: &Save, lines: Lines) {
         None => None,
     };
     match order {
-        Some(answering) => state.posts.answer(rt, answering, 0, lines, None),
+        Some(answering) => state.answer(rt, answering, 0, lines, None),
         None => state.tell(rt, lines, None),
     }
 }

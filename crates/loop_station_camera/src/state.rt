@@ -3,15 +3,16 @@
 ghost use Rattle.std.specs.Prelude.{false};
 
 use crate::growing::Ongoing;
+use crate::leave::DeskLeave;
 use crate::saves::Saves;
 use crate::whole::WholeClips;
 use loop_desk::Flushed;
-use loop_pipeline::{Link, Noting, Visits};
+use loop_pipeline::{Link, Noting, Unlocks, Visits};
 use loop_station_core::{FilmingEvent, SaveKey, Tally};
 use loop_station_outside::{Absent, Maker, Timeline};
 use loop_station_shared::{
-    Answering, Feed, FoundClip, Inbox, Job, Jobs, KeptClip, Life, MOST_NOTES, Member, Message,
-    NotTaken, Note, Post, Posts, Request, Room, Stored,
+    Announcement, Answering, Feed, FoundClip, Inbox, Job, Jobs, KeptClip, Life, Member, NotTaken,
+    Notes, Posts, Request, Room, Stored,
 };
 use loop_station_words::{CameraConfig, Lines, duration_of, numbered};
 use loop_store::{Clip, ReadFrame, StoreFault};
@@ -66,8 +67,8 @@ pub struct CameraState {
     pub jobs: Jobs,
     /// What the thread of its desk goes on with.
     pub(crate) desk: Ongoing,
-    /// What goes into its file of events.
-    pub notes: Post<Note>,
+    /// What it tells, and what of that waits for its file of events.
+    pub notes: Notes,
     /// Where its answers go.
     pub posts: Arc<Posts>,
     /// The saves of all cameras.
@@ -107,7 +108,7 @@ impl CameraState {
             threads: Link::new(alloc)?,
             jobs: Jobs::new(alloc)?,
             desk: Ongoing::new(alloc)?,
-            notes: Post::new(alloc, MOST_NOTES)?,
+            notes: Notes::new(alloc)?,
             posts,
             saves,
             reader: Inbox::new(),
@@ -225,7 +226,26 @@ impl CameraState {
             Some(kept) => kept,
             None => Vec::new(self.alloc),
         };
-        self.posts.printer.put(rt, Message::Told(lines, kept));
+        self.announce(rt, Announcement::Told(lines, kept));
+    }
+
+    /// Answers an order, with the clips that it made, if any.
+    pub fn answer<R: Wait>(
+        &self,
+        rt: &R,
+        answering: Arc<Answering>,
+        place: usize,
+        lines: Lines,
+        kept: Option<Vec<KeptClip>>,
+    ) {
+        self.announce(rt, Announcement::Answer(answering, place, lines, kept));
+    }
+
+    /// Tells lines that may name its clips, after what it has to tell of what was done before.
+    pub(crate) fn announce<R: Wait>(&self, rt: &R, told: Announcement) {
+        if let Some(told) = self.notes.tell(rt, told) {
+            self.posts.announce(rt, Some(self.place), told);
+        }
     }
 
     /// The clips with a tag, of the store at a place.
@@ -334,27 +354,27 @@ impl CameraState {
         let mut lines = self.lines(self.alloc);
         // Where memory for the line is refused, it isn't printed.
         let _ = lines.absent(self.config.name.as_str(), &why);
-        self.posts.answer(rt, answering, place, lines, None);
+        self.posts.answer(rt, answering, place, lines);
     }
 
     /// An order is done, unless it waits for frames. Where further ones wait, the thread of the desk looks again at
     /// once.
     pub(crate) fn wake_for_more<R: Wait>(&self, rt: &R) {
-        if !self.desk.has_waiting(rt) && self.jobs.done(rt) {
+        if !self.desk.has_waiting(rt) && self.jobs.done(rt) && self.notes.has_room(rt) {
             self.threads.wake(rt);
         }
     }
 
-    /// Where an event goes on, or a saved clip waits to be released, the thread of the desk looks at it.
+    /// Where an event goes on, a saved clip waits to be released, or orders wait, the thread of the desk looks at it.
     pub fn wake_to_go_on<R: Wait>(&self, rt: &R) {
-        if self.desk.has_more(rt) {
+        if self.desk.has_more(rt) || !self.jobs.is_idle(rt) {
             self.threads.wake(rt);
         }
     }
 
     /// Whether all orders that came are done.
     pub fn is_idle<R: Wait>(&self, rt: &R) -> bool {
-        self.jobs.is_idle(rt) && !self.desk.has_waiting(rt) && self.notes.is_empty(rt)
+        self.jobs.is_idle(rt) && !self.desk.has_waiting(rt) && self.notes.is_idle(rt)
     }
 
     /// Whether frames wait because every block is locked.
@@ -426,6 +446,11 @@ impl Visits for CameraState {
     ghost asks = { IsOrdered };
 
     const VISITED: bool = true;
+}
+
+/// Orders unlock by leave that loop_station_core has given.
+impl Unlocks for CameraState {
+    type Leave = DeskLeave;
 }
 
 impl Maker for CameraState {

@@ -1,5 +1,8 @@
 //! What is told of the times and the bits of a source's frames.
 
+ghost use Rattle.std.specs.Prelude.{◌≡◌};
+ghost use Rattle.loop_station_words.specs.declared.choices.TimesFrom.TheVariants.{Arrival};
+
 use crate::state::CameraState;
 use loop_record::Geometry;
 use loop_station_shared::Said;
@@ -36,7 +39,9 @@ pub(crate) fn clock_of<R: Wait>(rt: &R, state: &CameraState) -> Option<i64> {
 }
 
 /// What the clock of a camera's frames shows at a time of the station's; `unknown` where no frame has come yet that says.
-pub fn shown_at<R: Wait>(rt: &R, state: &CameraState, now: u64, unknown: u64) -> u64 {
+pub fn shown_at<R: Wait>(rt: &R, state: &CameraState, now: u64, unknown: u64) -> u64
+    ensures { state.now.config.times_from ≡ Arrival → result ≡ now }
+{
     match state.config.times_from {
         TimesFrom::Source => state.feed.shown(rt, now).unwrap_or(unknown),
         TimesFrom::Arrival => now,

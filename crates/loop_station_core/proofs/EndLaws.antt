@@ -1,7 +1,10 @@
 -- When a keep is done, and what else is decided for good.
 use Rattle.std.proofs.Common.{◌≡◌, ◌≢◌, ℕ, ◌==◌, ◌≤◌, ◌⊎◌, ◌||◌, ◌&&◌, Bool, true, false, not, Option, Some, None, arith, refl, sym, ap, subst, inl, inr, is_some, unwrap_or, max, nat_le, if◌then◌else◌, ◌∙◌, ◌<◌, ◌-◌}
 use Rattle.std.proofs.lemmas.Grind.{common_steps}
-use Rattle.loop_station_core.specs.Gaps.{CoveredPartsAreWithin, lies_within}
+use Rattle.loop_station_core.specs.Clips.{CoveredPartsAreWithin, leave_for_part}
+use Rattle.loop_station_core.specs.Gaps.{HasEach, lies_within}
+use Rattle.loop_station_core.specs.Sets.{store_of}
+use Rattle.loop_station_core.specs.declared.leave.ShownClip.{ShownClip}
 use Rattle.loop_station_core.specs.Keeps.{acts, end_seen, is_clear, is_done, is_over, looked, needed, part_is_due, part_locked, progress_seen, step_keep, steps_taken, KeepsLockEachBlock, has_newest, StuckKeepsEnd, ProgressIsSeen, KeepsLockOnce}
 use Rattle.loop_station_core.specs.declared.keep.Keep.{Keep}
 use Rattle.loop_station_core.specs.declared.keep.Look.{Look}
@@ -60,15 +63,35 @@ pub keeps-end : (k : Keep) (l : Look) → k.until ≤ l.time → unwrap_or k.all
     → (step_keep k l).1 ≡ Whole
 keeps-end k l over enough = acts-whole (looked k l) l (done-with (looked k l) l _ (looked-all k l over) enough)
 
-pub within : CoveredPartsAreWithin
-within old new some = ((λ is n from to. inside is n from to), λ each. covered (each old.from (grind (arith, common_steps)) some) (each old.to some (grind (arith, common_steps))))
-  where
-    inside : lies_within old new ≡ true → (n : ℕ) → old.from ≤ n → n ≤ old.to → (new.from ≤ n) × (n ≤ new.to)
-    inside is n from to =
-        let ends : (new.from ≤ old.from) × (old.to ≤ new.to) = grind (arith, common_steps) in (omega arith, omega arith)
+has-each : (part longer : ShownClip) → part.from ≤ part.to → lies_within part longer ≡ true → HasEach part longer
+has-each part longer some is =
+    let other : part.id ≢ longer.id = λ same. grind (arith, common_steps) in
+    let store : store_of part.id ≡ store_of longer.id = grind (arith, common_steps) in
+    let from : longer.from ≤ part.from = grind (arith, common_steps) in
+    let to : part.to ≤ longer.to = grind (arith, common_steps) in
+    (other, store, λ n a b. (omega (arith, from, a), omega (arith, to, b)))
 
-    covered : (new.from ≤ old.from) × (old.from ≤ new.to) → (new.from ≤ old.to) × (old.to ≤ new.to) → lies_within old new ≡ true
-    covered a b = both (nat_le new.from old.from) (nat_le old.to new.to) (le-true new.from old.from a.0) (le-true old.to new.to b.1)
+covers-it : (part longer : ShownClip) → part.from ≤ part.to → HasEach part longer → lies_within part longer ≡ true
+covers-it part longer some has =
+    let first = has.2 part.from (grind (arith, common_steps)) some in
+    let last = has.2 part.to some (grind (arith, common_steps)) in
+    let other : not (part.id == longer.id) ≡ true = ap not (ne_eqb part.id longer.id has.0) in
+    both (not (part.id == longer.id)) _ other
+    (both (store_of part.id == store_of longer.id) _ (eq-eqb (store_of part.id) (store_of longer.id) has.1)
+    (both (nat_le longer.from part.from) (nat_le part.to longer.to) (le-true longer.from part.from first.0)
+    (le-true part.to longer.to last.1)))
+
+pub within : CoveredPartsAreWithin
+within true part longer clip some = ((λ e. absurd (cc)), (λ e. absurd (cc)))
+within false part longer clip some = at (lies_within part longer) refl
+  where
+    at : (b : Bool) → lies_within part longer ≡ b
+        → (leave_for_part false part longer ≡ Some clip → (clip ≡ part) × (false ≡ false) × HasEach part longer)
+        × (false ≡ false → HasEach part longer → leave_for_part false part longer ≡ Some part)
+    at true is =
+        ((λ e. (grind (arith, common_steps), refl, has-each part longer some is)), (λ e has. grind (arith, common_steps)))
+    at false is =
+        ((λ e. grind (arith, common_steps)), (λ e has. let so = covers-it part longer some has in absurd (cc)))
 
 -- one that is due locks a part
 acts-now : (k : Keep) (l : Look) → part_is_due k l ≡ true → (acts k l).1 ≢ Wait

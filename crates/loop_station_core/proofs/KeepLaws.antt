@@ -1,5 +1,5 @@
 -- What a keep does is right by its line.
-use Rattle.std.proofs.Common.{◌≡◌, ◌∙◌, ap, subst, sym, ℕ, ◌≤◌, ◌⊎◌, ◌||◌, ◌&&◌, ◌==◌, Bool, true, false, not, List, [], ◌∷◌, Option, Some, None, arith, refl, inl, inr, is_some, unwrap_or, max, nat_le, if◌then◌else◌}
+use Rattle.std.proofs.Common.{◌≡◌, ◌∙◌, ap, subst, sym, ℕ, ◌≤◌, ◌⊎◌, ◌||◌, ◌&&◌, ◌==◌, Bool, true, false, not, List, [], ◌∷◌, Option, Some, None, arith, refl, inl, inr, is_some, unwrap_or, max, min, nat_le, if◌then◌else◌}
 use Rattle.std.proofs.lemmas.Grind.{common_steps}
 use Rattle.loop_station_core.specs.Keeps.{AreInOrder, EachTurn, HasTimesOf, IsClear, IsRight, IsTimely, acts, end_seen, is_clear, is_done, looked, needed, part_is_due, part_locked, progress_seen, step_keep, steps_taken}
 use Rattle.loop_station_core.specs.declared.keep.Keep.{Keep}
@@ -108,8 +108,29 @@ right-along k k' l after Whole h r =
     over (inl passed) = inl (let e : k'.until ≡ k.until = h.2 in omega arith)
     over (inr stops) = inr stops
 
-step-times : (k : Keep) (l : Look) → HasTimesOf k (step_keep k l).0
+pub step-times : (k : Keep) (l : Look) → HasTimesOf k (step_keep k l).0
 step-times k l = times-joined k (looked k l) (step_keep k l).0 (looked-times k l) (acts-times (looked k l) l).0
+
+-- a part that is locked ends no later than the keep
+acts-within : (k : Keep) (l : Look) (until : ℕ) → (acts k l).1 ≡ Part until → until ≤ k.until
+acts-within k l until = done (is_done k l)
+  where
+    due : (b : Bool) → (let r : Keep × KeepTurn = if b then part_locked k l else (k, Wait) in r.1 ≡ Part until)
+        → until ≤ k.until
+    due true e = let is : min l.time k.until ≡ until = cc in grind (arith, common_steps)
+    due false e = absurd (cc)
+
+    done : (b : Bool)
+        → (let r : Keep × KeepTurn = if b then (k, Whole) else (if part_is_due k l then part_locked k l else (k, Wait)) in
+        r.1 ≡ Part until)
+        → until ≤ k.until
+    done true e = absurd (cc)
+    done false e = due (part_is_due k l) e
+
+pub step-within : (k : Keep) (l : Look) (until : ℕ) → (step_keep k l).1 ≡ Part until → until ≤ k.until
+step-within k l until e =
+    let ends : (looked k l).until ≡ k.until = (looked-times k l).2 in
+    subst (λ n. until ≤ n) ends (acts-within (looked k l) l until e)
 
 step-right : (k : Keep) (l : Look) → IsTimely l.time k → IsRight k l (step_keep k l).0 (step_keep k l).1
 step-right k l s = right-along k (looked k l) l (step_keep k l).0 (step_keep k l).1 (looked-times k l) (acts-right (looked k l) l (looked-sound k l s))

@@ -24,5 +24,6 @@ pub mod RoomLaws
 pub mod SaveEndLaws
 pub mod SaveLaws
 pub mod SearchLaws
+pub mod TellingLaws
 pub mod TextLaws
 pub mod TimeLaws

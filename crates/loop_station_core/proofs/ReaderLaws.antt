@@ -1,13 +1,17 @@
 -- A clip is read by as many saves as were taken in and haven't ended.
-use Rattle.std.proofs.Common.{◌≡◌, ◌⊎◌, inl, inr, ℕ, ◌+◌, ◌++◌, ◌==◌, Bool, true, false, not, List, [], ◌∷◌, Option, Some, None, is_some, option_map, zero, suc, length, nat_lt, slice_get, slice_set, remove, replicate, ap, arith, refl, ◌≢◌}
+use Rattle.std.proofs.Common.{◌≡◌, ◌⊎◌, inl, inr, ℕ, ◌+◌, ◌++◌, ◌==◌, Bool, true, false, not, List, [], ◌∷◌, Option, Some, None, is_some, option_map, zero, suc, length, nat_lt, slice_get, slice_set, remove, replicate, ap, arith, refl, sym, ◌∙◌, ◌≢◌}
 use Rattle.std.specs.List.{list_any, position, position_or_len}
 use Rattle.std.proofs.lemmas.Grind.{common_steps}
 use Rattle.loop_station_core.proofs.ReleaseLaws.{first-at}
-use Rattle.loop_station_core.specs.Clips.{may_release, may_release_saved, RefusedReleasesAreSo}
-use Rattle.loop_station_core.specs.Laws.{OrdersSpareReadClips, SavedClipsAreReleased, clip_key, OrdersReleaseUnreadClips, UnreadSavedClipsAreReleased}
+use Rattle.loop_station_core.specs.Clips.{RefusedReleasesAreSo, by_first, by_none, leave_for_part, may_release, may_release_saved}
+use Rattle.loop_station_core.specs.Gaps.{lies_within}
+use Rattle.loop_station_core.proofs.FullLaws.{allowed-clips-go, allowed-unread}
+use Rattle.loop_station_core.specs.Laws.{Asks, LeavesAreForUnreadClips, leave_in, of_full, of_order, of_part, of_saved, OrdersSpareReadClips, SavedClipsAreReleased, clip_key, OrdersReleaseUnreadClips, UnreadSavedClipsAreReleased}
 use Rattle.loop_station_core.specs.Releases.{SaveStep, asks, cancels, ends, no_saves, one_if, saves_after, saves_after_all, saves_ended_by, saves_ended_in, saves_taken_by, saves_taken_in, stops, SavesAddUp, how_many, readers}
-use Rattle.loop_station_core.specs.Saving.{Places, after_end_of, begun, covers, earns, ended_at, freed, has_key, has_such, held_at, is_read, is_same, left_to_others, new_save, place_of, place_with, turn_of_clip, turn_with, update, update_held, wanted, with_cancel, with_release, with_wish}
-use Rattle.loop_station_core.specs.declared.clips.MayRelease.TheVariants.{Now, Saving, Other}
+use Rattle.loop_station_core.specs.Saving.{Places, after_end_of, begun, covers, earns, ended_at, freed, has_key, has_such, held_at, is_read, is_same, key_clip, left_to_others, new_save, place_of, place_with, turn_of_clip, turn_with, update, update_held, wanted, with_cancel, with_release, with_wish}
+use Rattle.loop_station_core.specs.declared.clips.MayRelease.TheVariants.{NoClip, Now, Saving, Other}
+use Rattle.loop_station_core.specs.declared.clips.MayRelease.{MayRelease}
+use Rattle.loop_station_core.specs.declared.leave.ShownClip.{ShownClip}
 use Rattle.loop_station_core.specs.declared.save_end.SaveEnd.{SaveEnd}
 use Rattle.loop_station_core.specs.declared.saves.SaveKey.{SaveKey}
 use Rattle.loop_station_core.specs.declared.saves.Save.{Save}
@@ -348,27 +352,43 @@ unread camera id tag p h =
     let waiting = none-any (has_key f) p.waiting waits in
     omega (arith, running, waiting)
 
--- what an order may release isn't read, and is what the order says
-spares : (read : Bool) (said first : Option ℕ) → may_release read said first ≡ Now
-    → (read ≡ false) × ((said ≡ None) ⊎ (said ≡ first))
-spares true said first h = grind (arith, common_steps)
-spares false None first h = (refl, inl refl)
-spares false (Some n) None h = grind (arith, common_steps)
-spares false (Some n) (Some f) h = at (n == f) refl where
-  at : (b : Bool) → (n == f) ≡ b → (false ≡ false) × ((Some n ≡ None) ⊎ (Some n ≡ Some f))
-  at true e = let same : n ≡ f = grind (arith, common_steps) in (refl, inr (grind (arith, common_steps)))
-  at false e = grind (arith, common_steps)
+-- leave by a clip's first frame is for that clip, and the order says none or that one
+meant : (said : Option ℕ) (there clip : ShownClip) → by_first said there ≡ Now clip
+    → (there ≡ clip) × ((said ≡ None) ⊎ (said ≡ Some clip.from))
+meant None there clip h = (grind (arith, common_steps), inl refl)
+meant (Some n) there clip h = at (n == there.from) refl
+  where
+    at : (b : Bool) → (n == there.from) ≡ b → (there ≡ clip) × ((Some n ≡ None) ⊎ (Some n ≡ Some clip.from))
+    at true e =
+        let is : there ≡ clip = grind (arith, common_steps) in
+        let same : n ≡ there.from = grind (arith, common_steps) in
+        let first : n ≡ clip.from = grind (arith, common_steps) in
+        (is, inr (ap (λ (f : ℕ). Some f) first))
+    at false e = grind (arith, common_steps)
+
+none-meant : (said : Option ℕ) (clip : ShownClip) → by_none said ≡ Now clip → ⊥
+none-meant None clip h = grind (arith, common_steps)
+none-meant (Some n) clip h = grind (arith, common_steps)
+
+-- what an order may release isn't read, is there, and is what the order says
+spares : (read : Bool) (said : Option ℕ) (there : Option ShownClip) (clip : ShownClip)
+    → may_release read said there ≡ Now clip
+    → (read ≡ false) × (there ≡ Some clip) × ((said ≡ None) ⊎ (said ≡ Some clip.from))
+spares true said there clip h = grind (arith, common_steps)
+spares false said None clip h = absurd (none-meant said clip h)
+spares false said (Some shown) clip h =
+    let is = meant said shown clip h in (refl, ap (λ (c : ShownClip). Some c) is.0, is.1)
 
 pub orders-spare : OrdersSpareReadClips
-orders-spare places camera id tag steps said first h =
+orders-spare places camera id tag steps said there clip h =
     let f : SaveKey → Bool = covers camera id tag in
-    let both = spares (is_read (saves_after_all (no_saves places) steps) camera id tag) said first h in
+    let all-of = spares (is_read (saves_after_all (no_saves places) steps) camera id tag) said there clip h in
     let none : readers f (saves_after_all (no_saves places) steps) ≡ 0 =
-    unread camera id tag (saves_after_all (no_saves places) steps) both.0 in
+    unread camera id tag (saves_after_all (no_saves places) steps) all-of.0 in
     let all : readers f (saves_after_all (no_saves places) steps) + saves_ended_in f (no_saves places) steps
     ≡ readers f (no_saves places) + saves_taken_in f (no_saves places) steps = all-add f (no_saves places) steps in
     let begin : readers f (no_saves places) ≡ 0 = let e = none-reads f places in omega (arith, e) in
-    (omega (arith, none, all, begin), both.1)
+    (all-of.1, all-of.2, omega (arith, none, all, begin))
 
 pub saves-add-up : SavesAddUp
 saves-add-up places f steps =
@@ -386,26 +406,24 @@ read-none camera id tag p h =
     grind (arith, common_steps)
 
 -- an unread clip is released, where the order says none or that one
-frees : (read : Bool) (said first : Option ℕ) → read ≡ false → (said ≡ None) ⊎ (said ≡ first)
-    → may_release read said first ≡ Now
-frees true said first h m = grind (arith, common_steps)
-frees false None first h m = refl
-frees false (Some n) None h (inl e) = absurd (cc)
-frees false (Some n) None h (inr e) = absurd (cc)
-frees false (Some n) (Some f) h (inl e) = absurd (cc)
-frees false (Some n) (Some f) h (inr e) =
-    let same : n ≡ f = grind (arith, common_steps) in
-    let is : (n == f) ≡ true = grind (arith, common_steps) in
+frees : (read : Bool) (said : Option ℕ) (clip : ShownClip) → read ≡ false → (said ≡ None) ⊎ (said ≡ Some clip.from)
+    → may_release read said (Some clip) ≡ Now clip
+frees true said clip h m = grind (arith, common_steps)
+frees false None clip h m = refl
+frees false (Some n) clip h (inl e) = absurd (cc)
+frees false (Some n) clip h (inr e) =
+    let same : n ≡ clip.from = grind (arith, common_steps) in
+    let is : (n == clip.from) ≡ true = grind (arith, common_steps) in
     grind (arith, common_steps)
 
 pub orders-release : OrdersReleaseUnreadClips
-orders-release places camera id tag steps said first e m =
+orders-release places camera id tag steps said clip e m =
     let f : SaveKey → Bool = covers camera id tag in
     let all : saves_taken_in f (no_saves places) steps
     ≡ saves_ended_in f (no_saves places) steps + readers f (saves_after_all (no_saves places) steps) =
     saves-add-up places f steps in
     let none : readers f (saves_after_all (no_saves places) steps) ≡ 0 = omega (arith, all, e) in
-    frees (is_read (saves_after_all (no_saves places) steps) camera id tag) said first
+    frees (is_read (saves_after_all (no_saves places) steps) camera id tag) said clip
     (read-none camera id tag (saves_after_all (no_saves places) steps) none) m
 
 -- saves that are the same are of one clip
@@ -419,29 +437,44 @@ same-keys a b h =
     let time : b.time ≡ a.time = grind (arith, common_steps) in
     grind (arith, common_steps)
 
+-- saves that are the same have the same clip
+same-clips : (a b : SaveKey) → is_same a b ≡ true → key_clip b ≡ key_clip a
+same-clips a b h =
+    let id : b.id ≡ a.id = grind (arith, common_steps) in
+    let first : b.first ≡ a.first = grind (arith, common_steps) in
+    let last : b.last ≡ a.last = grind (arith, common_steps) in
+    let tag : b.tag ≡ a.tag = grind (arith, common_steps) in
+    grind (arith, common_steps)
+
 -- what saves may release isn't read, and is what was saved
-spares-saved : (read : Bool) (saved : SaveKey) (there : Option SaveKey) → may_release_saved read saved there ≡ Now
-    → (read ≡ false) × (option_map clip_key there ≡ Some (clip_key saved))
-spares-saved read saved None h = grind (arith, common_steps)
-spares-saved read saved (Some clip) h = at (is_same saved clip) read refl refl where
-  at : (b r : Bool) → is_same saved clip ≡ b → read ≡ r
-      → (read ≡ false) × (option_map clip_key (Some clip) ≡ Some (clip_key saved))
+spares-saved : (read : Bool) (saved : SaveKey) (there : Option SaveKey) (clip : ShownClip)
+    → may_release_saved read saved there ≡ Now clip
+    → (read ≡ false) × (option_map clip_key there ≡ Some (clip_key saved)) × (clip ≡ key_clip saved)
+spares-saved read saved None clip h = grind (arith, common_steps)
+spares-saved read saved (Some shown) clip h = at (is_same saved shown) read refl refl where
+  at : (b r : Bool) → is_same saved shown ≡ b → read ≡ r
+      → (read ≡ false) × (option_map clip_key (Some shown) ≡ Some (clip_key saved)) × (clip ≡ key_clip saved)
   at false r e n = grind (arith, common_steps)
   at true true e n = grind (arith, common_steps)
-  at true false e n = (n, ap (λ (k : SaveKey). Some k) (same-keys saved clip e))
+  at true false e n =
+      let is : key_clip shown ≡ clip = grind (arith, common_steps) in
+      (n, ap (λ (k : SaveKey). Some k) (same-keys saved shown e), sym is ∙ same-clips saved shown e)
 
 pub saved-released : SavedClipsAreReleased
-saved-released places saved steps there h =
+saved-released places saved steps there clip h =
     let tag : Option ℕ = Some saved.tag in
-    let both = spares-saved (is_read (saves_after_all (no_saves places) steps) saved.camera saved.id tag) saved there h in
-    let rest = orders-spare places saved.camera saved.id tag steps None None (rw both.0 refl) in
-    (both.1, rest.0)
+    let read = is_read (saves_after_all (no_saves places) steps) saved.camera saved.id tag in
+    let all-of = spares-saved read saved there clip h in
+    let rest = orders-spare places saved.camera saved.id tag steps None (Some clip) clip (rw all-of.0 refl) in
+    (all-of.1, all-of.2, rest.2)
 
 -- what is the same clip is released, where none reads it
 frees-saved : (read : Bool) (saved there : SaveKey) → read ≡ false → is_same saved there ≡ true
-    → may_release_saved read saved (Some there) ≡ Now
+    → may_release_saved read saved (Some there) ≡ Now (key_clip saved)
 frees-saved true saved there h e = grind (arith, common_steps)
-frees-saved false saved there h e = grind (arith, common_steps)
+frees-saved false saved there h e =
+    let is : may_release_saved false saved (Some there) ≡ Now (key_clip there) = grind (arith, common_steps) in
+    is ∙ ap (λ (c : ShownClip). Now c) (same-clips saved there e)
 
 alike : (saved there : SaveKey) → clip_key there ≡ clip_key saved → is_same saved there ≡ true
 alike saved there e =
@@ -463,16 +496,63 @@ saved-free places saved there steps e same =
     frees-saved (is_read (saves_after_all (no_saves places) steps) saved.camera saved.id (Some saved.tag)) saved there
     (read-none saved.camera saved.id (Some saved.tag) (saves_after_all (no_saves places) steps) none) (alike saved there same)
 
-pub refused-so : RefusedReleasesAreSo
-refused-so true asked first number = ((λ e. refl), (λ e. refl), (λ e. absurd (cc)))
-refused-so false None first number = ((λ e. absurd (cc)), (λ e. absurd (cc)), (λ e. absurd (cc)))
-refused-so false (Some n) None number =
-    ((λ e. absurd (cc)), (λ e. absurd (cc)), (λ e. (grind (arith, common_steps), (λ same. absurd (cc)))))
-refused-so false (Some n) (Some f) number = at (n == f) refl
+-- where an order isn't followed, since the clip begins with another frame, or isn't there
+refused-by : (said : Option ℕ) (clip : ShownClip) (number : ℕ) → let is = by_first said clip in
+    (is ≡ Saving → ⊥) × (is ≡ Other number → (said ≡ Some number) × (Some clip.from ≢ said)) × (is ≡ NoClip → ⊥)
+refused-by None clip number = ((λ e. absurd (cc)), (λ e. absurd (cc)), (λ e. absurd (cc)))
+refused-by (Some n) clip number = at (n == clip.from) refl
   where
-    at : (b : Bool) → (n == f) ≡ b → let is = may_release false (Some n) (Some f) in
-        (is ≡ Saving → false ≡ true) × (false ≡ true → is ≡ Saving)
-        × (is ≡ Other number → (Some n ≡ Some number) × (Some f ≢ Some n))
-    at true e = ((λ h. grind (arith, common_steps)), (λ h. absurd (cc)), (λ h. absurd (grind (arith, common_steps))))
-    at false e =
-        ((λ h. grind (arith, common_steps)), (λ h. absurd (cc)), (λ h. (grind (arith, common_steps), (λ same. grind (arith, common_steps)))))
+    at : (b : Bool) → (n == clip.from) ≡ b → let is = by_first (Some n) clip in
+        (is ≡ Saving → ⊥) × (is ≡ Other number → (Some n ≡ Some number) × (Some clip.from ≢ Some n)) × (is ≡ NoClip → ⊥)
+    at true e =
+        ((λ h. grind (arith, common_steps)), (λ h. absurd (grind (arith, common_steps))), (λ h. grind (arith, common_steps)))
+    at false e = (
+      (λ h. grind (arith, common_steps)),
+      (λ h. (grind (arith, common_steps), (λ same. grind (arith, common_steps)))),
+      (λ h. grind (arith, common_steps)),
+    )
+
+pub refused-so : RefusedReleasesAreSo
+refused-so true asked there number = ((λ e. refl), (λ e. refl), (λ e. absurd (cc)), (λ e. absurd (cc)))
+refused-so false None None number =
+    ((λ e. absurd (cc)), (λ e. absurd (cc)), (λ e. absurd (cc)), (λ e. refl))
+refused-so false (Some n) None number =
+    ((λ e. absurd (cc)), (λ e. absurd (cc)), (λ e. (grind (arith, common_steps), (λ same. absurd (cc)))), (λ e. refl))
+refused-so false asked (Some clip) number =
+    let by = refused-by asked clip number in
+    ((λ e. absurd (by.0 e)), (λ e. absurd (cc)), by.1, (λ e. absurd (by.2 e)))
+
+-- a part that goes isn't read, and is the part itself
+part-unread : (read : Bool) (part longer clip : ShownClip) → leave_for_part read part longer ≡ Some clip
+    → (part ≡ clip) × (read ≡ false)
+part-unread true part longer clip e = absurd (cc)
+part-unread false part longer clip e = at (lies_within part longer) refl
+  where
+    at : (b : Bool) → lies_within part longer ≡ b → (part ≡ clip) × (false ≡ false)
+    at true is = (grind (arith, common_steps), refl)
+    at false is = grind (arith, common_steps)
+
+-- leave in an answer is the answer
+in-now : (answer : MayRelease) (clip : ShownClip) → leave_in answer ≡ Some clip → answer ≡ Now clip
+in-now (Now shown) clip e = grind (arith, common_steps)
+in-now Saving clip e = absurd (cc)
+in-now (Other number) clip e = absurd (cc)
+in-now NoClip clip e = absurd (cc)
+
+saved-shown : (saved : SaveKey) (there : Option SaveKey) → option_map clip_key there ≡ Some (clip_key saved)
+    → option_map key_clip there ≡ Some (key_clip saved)
+saved-shown saved None e = absurd (cc)
+saved-shown saved (Some shown) e =
+    let same : clip_key shown ≡ clip_key saved = grind (arith, common_steps) in
+    ap (λ (c : ShownClip). Some c) (ap (λ k. key_clip k) same)
+
+pub leaves-unread : LeavesAreForUnreadClips
+leaves-unread (of_order read asked there) clip e =
+    let is = spares read asked there clip (in-now (may_release read asked there) clip e) in (is.1, is.0)
+leaves-unread (of_saved read saved there) clip e =
+    let is = spares-saved read saved there clip (in-now (may_release_saved read saved there) clip e) in
+    (saved-shown saved there is.1 ∙ ap (λ (c : ShownClip). Some c) (sym is.2), is.0)
+leaves-unread (of_part read part longer) clip e = part-unread read part longer clip e
+leaves-unread (of_full rule free clips) clip e =
+    let gone = allowed-clips-go rule free clips clip e in
+    (gone.1.3.0, gone.1.0, gone.1.3.1, sym gone.1.1, allowed-unread rule gone.1.0 gone.1.2)

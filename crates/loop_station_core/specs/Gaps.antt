@@ -1,8 +1,9 @@
 -- What of a time is held, and where one clip lies within others.
-use Rattle.std.specs.Prelude.{◌≡◌, true, ℕ, ◌+◌, ◌-◌, ◌/◌, ◌≤◌, ◌&&◌, ◌||◌, ◌⊎◌, Bool, List, [], ◌∷◌, filter, sum_by, nat_lt, nat_le, ◌<◌, ◌*◌}
+use Rattle.std.specs.Prelude.{◌≡◌, ◌≢◌, ◌==◌, not, true, ℕ, ◌+◌, ◌-◌, ◌/◌, ◌≤◌, ◌&&◌, ◌||◌, ◌⊎◌, Bool, List, [], ◌∷◌, filter, sum_by, nat_lt, nat_le, ◌<◌, ◌*◌}
+use Rattle.loop_station_core.specs.Sets.{store_of}
 use Rattle.loop_station_core.specs.declared.runs.Run.{Run}
 use Rattle.loop_station_core.specs.declared.runs.Gap.{Gap}
-use Rattle.loop_station_core.specs.declared.runs.ClipSpan.{ClipSpan}
+use Rattle.loop_station_core.specs.declared.leave.ShownClip.{ShownClip}
 
 -- what lies between the runs of a time that begins at `since` and ends at `until`, long or not
 abbrev pub between : ℕ → List Run → ℕ → List Gap
@@ -30,15 +31,15 @@ abbrev pub AreWithin : ℕ → List Run → ℕ → Type 0
 AreWithin since [] until = since ≤ until
 AreWithin since (r ∷ rs) until = (since ≤ r.first) × (r.first ≤ r.last) × AreWithin r.last rs until
 
--- a clip lies wholly within another
-abbrev pub lies_within : ClipSpan → ClipSpan → Bool
-lies_within old new = nat_le new.from old.from && nat_le old.to new.to
+-- a clip lies wholly within another one of its store
+abbrev pub lies_within : ShownClip → ShownClip → Bool
+lies_within old new = not (old.id == new.id) && ((store_of old.id == store_of new.id)
+    && (nat_le new.from old.from && nat_le old.to new.to))
 
--- A part is released as covered by a longer clip exactly where each of its numbers is one of that clip's.
-abbrev pub CoveredPartsAreWithin : Type 0
-CoveredPartsAreWithin = (old new : ClipSpan) → old.from ≤ old.to
-    → (lies_within old new ≡ true → (n : ℕ) → old.from ≤ n → n ≤ old.to → (new.from ≤ n) × (n ≤ new.to))
-    × (((n : ℕ) → old.from ≤ n → n ≤ old.to → (new.from ≤ n) × (n ≤ new.to)) → lies_within old new ≡ true)
+-- it is another clip of the store, and each number of the first one is one of its own
+abbrev pub HasEach : ShownClip → ShownClip → Type 0
+HasEach old new = (old.id ≢ new.id) × (store_of old.id ≡ store_of new.id)
+    × ((n : ℕ) → old.from ≤ n → n ≤ old.to → (new.from ≤ n) × (n ≤ new.to))
 
 -- how long runs are together
 abbrev pub micros_held : List Run → ℕ

@@ -1,5 +1,5 @@
 -- What holds over any list of events.
-use Rattle.std.specs.Prelude.{ℕ, ◌+◌, ◌++◌, ◌-◌, ◌*◌, ◌%◌, ◌^◌, ◌≡◌, ◌≤◌, ◌<◌, ◌⊎◌, Bool, true, false, List, [], ◌∷◌, zero, suc, Option, Some, None, IfSome, is_some, option_map, if◌then◌else◌}
+use Rattle.std.specs.Prelude.{ℕ, ◌+◌, ◌++◌, ◌-◌, ◌*◌, ◌%◌, ◌^◌, ◌≡◌, ◌≤◌, ◌<◌, ◌⊎◌, Bool, true, false, List, [], ◌∷◌, zero, suc, Option, Some, None, IfSome, is_some, option_map, slice_get, if◌then◌else◌}
 use Rattle.std.specs.List.{list_any}
 use Rattle.loop_station_core.specs.Answers.{all_answered, answers_of, given_by}
 use Rattle.loop_station_core.specs.Cameras.{lived, step_camera}
@@ -8,13 +8,18 @@ use Rattle.loop_station_core.specs.Frames.{FlowStep, after, all_of, come_in, no_
 use Rattle.loop_station_core.specs.Gaps.{AreWithin, gaps, micros_missing}
 use Rattle.loop_station_core.specs.Keeps.{AreInOrder, EachTurn, HasTimesOf, IsRight, IsTimely}
 use Rattle.loop_station_core.specs.Orders.{OrderStep, no_orders, orders_after_all, orders_handed_in, orders_taken_in}
-use Rattle.loop_station_core.specs.Clips.{may_release, may_release_saved}
+use Rattle.loop_station_core.specs.Clips.{may_release, leave_for_part, may_release_saved}
+use Rattle.loop_station_core.specs.Full.{full_leave, oldest_of}
 use Rattle.loop_station_core.specs.Releases.{SaveStep, clip_released_in, lets_in, no_saves, saves_after_all, saves_ended_in, saves_taken_in}
 use Rattle.loop_station_core.specs.SaveEnds.{waits_in}
 use Rattle.loop_station_core.specs.Search.{ahead, has_gap, lost_counts, mark_at, most, told, turn}
 use Rattle.loop_station_core.specs.Texts.{AllThreeCame, FirstCame, after_steps}
-use Rattle.loop_station_core.specs.Saving.{Places, asked, covers, is_read, is_saving, left_to_others, withdrawn}
+use Rattle.loop_station_core.specs.Saving.{Places, asked, covers, is_read, is_saving, left_to_others, key_clip, withdrawn}
+use Rattle.loop_station_core.specs.declared.clips.MayRelease.{MayRelease}
 use Rattle.loop_station_core.specs.declared.clips.MayRelease.TheVariants.{Now}
+use Rattle.loop_station_core.specs.declared.full.FullRule.{FullRule}
+use Rattle.loop_station_core.specs.declared.full.LockedClip.{LockedClip}
+use Rattle.loop_station_core.specs.declared.leave.ShownClip.{ShownClip}
 use Rattle.loop_station_core.specs.declared.saves.Asked.TheVariants.{Waits}
 use Rattle.loop_station_core.specs.declared.saves.SaveKey.{SaveKey}
 use Rattle.loop_station_core.specs.Telling.{IsLineOfKind, known_after, lines_of, told_locked}
@@ -58,22 +63,24 @@ GapsAddUp = (period since until : ℕ) (runs : List Run) → AreWithin since run
 abbrev pub ReleasesAreFree : Type 0
 ReleasesAreFree = (p : Places) (s : Save) → (left_to_others p s).1 ≡ true → is_saving p s.key ≡ false
 
--- An order releases the clip of an id and a tag only where each save that was taken in and reads it, as its clip or as
--- one of an event, has ended, and only the clip that it means. So it is after each list of what happens to saves.
+-- An order releases only the clip that has its id, only the one that it means, and only where each save that was taken
+-- in and reads it, as its clip or as one of an event, has ended. So it is after each list of what happens to saves.
 abbrev pub OrdersSpareReadClips : Type 0
-OrdersSpareReadClips = (places camera id : ℕ) (tag : Option ℕ) (steps : List SaveStep) (said first : Option ℕ)
+OrdersSpareReadClips = (places camera id : ℕ) (tag : Option ℕ) (steps : List SaveStep) (said : Option ℕ)
+    (there : Option ShownClip) (clip : ShownClip)
     → let p = no_saves places in
-    may_release (is_read (saves_after_all p steps) camera id tag) said first ≡ Now
-    → (saves_taken_in (covers camera id tag) p steps ≡ saves_ended_in (covers camera id tag) p steps)
-    × ((said ≡ None) ⊎ (said ≡ first))
+    may_release (is_read (saves_after_all p steps) camera id tag) said there ≡ Now clip
+    → (there ≡ Some clip) × ((said ≡ None) ⊎ (said ≡ Some clip.from))
+    × (saves_taken_in (covers camera id tag) p steps ≡ saves_ended_in (covers camera id tag) p steps)
 
 -- And it releases the clip where each of these saves has ended, and the order says no clip or that one.
 abbrev pub OrdersReleaseUnreadClips : Type 0
-OrdersReleaseUnreadClips = (places camera id : ℕ) (tag : Option ℕ) (steps : List SaveStep) (said first : Option ℕ)
+OrdersReleaseUnreadClips = (places camera id : ℕ) (tag : Option ℕ) (steps : List SaveStep) (said : Option ℕ)
+    (clip : ShownClip)
     → let p = no_saves places in
     saves_taken_in (covers camera id tag) p steps ≡ saves_ended_in (covers camera id tag) p steps
-    → (said ≡ None) ⊎ (said ≡ first)
-    → may_release (is_read (saves_after_all p steps) camera id tag) said first ≡ Now
+    → (said ≡ None) ⊎ (said ≡ Some clip.from)
+    → may_release (is_read (saves_after_all p steps) camera id tag) said (Some clip) ≡ Now clip
 
 -- Saves release a clip only where a save of it that began by itself has come to an end with its text whole, or saved
 -- already, and clips of its camera are released then. So it is of each list of what happens to saves.
@@ -89,9 +96,10 @@ clip_key key = record key { whole = false }
 -- reads its id or its tag has ended. So a save of a store that was moved away releases no clip of the new one.
 abbrev pub SavedClipsAreReleased : Type 0
 SavedClipsAreReleased = (places : ℕ) (saved : SaveKey) (steps : List SaveStep) (there : Option SaveKey)
+    (clip : ShownClip)
     → let p = no_saves places in let reads = covers saved.camera saved.id (Some saved.tag) in
-    may_release_saved (is_read (saves_after_all p steps) saved.camera saved.id (Some saved.tag)) saved there ≡ Now
-    → (option_map clip_key there ≡ Some (clip_key saved))
+    may_release_saved (is_read (saves_after_all p steps) saved.camera saved.id (Some saved.tag)) saved there ≡ Now clip
+    → (option_map clip_key there ≡ Some (clip_key saved)) × (clip ≡ key_clip saved)
     × (saves_taken_in reads p steps ≡ saves_ended_in reads p steps)
 
 -- And it is released then, where each save that reads it has ended.
@@ -100,7 +108,40 @@ UnreadSavedClipsAreReleased = (places : ℕ) (saved there : SaveKey) (steps : Li
     → let p = no_saves places in let reads = covers saved.camera saved.id (Some saved.tag) in
     saves_taken_in reads p steps ≡ saves_ended_in reads p steps → clip_key there ≡ clip_key saved
     → may_release_saved (is_read (saves_after_all p steps) saved.camera saved.id (Some saved.tag)) saved (Some there)
-    ≡ Now
+    ≡ Now (key_clip saved)
+
+-- what leave to unlock a clip is asked for by, with what is seen then: an order and the clip that has its id; a clip
+-- that was saved, and the one that has its id; a part of an event and a longer clip; where no block is free all clips
+pub data Asks : Type 0 where
+  of_order : Bool → Option ℕ → Option ShownClip → Asks
+  of_saved : Bool → SaveKey → Option SaveKey → Asks
+  of_part : Bool → ShownClip → ShownClip → Asks
+  of_full : FullRule → ℕ → List LockedClip → Asks
+
+-- the leave in an answer
+abbrev pub leave_in : MayRelease → Option ShownClip
+leave_in (Now clip) = Some clip
+leave_in answer = None
+
+-- the leave that is given
+abbrev pub leave_for : Asks → Option ShownClip
+leave_for (of_order is_read asked there) = leave_in (may_release is_read asked there)
+leave_for (of_saved is_read saved there) = leave_in (may_release_saved is_read saved there)
+leave_for (of_part is_read part longer) = leave_for_part is_read part longer
+leave_for (of_full rule free clips) = full_leave rule free (oldest_of rule None clips)
+
+-- the clip was shown, and no save reads it
+abbrev pub IsShownUnread : Asks → ShownClip → Type 0
+IsShownUnread (of_order is_read asked there) clip = (there ≡ Some clip) × (is_read ≡ false)
+IsShownUnread (of_saved is_read saved there) clip = (option_map key_clip there ≡ Some clip) × (is_read ≡ false)
+IsShownUnread (of_part is_read part longer) clip = (part ≡ clip) × (is_read ≡ false)
+IsShownUnread (of_full rule free clips) clip =
+    (i : ℕ) × (locked : LockedClip) × (slice_get clips i ≡ Some locked) × (locked.clip ≡ clip)
+    × (locked.read ≡ false)
+
+-- Whoever gives it, leave to unlock a clip is for a clip that was shown, and that no save reads.
+abbrev pub LeavesAreForUnreadClips : Type 0
+LeavesAreForUnreadClips = (asked : Asks) (clip : ShownClip) → leave_for asked ≡ Some clip → IsShownUnread asked clip
 
 -- A save that is withdrawn once it was told to wait leaves all as if it hadn't been asked for.
 abbrev pub WithdrawnSavesLeaveNothing : Type 0

@@ -19,5 +19,6 @@ pub mod Saving
 pub mod Search
 pub mod Sets
 pub mod Telling
+pub mod Tellings
 pub mod Texts
 pub mod Timing

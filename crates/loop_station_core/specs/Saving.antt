@@ -2,6 +2,7 @@
 use Rattle.std.specs.Prelude.{ℕ, ◌-◌, ◌==◌, ◌&&◌, ◌||◌, ◌++◌, Bool, true, false, not, List, [], ◌∷◌, Option, Some, None, is_some, length, remove, slice_get, slice_set, take, if◌then◌else◌, ◌≡◌, ◌⊎◌, ◌+◌, option_map}
 use Rattle.std.specs.List.{list_any, position}
 use Rattle.loop_station_core.specs.SaveEnds.{is_saved}
+use Rattle.loop_station_core.specs.declared.leave.ShownClip.{ShownClip}
 use Rattle.loop_station_core.specs.declared.save_end.SaveEnd.{SaveEnd}
 use Rattle.loop_station_core.specs.declared.saves.SaveKey.{SaveKey}
 use Rattle.loop_station_core.specs.declared.saves.Save.{Save}
@@ -31,6 +32,10 @@ new_save key automatic = record { key = key; automatic = automatic; release = fa
 abbrev pub is_same : SaveKey → SaveKey → Bool
 is_same a b = (a.camera == b.camera) && ((a.id == b.id) && ((a.first == b.first)
     && ((a.last == b.last) && ((a.tag == b.tag) && (a.time == b.time)))))
+
+-- the clip of a save, as a decision is shown it
+abbrev pub key_clip : SaveKey → ShownClip
+key_clip key = record { id = key.id; from = key.first; to = key.last; tag = key.tag }
 
 -- a save of a clip began by itself, and isn't to end before its text is whole
 abbrev pub saves_itself : SaveKey → Save → Bool

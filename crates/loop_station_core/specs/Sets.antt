@@ -1,9 +1,13 @@
 -- What a camera's several stores are together.
-use Rattle.std.specs.Prelude.{◌≡◌, ◌<◌, ◌≤◌, ℕ, ◌+◌, ◌*◌, ◌-◌, ◌%◌, ◌^◌, min}
+use Rattle.std.specs.Prelude.{◌≡◌, ◌<◌, ◌≤◌, ℕ, ◌+◌, ◌*◌, ◌-◌, ◌%◌, ◌/◌, ◌^◌, min}
 
 -- the id by which users know a clip: that of its store, and 64 times the store's number
 abbrev pub clip_id : ℕ → ℕ → ℕ
 clip_id store id = store * 64 + id
+
+-- the number of the store of a clip
+abbrev pub store_of : ℕ → ℕ
+store_of id = id / 64
 
 -- how many frames a store holds, of which it had some at an earlier next number: all that came since, and no more than
 -- all segments but the newest one's free slots

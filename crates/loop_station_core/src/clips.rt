@@ -3,30 +3,34 @@
 ghost use Rattle.std.specs.Prelude.{◌≡◌};
 ghost use Rattle.loop_station_core.specs.Clips.{keeps_in, may_release, may_release_saved};
 
+use crate::leave::{MayUnlock, ShownClip};
 use crate::saves::SaveKey;
 
 /// Whether a clip may be released.
-#[derive(Clone, Copy, PartialEq, Eq)]
+#[derive(Drop)]
 pub enum MayRelease {
     /// It may, now.
-    Now,
+    Now(MayUnlock),
     /// A save reads it.
     Saving,
     /// The clip of its id doesn't begin with this frame.
     Other(u64),
+    /// No clip has its id.
+    NoClip,
 }
 
 /// Whether a clip may be released by an order; `is_read`: a save reads it; `asked`: the frame with which it has to
-/// begin, if the order says so; `first`: the frame with which the clip of its id begins, if there is such a clip.
-pub fn may_release(is_read: bool, asked: Option<u64>, first: Option<u64>) -> MayRelease
-    ensures { result ≡ may_release is_read asked first }
+/// begin, if the order says so; `there`: the clip that has its id, if one has.
+pub fn may_release(is_read: bool, asked: Option<u64>, there: Option<ShownClip>) -> MayRelease
+    ensures { result ≡ may_release is_read asked there }
 {
     if is_read {
         return MayRelease::Saving;
     }
-    match (asked, first) {
-        (None, _) => MayRelease::Now,
-        (Some(asked), Some(first)) if asked == first => MayRelease::Now,
+    match (asked, there) {
+        (None, None) => MayRelease::NoClip,
+        (None, Some(clip)) => MayRelease::Now(MayUnlock::of(clip)),
+        (Some(asked), Some(clip)) if asked == clip.from => MayRelease::Now(MayUnlock::of(clip)),
         (Some(asked), _) => MayRelease::Other(asked),
     }
 }
@@ -37,7 +41,7 @@ pub fn may_release_saved(is_read: bool, saved: SaveKey, there: Option<SaveKey>) 
     ensures { result ≡ may_release_saved is_read saved there }
 {
     match there {
-        Some(clip) if saved.is_same(&clip) => may_release(is_read, None, Some(clip.first)),
+        Some(clip) if saved.is_same(&clip) => may_release(is_read, None, Some(clip.shown())),
         _ => MayRelease::Other(saved.first),
     }
 }

@@ -1,8 +1,10 @@
 //! What is done where every block is locked: which clip is released, where the configuration lets one go.
 
 ghost use Rattle.std.specs.Prelude.{◌≡◌, ◌≢◌, ◌↔◌, IsTrue};
-ghost use Rattle.loop_station_core.specs.Full.{oldest_so_far, may_go};
+ghost use Rattle.loop_station_core.specs.Full.{full_leave, may_go, oldest_so_far};
 ghost use Rattle.loop_station_core.specs.declared.full.FullRule.TheVariants.{Waits};
+
+use crate::leave::{MayUnlock, ShownClip};
 
 /// What a camera does where every block is locked.
 #[derive(Clone, Copy, PartialEq, Eq)]
@@ -18,10 +20,9 @@ pub enum FullRule {
 /// A clip that is locked.
 #[derive(Clone, Copy)]
 pub struct LockedClip {
-    pub id: u32,
+    pub clip: ShownClip,
     /// When its first frame came, in microseconds since 1970.
     pub since: u64,
-    pub tag: u64,
     /// A save has written it whole.
     pub saved: bool,
     /// A save reads it.
@@ -45,7 +46,7 @@ impl FullRule {
             FullRule::Waits => false,
             FullRule::OldestSaved => clip.saved && !clip.read,
             FullRule::Oldest(None) => !clip.read,
-            FullRule::Oldest(Some(tag)) => clip.tag == tag && !clip.read,
+            FullRule::Oldest(Some(tag)) => clip.clip.tag == tag && !clip.read,
         }
     }
 
@@ -60,5 +61,17 @@ impl FullRule {
             Some(oldest) if oldest.since <= clip.since => Some(oldest),
             _ => Some(clip),
         }
+    }
+
+    /// Leave to release the oldest clip of all that were looked at (`older`), where so many blocks aren't locked but
+    /// the newest one.
+    pub fn leave(self, free: u64, oldest: Option<LockedClip>) -> Option<MayUnlock>
+        ensures { result ≡ full_leave self free oldest }
+    {
+        let oldest = oldest?;
+        if free > 0 || !self.lets_go(oldest) {
+            return None;
+        }
+        Some(MayUnlock::of(oldest.clip))
     }
 }

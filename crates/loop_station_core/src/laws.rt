@@ -1,8 +1,8 @@
 //! What holds over any list of events. Each function does nothing: its contract is the law.
 
-ghost use Rattle.loop_station_core.specs.Laws.{BrokenFilmingsEnd, DisksAreToldOnce, FilmingsGoOn, FoundGapsAreSo, FramesAddUp, GapsAddUp, GapsAreLookedFor, KeepsAreRight, LinesAreSo, LockedLinesAlternate, LockedLinesTellAll, LostAreCounted, LostAreFound, LostAreToldOnce, MovedStoresAreLeft, NothingIsToldTwice, OrdersAreAnsweredOnce, OrdersAreHandedOut, OrdersReleaseUnreadClips, OrdersSpareReadClips, ReleasesAreEarned, ReleasesAreFree, SavedClipsAreReleased, SavedTextsAreThere, SavesWaitOnce, SearchesLookAtAll, SilentSourcesWait, StopsAreForGood, TextsAreSaved, UnreadSavedClipsAreReleased, WithdrawnSavesLeaveNothing};
+ghost use Rattle.loop_station_core.specs.Laws.{BrokenFilmingsEnd, DisksAreToldOnce, FilmingsGoOn, FoundGapsAreSo, FramesAddUp, GapsAddUp, GapsAreLookedFor, KeepsAreRight, LeavesAreForUnreadClips, LinesAreSo, LockedLinesAlternate, LockedLinesTellAll, LostAreCounted, LostAreFound, LostAreToldOnce, MovedStoresAreLeft, NothingIsToldTwice, OrdersAreAnsweredOnce, OrdersAreHandedOut, OrdersReleaseUnreadClips, OrdersSpareReadClips, ReleasesAreEarned, ReleasesAreFree, SavedClipsAreReleased, SavedTextsAreThere, SavesWaitOnce, SearchesLookAtAll, SilentSourcesWait, StopsAreForGood, TextsAreSaved, UnreadSavedClipsAreReleased, WithdrawnSavesLeaveNothing};
 ghost use Rattle.loop_station_core.specs.Cameras.{CamerasEndWithTheProgram, EndedFilmingsGoOn, LockedBlocksAreKnown, LockedFilmingsWait, OffersAreAnswered, SilenceIsSeen, SourcesAreSeen, StoresAreOpenedAgain};
-ghost use Rattle.loop_station_core.specs.Gaps.{CoveredPartsAreWithin, LongGapsAreLong, LostAreInGaps, TimesAddUp};
+ghost use Rattle.loop_station_core.specs.Gaps.{LongGapsAreLong, LostAreInGaps, TimesAddUp};
 ghost use Rattle.loop_station_core.specs.Losses.{EstimatesAreRight};
 ghost use Rattle.loop_station_core.specs.Keeps.{KeepsCoverBothEnds, KeepsCoverTheirSeconds, KeepsEnd, KeepsHaveAll, KeepsLockEachBlock, KeepsLockOnce, KeepsTakeTheCamerasSeconds, ProgressIsSeen, StuckKeepsEnd};
 ghost use Rattle.loop_station_core.specs.Marks.{MarksAreRead};
@@ -12,13 +12,15 @@ ghost use Rattle.loop_station_core.specs.Timing.{FrameTimesRise, GapsAreToldApar
 ghost use Rattle.loop_station_core.specs.Clocks.{ClocksAreRead, MediansLieAmong, MovedClocksAreTold, RightTimesStay, StepsAreHeard, WrongTimesAreNone};
 ghost use Rattle.loop_station_core.specs.Newest.{NewestIsAhead, OrderedAreCounted, OthersAreTimed};
 ghost use Rattle.loop_station_core.specs.Sets.{ClipsHaveTheirOwnIds, IdsAreThoseOfTheFile, StoresHoldWhatCame};
-ghost use Rattle.loop_station_core.specs.Clips.{KeepsHaveRoom, RefusedReleasesAreSo};
+ghost use Rattle.loop_station_core.specs.Clips.{CoveredPartsAreWithin, KeepsHaveRoom, RefusedReleasesAreSo};
 ghost use Rattle.loop_station_core.specs.Full.{AllowedClipsGo, OldestClipsGo};
 ghost use Rattle.loop_station_core.specs.Reloads.{RefusedReloadsChangeNothing, ReloadsAreFollowed};
 ghost use Rattle.loop_station_core.specs.Orders.{IdleCamerasAreDone, OrdersAreTakenIn};
 ghost use Rattle.loop_station_core.specs.Saving.{BegunSavesAreTold, CancelledSavesAreTheirs, ClipsAreSavedOnce, PlacesTellAll, ReadersAreSo, SavesEarnTheirClip, StopsEndSaves};
 ghost use Rattle.loop_station_core.specs.Frames.{LostFramesWereGivenUp, TalliesAddUp};
 ghost use Rattle.loop_station_core.specs.SaveEnds.{EndsAreTold, RetriesAreTold};
+ghost use Rattle.loop_station_core.specs.Answers.{EarlyAnswersCount};
+ghost use Rattle.loop_station_core.specs.Tellings.{LinesAreInOrder, LinesAreTakenIn};
 ghost use Rattle.loop_station_core.specs.Telling.{FirstLooksTellAll, LinesTellAll, LongWaitsAreTold, LostFramesAreToldSoon, SlowDisksAreTold};
 
 /// Each frame that came is stored, lost, at the desk, or on its way to it.
@@ -84,8 +86,13 @@ pub fn releases_are_free()
     ensures { ReleasesAreFree }
 {}
 
+/// Whoever gives it, leave to unlock a clip is for a clip that was shown, and that no save reads.
+pub fn leaves_are_for_unread_clips()
+    ensures { LeavesAreForUnreadClips }
+{}
+
 /// An order releases a clip only once each save that was taken in and reads it, as its clip or as one of an event, has
-/// ended, and only the clip that it means.
+/// ended, and only the clip of its id that it means.
 pub fn orders_spare_read_clips()
     ensures { OrdersSpareReadClips }
 {}
@@ -167,6 +174,21 @@ pub fn orders_are_answered_once()
     ensures { OrdersAreAnsweredOnce }
 {}
 
+/// An answer of a camera that is told before those of the others counts as one further on, and no other is changed.
+pub fn early_answers_count()
+    ensures { EarlyAnswersCount }
+{}
+
+/// The lines of a camera are told in the order of what was done, each once, however long its file of events takes.
+pub fn lines_are_in_order()
+    ensures { LinesAreInOrder }
+{}
+
+/// A line is told at once exactly where nothing waits and it needs no file of events. It has room where orders are done.
+pub fn lines_are_taken_in()
+    ensures { LinesAreTakenIn }
+{}
+
 /// A keep whose end has passed is done at the first look at which each frame that had come by then is at the desk or
 /// lost.
 pub fn keeps_end()
@@ -179,7 +201,7 @@ pub fn keeps_have_all()
     ensures { KeepsHaveAll }
 {}
 
-/// A part is released as covered only where each of its frames is in the longer clip.
+/// A part of an event is released exactly where no save reads it, and each of its frames is in the longer clip.
 pub fn covered_parts_are_within()
     ensures { CoveredPartsAreWithin }
 {}

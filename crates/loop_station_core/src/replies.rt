@@ -1,8 +1,8 @@
 //! The answers of cameras to an order, which stay together.
 
-ghost use Rattle.std.specs.Prelude.{◌≡◌, ◌<◌, Some, None, IsTrue, is_some, length, not, replicate, slice_set, IfOk};
+ghost use Rattle.std.specs.Prelude.{◌≡◌, ◌<◌, Some, None, IsTrue, is_some, length, not, replicate, slice_get, slice_set, IfOk, false};
 ghost use Rattle.std.specs.List.{position};
-ghost use Rattle.loop_station_core.specs.Answers.{gives, is_unanswered};
+ghost use Rattle.loop_station_core.specs.Answers.{gives, is_unanswered, taken_early};
 
 use std::alloc::{AllocError, Global};
 use std::mem;
@@ -39,6 +39,26 @@ fn put<L: Drop>(given: &mut Vec<Option<L>>, place: usize, answer: L)
     given[place] = Some(answer);
 }
 
+// Whether the camera at a place has answered.
+fn has_answered<L: Drop>(given: &[Option<L>], place: usize) -> bool
+    ensures there { result ≡ (elim (slice_get given.now place) [ None ↦ false | Some o ↦ is_some o ]) }
+    ensures bound { IsTrue result → place < length given.now }
+{
+    match given.get(place) {
+        Some(answer) => answer.is_some(),
+        None => false,
+    }
+}
+
+// Something stands for the answer of the camera at a place. Returns the answer.
+fn exchange<L: Drop>(given: &mut Vec<Option<L>>, place: usize, rest: L) -> Option<L>
+    requires { place < length given.old.items }
+    ensures after { given.new.items ≡ slice_set given.old.items place (Some rest) }
+    ensures before { slice_get given.old.items place ≡ Some result }
+{
+    mem::replace(&mut given[place], Some(rest))
+}
+
 impl<L: Drop> Replies<L> {
     /// No camera of so many has answered.
     pub fn new(alloc: Global, cameras: usize) -> Result<Replies<L>, AllocError>
@@ -61,6 +81,17 @@ impl<L: Drop> Replies<L> {
         }
         put(&mut self.given, place, answer);
         missing(&self.given).is_none()
+    }
+
+    /// What the camera at a place has answered, which is told before the others have: `rest` stands in its place from
+    /// now on. None where it hasn't answered.
+    pub fn take_early(&mut self, place: usize, rest: L) -> Option<L>
+        ensures { (self.new.given.items, result) ≡ taken_early self.old.given.items place rest }
+    {
+        if !has_answered(&self.given, place) {
+            return None;
+        }
+        exchange(&mut self.given, place, rest)
     }
 
     /// What each camera has answered, in their order. Nothing is left.

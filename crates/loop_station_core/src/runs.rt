@@ -1,8 +1,7 @@
 //! What of a keep's time is held.
 
 ghost use Rattle.std.specs.Prelude.{◌≡◌, ◌-◌, ◌^◌, [], ◌∷◌, IfOk, filter, min, option_to_list};
-ghost use Rattle.std.specs.List.{list_any};
-ghost use Rattle.loop_station_core.specs.Gaps.{frames_lost, gaps, is_gap, lies_within, micros_missing};
+ghost use Rattle.loop_station_core.specs.Gaps.{frames_lost, gaps, is_gap, micros_missing};
 
 use std::alloc::{AllocError, Global};
 
@@ -107,19 +106,4 @@ pub fn shortfall_of(
         lost: lost_in(&gaps),
         gaps,
     })
-}
-
-/// The numbers of a clip's first and last frame.
-#[derive(Clone, Copy)]
-pub struct ClipSpan {
-    pub from: u64,
-    pub to: u64,
-}
-
-/// Whether a clip lies wholly within one of the others, so that it may be released once that is locked.
-pub fn is_covered(old: &ClipSpan, new: &[ClipSpan]) -> bool
-    ensures { result ≡ list_any (lies_within old.now) new.now }
-{
-    new.iter()
-        .any(|clip| clip.from <= old.from && old.to <= clip.to)
 }

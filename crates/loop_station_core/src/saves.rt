@@ -2,9 +2,10 @@
 
 ghost use Rattle.std.specs.Prelude.{◌≡◌, ◌≢◌, ◌++◌, ◌∷◌, if◌then◌else◌, ◌<◌, ◌==◌, IfOk, IfSome, Some, None, is_some, not, length, replicate, [], true, false};
 ghost use Rattle.std.specs.List.{list_any, position};
-ghost use Rattle.loop_station_core.specs.Saving.{asked, begun, cancelled, cancelled_at, covers, ended_at, finished, has_automatic, has_key, has_such, held_at, is_of_clip, is_read, is_same, left_to_others, picks, places_of, reads, saves_itself, stopped, wanted, with_wish, withdrawn};
+ghost use Rattle.loop_station_core.specs.Saving.{asked, begun, cancelled, cancelled_at, covers, ended_at, finished, has_automatic, has_key, has_such, held_at, is_of_clip, is_read, is_same, key_clip, left_to_others, picks, places_of, reads, saves_itself, stopped, wanted, with_wish, withdrawn};
 ghost use Rattle.loop_station_core.specs.declared.saves.Asked.TheVariants.{NoMemory, Waits};
 
+use crate::leave::ShownClip;
 use crate::save_end::{SaveEnd, is_saved};
 use std::alloc::{AllocError, Global};
 
@@ -33,6 +34,18 @@ impl SaveKey {
             && self.last == other.last
             && self.tag == other.tag
             && self.time == other.time
+    }
+
+    // The clip, as a decision is shown it.
+    pub(crate) fn shown(&self) -> ShownClip
+        ensures { result ≡ key_clip self.now }
+    {
+        ShownClip {
+            id: self.id,
+            from: self.first,
+            to: self.last,
+            tag: self.tag,
+        }
     }
 
     // Whether a save reads the clip of an id with this tag: it is of that clip, or reads each one with its own tag.

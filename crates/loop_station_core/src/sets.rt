@@ -1,7 +1,7 @@
 //! What a camera's several stores are together: their clips' ids and what they hold.
 
 ghost use Rattle.std.specs.Prelude.{◌≡◌, ◌≤◌, ◌<◌, ◌+◌, ◌*◌, ◌-◌, ◌/◌, ◌%◌, ◌^◌, min};
-ghost use Rattle.loop_station_core.specs.Sets.{clip_id, frames_held_since};
+ghost use Rattle.loop_station_core.specs.Sets.{clip_id, frames_held_since, store_of};
 
 // How many clips a store has at most.
 const CLIPS: u32 = 64;
@@ -20,6 +20,13 @@ pub fn id_parts(id: u32) -> (u32, u32)
     ensures own { result.1 < 64 }
 {
     (id / CLIPS, id % CLIPS)
+}
+
+// The number of the store of the clip that users know by this id.
+pub(crate) fn store_of(id: u32) -> u32
+    ensures { result ≡ store_of id }
+{
+    id / CLIPS
 }
 
 /// How many frames a store holds. It had `held` when its next number was `began`; now that is `next`.

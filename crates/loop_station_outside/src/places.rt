@@ -304,6 +304,34 @@ fn uptime_at<R: Files<File = File>>(rt: &R) -> Option<u64> {
     }
 }
 
+// Whether the file of a name is one that a measure has left, as a loss of power may: a page at most, all of it zero.
+fn is_left_blank<R: Files<File = File>>(rt: &R, name: &str) -> bool {
+    match fs::symlink_metadata(rt, name) {
+        Ok(metadata) if metadata.is_file() && metadata.size() <= 4_096 => {}
+        _ => return false,
+    }
+    let Ok(mut file) = open_to_read(rt, name) else {
+        return false;
+    };
+    let mut page = [0u8; 4_096];
+    match file.read(&mut page) {
+        Ok(count) => page
+            .get(..count)
+            .is_some_and(|bytes: &[u8]| bytes.iter().all(|byte| *byte == 0)),
+        Err(_) => false,
+    }
+}
+
+// Makes a file that has no name any more. Another file of this name stays, but for what such a one has left.
+fn open_nameless<R: Files<File = File>>(rt: &R, name: &str) -> Option<File> {
+    if is_left_blank(rt, name) {
+        fs::remove_file(rt, name).ok()?;
+    }
+    let file = open_file(rt, OpenOptions::new().write(true).create_new(true), name).ok()?;
+    fs::remove_file(rt, name).ok()?;
+    Some(file)
+}
+
 // How long a sync takes beside a store: the middle one of a few.
 fn sync_time_beside<R: AllocGlobal + Files<File = File> + Clock>(
     rt: &R,
@@ -311,13 +339,7 @@ fn sync_time_beside<R: AllocGlobal + Files<File = File> + Clock>(
     timeline: &Timeline,
 ) -> Option<u64> {
     let name = format!(in rt.alloc(); "{path}.sync").ok()?;
-    let file = open_file(
-        rt,
-        OpenOptions::new().write(true).create_new(true),
-        name.as_str(),
-    )
-    .ok()?;
-    fs::remove_file(rt, name.as_str()).ok()?;
+    let file = open_nameless(rt, name.as_str())?;
     let page = [0u8; 4_096];
     let mut times = [u64::MAX; SYNCS];
     let mut spent = 0u64;

@@ -2,7 +2,7 @@
 
 use crate::found::FoundClip;
 use crate::post::Post;
-use loop_station_core::{OpenEvent, Replies};
+use loop_station_core::Replies;
 use loop_station_outside::Absent;
 use loop_station_words::Lines;
 use std::alloc::{AllocError, Global};
@@ -25,7 +25,7 @@ struct Answers {
 }
 
 /// An order that is being answered, by as many cameras as it means. The lines of all of them stay together: they are
-/// printed once the last one has answered.
+/// printed once the last one has answered. Those of a camera that has more to tell before that are printed early.
 #[derive(Drop)]
 pub struct Answering {
     /// The label of its line.
@@ -69,6 +69,12 @@ impl Answering {
         answers.replies.give(place, lines)
     }
 
+    /// The lines of the camera at a place, which are printed before the others have answered: `rest` stands for them
+    /// from now on. None where it hasn't answered, or all is printed.
+    pub fn take_early<R: Wait>(&self, rt: &R, place: usize, rest: Lines) -> Option<Lines> {
+        self.answers.lock(rt).replies.take_early(place, rest)
+    }
+
     /// All lines, and the clips that were made. Nothing is left of them.
     pub fn take<R: Wait>(&self, rt: &R, alloc: Global) -> (Vec<Option<Lines>>, Vec<KeptClip>) {
         let mut answers = self.answers.lock(rt);
@@ -104,36 +110,22 @@ impl SaveOrder {
 /// What the printer's thread is told.
 #[derive(Drop)]
 pub enum Message {
-    /// All cameras have answered an order.
-    Answered(Arc<Answering>),
-    /// Lines that answer no order, and clips that an event has made by its end.
-    Told(Lines, Vec<KeptClip>),
+    /// Lines, and the camera whose clips they may name, by its place in the configuration.
+    Told(Option<usize>, Announcement),
     /// The store of a camera was opened: it has these clips.
     Opened(Vec<KeptClip>),
     /// The program ends.
     End,
 }
 
-/// What is told once a camera's file of events is on the disk.
+/// What is told.
 #[derive(Drop)]
 pub enum Announcement {
-    /// The answer of the camera at a place among those that an order means.
-    Answer(Arc<Answering>, usize, Lines),
+    /// The answer of the camera at a place among those that an order means, and the clips that it made.
+    Answer(Arc<Answering>, usize, Lines, Option<Vec<KeptClip>>),
     /// Lines that answer no order, and clips that an event has made by its end.
     Told(Lines, Vec<KeptClip>),
 }
-
-/// What the thread of a camera's file of events is told.
-#[derive(Drop)]
-pub enum Note {
-    /// These events are open, and no others; and what is told once that is on the disk.
-    Open(Vec<OpenEvent>, Announcement),
-    /// The program ends.
-    End,
-}
-
-/// How many changes of a camera's file of events may wait.
-pub const MOST_NOTES: usize = 1_024;
 
 /// The list into which the threads of a camera put what is printed.
 #[derive(Drop)]
@@ -152,28 +144,18 @@ impl Posts {
         })
     }
 
-    /// Tells what waited for a file of events.
-    pub fn announce<R: Wait>(&self, rt: &R, announcement: Announcement) {
-        match announcement {
-            Announcement::Answer(answering, place, lines) => {
-                self.answer(rt, answering, place, lines, None);
-            }
-            Announcement::Told(lines, kept) => self.printer.put(rt, Message::Told(lines, kept)),
-        }
+    /// Tells lines, which may name clips of the camera at a place in the configuration.
+    pub fn announce<R: Wait>(&self, rt: &R, camera: Option<usize>, announcement: Announcement) {
+        self.printer.put(rt, Message::Told(camera, announcement));
     }
 
-    /// A camera's answer to an order; where it was the last one, the printer is told.
-    pub fn answer<R: Wait>(
-        &self,
-        rt: &R,
-        answering: Arc<Answering>,
-        place: usize,
-        lines: Lines,
-        kept: Option<Vec<KeptClip>>,
-    ) {
-        if answering.fill(rt, place, lines, kept) {
-            self.printer.put(rt, Message::Answered(answering));
-        }
+    /// Answers an order by lines that name no clip.
+    pub fn answer<R: Wait>(&self, rt: &R, answering: Arc<Answering>, place: usize, lines: Lines) {
+        self.announce(
+            rt,
+            None,
+            Announcement::Answer(answering, place, lines, None),
+        );
     }
 }
 

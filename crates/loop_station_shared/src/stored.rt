@@ -58,6 +58,8 @@ struct Inside {
     wanted: u32,
     // Files of the camera are there that aren't open yet.
     opening: bool,
+    // Stores that aren't there are made.
+    making: bool,
     // How many frames have room in those that are open before one has to go that isn't the oldest of all, how many were
     // taken before that, and how many were taken though there was none.
     room: u64,
@@ -109,6 +111,7 @@ impl Stored {
                 coming: None,
                 wanted: 1,
                 opening: false,
+                making: false,
                 room: 0,
                 from: 0,
                 forced: 0,
@@ -212,6 +215,16 @@ impl Stored {
     /// Whether files of the camera are there that aren't open yet.
     pub fn is_opening<R: Wait>(&self, rt: &R) -> bool {
         self.inside.lock(rt).opening
+    }
+
+    /// Stores of the camera that aren't there are made, or none is any more.
+    pub fn set_making<R: Wait>(&self, rt: &R, making: bool) {
+        self.inside.lock(rt).making = making;
+    }
+
+    /// Whether stores of the camera are made: each of them has room.
+    pub fn is_making<R: Wait>(&self, rt: &R) -> bool {
+        self.inside.lock(rt).making
     }
 
     /// No filming ends: a store may be made.
@@ -330,19 +343,6 @@ impl Stored {
                 member.clips.remove(at);
             }
         }
-    }
-
-    /// The clip of an id.
-    pub fn clip_of<R: Wait>(&self, rt: &R, id: u32) -> Option<Clip> {
-        let inside = self.inside.lock(rt);
-        for member in inside.members.as_slice() {
-            for clip in member.clips.as_slice() {
-                if clip.id == id {
-                    return Some(*clip);
-                }
-            }
-        }
-        None
     }
 
     /// The clips of all stores that are open. None where memory is refused.

@@ -54,6 +54,15 @@ pub struct Lines {
     with_json: bool,
 }
 
+// The tag of an event's clip that is told: not where the clip has none, or the event's number.
+fn tag_told(clip: &Clip, event: u64) -> Option<u64> {
+    if clip.tag == 0 || clip.tag == event {
+        None
+    } else {
+        Some(clip.tag)
+    }
+}
+
 impl Lines {
     /// No line yet. `json` says whether the lines are wanted as JSON too.
     pub fn new(alloc: Global, json: bool) -> Lines {
@@ -231,11 +240,6 @@ impl Lines {
         event: u64,
         lost: u64,
     ) -> io::Result<()> {
-        let tag = if clip.tag == 0 || clip.tag == event {
-            None
-        } else {
-            Some(clip.tag)
-        };
         self.line(
             "kept",
             &[
@@ -253,8 +257,51 @@ impl Lines {
                 Time("to", to),
                 Words(" event "),
                 Number("event", event),
-                Maybe(" tag ", "tag", tag),
+                Maybe(" tag ", "tag", tag_told(clip, event)),
                 Count(" lost ", "lost", lost),
+            ],
+        )
+    }
+
+    /// `kept CAMERA ID A..B unread WHY event N`, followed by ` tag T` as above: the frames A to B of an event are locked
+    /// as clip ID, and the times of the first and the last one can't be read.
+    ///
+    /// JSON: `camera`, `id`, `first`, `last`, `why`, `event`, and `tag` as above.
+    pub fn kept_unread<Y: Display>(
+        &mut self,
+        camera: &str,
+        clip: &Clip,
+        why: &Y,
+        event: u64,
+    ) -> io::Result<()> {
+        let why = why.to_string(self.alloc)?;
+        self.line_of_unread(camera, clip, why.as_str(), event)
+    }
+
+    // The same, of the words of why.
+    fn line_of_unread<'a>(
+        &mut self,
+        camera: &'a str,
+        clip: &Clip,
+        why: &'a str,
+        event: u64,
+    ) -> io::Result<()> {
+        self.line(
+            "kept_unread",
+            &[
+                Words("kept "),
+                Text("camera", camera),
+                Words(" "),
+                Number("id", u64::from(clip.id)),
+                Words(" "),
+                Number("first", clip.from),
+                Words(".."),
+                Number("last", clip.to),
+                Words(" unread "),
+                Text("why", why),
+                Words(" event "),
+                Number("event", event),
+                Maybe(" tag ", "tag", tag_told(clip, event)),
             ],
         )
     }

@@ -5,7 +5,7 @@ use crate::notes::run_notes;
 use crate::source::run_source_after;
 use loop_station_camera::{CameraState, end_saves_of};
 use loop_station_outside::Places;
-use loop_station_shared::{Note, Outlet};
+use loop_station_shared::Outlet;
 use std::alloc::AllocGlobal;
 use std::fs::File;
 use std::io::Write;
@@ -76,7 +76,7 @@ impl Crew {
             end_saves_of(rt, &state);
         }
         if let Some(handle) = notes {
-            state.notes.put(rt, Note::End);
+            state.notes.end(rt);
             handle.join(rt);
         }
     }

@@ -5,7 +5,7 @@ use crate::notes::read_events;
 use crate::opening::{OpenStore, Opened, Unopened, member_of, open_first, open_others};
 use crate::seeing::elsewhere;
 use crate::stores::{limits_for, tell_clips};
-use crate::telling::{print, tell_layout, tell_order};
+use crate::telling::{print, tell_absent, tell_layout, tell_order};
 use loop_capture::Device;
 use loop_desk::Desk;
 use loop_file::{FileDisk, FileFault};
@@ -313,15 +313,9 @@ fn leave_alone<R: AllocGlobal + Wait + Clock, W: Write + Drop>(
 ) {
     let number = state.stored.number_at(rt, place);
     let until = state.timeline.now(rt).saturating_add(ALONE);
-    let is_new = state.stored.leave_alone(rt, number, until);
-    let Ok(path) = state.path_of(rt.alloc(), Some(number)) else {
-        return;
-    };
-    if is_new {
-        let mut lines = state.lines(rt.alloc());
+    if state.stored.leave_alone(rt, number, until) {
         let why = Absent::Store(StoreFault::MustReopen);
-        let written = lines.one_absent(state.config.name.as_str(), path.as_str(), &why);
-        print(rt, outlet, &lines, written);
+        tell_absent(rt, state, outlet, number, &why);
     }
 }
 
@@ -379,9 +373,9 @@ fn film<R: AllocGlobal + Places + Threads + Wait + Clock + Sync, W: Write + Drop
     rest: Unopened,
 ) -> Filmed {
     let (rt, state, outlet) = (&*rt, &*state, &*outlet);
-    let door = door_for(rt.alloc(), rest.number.is_some());
-    let door = &door;
-    thread::scope(thread::scope_env(), rt, move |scope| -> Filmed {
+    let entrance = door_for(rt.alloc(), rest.number.is_some());
+    let door = &entrance;
+    let filmed = thread::scope(thread::scope_env(), rt, move |scope| -> Filmed {
         let opener = if door.is_open() {
             scope
                 .spawn(move || open_others(rt, state, outlet, door, rest))
@@ -401,5 +395,8 @@ fn film<R: AllocGlobal + Places + Threads + Wait + Clock + Sync, W: Write + Drop
         let filmed = film_desks(rt, rt.alloc(), scope, guided, door);
         state.stored.close(rt);
         filmed
-    })
+    });
+    // A store that hasn't joined is closed, as those that have.
+    let _closed = entrance.into_desks();
+    filmed
 }

@@ -1,14 +1,15 @@
 //! The files of open events. While an event's end lies ahead, STORE.events beside the camera's store has a line for it,
 //! `EVENT SINCE UNTIL TAG`, so that the next start goes on with it after a stop or a loss of power. An event is
 //! answered once its line is on the disk, and told as over once the file without it is. A file that can't be written is
-//! told once, and tried again each second: stores have their room, but a disk may have none for this file.
+//! told once, and tried again each second: stores have their room, but a disk may have none for this file. What the
+//! camera tells of what was done after that waits until then.
 
 use loop_script::number::number;
 use loop_script::print_parts;
 use loop_station_camera::CameraState;
 use loop_station_core::OpenEvent;
 use loop_station_outside::{PathKind, Places};
-use loop_station_shared::Note;
+use loop_station_shared::{Announcement, Note};
 use std::alloc::{AllocGlobal, Global};
 use std::io::Write;
 use std::sync::Wait;
@@ -17,10 +18,10 @@ use std::time::{Clock, Duration};
 // How many milliseconds pass before a file that couldn't be written is tried again.
 const TRY_AGAIN: u64 = 1_000;
 
-/// The thread that writes the file of a camera's events, until the camera has ended.
+/// The thread that writes the file of a camera's events, until the camera has ended and all that it told is printed.
 pub(crate) fn run_notes<R: AllocGlobal + Places + Wait + Clock>(rt: &R, state: &CameraState) {
     // The events that couldn't be written.
-    let mut unwritten: Option<Vec<OpenEvent>> = None;
+    let (mut unwritten, mut ended) = (None::<Vec<OpenEvent>>, false);
     for _ in rt.forever() {
         let note = if unwritten.is_none() {
             state.notes.take(rt)
@@ -32,16 +33,26 @@ pub(crate) fn run_notes<R: AllocGlobal + Places + Wait + Clock>(rt: &R, state: &
         match note {
             Some(Note::Open(events, told)) => {
                 unwritten = write_or_keep(rt, state, events, unwritten.is_some());
-                state.posts.announce(rt, told);
+                tell(rt, state, told);
             }
-            Some(Note::End) => break,
+            Some(Note::Tell(told)) => tell(rt, state, told),
+            Some(Note::End) => ended = true,
             None => {
                 if let Some(events) = unwritten.take() {
                     unwritten = write_or_keep(rt, state, events, true);
                 }
             }
         }
+        if ended && state.notes.is_idle(rt) {
+            break;
+        }
     }
+}
+
+// Tells what waited for the file.
+fn tell<R: Wait>(rt: &R, state: &CameraState, told: Announcement) {
+    state.posts.announce(rt, Some(state.place), told);
+    state.notes.told(rt);
 }
 
 // Writes the file of a camera's events. Where that fails, it is told, unless it was, and the answer has the events.
@@ -62,7 +73,9 @@ fn write_or_keep<R: AllocGlobal + Places + Wait>(
         let mut lines = state.lines(rt.alloc());
         // Where memory for the line is refused, it isn't printed.
         let _ = lines.not_noted(state.config.name.as_str(), path.as_str());
-        state.tell(rt, lines, None);
+        // It names no clip, and waits for nothing.
+        let told = Announcement::Told(lines, Vec::new(rt.alloc()));
+        state.posts.announce(rt, None, told);
     }
     Some(events)
 }

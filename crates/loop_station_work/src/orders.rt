@@ -1,6 +1,10 @@
 //! Orders: they are read line by line, and handed to the cameras that they mean. The thread that reads them waits for
 //! no camera, no disk and no reader: what a line says of time is said of the moment at which it was read.
 
+ghost use Rattle.std.specs.Prelude.{◌≡◌, ◌≢◌, IfSome, None};
+ghost use Rattle.loop_station_core.specs.Keeps.{asked_time};
+ghost use Rattle.loop_station_words.specs.declared.choices.TimesFrom.TheVariants.{Arrival};
+
 use crate::paths::Fixed;
 use loop_script::{MAX_LINE, next_line};
 use loop_station_camera::{CameraState, Fleet, Saves, shown_at, tell_status};
@@ -101,7 +105,7 @@ impl<W: Write + Drop> Station<W> {
     // Answers an order that no camera has to answer. Where memory is refused, it isn't answered.
     fn answer<R: Wait>(&self, rt: &R, label: Option<&str>, lines: Lines) {
         if let Ok(answering) = self.answering(label, 0, 1) {
-            self.posts.answer(rt, answering, 0, lines, None);
+            self.posts.answer(rt, answering, 0, lines);
         }
     }
 
@@ -343,7 +347,15 @@ fn asked_keep<R: Wait + Clock>(
     read: u64,
     period: KeepPeriod,
     tag: Option<u64>,
-) -> AskedKeep {
+) -> AskedKeep
+    ensures times { (result.since, result.until)
+        ≡ asked_time period result.read state.now.config.seconds state.now.config.after }
+    ensures read { state.now.config.times_from ≡ Arrival → result.read ≡ read }
+    ensures event { result.event ≡ event }
+    ensures said { IfSome tag (λ own. result.tag ≡ own) }
+    ensures own { tag ≡ None → state.now.config.tag ≢ 0 → result.tag ≡ state.now.config.tag }
+    ensures unsaid { tag ≡ None → state.now.config.tag ≡ 0 → result.tag ≡ event }
+{
     let shown = shown_at(rt, state, read, read);
     let (since, until) = asked_time(period, shown, state.config.seconds, state.config.after);
     let read = match period {
@@ -464,7 +476,7 @@ fn hand<R: Wait>(
             let mut lines = state.lines(state.alloc);
             // Where memory for the line is refused, nothing is printed.
             let _ = lines.too_many_orders(state.config.name.as_str());
-            state.posts.answer(rt, ours, place, lines, None);
+            state.posts.answer(rt, ours, place, lines);
         }
     }
 }
@@ -517,7 +529,7 @@ fn cancel<R: Wait, W: Write + Drop>(
     let mut lines = station.lines();
     // Where memory for the line is refused, nothing is printed.
     if lines.cancelled(name, id).is_ok() {
-        station.answer(rt, label, lines);
+        state.answer(rt, station.answering(label, 0, 1)?, 0, lines, None);
     }
     Ok(())
 }

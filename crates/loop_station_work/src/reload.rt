@@ -116,7 +116,7 @@ pub(crate) fn run_crews<
                 let mut lines = station.lines();
                 // Where memory for the lines is refused, they aren't printed.
                 let _ = reload(rt, station, &mut crews, &mut lines);
-                station.posts.answer(rt, answering, 0, lines, None);
+                station.posts.answer(rt, answering, 0, lines);
                 station.reloading.fetch_sub(1, Ordering::SeqCst);
             }
             Some(Reload::End) => break,

@@ -1,6 +1,7 @@
 //! What is told of a camera's stores as they are opened.
 
 use loop_station_camera::CameraState;
+use loop_station_outside::Absent;
 use loop_station_shared::Outlet;
 use loop_station_words::Lines;
 use std::alloc::AllocGlobal;
@@ -52,6 +53,23 @@ pub(crate) fn tell_order<R: AllocGlobal + Wait + Clock, W: Write + Drop>(
 ) {
     let mut lines = state.lines(rt.alloc());
     let written = lines.not_in_order(state.config.name.as_str());
+    print(rt, outlet, &lines, written);
+}
+
+/// Tells why one of several stores isn't filmed into.
+pub(crate) fn tell_absent<R: AllocGlobal + Wait + Clock, W: Write + Drop>(
+    rt: &R,
+    state: &CameraState,
+    outlet: &Outlet<W>,
+    number: u32,
+    why: &Absent,
+) {
+    // Where memory for the path is refused, it isn't printed.
+    let Ok(path) = state.path_of(rt.alloc(), Some(number)) else {
+        return;
+    };
+    let mut lines = state.lines(rt.alloc());
+    let written = lines.one_absent(state.config.name.as_str(), path.as_str(), why);
     print(rt, outlet, &lines, written);
 }
 

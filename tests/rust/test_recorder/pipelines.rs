@@ -7,12 +7,12 @@ use loop_desk::{Desk, Flushed, Hand, LaneFault};
 use loop_disk::{Disk, FuseDisk, MemDisk};
 use loop_lane::{LostFrames, Numbers, film_and_export};
 use loop_pipeline::{
-    Back, Begun, Brought, Camera, CameraEnd, Desks, Front, Guide, GuidedCamera, Link, LostFrame,
-    Noting, Outcome, Seat, Shot, TakeOutcome, Taken, Visits, end, film_all, film_camera,
-    heap_start, new_queue, start_queue,
+    Back, Begun, Brought, Camera, CameraEnd, Desks, Front, Guide, GuidedCamera, Leave, Link,
+    LostFrame, Noting, Outcome, Reports, Seat, Shot, TakeOutcome, Taken, Told, Unlocks, Visits, end,
+    film_all, film_camera, heap_start, new_queue, start_queue,
 };
 use loop_plane::{FdTable, HeapPlane, PlaneMemory};
-use loop_record::{Frame, Times};
+use loop_record::{Frame, Span, Times};
 use loop_recorder::FrameInfo;
 use loop_store::{Clip, Store, StoreFault};
 use loop_vb2::Queue;
@@ -61,15 +61,38 @@ impl Visits for Guided {
     const VISITED: bool = true;
 }
 
-impl Guide for Guided {
-    fn next_tick<R: Wait + Clock>(&self, _rt: &R, n: u64) -> Option<u64> {
-        if n >= self.ticks {
-            return None;
-        }
-        Some(n.saturating_add(self.first).saturating_mul(1_000))
+// Leave to unlock a clip.
+#[derive(Drop)]
+struct AnyLeave {
+    clip: Clip,
+}
+
+impl Leave for AnyLeave {
+    ghost id = { ? };
+
+    ghost clip = { ? };
+
+    fn id(&self) -> u32 {
+        self.clip.id
     }
 
-    fn brought<R: Wait, D: Disk + Drop>(&self, _rt: &R, _back: &Back<D, Guided>, _number: u64) {
+    fn clip(&self) -> Span {
+        let Clip { from, to, tag, .. } = self.clip;
+        Span { from, to, tag }
+    }
+}
+
+impl Unlocks for Guided {
+    type Leave = AnyLeave;
+}
+
+impl Reports for Guided {
+    fn brought<R: Wait, D: Disk + Drop>(
+        &self,
+        _rt: &R,
+        _back: &Back<D, Guided>,
+        _number: Told<u64>,
+    ) {
         self.brought.fetch_add(1, Ordering::SeqCst);
     }
 
@@ -77,18 +100,32 @@ impl Guide for Guided {
         &self,
         _rt: &R,
         _back: &Back<D, Guided>,
-        _frame: LostFrame,
+        _frame: Told<LostFrame>,
     ) {
         self.gave_up.fetch_add(1, Ordering::SeqCst);
     }
 
-    fn stored<R: Wait, D: Disk + Drop>(&self, _rt: &R, _back: &Back<D, Guided>, done: Flushed) {
+    fn stored<R: Wait, D: Disk + Drop>(
+        &self,
+        _rt: &R,
+        _back: &Back<D, Guided>,
+        done: Told<Flushed>,
+    ) {
         self.stored
-            .fetch_add(u64::from(done.stored), Ordering::SeqCst);
+            .fetch_add(u64::from(done.what().stored), Ordering::SeqCst);
     }
 
     fn flushes_again<R: Wait>(&self, _rt: &R, _fault: StoreFault) -> bool {
         false
+    }
+}
+
+impl Guide for Guided {
+    fn next_tick<R: Wait + Clock>(&self, _rt: &R, n: u64) -> Option<u64> {
+        if n >= self.ticks {
+            return None;
+        }
+        Some(n.saturating_add(self.first).saturating_mul(1_000))
     }
 
     /// Once two frames or more are held, a visitor locks them and unlocks them again, once.
@@ -104,7 +141,7 @@ impl Guide for Guided {
         }
         let kept = desks.keep(alloc, place, ALL, 7);
         if let Some(clip) = kept.clips.first() {
-            if desks.unlock_clip(place, clip.id).is_ok() {
+            if desks.unlock_clip(place, AnyLeave { clip: *clip }).is_ok() {
                 self.clips.store(kept.clips.len() as u64, Ordering::SeqCst);
             }
         }
@@ -379,19 +416,28 @@ fn take(alloc: Global, front: &mut TestFront) -> &'static str {
 
 // Which buffer the next tick completes.
 fn tick<R: Wait + Clock>(rt: &R, front: &mut TestFront, told: &Guided) -> Option<u32> {
-    match front.tick(rt, told) {
-        Some(Tick::Completed(index)) => Some(index),
+    let untold = front.tick(rt, told)?;
+    let tick = untold.tick();
+    untold.tell(rt, told);
+    match tick {
+        Tick::Completed(index) => Some(index),
         _ => None,
     }
 }
 
 // The outcome of bringing a frame, in a word.
-fn bring(back: &mut TestBack) -> &'static str {
+fn bring<R: Wait>(rt: &R, back: &mut TestBack, told: &Guided) -> &'static str {
     match back.bring(true, false) {
         Brought::Nothing => "nothing",
         Brought::NoRoom => "no room",
-        Brought::Submitted(_number) => "submitted",
-        Brought::GivenUp(fault, _frame) => fault.name(),
+        Brought::Submitted(number) => {
+            number.tell_brought(rt, told, back);
+            "submitted"
+        }
+        Brought::GivenUp(fault, frame) => {
+            frame.tell_given_up(rt, told, back);
+            fault.name()
+        }
     }
 }
 
@@ -410,22 +456,28 @@ fn fill_ring<R: Abort + Wait + Clock>(rt: &R, alloc: Global, front: &mut TestFro
 }
 
 // Two frames fill the desk.
-fn fill_desk(rt: &impl Abort, back: &mut TestBack) {
-    assert_eq!(rt; bring(back), "submitted");
-    assert_eq!(rt; bring(back), "submitted");
-    assert_eq!(rt; bring(back), "no room");
+fn fill_desk<R: Abort + Wait>(rt: &R, back: &mut TestBack, told: &Guided) {
+    assert_eq!(rt; bring(rt, back, told), "submitted");
+    assert_eq!(rt; bring(rt, back, told), "submitted");
+    assert_eq!(rt; bring(rt, back, told), "no room");
 }
 
 // No flush was refused, so no frame is given up: the two are stored, and the third comes to the desk.
 fn store_and_bring<R: Abort + Wait>(rt: &R, back: &mut TestBack, told: &Guided) {
-    assert_eq!(rt; bring(back), "no room");
-    assert!(rt; back.give_up().is_none());
+    assert_eq!(rt; bring(rt, back, told), "no room");
+    if let Some(frame) = back.give_up() {
+        frame.tell_given_up(rt, told, back);
+        panic!(rt; "a frame was given up");
+    }
     match back.flush_for(rt, told) {
-        Some(Ok(flushed)) => assert_eq!(rt; flushed.stored, 2),
+        Some(Ok(flushed)) => {
+            assert_eq!(rt; flushed.what().stored, 2);
+            flushed.tell_stored(rt, told, back);
+        }
         Some(Err(fault)) => panic!(rt; "no flush: {fault}"),
         None => panic!(rt; "no flush: not asked"),
     }
-    assert_eq!(rt; bring(back), "submitted");
+    assert_eq!(rt; bring(rt, back, told), "submitted");
 }
 
 // The third frame is taken, and then a fourth, whose buffer stays in the hand. Then the guide ends the front.
@@ -451,7 +503,7 @@ fn a_front_and_a_back_work_by_turns(rt: HostRuntime) {
     let mut front = Front::new(device, queue, table, to, &told);
     let mut back = back_before(&rt, alloc, desk, from);
     fill_ring(&rt, alloc, &mut front, &told);
-    fill_desk(&rt, &mut back);
+    fill_desk(&rt, &mut back, &told);
     assert_eq!(rt; take(alloc, &mut front), "frame");
     store_and_bring(&rt, &mut back, &told);
     take_last(&rt, alloc, &mut front, &told);
@@ -559,8 +611,50 @@ fn a_keep_between_flushes_locks_what_is_held(rt: HostRuntime) {
         Ok(read) => assert!(rt; are_of(&read.bytes, 3, 12)),
         Err(fault) => panic!(rt; "frame 3: {fault}"),
     }
-    let place = desks.active();
-    assert!(rt; desks.unlock_clip(place, clip.id).is_ok());
-    let place = desks.active();
-    assert!(rt; desks.unlock_clip(place, clip.id).is_err());
+}
+
+// What the call of leave for a clip answers.
+fn unlock(desks: &mut TestDesks, clip: Clip) -> Result<(), StoreFault> {
+    desks.unlock_clip(desks.active(), AnyLeave { clip })
+}
+
+#[test]
+fn the_clip_that_got_the_id_since_stays(rt: HostRuntime) {
+    let alloc = rt.alloc();
+    let mut desks = desks_of_four(&rt, alloc);
+    store_two(&rt, &mut desks);
+    store_two(&rt, &mut desks);
+    let (first, rest) = (
+        Times {
+            since: 10,
+            until: 19,
+        },
+        Times {
+            since: 10,
+            until: 29,
+        },
+    );
+    let (Some(clip), _) = keep(&rt, alloc, &mut desks, first) else {
+        panic!(rt; "no clip")
+    };
+    assert_eq!(rt; unlock(&mut desks, clip), Ok(()));
+    assert_eq!(rt; unlock(&mut desks, clip), Err(StoreFault::NoSuchClip));
+    let (Some(other), _) = keep(&rt, alloc, &mut desks, rest) else {
+        panic!(rt; "no clip")
+    };
+    assert_eq!(rt;
+        (other.id, other.from, other.to),
+        (clip.id, clip.from, clip.to + 1)
+    );
+    assert_eq!(rt; unlock(&mut desks, clip), Err(StoreFault::NoSuchClip));
+    assert_eq!(rt;
+        desks.clip(desks.active(), clip.id),
+        Some(Span {
+            from: other.from,
+            to: other.to,
+            tag: 7
+        })
+    );
+    assert_eq!(rt; unlock(&mut desks, other), Ok(()));
+    assert_eq!(rt; desks.clip(desks.active(), clip.id), None);
 }

@@ -3,12 +3,14 @@
 use crate::common::*;
 use loop_desk::Desk;
 use loop_disk::MemDisk;
-use loop_pipeline::{Back, Brought, Noting, Seat, Visits};
+use loop_pipeline::{Back, Brought, Noting, Reports, Seat, Visits};
 use loop_record::Frame;
 use loop_recorder::FrameInfo;
+use loop_store::StoreFault;
 use rtrb::{Consumer, RingBuffer};
 use std::alloc::Global;
 use std::process::Abort;
+use std::sync::Wait;
 
 // Notes nothing.
 #[derive(Drop)]
@@ -24,6 +26,32 @@ impl Visits for Silent {
     ghost asks = { ? };
 
     const VISITED: bool = false;
+}
+
+impl Reports for Silent {
+    fn flushes_again<R: Wait>(&self, _rt: &R, _fault: StoreFault) -> bool {
+        false
+    }
+}
+
+// Brings a frame: the number under which the desk accepted it, or why it didn't. None: none was brought.
+fn bring<R: Wait>(
+    rt: &R,
+    back: &mut Back<MemDisk, Silent>,
+    anyway: bool,
+) -> Option<Result<u64, StoreFault>> {
+    match back.bring(false, anyway) {
+        Brought::Nothing | Brought::NoRoom => None,
+        Brought::Submitted(number) => {
+            let accepted = number.what();
+            number.tell_brought(rt, &Silent, back);
+            Some(Ok(accepted))
+        }
+        Brought::GivenUp(fault, frame) => {
+            frame.tell_given_up(rt, &Silent, back);
+            Some(Err(fault))
+        }
+    }
 }
 
 // The frame of a sequence that goes round, and of a time.
@@ -114,6 +142,31 @@ fn a_frame_that_is_brought_is_the_newest(rt: HostRuntime) {
     assert_eq!(rt; back.desks().next_desk(), Some(1));
     let given = frame_of(&rt, alloc, 300, 9);
     assert!(rt; to.push(given).is_ok());
-    assert!(rt; matches!(back.bring(false, true), Brought::Submitted(6)));
+    assert!(rt; bring(&rt, &mut back, true) == Some(Ok(6)));
     assert_eq!(rt; back.desks().next_desk(), Some(0));
+}
+
+#[test]
+fn each_frame_is_brought_by_the_choice_of_its_moment(rt: HostRuntime) {
+    let alloc = rt.alloc();
+    let Ok((mut to, from)) = RingBuffer::new(alloc, 2) else {
+        panic!(rt; "memory for a ring")
+    };
+    let mut back = back_of_two(&rt, alloc, 100, 200, 150, from);
+    let stamp = FrameInfo {
+        sequence: 300,
+        flags: 0,
+        timestamp: 9,
+    };
+    let short = frame(alloc, stamp, 11).expect(&rt, "memory for a frame");
+    assert!(rt; to.push(short).is_ok());
+    assert!(rt; to.push(frame_of(&rt, alloc, 301, 10)).is_ok());
+    // One past the newest is 150: the second store has the oldest block.
+    assert!(rt; bring(&rt, &mut back, false) == Some(Err(StoreFault::WrongSize)));
+    assert_eq!(rt; back.desks().active(), 1);
+    // Then it is 301, and the first one has it.
+    assert!(rt; bring(&rt, &mut back, false) == Some(Ok(6)));
+    assert_eq!(rt; back.desks().active(), 0);
+    assert_eq!(rt; back.desks().status(0).pending, 1);
+    assert_eq!(rt; back.desks().status(1).pending, 0);
 }

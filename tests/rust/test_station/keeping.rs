@@ -5,7 +5,7 @@ use crate::judge::Judge;
 use crate::saving::{Saving, tag_in};
 use crate::store::{Clip, MOST_CLIPS, Pieces};
 use loop_station_core::{
-    ClipSpan, EventEnd, Gap, GrowthTurn, Keep, KeepTurn, Look, OpenEvent, Run, event_end, is_covered,
+    EventEnd, Gap, GrowthTurn, Keep, KeepTurn, Look, OpenEvent, Run, ShownClip, event_end,
     kept_answer, next_growth, next_turn, shortfall_of,
 };
 use std::alloc::Global;
@@ -127,11 +127,37 @@ impl Waiting {
 
     /// A clip that a longer one covers is released, unless a save reads it.
     pub fn release_covered(&mut self, judge: &mut Judge, camera: &mut Camera, saving: &Saving) {
-        if let Some(id) = self.covered.pop() {
-            let tag = tag_in(camera, id);
-            if !saving.is_read(judge, self.camera, id, tag) {
-                camera.store.unlock(id);
+        let Some(part) = self.next_covered(camera) else {
+            return;
+        };
+        let is_read = saving.is_read(judge, self.camera, part.id, tag_in(camera, part.id));
+        for id in 0..MOST_CLIPS {
+            let Some(longer) = self.clip_in(camera, id) else {
+                continue;
+            };
+            let leave = part.leave_for_part(is_read, longer);
+            judge.holds(
+                leave.is_some() == (!is_read && lies_within(part, &[longer])),
+                "a part is released where a longer clip covers it and no save reads it",
+            );
+            if let Some(leave) = leave {
+                camera.store.unlock(judge, leave);
+                return;
             }
+        }
+    }
+
+    // The next clip of it that a longer one covered, if it is there still.
+    fn next_covered(&mut self, camera: &Camera) -> Option<ShownClip> {
+        let id = self.covered.pop()?;
+        self.clip_in(camera, id)
+    }
+
+    // The clip of an id, if it is one of the event.
+    fn clip_in(&self, camera: &Camera, id: u32) -> Option<ShownClip> {
+        match camera.store.clip(id) {
+            Some(clip) if clip.event == self.event => Some(clip.shown()),
+            _ => None,
         }
     }
 
@@ -250,10 +276,9 @@ impl Waiting {
         let pieces = camera.store.pieces(alloc, judge, self.since, until);
         let mut locked = Vec::new(alloc);
         for span in pieces.spans.as_slice() {
-            if camera.store.holds_span(judge, self.event, *span) {
-                judge.put(&mut locked, *span);
-            } else {
-                self.refused = true;
+            match camera.store.holds_span(judge, self.event, *span) {
+                Some(clip) => judge.put(&mut locked, clip),
+                None => self.refused = true,
             }
         }
         for id in 0..MOST_CLIPS {
@@ -265,17 +290,13 @@ impl Waiting {
     }
 
     // A clip, judged: one of the event is to be released where it lies within a new one.
-    fn cover(&mut self, judge: &mut Judge, clip: &Clip, locked: &[ClipSpan]) {
-        let span = ClipSpan {
-            from: clip.from,
-            to: clip.to,
-        };
-        let covered = is_covered(&span, locked);
+    fn cover(&mut self, judge: &mut Judge, clip: &Clip, locked: &[ShownClip]) {
+        let covered = locked.iter().any(|new| clip.shown().is_covered_by(*new));
         judge.holds(
-            covered == lies_within(span, locked),
+            covered == lies_within(clip.shown(), locked),
             "a clip is covered where it lies within a new one",
         );
-        if clip.event == self.event && covered && !is_among(span, locked) {
+        if clip.event == self.event && covered {
             judge.put(&mut self.covered, clip.id);
         }
     }
@@ -312,20 +333,10 @@ impl Waiting {
     }
 }
 
-// Whether a span lies within one of others.
-fn lies_within(span: ClipSpan, others: &[ClipSpan]) -> bool {
+// Whether a clip lies within another one.
+fn lies_within(clip: ShownClip, others: &[ShownClip]) -> bool {
     for other in others {
-        if other.from <= span.from && span.to <= other.to {
-            return true;
-        }
-    }
-    false
-}
-
-// Whether a span is one of others.
-fn is_among(span: ClipSpan, others: &[ClipSpan]) -> bool {
-    for other in others {
-        if other.from == span.from && other.to == span.to {
+        if other.id != clip.id && other.from <= clip.from && clip.to <= other.to {
             return true;
         }
     }

@@ -1,7 +1,7 @@
 //! A simulated store: a ring of blocks on a disk, and its clips.
 
 use crate::judge::Judge;
-use loop_station_core::{ClipSpan, Run};
+use loop_station_core::{MayUnlock, Run, ShownClip};
 use std::alloc::Global;
 
 /// How many clips a store may have.
@@ -30,11 +30,29 @@ pub struct Clip {
     pub unsaved: bool,
 }
 
+impl Clip {
+    /// As a decision is shown it.
+    pub fn shown(&self) -> ShownClip {
+        ShownClip {
+            id: self.id,
+            from: self.from,
+            to: self.to,
+            tag: self.event,
+        }
+    }
+}
+
+/// The first and the last number of a run.
+#[derive(Clone, Copy)]
+pub struct Span {
+    pub from: u64,
+    pub to: u64,
+}
+
 /// What is held of a time: runs of frames whose numbers follow each other.
 #[derive(Drop)]
 pub struct Pieces {
-    /// The first and the last number of each run.
-    pub spans: Vec<ClipSpan>,
+    pub spans: Vec<Span>,
     /// When its first and its last frame came.
     pub runs: Vec<Run>,
 }
@@ -45,7 +63,7 @@ impl Pieces {
         if self.goes_on(number, time) {
             return;
         }
-        let span = ClipSpan {
+        let span = Span {
             from: number,
             to: number,
         };
@@ -187,16 +205,14 @@ impl Store {
         None
     }
 
-    /// Locks a span for an event, if no clip of it has just this span. Whether one has it then: an id has to be free.
-    pub fn holds_span(&mut self, judge: &mut Judge, event: u64, span: ClipSpan) -> bool {
+    /// Locks a span for an event, if no clip of it has just this span. The clip that has it then: an id has to be free.
+    pub fn holds_span(&mut self, judge: &mut Judge, event: u64, span: Span) -> Option<ShownClip> {
         for clip in self.clips.as_slice() {
             if clip.event == event && clip.from == span.from && clip.to == span.to {
-                return true;
+                return Some(clip.shown());
             }
         }
-        let Some(id) = self.free_id() else {
-            return false;
-        };
+        let id = self.free_id()?;
         let clip = Clip {
             id,
             event,
@@ -206,7 +222,7 @@ impl Store {
             unsaved: false,
         };
         judge.put(&mut self.clips, clip);
-        true
+        Some(clip.shown())
     }
 
     // When the frame of a number came.
@@ -229,8 +245,14 @@ impl Store {
         None
     }
 
-    /// Unlocks the clip of an id.
-    pub fn unlock(&mut self, id: u32) {
+    /// Unlocks a clip, by leave: it has to be there still.
+    pub fn unlock(&mut self, judge: &mut Judge, leave: MayUnlock) {
+        let ShownClip { id, from, to, .. } = leave.clip();
+        let is_there = match self.clip(id) {
+            Some(clip) => clip.from == from && clip.to == to,
+            None => false,
+        };
+        judge.holds(is_there, "leave to unlock is for a clip that is there");
         self.clips.retain(|clip| clip.id != id);
     }
 

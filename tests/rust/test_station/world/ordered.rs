@@ -6,7 +6,7 @@ use crate::keeping::Waiting;
 use crate::ordering::Wish;
 use crate::saving::{key_of, tag_in};
 use crate::store::MOST_CLIPS;
-use loop_station_core::{MayRelease, SaveKey, may_release, may_release_saved};
+use loop_station_core::{MayRelease, MayUnlock, SaveKey, may_release, may_release_saved};
 
 impl Station {
     // An order comes to a camera. One that isn't taken in is answered at once.
@@ -82,17 +82,14 @@ impl Station {
             Some(asked) => camera.store.begins_with(id, asked),
             None => true,
         };
-        let first = match camera.store.clip(id) {
-            Some(clip) => Some(clip.from),
-            None => None,
-        };
-        let may = may_release(is_read, asked, first) == MayRelease::Now;
+        let there = camera.store.clip(id);
+        let leave = leave_in(may_release(is_read, asked, there.map(|clip| clip.shown())));
         self.judge.holds(
-            may == (is_meant && !is_read),
+            leave.is_some() == (there.is_some() && is_meant && !is_read),
             "an order releases the clip that it means, unless a save reads it",
         );
-        if may {
-            camera.store.unlock(id);
+        if let Some(leave) = leave {
+            camera.store.unlock(&mut self.judge, leave);
         }
     }
 
@@ -136,13 +133,13 @@ impl Station {
             }
             None => false,
         };
-        let may = may_release_saved(is_read, saved, there) == MayRelease::Now;
+        let leave = leave_in(may_release_saved(is_read, saved, there));
         self.judge.holds(
-            may == (is_there && !is_read),
+            leave.is_some() == (is_there && !is_read),
             "the clip that was saved is released, and none of another store",
         );
-        if may {
-            camera.store.unlock(saved.id);
+        if let Some(leave) = leave {
+            camera.store.unlock(&mut self.judge, leave);
         }
     }
 
@@ -193,5 +190,13 @@ impl Station {
     pub(super) fn answer_absent(&mut self, keep: &Waiting) {
         self.answer(keep.order, keep.place, 1);
         self.counts.answered = self.counts.answered.saturating_add(1);
+    }
+}
+
+// The leave in an answer.
+fn leave_in(answer: MayRelease) -> Option<MayUnlock> {
+    match answer {
+        MayRelease::Now(leave) => Some(leave),
+        MayRelease::Saving | MayRelease::Other(_) | MayRelease::NoClip => None,
     }
 }

@@ -1,4 +1,4 @@
-use Rattle.std.proofs.Common.{◌≡◌, ◌∙◌, false, true, ap, subst, sym}
+use Rattle.std.proofs.Common.{◌≡◌, ◌∙◌, false, true, ap, refl, subst, sym}
 use Rattle.std.specs.Global.{Global}
 use Rattle.loop_pipeline.specs.Backs.{IsSettledBack, Joins, SeenBack}
 use Rattle.loop_pipeline.proofs.Joining.{joins-none, joins-then}
@@ -12,24 +12,31 @@ returns-clause-joins g c =
       | in-Some+then-NOTED+then-is_closed w ↦ subst (Joins (c.args.door.now ≡ false) c.args.back) (sym w.back-is)
           (joins-then _ _ _ _ c.turns.invariant (joins-then _ _ _ _ w.serve-some.ensures
           (joins-none _ _ _ (ap (λ (b : SeenBack g.row.D.Denot Global). b.began) w.flush_some.ensures.same)
-          (ap (λ (b : SeenBack g.row.D.Denot Global). b.from) w.flush_some.ensures.same))))
+          (ap (λ (b : SeenBack g.row.D.Denot Global). b.from) w.flush_some.ensures.same)
+          (ap (λ (b : SeenBack g.row.D.Denot Global). b.start) w.flush_some.ensures.same))))
       | in-Some+in-None-2 w ↦ subst (Joins (c.args.door.now ≡ false) c.args.back) (sym w.back-is)
           (joins-then _ _ _ _ c.turns.invariant (joins-then _ _ _ _ w.serve-some.ensures
           (joins-none _ _ _ (ap (λ (b : SeenBack g.row.D.Denot Global). b.began) w.flush_some.ensures.same)
-          (ap (λ (b : SeenBack g.row.D.Denot Global). b.from) w.flush_some.ensures.same))))
+          (ap (λ (b : SeenBack g.row.D.Denot Global). b.from) w.flush_some.ensures.same)
+          (ap (λ (b : SeenBack g.row.D.Denot Global). b.start) w.flush_some.ensures.same))))
     ]
+
+pub turns-init : goal.turns-init
+turns-init g c = joins-none _ _ _ refl refl refl
 
 pub turns-preserved : goal.turns-preserved
 turns-preserved g c =
     joins-then _ _ _ _ c.turns.invariant (joins-then _ _ _ _ c.serve-some.ensures
     (joins-none _ _ _ (ap (λ (b : SeenBack g.row.D.Denot Global). b.began) c.flush_some.ensures.same)
-    (ap (λ (b : SeenBack g.row.D.Denot Global). b.from) c.flush_some.ensures.same)))
+    (ap (λ (b : SeenBack g.row.D.Denot Global). b.from) c.flush_some.ensures.same)
+    (ap (λ (b : SeenBack g.row.D.Denot Global). b.start) c.flush_some.ensures.same)))
 
 pub turns-preserved-then-rest-gt0 : goal.turns-preserved-then-rest-gt0
 turns-preserved-then-rest-gt0 g c =
     joins-then _ _ _ _ c.turns.invariant (joins-then _ _ _ _ c.serve-some.ensures
     (joins-none _ _ _ (ap (λ (b : SeenBack g.row.D.Denot Global). b.began) c.flush_some.ensures.same)
-    (ap (λ (b : SeenBack g.row.D.Denot Global). b.from) c.flush_some.ensures.same)))
+    (ap (λ (b : SeenBack g.row.D.Denot Global). b.from) c.flush_some.ensures.same)
+    (ap (λ (b : SeenBack g.row.D.Denot Global). b.start) c.flush_some.ensures.same)))
 
 -- it ends where nothing was left to flush
 pub returns-clause-settled : goal.returns-clause-settled

@@ -10,7 +10,7 @@ returns-then-ended-clause-keeps g c =
     keeps-joined g.D.Disk.medium g.S.FrameSource.next_gives g.P.PlaneMemory.plane g.G.Visits.asks g.G.Visits.gives_up
     g.G.Guide.due g.G.Guide.ends _ c.args.guided.camera _ c.camera.inside.device c.camera.inside.queue c.camera.inside.desk _
     c.args.guided.guide.now _ _ _ c.run_in-front.result.back _ _ _ _ _ c.camera.view_is c.of-again.ensures c.in-Ok-new.ensures.made
-    c.run_in-front.ensures.back c.end_both-ended.ensures.keeps
+    c.next_sequence.ensures c.run_in-front.ensures.back c.end_both-ended.ensures.keeps
 
 -- the queue that ended is that of the camera that was given
 pub returns-then-ended-clause-again : goal.returns-then-ended-clause-again
@@ -48,12 +48,12 @@ returns-else-ended-clause-refused g c =
       keeps-joined g.D.Disk.medium g.S.FrameSource.next_gives g.P.PlaneMemory.plane g.G.Visits.asks g.G.Visits.gives_up
           g.G.Guide.due g.G.Guide.ends _ c.args.guided.camera _ c.camera.inside.device c.camera.inside.queue c.camera.inside.desk _
           c.args.guided.guide.now _ _ _ c.run_in-front.result.back _ _ _ _ _ c.camera.view_is c.of-again.ensures c.in-Ok-new.ensures.made
-          c.run_in-front.ensures.back c.end_both-ended.ensures.keeps,
+          c.next_sequence.ensures c.run_in-front.ensures.back c.end_both-ended.ensures.keeps,
     )
 
 pub returns-then-ended-clause-settled : goal.returns-then-ended-clause-settled
 returns-then-ended-clause-settled g c plain =
     ends-settled g.D.Disk.medium g.G.Visits.gives_up _ c.args.guided.camera.desk c.camera.inside.desk _ _
     c.run_in-front.result.back _ _ (ap (λ v. v.desk) c.camera.view_is) c.in-Ok-new.ensures.made c.run_in-front.ensures.back
-    c.end_both-ended.ensures.desks.0 c.end_both-ended.ensures.desks.1
+    c.end_both-ended.ensures.desks.0 c.end_both-ended.ensures.desks.1 c.end_both-ended.ensures.left
     (c.run_in-front.ensures.settled plain (sym c.end_both-ended.ensures.over ∙ c.if-ended.true))

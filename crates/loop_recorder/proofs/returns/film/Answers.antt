@@ -1,8 +1,8 @@
-use Rattle.std.proofs.Common.{◌≡◌, ap, arith, length, vec_len}
+use Rattle.std.proofs.Common.{◌≡◌, ◌∙◌, ap, arith, length, map, vec_len}
 use Rattle.std.proofs.lemmas.List.{length-map}
 use Rattle.loop_pipeline.specs.Several.{shot_of}
-use Rattle.loop_recorder.specs.Recordings.{outcome_left, outcome_rest, seen_filmed}
-use Rattle.loop_recorder.proofs.Kept.{are-filmed, none-filmed}
+use Rattle.loop_recorder.specs.Recordings.{outcome_left, outcome_rest, seen_filmed, shot_left, shot_rest}
+use Rattle.loop_recorder.proofs.Kept.{are-filmed, back-filmed}
 use Rattle.loop_recorder.proofs.Standing.{holds-fewer, stands-after}
 use Rattle.loop_recorder.proofs.returns.film.Goals as goal
 
@@ -47,5 +47,6 @@ returns-in-Ok-clause-filmed g c =
 
 pub returns-in-Err-clause-filmed : goal.returns-in-Err-clause-filmed
 returns-in-Err-clause-filmed g c =
-    none-filmed g.D.Disk.medium g.S.FrameSource.next_gives g.P.PlaneMemory.plane c.args.shots.items c.shots_back.result
-    c.shots_back.ensures.none
+    back-filmed g.D.Disk.medium g.S.FrameSource.next_gives g.P.PlaneMemory.plane c.args.shots.items c.shots_back.result
+    (c.shots_back.ensures.rests ∙ (λ i. map shot_rest (c.in-Err.ensures.refused i).items))
+    (c.shots_back.ensures.filmed ∙ (λ i. map shot_left (c.in-Err.ensures.refused i).items))

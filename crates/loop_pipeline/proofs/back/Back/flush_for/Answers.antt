@@ -13,6 +13,7 @@ invariant_of-self-in-Some-Ok g c =
     let goes = c.in-Some-Ok.ensures.asked in
     kept-as g.D.Disk.medium g.G.Visits.asks g.G.Visits.gives_up _ _ _ _ _ _ _ c.flush_noted.new.self goes.same
     (ap (λ (l : Lent g.row.D.Denot). l.active) c.in-Some-Ok.ensures.lent)
+    (ap (λ (l : Lent g.row.D.Denot). l.end) c.in-Some-Ok.ensures.lent)
     (flushed-on g.D.Disk.medium g.G.Visits.asks g.G.Visits.gives_up _ _ _ _ c.self.inside.from c.self.inside.from _ _ c.self.invariant _ _ _
     goes.at _ goes.goes)
 
@@ -21,6 +22,7 @@ invariant_of-self-then-not-flushes_again g c =
     let goes = c.in-Some-Err.ensures.asked in
     kept-as g.D.Disk.medium g.G.Visits.asks g.G.Visits.gives_up _ _ _ _ _ _ _ c.flush_noted.new.self goes.same
     (ap (λ (l : Lent g.row.D.Denot). l.active) c.in-Some-Err.ensures.lent)
+    (ap (λ (l : Lent g.row.D.Denot). l.end) c.in-Some-Err.ensures.lent)
     (refused-flush g.D.Disk.medium g.G.Visits.asks g.G.Visits.gives_up _ _ _ _ c.self.inside.from c.self.inside.from _ _ c.self.invariant _ _ _
     goes.at c.in-Some-Err.fault (c.flushes_again.ensures c.if-not-flushes_again.true)
     (flush-answered _ _ _ _ _ c.in-Some-Err.field-0-is goes.goes))
@@ -30,6 +32,7 @@ invariant_of-self-else-not-flushes_again g c =
     let goes = c.in-Some-Err.ensures.asked in
     kept-as g.D.Disk.medium g.G.Visits.asks g.G.Visits.gives_up _ _ _ _ _ _ _ c.flush_noted.new.self goes.same
     (ap (λ (l : Lent g.row.D.Denot). l.active) c.in-Some-Err.ensures.lent)
+    (ap (λ (l : Lent g.row.D.Denot). l.end) c.in-Some-Err.ensures.lent)
     (flushed-on g.D.Disk.medium g.G.Visits.asks g.G.Visits.gives_up _ _ _ _ c.self.inside.from c.self.inside.from _ _ c.self.invariant _ _ _
     goes.at _ goes.goes)
 

@@ -2,17 +2,21 @@ use Rattle.std.proofs.Common.{◌<◌, ap, length, refl, subst}
 use Rattle.loop_pipeline.specs.Backs.{IsSoAt, SeenBack}
 use Rattle.loop_pipeline.specs.Desks.{SeenDesks}
 use Rattle.loop_pipeline.specs.Turns.{IsBetween, TurnsTo}
-use Rattle.loop_pipeline.proofs.BackRuns.{turned-to}
+use Rattle.loop_pipeline.proofs.BackRuns.{turned-once}
 use Rattle.loop_pipeline.proofs.Visiting.{back-but-active, back-stays, kept-as}
 use Rattle.loop_pipeline.proofs.back.Back.turn.Goals as goal
 
 pub invariant_of-self : goal.invariant_of-self
 invariant_of-self g c =
     let new = c.turn-is_locked.new.self in
+    let old = c.self.inside.desks in
     let same = ap (λ (b : SeenDesks g.row.D.Denot). b.desks) c.turn-is_locked.ensures.same in
-    kept-as g.D.Disk.medium g.K.Visits.asks g.K.Visits.gives_up _ _ _ _ _ _ _ new same refl
-    (turned-to g.D.Disk.medium g.K.Visits.asks g.K.Visits.gives_up _ _ c.self.inside.desks.lent.active new.lent.active _ _ _ _
-    (subst (λ l. new.lent.active < length l) same c.visited.ensures.inside) c.self.invariant)
+    let still = ap (λ (b : SeenDesks g.row.D.Denot). b.lent.end) c.turn-is_locked.ensures.same in
+    kept-as g.D.Disk.medium g.K.Visits.asks g.K.Visits.gives_up _ _ _ _ _ _ _ new same refl still
+    (turned-once g.D.Disk.medium g.K.Visits.asks g.K.Visits.gives_up _ old.desks old.lent.active new.lent.active _ _ _ _
+    c.turn-is_locked.result (subst (λ l. new.lent.active < length l) same c.visited.ensures.inside)
+    c.turn-is_locked.ensures.turns
+    (λ never. ap (λ (b : SeenDesks g.row.D.Denot). b.lent.active) (c.turn-is_locked.ensures.stays never).0) c.self.invariant)
 
 pub returns-clause-turns : goal.returns-clause-turns
 returns-clause-turns g c =

@@ -21,8 +21,8 @@ invariant_of-self-2 g c =
     let before = c.self.invariant in
     let its : c.args.guide.now ≡ c.self.inside.guide.value =
     c.requires ∙ sym (ap (λ (v : SeenFront g.row.S.Denot g.row.P.Denot g.row.G.Denot g.row.A.Denot). v.guide) c.self.view_is) in
-    rw (c.missed_by.ensures.value, c.failed_by.ensures.value, c.is_last-self-inside.ensures)
+    rw (c.missed_by.ensures.value, c.failed_by.ensures.value, c.is_last-self-inside.ensures, c.tick-tick.ensures)
     (ticked g.S.FrameSource.next_gives g.P.PlaneMemory.plane _ _ _ _ _ _ _ _ _ _ _ _ _ _ _ _ _ _ before
     (subst (λ (x : g.row.G.Denot). g.G.Guide.due x c.self.inside.ticks c.in-Some.now) its c.in-Some.ensures.due)
-    (tick-adds g.S.FrameSource.next_gives g.P.PlaneMemory.plane _ c.in-Some.now _ _ _ _ _ _ c.tick-tick.result before.now
-    c.tick-tick.ensures.shape before.free before.apart before.stands c.tick-tick.ensures.tick))
+    (tick-adds g.S.FrameSource.next_gives g.P.PlaneMemory.plane _ c.in-Some.now _ _ _ _ _ _ c.of-untold.result before.now
+    c.of-untold.ensures.shape before.free before.apart before.stands c.of-untold.ensures.tick))
