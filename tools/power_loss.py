@@ -52,11 +52,10 @@ def log_of(path):
     while at + 17 <= len(data):
         kind = chr(data[at])
         place, count = struct.unpack_from("<QQ", data, at + 1)
-        size = count if kind in "WAw" else 0
-        if at + 17 + size > len(data):
+        if at + 17 + count > len(data):
             break
-        records.append((kind, place, data[at + 17 : at + 17 + size]))
-        at += 17 + size
+        records.append((kind, place, data[at + 17 : at + 17 + count]))
+        at += 17 + count
     return records
 
 

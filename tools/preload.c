@@ -8,6 +8,12 @@
  *   LOOP_SET    the path PLACE/NAME.loop of a camera that has several stores: LOOP_LOG has the
  *               writes and syncs of each PLACE/NAME.NUMBER.loop, with 2^48 times its number
  *               beside the place; of the modes there is no_sync
+ *   LOOP_FOLDER a folder: LOOP_LOG has all that is done in it, and nothing else, so that it is
+ *               known what a loss of power may leave of all its files. The place has 2^48 times the
+ *               file's number: a file is made (C) or met (X, bytes: its name), written (W), cut or
+ *               longer (T), synced (S, place: how many records came before that began), renamed (N)
+ *               or linked (L, bytes: both names, a byte 0 between), removed (U); the folder is
+ *               synced (F, place as of S). Of the modes there are no_sync and no_folder_sync
  *   LOOP_TEXT   a second file, whatever it is opened as: that of an export or a save, or of a store
  *               that gets its name later. The log has it made (c), its writes (w), lengths (t),
  *               syncs (s), the syncs of its folder (f), and that it is renamed (r). While a save
@@ -64,6 +70,8 @@
 static int log_fd = -2;
 static int file_fd = -1;
 static long calls = 0;
+/* How many records the log has. */
+static uint64_t records;
 static enum {
     HONEST, NO_SYNC, LATE_SYNC, GATE_FIRST,
     NO_TEXT_SYNC, NO_FOLDER_SYNC, FAIL_TEXT_SYNC, FAIL_FOLDER_SYNC
@@ -126,6 +134,7 @@ static void note(char kind, uint64_t at, uint64_t count, const void *bytes) {
     if (bytes) memcpy(record + 17, bytes, count);
     syscall(SYS_write, log_fd, record, 17 + (bytes ? count : 0));
     free(record);
+    __atomic_fetch_add(&records, 1, __ATOMIC_SEQ_CST);
 }
 
 /* Whether a path is there, and whether it is that of an open file. */
@@ -197,7 +206,117 @@ static int is_watched(int fd) {
     return fd == file_fd || is_text(fd) || is_open_as(fd, getenv("LOOP_FILE"));
 }
 
+/* ------------------------------------------------------------------------------------------------
+ * LOOP_FOLDER: what is done in a folder, in its order */
+
+#define FILES 4096
+
+static struct {
+    dev_t dev;
+    ino_t ino;
+} files[FILES];
+static long file_count;
+/* Who has it makes a change and its record as one. */
+static pthread_mutex_t turn = PTHREAD_MUTEX_INITIALIZER;
+
+/* A path as it is seen from the folder, or NULL where it lies elsewhere. */
+static const char *within(const char *path) {
+    const char *folder = getenv("LOOP_FOLDER");
+    size_t length = folder ? strlen(folder) : 0;
+    if (!length) return NULL;
+    if (*path != '/') return strncmp(path, "./", 2) ? path : path + 2;
+    return !strncmp(path, folder, length) && path[length] == '/' ? path + length + 1 : NULL;
+}
+
+/* Whether a path leads to a named pipe. */
+static int is_pipe(const char *path) {
+    struct stat found;
+    return stat(path, &found) == 0 && S_ISFIFO(found.st_mode);
+}
+
+/* The number of an open file of the folder, from 0; or -1. */
+static long number_of(int fd) {
+    struct stat found;
+    if (!getenv("LOOP_FOLDER") || fstat(fd, &found)) return -1;
+    for (long at = file_count - 1; at >= 0; at--)
+        if (files[at].ino == found.st_ino && files[at].dev == found.st_dev) return at;
+    return -1;
+}
+
+static void note_of(char kind, uint64_t number, uint64_t at, uint64_t count, const void *bytes) {
+    note(kind, at | number << 48, count, bytes);
+}
+
+/* A file of the folder is opened. */
+static int opened_within(const char *path, const char *name, int flags, int mode_bits) {
+    struct stat found;
+    pthread_mutex_lock(&turn);
+    int was_there = stat(path, &found) == 0;
+    int fd = syscall(SYS_openat, AT_FDCWD, path, flags, mode_bits);
+    if (fd >= 0 && fstat(fd, &found) == 0 && S_ISREG(found.st_mode) && file_count < FILES) {
+        long number = was_there ? number_of(fd) : -1;
+        if (number < 0) {
+            number = file_count++;
+            files[number].dev = found.st_dev;
+            files[number].ino = found.st_ino;
+            note_of(was_there ? 'X' : 'C', number, 0, strlen(name), name);
+        }
+        if (was_there && flags & O_TRUNC) note_of('T', number, 0, 0, NULL);
+    }
+    pthread_mutex_unlock(&turn);
+    return fd;
+}
+
+/* Bytes are written to a file of the folder, at a place, or where it stands (-1). */
+static ssize_t written_within(int fd, long number, const void *bytes, size_t count, off_t at) {
+    struct stat found;
+    pthread_mutex_lock(&turn);
+    off_t place = at;
+    if (at < 0 && syscall(SYS_fcntl, fd, F_GETFL, 0) & O_APPEND && fstat(fd, &found) == 0)
+        place = found.st_size;
+    else if (at < 0)
+        place = lseek(fd, 0, SEEK_CUR);
+    note_of('W', number, place, count, bytes);
+    ssize_t answer = at < 0 ? syscall(SYS_write, fd, bytes, count)
+                            : syscall(SYS_pwrite64, fd, bytes, count, at);
+    pthread_mutex_unlock(&turn);
+    return answer;
+}
+
+/* A file of the folder is synced, or the folder itself (-1). */
+static int synced_within(int fd, long call, long number) {
+    if (mode == NO_SYNC || (number < 0 && mode == NO_FOLDER_SYNC)) return 0;
+    pthread_mutex_lock(&turn);
+    uint64_t began = records;
+    pthread_mutex_unlock(&turn);
+    int answer = (int)syscall(call, fd);
+    pthread_mutex_lock(&turn);
+    if (answer == 0) note_of(number < 0 ? 'F' : 'S', number < 0 ? 0 : number, began, 0, NULL);
+    pthread_mutex_unlock(&turn);
+    return answer;
+}
+
+/* A name is changed by a call of the system: N, L or U. */
+static int named_within(long call, char kind, const char *from, const char *to) {
+    char both[8192];
+    pthread_mutex_lock(&turn);
+    int answer = (int)syscall(call, from, to);
+    if (answer == 0) {
+        int count = snprintf(both, sizeof both, "%s", within(from));
+        if (to) count += 1 + snprintf(both + count + 1, sizeof both - count - 1, "%s", within(to));
+        note_of(kind, 0, 0, count, both);
+    }
+    pthread_mutex_unlock(&turn);
+    return answer;
+}
+
+/* ------------------------------------------------------------------------------------------------
+ * the calls */
+
 static int opened(const char *path, int flags, int mode_bits) {
+    /* Who opens a pipe may wait. */
+    if (within(path) && !is_pipe(path))
+        return opened_within(path, within(path), flags, mode_bits);
     const char *file = getenv("LOOP_FILE"), *text = getenv("LOOP_TEXT");
     struct stat found;
     int was_there = stands(text, &found);
@@ -234,6 +353,7 @@ int statx(int fd, const char *path, int flags, unsigned mask, struct statx *out)
 }
 
 int unlink(const char *path) {
+    if (within(path)) return named_within(SYS_unlink, 'U', path, NULL);
     return fails_if(0) ? -1 : (int)syscall(SYS_unlink, path);
 }
 
@@ -242,6 +362,7 @@ int link(const char *from, const char *to) {
     const char *text = getenv("LOOP_TEXT");
     int is_texts = text && !strcmp(to, text);
     if (fails_if(0)) return -1;
+    if (within(from) && within(to)) return named_within(SYS_link, 'L', from, to);
     if (is_texts) reached();
     int answer = (int)syscall(SYS_link, from, to);
     if (answer == 0 && is_texts) note('c', 0, 0, NULL);
@@ -252,6 +373,7 @@ int rename(const char *from, const char *to) {
     const char *text = getenv("LOOP_TEXT");
     struct stat moved, named;
     if (fails_if(0)) return -1;
+    if (within(from) && within(to)) return named_within(SYS_rename, 'N', from, to);
     int is_texts = stands(text, &named) && stat(from, &moved) == 0
         && moved.st_dev == named.st_dev && moved.st_ino == named.st_ino;
     if (is_texts) reached();
@@ -297,6 +419,8 @@ static void give_back(int fd) {
 ssize_t pwrite(int fd, const void *bytes, size_t count, off_t at) {
     if (fails() || clip_fails(fd, at, count)) return -1;
     count = shortened(count);
+    long within_folder = number_of(fd);
+    if (within_folder >= 0) return written_within(fd, within_folder, bytes, count, at);
     if (is_watched(fd)) reached();
     int64_t number = set_number(fd);
     if (number >= 0) {
@@ -358,6 +482,14 @@ ssize_t pread64(int fd, void *bytes, size_t count, off_t at) {
 
 int ftruncate(int fd, off_t size) {
     if (fails()) return -1;
+    long number = number_of(fd);
+    if (number >= 0) {
+        pthread_mutex_lock(&turn);
+        note_of('T', number, size, 0, NULL);
+        int answer = (int)syscall(SYS_ftruncate, fd, size);
+        pthread_mutex_unlock(&turn);
+        return answer;
+    }
     if (is_watched(fd)) reached();
     if (fd == file_fd) note('T', size, 0, NULL);
     else if (is_text(fd)) note('t', size, 0, NULL);
@@ -449,6 +581,9 @@ static int sync_of(int fd, long number) {
     if (is_bad(fd)) return -1;
     if (fails() || clip_fails(fd, -1, 0)) return -1;
     stall(fd);
+    long within_folder = number_of(fd);
+    if (within_folder >= 0 || is_open_as(fd, getenv("LOOP_FOLDER")))
+        return synced_within(fd, number, within_folder);
     const char *text = getenv("LOOP_TEXT"), *file = getenv("LOOP_FILE");
     if (is_watched(fd) || is_folder_of(fd, text) || is_folder_of(fd, file)) reached();
     if (fd != file_fd && is_text(fd))
@@ -483,8 +618,10 @@ int fsync(int fd) {
 
 ssize_t write(int fd, const void *bytes, size_t count) {
     begin();
+    long within_folder = number_of(fd);
+    if (within_folder >= 0) return written_within(fd, within_folder, bytes, count, -1);
     if (getenv("LOOP_TEXT") && is_text(fd)) note('w', lseek(fd, 0, SEEK_CUR), count, bytes);
     ssize_t answer = syscall(SYS_write, fd, bytes, count);
-    if (fd == 1 && answer > 0) note('A', 0, answer, bytes);
+    if (fd == 1 && answer > 0 && !getenv("LOOP_FOLDER")) note('A', 0, answer, bytes);
     return answer;
 }

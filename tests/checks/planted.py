@@ -1,5 +1,6 @@
-"""The faults of tests/wrong/station.faults, which tests/simulate --faults has to find. All of them
-are put into one program, each behind a number: LOOP_WRONG names the one that is switched on.
+"""The faults of tests/wrong/station.faults, which tests/simulate --faults has to find, and those of
+power.faults beside it, for tools/check power --wrong. All of a file are put into one program, each
+behind a number: LOOP_WRONG names the one that is switched on.
 
 A fault is a line `fault: NAME`, a line `says: TEXT`, or `met: TEXT` where users met it, a line
 `seed: N` once a seed is known that finds it, and then for each place a line `file: PATH`, unless it
@@ -19,6 +20,7 @@ import unproved
 
 TOP = Path(__file__).resolve().parents[2]
 FAULTS = TOP / "tests/wrong/station.faults"
+POWER = TOP / "tests/wrong/power.faults"
 SWITCH = """#include <stdlib.h>
 _Bool loop_wrong(unsigned number) {
     static int chosen = -1;
@@ -101,9 +103,9 @@ def faults_of(text: str) -> list[Fault]:
     return found
 
 
-def all_faults() -> list[Fault]:
-    """All of them."""
-    return faults_of(FAULTS.read_text())
+def all_faults(path: Path = FAULTS) -> list[Fault]:
+    """All of a file."""
+    return faults_of(path.read_text())
 
 
 def with_seeds(text: str, seeds: dict[str, int]) -> str:
@@ -181,15 +183,17 @@ def with_faults(files: dict[str, str], faults: list[Fault]) -> dict[str, str]:
 def unfit() -> list[str]:
     """Why faults don't fit their sources, a line for each."""
     files, told = unproved.program("loop_station").files, []
-    try:
-        faults = all_faults()
-    except Unfit as why:
-        return [str(why)]
-    for fault in faults:
+    for path in (FAULTS, POWER):
         try:
-            with_faults(files, [fault])
+            faults = all_faults(path)
         except Unfit as why:
-            told.append(f"station.faults: {why}")
+            told.append(f"{path.name}: {why}")
+            continue
+        for fault in faults:
+            try:
+                with_faults(files, [fault])
+            except Unfit as why:
+                told.append(f"{path.name}: {why}")
     return told
 
 
@@ -214,8 +218,8 @@ class Planted(unproved.Program):
             processes.run = plain
 
 
-def program(level: str = "fast") -> Planted:
-    """The station with all faults, each switched off."""
+def program(level: str = "fast", path: Path = FAULTS) -> Planted:
+    """The station with all faults of a file, each switched off."""
     plain = unproved.program("loop_station", level)
-    files = with_faults({**plain.files, "switch": SWITCH}, all_faults())
+    files = with_faults({**plain.files, "switch": SWITCH}, all_faults(path))
     return Planted(*plain._replace(files=files))

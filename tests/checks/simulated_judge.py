@@ -12,6 +12,7 @@ import struct
 from pathlib import Path
 
 import layout
+from simulated_asked import Asked
 from simulated_disk import Disk, File, Record
 from simulated_kept import Kept
 from simulated_run import Lived, chooser, told
@@ -25,6 +26,8 @@ REFERENCE = Path(__file__).resolve().parents[2] / "docs/reference.md"
 SOON = 5 * SECOND
 # So much later than it came a frame may have been read.
 READ = 300_000
+# Within so much time all stores are open that are read slowly.
+OPENING = 12 * SECOND
 # So often a life's files are looked at, at moments of its own; and after so many of its lines.
 LOOKS, LINES = 12, 25
 
@@ -78,9 +81,10 @@ class Held:
         return any(it[3] == tag and it[1] <= first and last <= it[2]
                    for it in self.clips) and all(it in self.names for it in range(first, last + 1))
 
-    def is_locked(self, number: int) -> bool:
-        """Whether a clip has a number."""
-        return any(first <= number <= last for _, first, last, _ in self.clips)
+    def is_locked(self, number: int, tag: int | None = None) -> bool:
+        """Whether a clip has a number: any, or one with this tag."""
+        return any(first <= number <= last and tag in (None, its)
+                   for _, first, last, its in self.clips)
 
     def has_room(self) -> bool:
         """Whether another frame has a place: in the newest block, a free segment, or a block that
@@ -195,7 +199,7 @@ class Judge:
         self.found: list[str] = []
         # How many frames a camera gave up, in any life.
         self.gave: dict[str, int] = {}
-        self.told, self.kept = Told(self), Kept(self)
+        self.told, self.kept, self.asked = Told(self), Kept(self), Asked(self)
 
     def says(self, what: str) -> None:
         """Something is wrong."""
@@ -287,6 +291,8 @@ class Judge:
         # Cameras of which a store was moved away, or which came and went.
         self.moved: set[str] = set(lived.life.changed)
         self.not_noted: set[str] = set()
+        # The events that weren't noted in this life.
+        self.unsure_here: set[int] = set()
         self.unknown: set[str] = set()
         self.opened: dict[str, int] = {}
         # When a clip of each camera was released last.
@@ -300,6 +306,7 @@ class Judge:
         self.came_at: dict[str, dict[int, int]] = {it: {} for it in self.cameras}
         self.told.begins(lived)
         self.kept.begins(lived)
+        self.asked.begins(lived)
 
     def stored_in(self, files: dict[str, bytes], name: str) -> int:
         """How many frames the stores of a camera say that they ever had."""
@@ -346,6 +353,7 @@ class Judge:
             self.ordered(words[2].removeprefix("@"), words[3:], time)
         self.told.comes(name, words, time, kind)
         self.kept.comes(name, words, time, kind)
+        self.asked.comes(words, time)
 
     def ordered(self, label: str, words: list[str], time: int) -> None:
         """An order came."""
@@ -381,6 +389,7 @@ class Judge:
             reader(said, time)
         self.told.reads(said, time)
         self.kept.reads(said, time)
+        self.asked.reads(said, time)
 
     def reads_done(self, said: dict, time: int) -> None:
         """An order is answered, once; a release by its id is done, or refused."""
@@ -399,7 +408,8 @@ class Judge:
             self.kept_all(label)
 
     def reads_kept(self, said: dict, time: int) -> None:
-        """These frames are on the disk, and locked."""
+        """These frames are on the disk, and locked. Where they are released meanwhile, that is told
+        after this line."""
         which = (said["camera"], said["id"])
         camera = self.cameras[said["camera"]]
         path = camera.paths()[said["id"] // 64]
@@ -416,10 +426,19 @@ class Judge:
             event = (said["event"], said["camera"])
             self.kept_of.setdefault(event, set()).update(names.values())
             said["names"] = set(names.values())
-            self.lost_in(said, held, camera)
-        elif which not in self.was_freed and not self.frees_itself(which, time, None) and \
-                said["camera"] not in self.moved | self.events.get(said["event"], ((), set()))[1]:
-            self.says(f"told, and not so: {said}; the clips are {held and held.clips}")
+            if said["kind"] == "kept":
+                self.lost_in(said, held, camera)
+        else:
+            clip = Clip(path, tag, said["first"], said["last"], {})
+            # Passed over: the end of an event may name a clip that an order has released.
+            is_old = not said.get("label") and which in self.was_freed
+            if said["camera"] not in self.moved and not self.is_in_doubt(which, clip) and \
+                    not self.frees_itself(which, time, clip) and not is_old:
+                self.says(f"told, and not so: {said}; the clips are {held and held.clips}")
+
+    def reads_kept_unread(self, said: dict, time: int) -> None:
+        """The same of a clip whose times can't be read."""
+        self.reads_kept(said, time)
 
     def lost_in(self, said: dict, held: Held, camera: Camera) -> None:
         """As many frames are told as lost as numbers of one writer are missing in a clip. Of
@@ -510,7 +529,7 @@ class Judge:
             over = self.events.get(event, (set(), set()))[1]
             self.events[event] = (meant or set(self.cameras), over)
             if self.events[event][0] & self.not_noted:
-                self.unsure.add(event)
+                self.doubts(event)
         elif event in self.events and self.events[event][0] <= self.events[event][1] \
                 and event not in self.unsure:
             self.says(f"an event that was over comes back: {said}")
@@ -539,7 +558,13 @@ class Judge:
             self.says(f"an event is over twice: {said}")
         over.add(said["camera"])
         if said["camera"] in self.not_noted:
-            self.unsure.add(said["event"])
+            self.doubts(said["event"])
+
+    def doubts(self, event: int) -> None:
+        """An event isn't noted, until the file of events can be written."""
+        if event not in self.unsure:
+            self.unsure.add(event)
+            self.unsure_here.add(event)
 
     def reads_status(self, said: dict, time: int) -> None:
         """The frames that came are stored, wait, or are told as lost: not more of them, and, once
@@ -634,7 +659,7 @@ class Judge:
                 del self.clips[which]
                 continue
             lacks = [it for it, name in clip.names.items() if held.names.get(it) != name]
-            free = [it for it in clip.names if not held.is_locked(it)]
+            free = [it for it in clip.names if not held.is_locked(it, clip.tag)]
             if lacks or free:
                 self.says(f"{when} of clip {which}, {clip.first}..{clip.last} of {clip.path}, at"
                           f" {time} {lacks} are gone, {free} unlocked; the clips are {held.clips}")
@@ -696,6 +721,7 @@ class Judge:
         self.all_stored()
         self.told.ends(lived, lines)
         self.kept.ends(lived, lines)
+        self.asked.ends(lived)
         self.goes_on_with_events(lived)
         self.forgets(lived.after)
 
@@ -718,6 +744,7 @@ class Judge:
             self.stored_at[name] = record.time
             self.stored[name].update(names)
         self.kept.writes(name, path, record, names)
+        self.asked.writes(name, path, record, names)
 
     def goes(self, name: str, path: str, file: File, record: Record) -> None:
         """A block that goes is the oldest of all that no clip locks and that aren't the newest of
@@ -738,6 +765,11 @@ class Judge:
         is_open = record.time - self.opened.get(name, record.time) > SOON
         if free and is_open and not self.lived.life.is_slow and not self.world.strange_files:
             self.says(f"{path} gives up a block at {record.time}, and {free} have room")
+        # What went out of order is told once all stores are open, which takes long where they are
+        # read slowly.
+        if "\nreads " in self.lived.life.script and \
+                self.lived.end() - self.opened.get(name, 0) < OPENING:
+            return
         gone = held.first_of(block)
         may = [it.first_of(block) for it in stores.values() if it
                for block in it.blocks if it.may_go(block)]
@@ -773,6 +805,9 @@ class Judge:
                           for it in meant - self.moved)
             if is_open and not lived.life.is_faulty and event not in self.begun:
                 self.says(f"event {event} of {sorted(meant)} doesn't go on after a start")
+        if self.asked.is_calm(lived.end()):
+            # The file is tried again each second.
+            self.unsure -= self.unsure_here
         self.pending = {it: self.events[it] for it, (_, until) in self.spans.items()
                         if until > lived.end() and it in self.events and it not in self.unsure
                         and not self.events[it][0] & self.events[it][1]}

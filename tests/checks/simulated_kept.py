@@ -3,6 +3,7 @@ file has that was saved, what may go, and which counts are told. Each question i
 name docs and tests use."""
 from __future__ import annotations
 
+import posixpath
 import re
 from typing import TYPE_CHECKING
 
@@ -21,9 +22,17 @@ READ = 300_000
 DESK = 60
 # A store that fails is left alone for so long, and one without room isn't made for so long.
 ALONE, ROOM = 50 * SECOND, 50 * SECOND
+# So long after it failed a save that began by itself is tried again.
+AGAIN = 60 * SECOND
 
 # A clip of a store's table: its first and last number, and its tag.
 Span = tuple[int, int, int]
+
+
+def has_same(said: dict, other: dict) -> bool:
+    """Whether another clip of its store, which was told too, has a frame of one."""
+    return said["id"] != other["id"] and said["id"] // 64 == other["id"] // 64 and \
+        other["first"] <= said["last"] and said["first"] <= other["last"]
 
 
 class Kept:
@@ -60,13 +69,23 @@ class Kept:
         self.over: dict[str, int] = {}
         self.ended: dict[tuple[int, str], list[dict]] = {}
         self.freed_parts: list[tuple[str, int, int]] = []
+        # The stores and tags of clips that orders have released.
+        self.freed_tags: set[tuple[str, int]] = set()
         self.doubted: dict[str, dict] = {}
         self.cancelled: dict[str, int] = {}
         self.made: dict[str, int] = {}
         self.alone: dict[str, tuple[str, int]] = {}
+        # The stores of several whose disk failed while frames were written, and when.
+        self.failed: dict[str, int] = {}
+        # The saves that began by themselves and wait; and when a camera's store was told as absent.
+        self.waiting: dict[tuple[str, int], int] = {}
+        self.lost_at: dict[str, list[int]] = {}
         self.no_room: dict[str, int] = {}
         self.itself_at: dict[tuple[str, int], int] = {}
         self.kept_at: dict[tuple[str, int], int] = {}
+        # When each clip's entry was opened last; when a file of each id was told, of which frames.
+        self.opened_at: dict[tuple[str, int], int] = {}
+        self.saved_of: dict[tuple[str, int], tuple[int, set[int]]] = {}
         self.tables_at: dict[str, dict[str, dict[int, Span]]] = {}
         self.rooms_at: dict[str, dict[str, tuple[int, int]]] = {}
         self.away: dict[int, int] = {}
@@ -141,10 +160,7 @@ class Kept:
         """Somebody moves a file, perhaps a store that is recorded into."""
         is_store = old in self.judge.paths
         self.dirty |= {old} & set(self.judge.paths)
-        if is_store:
-            # The camera's others are opened anew then, too, as after a start.
-            others = self.judge.cameras[self.judge.paths[old]].paths()
-            self.freed_parts = [it for it in self.freed_parts if it[0] not in others]
+        self.freed_parts = [it for it in self.freed_parts if it[0] != old]
         for number, file in self.judge.disk.files.items() if is_store else ():
             if file is self.judge.disk.names.get(new):
                 self.away[number] = time
@@ -161,6 +177,7 @@ class Kept:
 
     def writes(self, name: str, path: str, record: Record, names: set[int]) -> None:
         """A store's file is about to be changed."""
+        self.stays_alone(self.judge.cameras[name], path, record.time)
         if names:
             self.stores(name, path, record)
         else:
@@ -171,6 +188,8 @@ class Kept:
             self.dirty.add(path)
             if record.data[:1] == bytes([layout.CLOSED]):
                 self.closes(name, path, own)
+            elif record.data[:1] == bytes([layout.OPEN]):
+                self.opened_at[path, own] = record.time
         if name not in self.judge.moved:
             self.left_alone(name, path, record.time)
 
@@ -221,9 +240,24 @@ class Kept:
         if told and others and told[1] + SECOND < time < told[1] + ALONE:
             self.says(f"{path} failed at {told[1]}, and is written at {time}")
 
+    def stays_alone(self, camera: Camera, path: str, time: int) -> None:
+        """A store of several whose disk failed is left alone for a minute, whether that was told or
+        not, while the others go on."""
+        since, others = self.failed.get(path), set(camera.paths()) - set(self.failed)
+        if since and others and since + SECOND < time < since + ALONE:
+            self.says(f"the disk of {path} failed at {since}, and it is written at {time}")
+        if camera.stores == 1 or "\nslow " in self.judge.lived.life.script:
+            return
+        bad = [it.split() for it in self.judge.script if it.startswith("bad ")]
+        # Each sync of this time fails: that of what is written now, too.
+        if any(it[3:5] == [path, "sync"] and it[6] == "1"
+               and int(it[1]) <= time < int(it[2]) - SECOND // 2 for it in bad):
+            self.failed.setdefault(path, time)
+
     def names_change(self, record: Record) -> None:
         """A file is made, or gets a name."""
         words = record.data.decode().split("\0")
+        self.replaces(record, words)
         self.dirty |= {words[-1]} & set(self.judge.paths)
         if record.kind == "C":
             self.made[words[0]] = record.time
@@ -241,6 +275,14 @@ class Kept:
                 for label, (_, said) in self.orders.items()):
             self.says(f"a save to {path} was cancelled, and {path} is made")
 
+    def replaces(self, record: Record, words: list[str]) -> None:
+        """A save replaces a file only where its order says so."""
+        path = words[-1]
+        ordered = {said[0] for _, said in self.orders.values() if said[3:] == [path]}
+        if record.kind == "N" and path in self.judge.disk.names and ordered == {"save"} and \
+                not self.is_own(path):
+            self.says(f"{path} was there, and is replaced at {record.time}, which nobody ordered")
+
     def is_made_anew(self, path: str, time: int) -> None:
         """Where a store with a number below another's is made anew, that is printed."""
         name = self.judge.paths.get(path)
@@ -249,8 +291,7 @@ class Kept:
         paths = self.judge.cameras[name].paths()
         higher = [it for it in paths[paths.index(path) + 1:] if it in self.judge.lived.before]
         life = self.judge.lived.life
-        if higher and not life.is_faulty and name not in self.judge.moved and \
-                name in self.judge.opened:
+        if higher and not life.is_faulty and name not in self.judge.moved:
             self.judge.told.wants("store_missing", name, time, time + SECOND)
 
     # -------------------------------------------------------------------------------------------
@@ -296,11 +337,24 @@ class Kept:
         if not label:
             self.ended.setdefault((said["event"], name), []).append(said)
             self.kept_at[name, said["id"]] = time
+        else:
+            self.is_in_order(said)
+
+    def is_in_order(self, said: dict) -> None:
+        """A keep is told before its clip is told as saved. That it is told before its release is
+        asked where the line is read."""
+        which = said["camera"], said["id"]
+        path = self.judge.cameras[which[0]].paths()[which[1] // 64]
+        locked = self.opened_at.get((path, which[1] % 64))
+        time, names = self.saved_of.get(which, (-1, set()))
+        if locked is not None and time > locked and names and names <= said.get("names", set()):
+            self.says(f"it was told as saved at {time}, and locked at {locked}: {said}")
 
     def reads_event_begun(self, said: dict, time: int) -> None:
-        """An event goes on to the end that was told."""
+        """An event goes on to the end that was told, which is the one that was ordered."""
         from simulated_judge import moment_of
         to, event = moment_of(said["to"]), said["event"]
+        self.has_its_end(said, to)
         # Each camera may have an end of its own.
         self.to.setdefault(event, set()).add(to)
         if said.get("label"):
@@ -313,6 +367,25 @@ class Kept:
             self.ends_at.setdefault(event, set()).add(to)
         elif event in self.answered and min(abs(it - to) for it in self.ends_at[event]) > 2000:
             self.says(f"the event was to end at {sorted(self.ends_at[event])}: {said}")
+
+    def has_its_end(self, said: dict, to: int) -> None:
+        """An event ends when its order says, or as many seconds after the order came as that says,
+        or its camera's words do."""
+        from simulated_judge import moment_of
+        given, words = self.orders.get(said.get("label", ""), (0, []))
+        named = set(words) & set(self.judge.cameras) or set(self.judge.cameras)
+        meant = [self.judge.cameras[it] for it in named]
+        if not words or any("times_from" in it.words for it in meant):
+            return
+        ahead = [int(it[1:]) for it in words[1:] if it.startswith("+")]
+        if "to" in words:
+            ends = [moment_of(words[words.index("to") + 1])]
+        elif ahead:
+            ends = [given + ahead[0] * SECOND]
+        else:
+            ends = [given + int(str(it.words.get("after", 0))) * SECOND for it in meant]
+        if to < min(ends) - 1000 or to > max(ends) + READ and self.script_pause() == 0:
+            self.says(f"it was to end at {sorted(ends)}, and {to} is told: {said}")
 
     def reads_event_whole(self, said: dict, time: int) -> None:
         """An event is over at its end, and what is locked of it is told, each once."""
@@ -333,13 +406,20 @@ class Kept:
         if time < to - 100_000 and "times_from" not in camera.words:
             self.says(f"told before its end at {to}: {said}")
         spans: dict[str, list[tuple[int, int]]] = {}
+        free: dict[str, list[tuple[int, int]]] = {}
         for it in told:
-            spans.setdefault(camera.paths()[it["id"] // 64], []).append((it["first"], it["last"]))
-        for path, found in spans.items():
+            path, span = camera.paths()[it["id"] // 64], (it["first"], it["last"])
+            spans.setdefault(path, []).append(span)
+            if not self.is_saved(name, it) or not any(has_same(it, other) for other in told):
+                free.setdefault(path, []).append(span)
+        for path, found in free.items():
             found.sort()
-            # A kill may come between the lock of a longer clip and the unlock of the shorter one.
-            if event in self.here and any(one[1] >= two[0]
-                                          for one, two in zip(found, found[1:])):
+            # A kill may come between the lock of a longer clip and the unlock of the shorter one,
+            # which isn't unlocked while a save reads it. What an order has released of an event
+            # isn't locked again, so a later clip may not cover an earlier one.
+            tags = {it.get("tag", event) for it in told}
+            if event in self.here and not any((path, it) in self.freed_tags for it in tags) and \
+                    any(one[1] >= two[0] for one, two in zip(found, found[1:])):
                 self.says(f"the clips of an event overlap in {path}: {found}")
         # Passed over: an event that ended while the station was down is told as over before its
         # other stores are open, without what these have.
@@ -351,6 +431,12 @@ class Kept:
                 if tag == event and (first, last) not in spans.get(path, ()):
                     self.says(f"{path} has the clip {own} {first}..{last} of the event, which isn't"
                               f" told at its end: {told}")
+
+    def is_saved(self, name: str, said: dict) -> bool:
+        """Whether a clip that was told is to be saved by an order."""
+        names = {str(said["id"]), f"#{said['event']}", f"#{said.get('tag')}"}
+        return any(words[0] in ("save", "save!") and words[1] == name and words[2] in names
+                   for _, words in self.orders.values())
 
     def stays_released(self, time: int) -> None:
         """What an order has released of an event isn't locked again."""
@@ -391,6 +477,7 @@ class Kept:
                 self.says(f"it began with none of {words[3]}: {said}")
             self.is_not_read(said, given)
             path = self.judge.cameras[name].paths()[own // 64]
+            self.freed_tags |= {(path, it[2]) for it in versions}
             gone = {it for it in versions if it not in self.now[path].values()}
             if self.is_plain(name) and len(gone) == len(versions):
                 newest = max(versions, key=lambda it: it[:2], default=None)
@@ -444,12 +531,15 @@ class Kept:
         file = self.judge.disk.names.get(path)
         if label in self.doubted:
             self.says(f"{self.doubted[label]} released what a save read: {said}")
+        if label and not self.lies_inside(path):
+            self.says(f"it doesn't lie in {self.judge.world.saves}: {said}")
         if file is None or path in self.judge.pipes:
             return
         try:
             names = names_in_text(bytes(file.now))
         except Wrong:
             return
+        self.saved_of[name, said["id"]] = (time, set(names))
         words = self.orders[label][1] if label in self.orders else []
         if words and words[2].startswith("#"):
             self.has_event(said, label, names)
@@ -472,6 +562,14 @@ class Kept:
                 (name, said["id"]) not in self.kept_at
             if before != path and before in self.judge.lived.before and is_early:
                 self.says(f"it is saved already as {before}: {said}")
+
+    def lies_inside(self, path: str) -> bool:
+        """Whether a path lies in the only folder into which orders may write, if there is one, and
+        no link leads out of it."""
+        world = self.judge.world
+        is_led = any(f"{path}/".startswith(f"{it}/") for it in world.links)
+        return not world.saves or not is_led and \
+            posixpath.normpath(path).startswith(f"{world.saves}/")
 
     def has_event(self, said: dict, label: str, names: list[int]) -> None:
         """A save of an event has each frame once, in the order of their times, and all of them."""
@@ -507,6 +605,8 @@ class Kept:
             self.finds_its_clip(said, label, int(words[2]))
         if why in ("Exists", "IsStore", "NotRegular", "Busy") and self.is_own(said["path"]):
             self.says(f"it is a file of the station: {said}")
+        if why == "OtherFolder" and (not label or self.lies_inside(said["path"])):
+            self.says(f"it lies in the folder for saves: {said}")
         if why == "Cancelled":
             self.cancelled[said["path"]] = time
         given = self.orders.get(label, (time, []))[0]
@@ -551,6 +651,7 @@ class Kept:
     def reads_save_waits(self, said: dict, time: int) -> None:
         """A save that waits will be told later."""
         self.kept_at.pop((said["camera"], said["id"]), None)
+        self.waiting[said["camera"], said["id"]] = time
 
     def reads_camera(self, said: dict, time: int) -> None:
         """A list has the clips that there are, by the ids that users know."""
@@ -623,9 +724,21 @@ class Kept:
             self.no_room[said["camera"]] = time
 
     def reads_store_absent(self, said: dict, time: int) -> None:
-        """The disk had no room for a store."""
+        """A store isn't there any more, or the disk had no room for it."""
+        self.lost_at.setdefault(said["camera"], []).append(time)
         if said["why"] == "NoRoom":
             self.no_room[said["camera"]] = time
+
+    def reads_removed_out_of_order(self, said: dict, time: int) -> None:
+        """While stores are opened frames wait in memory: none goes out of order before that is
+        full, so not where it has room for all that came."""
+        camera = self.judge.cameras[said["camera"]]
+        memory = camera.words.get("memory", "4 s")
+        room = memory // SIZE if isinstance(memory, int) else \
+            int(str(memory).split()[0]) * (SECOND // camera.period)
+        came = sum(at <= time for at, _ in self.judge.here[camera.name])
+        if came <= room and camera.name not in self.judge.moved:
+            self.says(f"{came} frames came, and memory has room for {room}: {said}")
 
     def reads_camera_ended(self, said: dict, time: int) -> None:
         """A camera that begins anew tries its store at once."""
@@ -686,7 +799,7 @@ class Kept:
             if not mine or "times_from" in camera.words or \
                     name in self.judge.moved | self.judge.waits or any(
                     it["kind"] in ("absent", "refused", "too_many_orders") for it in mine) or any(
-                    it["kind"] == "kept" and "names" not in it for it in mine):
+                    it["kind"] in ("kept", "kept_unread") and "names" not in it for it in mine):
                 continue
             rest = [it for it in words[1:] if it not in self.judge.cameras]
             seconds = int(rest[0]) if rest and rest[0].isdigit() else int(
@@ -701,15 +814,14 @@ class Kept:
                     if it not in self.absent]
             there = {it for one in held if one for it in one.names.values()}
             lacks = (came & there) - have
-            # A clip whose times can't be read is locked, and told neither as kept nor as refused.
-            is_unread = self.fails_to_read(given)
-            if lacks and name not in self.judge.late and not is_unread:
+            if lacks and name not in self.judge.late:
                 self.says(f"a keep hasn't {sorted(lacks)}, which are stored: {mine}")
             missing = came - there - have
             if any(it["kind"] == "event_begun" for it in lines):
                 continue
             self.tells_gaps(camera, mine, since, until)
-            if missing and not any(it["kind"] in ("held", "kept_none", "gap") for it in mine) and \
+            kinds = {it["kind"] for it in mine}
+            if missing and not kinds & {"held", "kept_none", "kept_unread", "gap"} and \
                     name not in self.judge.late and not self.judge.lived.life.is_faulty:
                 self.says(f"a keep doesn't tell that {sorted(missing)} aren't held: {mine}")
             newest = max((max(it.names.values()) for it in held if it and it.names), default=-1)
@@ -719,16 +831,11 @@ class Kept:
                     name not in self.judge.gave_up and not is_freed:
                 self.says(f"a keep isn't refused, and {sorted(missing)} aren't stored: {mine}")
 
-    def fails_to_read(self, time: int) -> bool:
-        """Whether a disk fails to read at a time."""
-        bad = [it.split() for it in self.judge.script if it.startswith("bad ")]
-        return any(it[4] == "read" and int(it[1]) <= time <= int(it[2]) + SECOND for it in bad)
-
     def tells_gaps(self, camera: Camera, mine: list[dict], since: int, until: int) -> None:
         """Where no frame is for more than one and a half times their distance, and a quarter of a
         second, `held` and `gap` say so."""
         kept = [it for it in mine if it["kind"] == "kept"]
-        if not kept or any(it["kind"] in ("held", "gap") for it in mine):
+        if not kept or any(it["kind"] in ("held", "gap", "kept_unread") for it in mine):
             return
         times = [since, until]
         for it in kept:
@@ -759,6 +866,8 @@ class Kept:
                 self.says(f"no save had written it: {said}")
         self.makes_all_stores(lived, end)
         self.leaves_no_part(lived)
+        self.tries_again(self.stopping or end)
+        self.ends_with_its_store(end)
         if "config" in lived.changed_files:
             self.says("the station's file was changed")
         if LINKED[0] not in lived.links:
@@ -777,9 +886,10 @@ class Kept:
             if not is_freed and not any(it[:2] == (name, own) and it[2] >= at for it in auto):
                 self.says(f"clip {own} of {name}, kept at {at}, isn't saved by itself")
         for (name, own), at in self.itself_at.items():
+            saves = [self.over.get(label, end) for label, (_, it) in self.orders.items()
+                     if it[0].startswith("save") and it[1] == name]
             if self.judge.cameras[name].words.get("release") and self.is_plain(name) and \
-                    end - at > SOON and not self.stopping and not any(
-                        it[1][0].startswith("save") for it in self.orders.values()):
+                    end - max(at, *saves, 0) > SOON and not self.stopping:
                 self.says(f"clip {own} of {name} was saved at {at}, and isn't released")
 
     def goes_on_by_rule(self, end: int) -> None:
@@ -852,3 +962,27 @@ class Kept:
                       for _, _, it in self.judge.lines_of)
         if left and not pending and not stopped:
             self.says(f"{left} is left")
+
+    def tries_again(self, end: int) -> None:
+        """A save that began by itself and couldn't be written is tried again each minute."""
+        bad = [it.split() for it in self.judge.script if it.startswith("bad ")]
+        for (name, own), since in self.waiting.items():
+            at = since + AGAIN
+            while any(int(it[1]) - SECOND < at < int(it[2]) + SECOND for it in bad):
+                at += AGAIN
+            is_told = any(said["kind"] in ("saved", "not_saved", "released") and it > since
+                          and (said["camera"], said["id"]) == (name, own)
+                          for _, it, said in self.judge.lines_of)
+            if end - at > SOON and not is_told and name not in self.judge.moved:
+                self.says(f"clip {own} of {name} waits to be saved since {since}, and isn't saved"
+                          f" at {end}")
+
+    def ends_with_its_store(self, end: int) -> None:
+        """A save whose store is lost is over soon."""
+        for label, (given, words) in self.orders.items() if not self.stopping else ():
+            lost = [at for at in self.lost_at.get(words[1], ()) if at > given] \
+                if words[0] in ("save", "save!") else []
+            if lost and end - lost[0] > SOON and label not in self.over and \
+                    words[3] not in self.judge.pipes:
+                self.says(f"the store of {words[1]} was lost at {lost[0]}, and its save @{label}"
+                          f" isn't over at {end}")

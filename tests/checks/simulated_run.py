@@ -13,7 +13,7 @@ from typing import NamedTuple
 
 import unproved
 from simulated_disk import Disk, Record, log_of
-from simulated_world import LINKED, Life, World
+from simulated_world import Life, World
 
 TOOLS = Path(__file__).resolve().parents[2] / "tools"
 # So many seconds a life may take.
@@ -110,7 +110,8 @@ class Runner:
         for name in ("orders", "nobody"):
             os.mkfifo(self.folder / name)
         self.lays(world.files())
-        (self.folder / LINKED[0]).symlink_to(LINKED[1])
+        for name, where in world.links.items():
+            (self.folder / name).symlink_to(where)
         if world.is_piped:
             os.mkfifo(self.folder / "answers")
 
@@ -129,7 +130,8 @@ class Runner:
             (self.folder / name).write_bytes(data)
 
     def lives(self, life: Life, seed: str, known: Lived | None = None) -> Lived:
-        """Lives a life, and what comes after it. Where it is as one that is known, that is it."""
+        """Lives a life, and what comes after it. Where it is as one that is known, from the same
+        files on, that is it."""
         at, self.lived = self.lived, self.lived + 1
         script, log = self.place / f"script.{at}", self.place / f"log.{at}"
         script.write_text(life.script)
@@ -141,7 +143,7 @@ class Runner:
                "LOOP_WRONG": f"{self.wrong:06}"}
         output, status = self.runs(env, self.place / f"output.{at}")
         data = log.read_bytes().rstrip(b"\0") if log.exists() else b""
-        if known and data == known.log and output == known.output:
+        if known and data == known.log and output == known.output and before == known.before:
             self.lays(known.after)
             return known
         records = log_of(str(log))

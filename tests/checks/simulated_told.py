@@ -154,10 +154,7 @@ class Told:
             return
         if name not in self.judge.opened:
             self.wants("store_open", name, time, time + TOLD)
-        # What a loss of power has brought back by this name keeps the station from measuring.
-        is_measured = f"{name}.loop.sync" not in self.judge.lived.before
-        if name not in self.stored and not life.is_faulty and is_measured and \
-                not self.has_told("syncs", name):
+        if name not in self.stored and not life.is_faulty and not self.has_told("syncs", name):
             self.wants("syncs", name, time, time + 2 * TOLD)
         self.stored.add(name)
         self.goes_on(name, path, time)

@@ -10,6 +10,8 @@ import random
 import time
 
 import layout
+import simulated_rare_keeps
+import simulated_rare_saves
 
 # The time of day when a world begins, in microseconds since 1970.
 EPOCH = 1_796_094_976_000_000
@@ -120,11 +122,20 @@ class World:
         self.count = 0
         # The answers are a pipe, whose reader comes and goes: lines may be dropped.
         self.is_piped = pick.random() < 0.04
+        # The scene that it plays, where it has one.
+        self.play = simulated_rare_keeps.play_of(self)
+        self.is_quiet = self.play is not None and self.play.is_alone
+        if self.is_quiet:
+            self.has_faults, self.is_piped, self.saves = False, False, ""
         # Stores of layout 1, and files with the name of a store that aren't one.
         self.old: set[str] = set()
         self.strange_files: set[str] = set()
         # What nobody may change.
         self.foreign: dict[str, bytes] = {}
+        # Links beside the stores, and where they lead.
+        self.links = {LINKED[0]: LINKED[1]}
+        # All that happens, where that is one scene.
+        self.scene = simulated_rare_saves.scene_of(self)
 
     def camera(self, at: int) -> Camera:
         """A camera of any kind."""
@@ -160,8 +171,15 @@ class World:
         return head + "".join(it.lines() for it in self.cameras if it.name != without)
 
     def files(self) -> dict[str, bytes]:
-        """The files with which it begins: most stores are there, empty. Of several, the first is:
-        else the station makes a single one."""
+        """The files with which it begins."""
+        other = layout.fresh(self.cameras[0].geometry())
+        stores = self.scene.stores() if self.scene else self.stores()
+        self.foreign = {OTHERS[0]: b"somebody's own", OTHERS[1]: other, LINKED[1]: b"precious"}
+        return {**stores, **self.foreign}
+
+    def stores(self) -> dict[str, bytes]:
+        """The stores with which it begins: most are there, empty. Of several, the first is: else
+        the station makes a single one."""
         found = {}
         for camera in self.cameras:
             for at, path in enumerate(camera.paths()):
@@ -174,28 +192,19 @@ class World:
                 elif at and self.chance.random() < 0.3:
                     self.strange_files.add(path)
                     found[path] = b"no store" * 100
-        other = layout.fresh(self.cameras[0].geometry())
-        self.foreign = {OTHERS[0]: b"somebody's own", OTHERS[1]: other, LINKED[1]: b"precious"}
-        return {**found, **self.foreign}
+        if self.play:
+            found = self.play.files(found)
+        return found
 
     def life(self, now: int, is_first: bool, is_last: bool) -> Life:
         """The next life, which begins now."""
+        if self.scene:
+            return self.scene.life(now, is_last)
         pick = self.chance
-        span = pick.choice((3, 6, 10, 20, 30)) * SECOND
+        span = pick.choice((10, 20) if self.is_quiet else (3, 6, 10, 20, 30)) * SECOND
         ends = ("stop", "kill", "kill", "power", "power", "power")
         end = "stop" if is_last else pick.choice(ends)
-        lines = [
-            f"seed {pick.getrandbits(62)}",
-            f"begin {now} {EPOCH}",
-            f"switch {pick.choice((1, 2, 4, 8, 16, 64))}",
-            f"tick {pick.choice((1, 3, 10, 30))}",
-            f"uneven {pick.choice((0, 0, 3, 6))}",
-            "answers answers",
-        ]
-        for camera in self.cameras:
-            camera.is_ahead = not is_first and pick.random() < 0.25
-            lines.append(f"pipe {int(camera.is_ahead)} {camera.name}.y4m {camera.header()}")
-        lines.append("orders orders")
+        lines = self.begins(now, is_first)
         if self.is_piped:
             at = now + pick.choice((0, SECOND, span // 2, span - SECOND))
             while at < now + span:
@@ -210,10 +219,19 @@ class World:
         events = []
         for camera in self.cameras:
             events += self.frames(camera, now, now + span)
-        events += self.orders(now, now + span, orders)
-        events += self.strange(now, now + span)
-        files, changed = self.reloads(now, now + span, orders, events)
-        if self.seed >= RARE:
+        files: dict[str, str] = {}
+        changed: set[str] = set()
+        if not self.is_quiet:
+            events += self.orders(now, now + span, orders)
+            events += self.strange(now, now + span)
+            files, changed = self.reloads(now, now + span, orders, events)
+        if self.play:
+            part = self.play.life(self, now, now + span, is_first, orders)
+            events = [it for it in events if not part.is_silent(it)] + part.events
+            lines += [it for it in part.lines if not it.startswith("bad")]
+            crawls = crawls or part.is_slow
+            faults += [it for it in part.lines if it.startswith("bad")]
+        if self.seed >= RARE and not self.is_quiet:
             more, rare = self.rare(now, now + span, orders)
             lines += more
             events += rare
@@ -223,8 +241,10 @@ class World:
             events.append((now + span, self.order("stop", now + span, orders)))
             events.append((now + span + 100 * SECOND, f"kill {now + span + 100 * SECOND}"))
         else:
-            at = now + pick.randint(SECOND // 2, span)
-            if self.kills_early and pick.random() < 0.5:
+            at = now + pick.randint(span * 3 // 4 if self.is_quiet else SECOND // 2, span)
+            if self.is_quiet:
+                pass
+            elif self.kills_early and pick.random() < 0.5:
                 lines.append(f"changes {pick.randint(0, 150)}")
             elif pick.random() < 0.4:
                 lines.append(f"lines {pick.randint(0, 60)}")
@@ -235,6 +255,22 @@ class World:
         is_faulty = any(it.startswith("bad") for it in faults)
         return Life(now, now + span, script, end, orders, is_faulty, bool(faults) or crawls, down,
                     files, changed)
+
+    def begins(self, now: int, is_first: bool) -> list[str]:
+        """How a script begins."""
+        pick = self.chance
+        lines = [
+            f"seed {pick.getrandbits(62)}",
+            f"begin {now} {EPOCH}",
+            f"switch {pick.choice((1, 2, 4, 8, 16, 64))}",
+            f"tick {pick.choice((1, 3, 10, 30))}",
+            f"uneven {pick.choice((0, 0, 3, 6))}",
+            "answers answers",
+        ]
+        for camera in self.cameras:
+            camera.is_ahead = not is_first and pick.random() < 0.25
+            lines.append(f"pipe {int(camera.is_ahead)} {camera.name}.y4m {camera.header()}")
+        return [*lines, "orders orders"]
 
     def reloads(self, since: int, until: int, orders: dict[str, str],
                 events: list[tuple[int, str]]) -> tuple[dict[str, str], set[str]]:

@@ -163,6 +163,39 @@ def told_twice(world: World, lived: Lived, chance: random.Random) -> Lived | Non
     return None
 
 
+def kept_late(world: World, lived: Lived, chance: random.Random) -> Lived | None:
+    """A clip is told as released before it is told as kept."""
+    lines = told(lived.records)
+    for at, (index, _, said) in enumerate(lines):
+        if said["kind"] != "kept" or not said.get("label") or said["camera"] in lived.life.changed:
+            continue
+        freed = next((it for it in lines[at + 1:] if it[2]["kind"] in ("kept", "released")
+                      and it[2]["camera"] == said["camera"] and it[2]["id"] == said["id"]), None)
+        if freed is None or freed[2]["kind"] != "released" or freed[0] <= index \
+                or freed[2].get("label") is None:
+            continue
+        done = next((it for it in lines if it[2]["kind"] == "done"
+                     and it[2]["label"] == freed[2]["label"]), None)
+        own = json.dumps(said).encode()
+        left = [it for it in lived.records[index].data.split(b"\n")
+                if it and json.loads(it) != said]
+        # An answer that comes after its end is another form.
+        over = [it for it in lines if it[2].get("label") == said["label"]
+                and it[2]["kind"] == "done"]
+        if done is None or not over:
+            continue
+        records = list(lived.records)
+        records[index] = records[index]._replace(data=b"".join(it + b"\n" for it in left))
+        ends = over[0][0]
+        records[ends] = records[ends]._replace(data=b"".join(
+            it + b"\n" for it in records[ends].data.split(b"\n")
+            if it and json.loads(it) != over[0][2]))
+        late = own + b"\n" + json.dumps(over[0][2]).encode() + b"\n"
+        line = Record("A", done[1], 0, 0, late)
+        return with_more(lived._replace(records=records), done[0], [line])
+    return None
+
+
 def file_gone(world: World, lived: Lived, chance: random.Random) -> Lived | None:
     """A saved file is removed."""
     mine = [it for it in told(lived.records) if it[2]["kind"] == "saved"]
@@ -206,6 +239,109 @@ def otherwise(kind: str, key: str, more: int) -> Callable[..., Lived | None]:
     return form
 
 
+def retagged(world: World, lived: Lived, chance: random.Random) -> Lived | None:
+    """A kept clip gets another tag in its store."""
+    for index, time, said, number, held, _ in kept(world, lived, chance):
+        own = said["id"] % 64
+        if (own, said["first"], said["last"]) in [it[:3] for it in held.clips]:
+            at = layout.SUPER + layout.ENTRY * own + 24
+            return changed(index, time, number, at, (99).to_bytes(8, "little"), lived)
+    return None
+
+
+def stored_late(world: World, lived: Lived, chance: random.Random) -> Lived | None:
+    """Frames that came before a keep are stored once that is answered."""
+    lines = told(lived.records)
+    whole = {it[2]["label"] for it in lines if it[2]["kind"] == "kept" and "label" in it[2]}
+    whole -= {it[2].get("label") for it in lines if it[2]["kind"] in ("refused", "absent")}
+    done = [it for it in lines if it[2]["kind"] == "done" and it[2]["label"] in whole]
+    life = lived.life
+    if not done or life.is_faulty or life.changed or world.is_piped or "\nmove" in life.script \
+            or len(world.cameras) > 1:
+        return None
+    index, time, said = chance.choice(done)
+    given = min(int(it.split()[1]) for it in life.script.split("\n") if f"@{said['label']} " in it)
+    size = layout.HEAD + 128
+    for record in reversed(lived.records[:index]):
+        if record.kind == "W" and len(record.data) == size and any(record.data) \
+                and record.time < given:
+            return with_more(lived, index, [record._replace(time=time)])
+    return None
+
+
+def part_twice(world: World, lived: Lived, chance: random.Random) -> Lived | None:
+    """An event tells a clip twice at its end."""
+    mine = [it for it in told(lived.records)
+            if it[2]["kind"] == "kept" and "label" not in it[2]]
+    if not mine or world.is_piped:
+        return None
+    index, time, said = chance.choice(mine)
+    line = Record("A", time, 0, 0, json.dumps(said).encode() + b"\n")
+    return with_more(lived, index - 1, [line])
+
+
+def read_released(world: World, lived: Lived, chance: random.Random) -> Lived | None:
+    """A clip that a save reads is told as released."""
+    def change(line: dict) -> None:
+        words = lived.life.orders[line["label"]].split()
+        line.update(kind="released", id=int(words[2]))
+
+    def fits(said: dict) -> bool:
+        words = lived.life.orders[said["label"]].split()
+        mine = [it.split() for it in lived.life.script.split("\n") if it.startswith("order ")]
+        saves = [it for it in mine if it[3:6] == ["save", *words[1:3]] and it[6:] == ["nobody"]]
+        return bool(saves) and ends > int(saves[0][1]) + 3_000_000
+
+    ends = lived.end()
+    if "\npause" in lived.life.script or "\nmove" in lived.life.script:
+        return None
+    return said_otherwise(lived, "saving", change, chance, "label", fits)
+
+
+def is_plain(world: World, lived: Lived) -> bool:
+    """Whether nothing keeps the judge from asking what waits in a life."""
+    life = lived.life
+    return not (life.is_slow or life.is_faulty or life.changed or world.is_piped or any(
+        it in life.script for it in ("\nmove", "\npart", "\npipe 1")))
+
+
+def none_waits(world: World, lived: Lived, chance: random.Random) -> Lived | None:
+    """A status tells that no frame waits, where every block is locked."""
+    def change(line: dict) -> None:
+        line["waiting"] = 0
+
+    def fits(said: dict) -> bool:
+        return said["waiting"] > 10 and not said["room"] and said["camera"] in names & locked
+
+    names = {it.name for it in world.cameras if it.stores == 1}
+    locked = {said["camera"] for _, _, said in told(lived.records) if said["kind"] == "all_locked"}
+    if not is_plain(world, lived):
+        return None
+    return said_otherwise(lived, "status", change, chance, "waiting", fits)
+
+
+def only_gaps(world: World, lived: Lived, chance: random.Random) -> Lived | None:
+    """An event for which every block was locked is told to have gaps alone."""
+    def change(line: dict) -> None:
+        line["why"] = "Gaps"
+
+    names = {it.name for it in world.cameras if "times_from" not in it.words}
+    if not is_plain(world, lived):
+        return None
+    return said_otherwise(lived, "event_not_whole", change, chance, "why", lambda said:
+                          said["why"] == "AllLocked" and said["camera"] in names)
+
+
+def stopped_early(world: World, lived: Lived, chance: random.Random) -> Lived | None:
+    """An order before a stop is answered by that."""
+    def change(line: dict) -> None:
+        line.update(kind="absent", why="Stopped")
+
+    if not lived.why().startswith("ended with 0") or lived.life.changed or world.is_piped:
+        return None
+    return said_otherwise(lived, "kept", change, chance, "label")
+
+
 FORMS = {
     "a store that opens isn't told": untold("store_open"),
     "how a disk syncs isn't told": untold("syncs"),
@@ -222,5 +358,13 @@ FORMS = {
     "a kind has no row": other_kind,
     "an order isn't answered": no_answer,
     "an event is over twice": told_twice,
+    "a clip is released before it is kept": kept_late,
     "a saved file is gone": file_gone,
+    "a kept clip has another tag in its store": retagged,
+    "frames are stored after a keep": stored_late,
+    "an event tells a clip twice": part_twice,
+    "a clip is released that a save reads": read_released,
+    "no frame waits where all is locked": none_waits,
+    "an event has gaps where all is locked": only_gaps,
+    "an order before a stop isn't done": stopped_early,
 }

@@ -8,6 +8,7 @@ from conftest import TOP
 import edits
 import kinds
 import pages
+import unproved
 
 
 def test_a_check_is_found_by_its_file_in_either_folder(tool, tmp_path):
@@ -31,7 +32,9 @@ def test_each_kind_has_its_file(tool):
         assert check.file_of(kind.file).is_file()
 
 
-def test_what_a_wrong_copy_changes_is_in_its_file(tmp_path):
+def test_what_a_wrong_copy_changes_is_in_its_file(tmp_path, monkeypatch):
+    # A station with faults is laid out, in which each has to fit, and isn't compiled.
+    monkeypatch.setattr(unproved.Program, "made", lambda it: (it.place(), 0))
     for name, kind in kinds.kinds().items():
         for place, wrong in enumerate(kind.wrong):
             for word, make in wrong.given.items():

@@ -6,13 +6,14 @@ from pathlib import Path
 
 TOP = Path(__file__).resolve().parents[2]
 sys.path[1:1] = [str(TOP / "tools"), str(TOP / "tests/checks")]
+import simulated_asked
 import simulated_judge
 import simulated_kept
 import simulated_told
 
 PAGE, ROWS = TOP / "docs/station.md", TOP / "tests/cases/promises.txt"
 CLASSES = {"Judge": simulated_judge.Judge, "Kept": simulated_kept.Kept,
-           "Told": simulated_told.Told}
+           "Told": simulated_told.Told, "Asked": simulated_asked.Asked}
 
 
 def plain(text):
