@@ -11,7 +11,7 @@ from .reader import Clip
 from .words import Line
 
 # The kinds of lines that say what became of a keep.
-ANSWERS = ("kept", "kept_none", "refused", "absent", "too_many_orders")
+ANSWERS = ("kept", "kept_unread", "kept_none", "refused", "absent", "too_many_orders")
 
 
 class Keeping:

@@ -73,7 +73,11 @@ def told(name: str, clips: list[Clip], event: int | None = None) -> Kept:
 
 def not_kept(line: Line, is_part: bool) -> Kept:
     """Why nothing was kept, or no more than a part, by the station's line, in a sentence with what
-    to do."""
+    to do. What is locked and can't be read now is none that the page can show."""
+    if line.kind == "kept_unread":
+        what = f"clip {line['id']}, frames {line['first']} to {line['last']}, is locked"
+        why = words.meaning(line["why"]).rstrip(".")
+        return Kept(line.camera, False, f"{what}, but its times can't be read: {why}.", [])
     why = words.refusal_of(line)
     if why is None:
         said = f": {line['line']}" if line.kind == "bad_order" else ""

@@ -13,6 +13,7 @@ MEMBERS = {
     kind: members.split()
     for kind, members in {
         "kept": "camera #id #first #last @from @to #event ?#tag ?#lost",
+        "kept_unread": "camera #id #first #last why #event ?#tag",
         "kept_none": "camera #event",
         "held": "camera #held_micros #asked_micros #event ?#lost",
         "gap": "camera #micros @at #event ?#lost",
