@@ -1,3 +1,4 @@
+pub mod EventRuns
 pub mod SaveFrames
 pub mod FlushRuns
 pub mod KeepRuns

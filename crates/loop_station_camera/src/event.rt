@@ -1,6 +1,12 @@
 //! The clips of an event, which one save writes as one text: all that have its tag, in whichever stores.
 
-ghost use Rattle.std.specs.Prelude.{◌≡◌, ◌<◌, length};
+ghost use Rattle.std.specs.Prelude.{◌≡◌, ◌<◌, ◌++◌, IfOk, List, OnOk, length};
+ghost use Rattle.std.specs.List.Sorted.{IsNonDecreasingBy, IsPermutation};
+ghost use Rattle.loop_clips.specs.Table.{clip_list};
+ghost use Rattle.loop_pipeline.specs.Backs.{GoesAt, IsSoAt};
+ghost use Rattle.loop_station_shared.specs.declared.found.FoundClip.{FoundClip};
+ghost use Rattle.loop_station_camera.specs.Events.{AreEnds, FindsTag, having_tag};
+ghost use Rattle.loop_station_camera.specs.Keeping.{AreOnlyRead, IsOnlyRead};
 
 use crate::reading::found_of;
 use crate::state::CameraState;
@@ -21,7 +27,9 @@ pub(crate) fn find_event<R: Wait, D: Disk + Drop>(
     desks: &mut Desks<D, CameraState>,
     tag: u64,
 ) -> Result<Vec<FoundClip>, StoreFault>
-    ensures { desks.new.lent ≡ desks.old.lent }
+    ensures finds { IfOk result (λ found. FindsTag tag desks.old.desks found.items) }
+    ensures reads { AreOnlyRead D.medium desks.old.desks desks.new.desks }
+    ensures lent { desks.new.lent ≡ desks.old.lent }
 {
     let mut found = Vec::new(alloc);
     let count = desks.count();
@@ -42,6 +50,9 @@ fn clips_tagged<D: Disk + Drop>(
     tag: u64,
 ) -> Result<Vec<Clip>, StoreFault>
     requires { place < length desks.now.desks }
+    ensures same { IfOk result (λ clips. IsSoAt place desks.now.desks
+        (λ desk. IsPermutation (having_tag tag (clip_list 0 desk.store.clips)) clips.items)) }
+    ensures sorted { IfOk result (λ clips. IsNonDecreasingBy (λ c. c.from) clips.items) }
 {
     let outline = desks.outline(alloc, place)?;
     let mut clips = Vec::new(alloc);
@@ -62,22 +73,26 @@ fn add_clips<D: Disk + Drop>(
     clips: &[Clip],
     found: &mut Vec<FoundClip>,
 ) -> Result<(), StoreFault>
-    requires { place < length desks.old.desks }
+    requires place { place < length desks.old.desks }
+    requires sorted { IsNonDecreasingBy (λ c. c.from) clips.now }
+    ensures found { OnOk result ((part : List FoundClip) × (found.new.items ≡ found.old.items ++ part)
+        × AreEnds number clips.now part) }
+    ensures reads { GoesAt place desks.old.desks desks.new.desks (IsOnlyRead D.medium) }
     ensures lent { desks.new.lent ≡ desks.old.lent }
     ensures still { length desks.new.desks ≡ length desks.old.desks }
 {
-    // The first number that no clip before has.
-    let mut next = 0u64;
+    // The first number past those of the clips before: it may be one that no clip can have.
+    let mut next = 0u128;
     'clips: for clip in clips {
-        if clip.to < next {
+        if u128::from(clip.to) < next {
             continue;
         }
         let rest = Clip {
             id: clip_id(number, clip.id),
-            from: clip.from.max(next),
+            from: clip.from.max(next as u64),
             ..*clip
         };
-        next = clip.to.saturating_add(1);
+        next = u128::from(clip.to) + 1;
         let with_times = found_of(desks, place, rest)?;
         if found.push(with_times).is_err() {
             return Err(StoreFault::NoMemory);
