@@ -236,7 +236,8 @@ impl Saves {
     }
 
     /// The save of a place has ended so; `releases`: clips of its camera are released once they are saved. Returns the
-    /// save, unless someone else told its result already, and whether its clip is released now.
+    /// save, unless someone else told its result already, and whether its clip is released now. One that was told as
+    /// not saved, since a cancel came right before its end, stays locked.
     pub(crate) fn end<R: Wait>(
         &self,
         rt: &R,
@@ -249,7 +250,7 @@ impl Saves {
             Some(place) => place.take_untold(),
             None => None,
         };
-        let ended = inside.decided.finish(at, end, releases);
+        let ended = inside.decided.finish(at, end, releases && save.is_some());
         if let Some(key) = ended.begun {
             inside.begin_waiting(at, key);
             self.changed.notify_all();
