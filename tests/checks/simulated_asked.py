@@ -297,6 +297,9 @@ class Asked:
         if said["why"] != "Gaps" or not self.judge.kept.is_plain(name) or \
                 "times_from" in camera.words or name in self.judge.late | self.judge.gave_up:
             return
+        # Where room came just now, for a part of what waits, an event isn't told as refused.
+        if self.judge.room_at.get(name, 0) > time - ENDED:
+            return
         held = [self.judge.held(self.judge.present(it)) for it in camera.paths()]
         stored = {it for one in held if one for it in one.names.values()}
         waits = [it for at, it in self.judge.here[name] if since <= at <= until - READ

@@ -606,14 +606,17 @@ class Kept:
             self.says(f"its frames aren't in order, or not once: {said}")
         allowed: set[int | None] = set()
         for path in self.judge.cameras[name].paths():
-            spans = {it for (where, _), all_of in self.judge.tables.items() if where == path
-                     for it in all_of} | set(self.now[path].values())
-            for first, last, its in spans:
+            spans = {(own, *it) for (where, own), all_of in self.judge.tables.items()
+                     if where == path for it in all_of}
+            spans |= {(own, *it) for own, it in self.now[path].items()}
+            for own, first, last, its in spans:
                 if its == tag:
-                    allowed |= set(self.names(path, first, last))
+                    mine = set(self.names(path, first, last))
+                    allowed |= mine
+                    # It may be locked after the order came, and before that is done.
+                    if mine <= set(names):
+                        self.whole.add((path, own, first, last))
             for own, clip in self.tables_at.get(label, {}).get(path, {}).items():
-                if clip[2] == tag:
-                    self.whole.add((path, own, *clip[:2]))
                 if clip[2] == tag and self.now[path].get(own) == clip and \
                         not set(self.names(path, clip[0], clip[1])) <= set(names):
                     self.says(f"the clip {own} of {path} isn't in it: {said}")
