@@ -161,7 +161,9 @@ def cancelled(scene: Scene, now: int) -> Act:
         at += SECOND
         after = scene.chance.choice((20_000, 60_000, 100_000, 200_000))
         orders += [(at, f"save {name} 0 {scene.out()}"), (at + after, f"cancel {name} 0")]
-    return Act(12 * SECOND, orders, "", [f"reads {name}. 20000"])
+    lines = [f"reads {name}. 20000"] if scene.lived % 2 else \
+        [f"slow {now} {now + 60 * SECOND} out 300000"]
+    return Act(12 * SECOND, orders, "", lines)
 
 
 def outside(scene: Scene, now: int) -> Act:

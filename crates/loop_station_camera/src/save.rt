@@ -164,6 +164,7 @@ fn save_of(
         order,
         is_told: AtomicBool::new(false),
         ended: AtomicBool::new(false),
+        finishing: AtomicBool::new(false),
     };
     match Arc::new(alloc, save) {
         Ok(save) => Ok(save),
