@@ -298,7 +298,7 @@ class Asked:
                 "times_from" in camera.words or name in self.judge.late | self.judge.gave_up:
             return
         # Where room came just now, for a part of what waits, an event isn't told as refused.
-        if self.judge.room_at.get(name, 0) > time - ENDED:
+        if min(self.judge.room_at.get(name, 0), self.judge.stored_at.get(name, 0)) > time - ENDED:
             return
         held = [self.judge.held(self.judge.present(it)) for it in camera.paths()]
         stored = {it for one in held if one for it in one.names.values()}
