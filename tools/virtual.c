@@ -45,9 +45,9 @@
  * 4, 8 and 4 bytes), and the bytes: C a file is made, X one is met that was there (bytes: its name,
  * number: the file from now on), W written, T its length, S synced (place: how many records came
  * before the sync began), N renamed, L linked, U unlinked, M a folder made, F a folder synced,
- * V somebody moved a file, A answers, O standard output or error, P a frame or an order came
- * (number: the pipe, place: the line of the script), D nobody read it, Q its writer closed it, E
- * the end (bytes: why).
+ * V somebody moved a file, B a call on a file failed (number: its letter, bytes: the file's name),
+ * A answers, O standard output or error, P a frame or an order came (number: the pipe, place: the
+ * line of the script), D nobody read it, Q its writer closed it, E the end (bytes: why).
  */
 #define _GNU_SOURCE
 #include <dlfcn.h>
@@ -714,6 +714,7 @@ static int fails(const char *name, char call) {
         struct rule *it = &rules[at];
         if (it->kind != 'b' || it->call != call || now < it->from || now >= it->to) continue;
         if (!strstr(name, it->name) || pick(it->every)) continue;
+        note('B', call, 0, strlen(name), name);
         errno = (int)it->value;
         return 1;
     }

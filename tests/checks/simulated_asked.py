@@ -37,6 +37,8 @@ class Asked:
         # The place of each order among all that came, and those that came before a stop.
         self.turns: dict[str, int] = {}
         self.before_stop: set[str] = set()
+        # Of each camera the last order of which a line was told that names a clip.
+        self.named: dict[str, str] = {}
         # Up to which time all frames of a camera are stored, as a keep told.
         self.stored_to: dict[str, tuple[int, str]] = {}
         # The saves into a pipe that nobody reads: of which camera, and of what; those that began
@@ -203,6 +205,18 @@ class Asked:
         if said["why"] == "Stopped" and said.get("label") in self.before_stop and \
                 not self.lived.life.changed and time - stopping < STUCK:
             self.says(f"it came before the stop at {stopping}: {said}")
+        words = self.judge.kept.orders.get(said.get("label", ""), (0, ["?"]))[1]
+        if words[0] in ("save", "save!") and words[2].startswith("#"):
+            self.finds_all_open(said, time)
+
+    def finds_all_open(self, said: dict, time: int) -> None:
+        """An event is saved where all stores are open, which they are soon after the start, and
+        no disk has failed since."""
+        name = said["camera"]
+        opened = self.judge.opened.get(name, time)
+        if self.judge.kept.is_plain(name) and time - opened > AGAIN and said["why"] != "Stopped" \
+                and not self.judge.world.strange_files and not self.judge.kept.absent:
+            self.says(f"its stores are open since {opened}: {said}")
 
     def reads_refused(self, said: dict, time: int) -> None:
         """A store whose lock or unlock fails is opened again. An event is found that is there."""
@@ -237,6 +251,7 @@ class Asked:
 
     def reads_released(self, said: dict, time: int) -> None:
         """No clip is released that a save reads."""
+        self.is_in_turn(said)
         name, own, label = said["camera"], said["id"], said.get("label")
         self.freed[name] = time
         versions = self.judge.kept.versions(name, own)
@@ -248,8 +263,21 @@ class Asked:
             if camera == name and is_before and is_of and name not in self.judge.moved:
                 self.released.append((other, time, said))
 
+    def is_in_turn(self, said: dict) -> None:
+        """Lines that name a clip come in the order in which a camera does its orders."""
+        name, label = said["camera"], said.get("label")
+        if label not in self.turns or label in self.judge.kept.joined or \
+                name in self.lived.life.changed:
+            return
+        last = self.named.setdefault(name, label)
+        if self.turns[label] < self.turns[last]:
+            self.says(f"it comes after a line of @{last}, which was ordered later: {said}")
+        else:
+            self.named[name] = label
+
     def reads_kept(self, said: dict, time: int) -> None:
         """A clip of an event is told at its end."""
+        self.is_in_turn(said)
         if not said.get("label"):
             self.parts.setdefault((said["event"], said["camera"]), []).append(said)
 
@@ -268,6 +296,9 @@ class Asked:
         since, until = self.judge.spans.get(said["event"], (0, 0))
         if said["why"] != "Gaps" or not self.judge.kept.is_plain(name) or \
                 "times_from" in camera.words or name in self.judge.late | self.judge.gave_up:
+            return
+        # Where room came just now, for a part of what waits, an event isn't told as refused.
+        if min(self.judge.room_at.get(name, 0), self.judge.stored_at.get(name, 0)) > time - ENDED:
             return
         held = [self.judge.held(self.judge.present(it)) for it in camera.paths()]
         stored = {it for one in held if one for it in one.names.values()}

@@ -240,6 +240,8 @@ class Judge:
                 self.kept.is_away(record)
             if record.kind in "CNL":
                 self.kept.names_change(record)
+            if record.kind == "B":
+                self.kept.breaks(record)
             self.disk.take(record)
             if record.kind == "V":
                 self.moves(record.data.decode().split("\0")[0])

@@ -75,16 +75,20 @@ class Kept:
         self.cancelled: dict[str, int] = {}
         self.made: dict[str, int] = {}
         self.alone: dict[str, tuple[str, int]] = {}
-        # The stores of several whose disk failed while frames were written, and when.
+        # The stores of several whose disk failed while they were written, and when; and those that
+        # were written in this life.
         self.failed: dict[str, int] = {}
+        self.written: set[str] = set()
         # The saves that began by themselves and wait; and when a camera's store was told as absent.
         self.waiting: dict[tuple[str, int], int] = {}
         self.lost_at: dict[str, list[int]] = {}
         self.no_room: dict[str, int] = {}
         self.itself_at: dict[tuple[str, int], int] = {}
         self.kept_at: dict[tuple[str, int], int] = {}
-        # When each clip's entry was opened last; when a file of each id was told, of which frames.
+        # When each clip's entry was opened last, and when closed; when a file of each id was told,
+        # of which frames.
         self.opened_at: dict[tuple[str, int], int] = {}
+        self.closed_at: dict[tuple[str, int], int] = {}
         self.saved_of: dict[tuple[str, int], tuple[int, set[int]]] = {}
         self.tables_at: dict[str, dict[str, dict[int, Span]]] = {}
         self.rooms_at: dict[str, dict[str, tuple[int, int]]] = {}
@@ -178,6 +182,7 @@ class Kept:
     def writes(self, name: str, path: str, record: Record, names: set[int]) -> None:
         """A store's file is about to be changed."""
         self.stays_alone(self.judge.cameras[name], path, record.time)
+        self.written.add(path)
         if names:
             self.stores(name, path, record)
         else:
@@ -187,6 +192,7 @@ class Kept:
             self.changes[path] = self.changes.get(path, 0) + 1
             self.dirty.add(path)
             if record.data[:1] == bytes([layout.CLOSED]):
+                self.closed_at[path, own] = record.time
                 self.closes(name, path, own)
             elif record.data[:1] == bytes([layout.OPEN]):
                 self.opened_at[path, own] = record.time
@@ -243,16 +249,19 @@ class Kept:
     def stays_alone(self, camera: Camera, path: str, time: int) -> None:
         """A store of several whose disk failed is left alone for a minute, whether that was told or
         not, while the others go on."""
-        since, others = self.failed.get(path), set(camera.paths()) - set(self.failed)
-        if since and others and since + SECOND < time < since + ALONE:
+        since = self.failed.get(path)
+        others = (self.written & set(camera.paths())) - set(self.failed) - self.absent - {path}
+        if since and others and since + SECOND < time < since + ALONE and \
+                camera.name not in self.judge.moved:
             self.says(f"the disk of {path} failed at {since}, and it is written at {time}")
-        if camera.stores == 1 or "\nslow " in self.judge.lived.life.script:
-            return
-        bad = [it.split() for it in self.judge.script if it.startswith("bad ")]
-        # Each sync of this time fails: that of what is written now, too.
-        if any(it[3:5] == [path, "sync"] and it[6] == "1"
-               and int(it[1]) <= time < int(it[2]) - SECOND // 2 for it in bad):
-            self.failed.setdefault(path, time)
+
+    def breaks(self, record: Record) -> None:
+        """A call on a file fails: where a store that is written fails so, it is left alone."""
+        path = record.data.decode()
+        name = self.judge.paths.get(path)
+        if name and path in self.written and chr(record.number) in "sw" and \
+                self.judge.cameras[name].stores > 1:
+            self.failed.setdefault(path, record.time)
 
     def names_change(self, record: Record) -> None:
         """A file is made, or gets a name."""
@@ -470,7 +479,10 @@ class Kept:
             self.makes_room(name, own, said)
             return
         given, words = self.orders.get(label, (time, []))
+        if not words:
+            self.was_saved(said, store)
         if words and words[0] == "release":
+            self.is_unlocked(said, store, given)
             if name not in self.judge.moved and not versions:
                 self.says(f"there was no such clip: {said}")
             if len(words) > 3 and versions and int(words[3]) not in {it[0] for it in versions}:
@@ -487,6 +499,21 @@ class Kept:
                                             for it in self.now[path].values())
                 if newest and len(same) == 1 and newest[2] in self.to and not is_covered:
                     self.freed_parts.append((path, newest[2], newest[1]))
+
+    def is_unlocked(self, said: dict, path: str, given: int) -> None:
+        """A clip that is told as released was unlocked since that was ordered."""
+        name, own = said["camera"], said["id"] % 64
+        if self.closed_at.get((path, own), -1) < given and name not in self.judge.moved and \
+                said["label"] not in self.joined:
+            self.says(f"it was ordered at {given}, and nothing has unlocked it: {said}")
+
+    def was_saved(self, said: dict, path: str) -> None:
+        """A clip that goes by itself, of those that were locked in this life, was saved before."""
+        name, own = said["camera"], said["id"]
+        locked = self.opened_at.get((path, own % 64))
+        saved = self.saved_of.get((name, own), (-1, set()))[0]
+        if locked is not None and saved < locked and name not in self.judge.moved:
+            self.says(f"it was locked at {locked}, and not saved since then: {said}")
 
     def is_not_read(self, said: dict, given: int) -> None:
         """A clip isn't released while a save reads it."""
@@ -579,14 +606,17 @@ class Kept:
             self.says(f"its frames aren't in order, or not once: {said}")
         allowed: set[int | None] = set()
         for path in self.judge.cameras[name].paths():
-            spans = {it for (where, _), all_of in self.judge.tables.items() if where == path
-                     for it in all_of} | set(self.now[path].values())
-            for first, last, its in spans:
+            spans = {(own, *it) for (where, own), all_of in self.judge.tables.items()
+                     if where == path for it in all_of}
+            spans |= {(own, *it) for own, it in self.now[path].items()}
+            for own, first, last, its in spans:
                 if its == tag:
-                    allowed |= set(self.names(path, first, last))
+                    mine = set(self.names(path, first, last))
+                    allowed |= mine
+                    # It may be locked after the order came, and before that is done.
+                    if mine <= set(names):
+                        self.whole.add((path, own, first, last))
             for own, clip in self.tables_at.get(label, {}).get(path, {}).items():
-                if clip[2] == tag:
-                    self.whole.add((path, own, *clip[:2]))
                 if clip[2] == tag and self.now[path].get(own) == clip and \
                         not set(self.names(path, clip[0], clip[1])) <= set(names):
                     self.says(f"the clip {own} of {path} isn't in it: {said}")

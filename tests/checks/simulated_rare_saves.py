@@ -55,7 +55,7 @@ class Scene:
 
     def __init__(self, world: World) -> None:
         self.world, self.chance = world, random.Random(f"scene {world.seed}")
-        self.shape = shape = SHAPES[world.seed % PLACES % len(SHAPES)]
+        self.shape = shape = SHAPES[world.seed % PLACES]
         world.has_faults = world.kills_early = world.is_piped = False
         world.saves = shape.saves
         del world.cameras[2:]
@@ -161,7 +161,9 @@ def cancelled(scene: Scene, now: int) -> Act:
         at += SECOND
         after = scene.chance.choice((20_000, 60_000, 100_000, 200_000))
         orders += [(at, f"save {name} 0 {scene.out()}"), (at + after, f"cancel {name} 0")]
-    return Act(12 * SECOND, orders, "", [f"reads {name}. 20000"])
+    lines = [f"reads {name}. 20000"] if scene.lived % 2 else \
+        [f"slow {now} {now + 60 * SECOND} out 300000"]
+    return Act(12 * SECOND, orders, "", lines)
 
 
 def outside(scene: Scene, now: int) -> Act:
@@ -243,6 +245,34 @@ def one_fails(scene: Scene, now: int) -> Act:
     return Act(20 * SECOND, [], "", [f"bad {since} {until} {path} sync {EIO} 1"])
 
 
+def unlocks_fail(scene: Scene, now: int) -> Act:
+    """The disk fails as a clip is released, while nothing comes."""
+    name, path, at = scene.first.name, scene.first.paths()[0], now + 4 * SECOND
+    orders, lines, pauses = scene.freed(now + SECOND), [], []
+    for call in ("write", scene.chance.choice(("write", "sync"))):
+        pauses.append((at + SECOND, at + 4 * SECOND, False))
+        lines.append(f"bad {at + 3 * SECOND // 2} {at + 5 * SECOND // 2} {path} {call} {EIO} 1")
+        orders += [(at, f"keep {name} 1 55"), (at + 2 * SECOND, f"release {name} 0"),
+                   *scene.freed(at + 7 * SECOND)]
+        at += 8 * SECOND
+    return Act(at - now, orders, "", lines, [], pauses)
+
+
+def another_of_its_id(scene: Scene, now: int) -> Act:
+    """A clip that was saved by itself is released by an order, and another one gets its id, before
+    the station has released it."""
+    name, at, orders = scene.first.name, now + 3 * SECOND, []
+    stall = scene.chance.choice((150_000, 250_000))
+    lines = [f"slow {now} {now + 100 * SECOND} clips {2 * stall}",
+             f"slow {now} {now + 100 * SECOND} {name}. {stall}"]
+    for _ in range(4):
+        after = at + scene.chance.randint(3 * SECOND // 2, 9 * SECOND // 2)
+        orders += [(at, f"keep {name} 1"), (after, f"release {name} 0"),
+                   (after + 1, f"keep {name} 0 +2")]
+        at += 10 * SECOND
+    return Act(at - now, orders, "", lines)
+
+
 def to_come(scene: Scene, now: int) -> Act:
     """Events whose end lies ahead."""
     name, at = scene.first.name, now + 3 * SECOND
@@ -277,7 +307,11 @@ SHAPES = [
     Shape({**ONE, "period": 40_000}, {**PLAIN, "memory": 1000, "buffers": 4}, stalled),
     Shape({"stores": 3, "segments": 4, "slots": 4}, PLAIN, one_fails),
     Shape(ONE, PLAIN, to_come),
+    Shape(ONE, PLAIN, unlocks_fail),
+    Shape(ONE, {**ITSELF, "release": True}, another_of_its_id),
 ]
+# The places that are left have some of them once more.
+SHAPES += SHAPES[2:6]
 
 
 def scene_of(world: World) -> Scene | None:

@@ -164,6 +164,7 @@ fn save_of(
         order,
         is_told: AtomicBool::new(false),
         ended: AtomicBool::new(false),
+        finishing: AtomicBool::new(false),
     };
     match Arc::new(alloc, save) {
         Ok(save) => Ok(save),
@@ -219,11 +220,11 @@ fn run_save<R: AllocGlobal + Places + Wait + Clock>(
         }
         Err(why) => (String::new(rt.alloc()), Err(why)),
     };
-    if is_saved(end_of(&came)) && rt.path_kind(path.as_str()) == PathKind::File {
-        note_whole(rt, state, save);
-    }
     let (ours, is_released) = state.saves.end(rt, at, end_of(&came), state.config.release);
     if let Some(ours) = ours {
+        if is_saved(end_of(&came)) && rt.path_kind(path.as_str()) == PathKind::File {
+            note_whole(rt, state, save);
+        }
         tell_save(rt, state, ours, path.as_str(), came);
     }
     if is_released {

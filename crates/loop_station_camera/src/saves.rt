@@ -48,6 +48,8 @@ pub struct Save {
     pub(crate) is_told: AtomicBool,
     // It is to end before its text is whole.
     pub(crate) ended: AtomicBool,
+    // Its text is whole, and gets its name: it can't be ended any more.
+    pub(crate) finishing: AtomicBool,
 }
 
 impl Save {
@@ -100,9 +102,12 @@ impl SavePlace {
         if self.is_told { None } else { save }
     }
 
-    // Ends the save before its text is whole. Returns it, unless its result was told before.
+    // Ends the save before its text is whole. Returns it, unless that is whole, or its result was told before.
     fn cancel(&mut self) -> Option<Arc<Save>> {
         let save = self.save.as_ref()?;
+        if save.finishing.load(Ordering::SeqCst) {
+            return None;
+        }
         save.ended.store(true, Ordering::SeqCst);
         if self.is_told {
             return None;
@@ -236,7 +241,8 @@ impl Saves {
     }
 
     /// The save of a place has ended so; `releases`: clips of its camera are released once they are saved. Returns the
-    /// save, unless someone else told its result already, and whether its clip is released now.
+    /// save, unless someone else told its result already, and whether its clip is released now. One that was told as
+    /// not saved, since a cancel came right before its end, stays locked.
     pub(crate) fn end<R: Wait>(
         &self,
         rt: &R,
@@ -249,12 +255,22 @@ impl Saves {
             Some(place) => place.take_untold(),
             None => None,
         };
-        let ended = inside.decided.finish(at, end, releases);
+        let ended = inside.decided.finish(at, end, releases && save.is_some());
         if let Some(key) = ended.begun {
             inside.begin_waiting(at, key);
             self.changed.notify_all();
         }
         (save, ended.release)
+    }
+
+    /// The text of a save is whole, and gets its name unless the save was ended before: from now on none ends it.
+    pub(crate) fn finishes<R: Wait>(&self, rt: &R, save: &Save) -> bool {
+        let _places = self.inside.lock(rt);
+        if save.ended.load(Ordering::SeqCst) {
+            return false;
+        }
+        save.finishing.store(true, Ordering::SeqCst);
+        true
     }
 
     /// A save that began by itself failed, and is tried again at a time.
@@ -372,6 +388,7 @@ impl Inside {
     // A save gets a place.
     fn put(&mut self, place: usize, save: Arc<Save>) {
         if let Some(place) = self.places.get_mut(place) {
+            save.finishing.store(false, Ordering::SeqCst);
             place.save = Some(save);
             place.is_new = true;
             place.is_told = false;
@@ -399,7 +416,9 @@ impl Inside {
         for place in self.places.as_slice() {
             match &place.save {
                 Some(save) if save.camera == camera && !place.is_told => {
-                    return Some(save.found.clip.id);
+                    if !save.finishing.load(Ordering::SeqCst) {
+                        return Some(save.found.clip.id);
+                    }
                 }
                 _ => {}
             }

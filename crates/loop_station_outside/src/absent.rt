@@ -96,6 +96,16 @@ impl Absent {
         }
     }
 
+    /// Whether its file may have clips all the same.
+    pub fn may_have_clips(&self) -> bool {
+        match self {
+            Absent::Store(fault) => *fault != StoreFault::NotFormatted,
+            Absent::File(fault) => !matches!(fault, FileFault::Folder | FileFault::NotRegular),
+            Absent::Unfinished => false,
+            _ => true,
+        }
+    }
+
     /// Whether it has the same cause as another one.
     pub fn is_like(&self, other: &Absent) -> bool {
         self.name() == other.name()

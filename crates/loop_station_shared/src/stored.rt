@@ -8,6 +8,7 @@ ghost use Rattle.std.specs.Prelude.{◌<◌};
 
 use loop_record::Geometry;
 use loop_station_core::{held_after, holds_back, id_parts, keeps_in, opens_before};
+use loop_station_outside::Absent;
 use loop_station_words::{MAX_STORES, duration_of, frames_in, free_blocks, newest_block};
 use loop_store::Clip;
 use std::alloc::Global;
@@ -69,6 +70,8 @@ struct Inside {
     closing: bool,
     // The numbers of the stores that failed, and until when each is left alone.
     failed: Vec<(u32, u64)>,
+    // The numbers of the files that are there, may have clips, and aren't open; and why not.
+    unopened: Vec<(u32, Absent)>,
 }
 
 /// What a camera's stores hold: their next numbers, and their clips. The thread of the desks says what it changes.
@@ -117,6 +120,7 @@ impl Stored {
                 forced: 0,
                 closing: false,
                 failed: Vec::new(alloc),
+                unopened: Vec::new(alloc),
             }),
             changed: Condvar::new(),
             period: AtomicU64::new(0),
@@ -130,6 +134,7 @@ impl Stored {
         self.period
             .store(duration_of(1, &member.geometry), Ordering::SeqCst);
         inside.members.clear();
+        inside.unopened.clear();
         inside.forced = 0;
         let elsewhere = member.elsewhere;
         let _untold = inside.members.push(member);
@@ -215,6 +220,48 @@ impl Stored {
     /// Whether files of the camera are there that aren't open yet.
     pub fn is_opening<R: Wait>(&self, rt: &R) -> bool {
         self.inside.lock(rt).opening
+    }
+
+    /// The files that are there aren't opened, as where memory or a thread is refused: nobody waits for them.
+    pub fn leave_others<R: Wait>(&self, rt: &R) {
+        if self.is_opening(rt) {
+            self.set_unopened(rt, MAX_STORES, Some(Absent::NoBuffers));
+        }
+        self.all_open(rt);
+    }
+
+    /// The file of a number is there, and isn't open, for this reason; or it is open, or no file.
+    pub fn set_unopened<R: Wait>(&self, rt: &R, number: u32, why: Option<Absent>) {
+        let mut inside = self.inside.lock(rt);
+        if let Some(at) = inside.unopened.iter().position(|known| known.0 == number) {
+            inside.unopened.remove(at);
+        }
+        if let Some(why) = why.filter(|why| why.may_have_clips()) {
+            // Where memory is refused, a save of an event doesn't know of its clips.
+            let _unknown = inside.unopened.push((number, why));
+        }
+    }
+
+    /// Why the file of a number isn't open, where it is there.
+    pub fn explain_unopened<R: Wait>(&self, rt: &R, number: u32, why: Absent) {
+        let is_there = self
+            .inside
+            .lock(rt)
+            .unopened
+            .iter()
+            .any(|known| known.0 == number);
+        if is_there {
+            self.set_unopened(rt, number, Some(why));
+        }
+    }
+
+    /// Why a store of the camera that is there, and may have clips, isn't open, if one isn't.
+    pub fn unopened<R: Wait>(&self, rt: &R) -> Option<Absent> {
+        let inside = self.inside.lock(rt);
+        if inside.opening {
+            return Some(Absent::Opening);
+        }
+        inside.unopened.first().map(|known| known.1)
     }
 
     /// Stores of the camera that aren't there are made, or none is any more.

@@ -385,7 +385,7 @@ fn film<R: AllocGlobal + Places + Threads + Wait + Clock + Sync, W: Write + Drop
         };
         if !opener {
             // Where a thread is refused, the camera is filmed into the one store that is open, and waits for no other.
-            state.stored.all_open(rt);
+            state.stored.leave_others(rt);
         }
         let guided = GuidedCamera {
             link: &state.threads,

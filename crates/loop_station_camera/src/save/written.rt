@@ -145,20 +145,30 @@ pub(super) fn write<R: AllocGlobal + Places + Wait + Clock>(
     };
     let mut file = rt.open_text(path, replace)?;
     wait_reader(rt, state, save, &mut file)?;
-    let came = write_clips(rt, state, save, &geometry, &mut file);
-    match came {
-        Ok(count) => match rt.finish_text(&file) {
+    let came = match write_clips(rt, state, save, &geometry, &mut file) {
+        Ok(count) => match finish(rt, state, save, &file) {
             Ok(()) => Ok(count),
-            Err(why) => {
-                rt.give_up_text(&file);
-                Err(why)
-            }
+            Err(why) => Err(why),
         },
-        Err(why) => {
-            rt.give_up_text(&file);
-            Err(why)
-        }
+        Err(why) => Err(why),
+    };
+    if came.is_err() {
+        rt.give_up_text(&file);
     }
+    came
+}
+
+// A text is whole, and gets its name, unless its save was ended before.
+fn finish<R: AllocGlobal + Places + Wait + Clock>(
+    rt: &R,
+    state: &CameraState,
+    save: &Save,
+    file: &PartFile,
+) -> Result<(), NotSaved> {
+    if !state.saves.finishes(rt, save) {
+        return Err(NotSaved::Cancelled);
+    }
+    rt.finish_text(file)
 }
 
 // Writes the text of a save into a file.
