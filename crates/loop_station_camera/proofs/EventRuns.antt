@@ -1,5 +1,5 @@
 -- The ends of clips that are found, one clip after the other, and store by store.
-use Rattle.std.proofs.Common.{◌≡◌, ◌≢◌, ◌==◌, ◌<◌, ◌≤◌, ◌⊎◌, inl, inr, ℕ, ◌+◌, max, List, [], ◌∷◌, ◌++◌, All, Contains, length, slice_get, slice_index_or, take, Some, refl, sym, ap, ◌∙◌, subst, arith}
+use Rattle.std.proofs.Common.{◌≡◌, ◌≢◌, ◌<◌, ◌≤◌, ◌⊎◌, inl, inr, ℕ, ◌+◌, max, List, [], ◌∷◌, ◌++◌, All, Contains, length, slice_get, slice_index_or, take, Some, refl, sym, ap, ◌∙◌, subst, arith}
 use Rattle.std.specs.List.{flat_map}
 use Rattle.std.specs.List.Sorted.{IsNonDecreasingBy, IsPermutation}
 use Rattle.std.proofs.lemmas.Bool.{cases_lt}
@@ -13,7 +13,7 @@ use Rattle.loop_disk.specs.Medium.{Medium}
 use Rattle.loop_desk.specs.declared.limits.Outline.{Outline}
 use Rattle.loop_desk.specs.Seen.{SeenDesk, TellsOutline}
 use Rattle.loop_pipeline.specs.Backs.{GoesAt, IsSoAt}
-use Rattle.loop_pipeline.proofs.DeskPlaces.{as-many, same-desk}
+use Rattle.loop_pipeline.proofs.DeskPlaces.{as-many}
 use Rattle.loop_pipeline.proofs.Places.{get-joined, get-set-other, some-same}
 use Rattle.loop_station_shared.specs.declared.found.FoundClip.{FoundClip}
 use Rattle.loop_station_camera.specs.Keeping.{known}

@@ -1,4 +1,4 @@
-use Rattle.std.proofs.Common.{◌≡◌, ◌<◌, ◌≤◌, ◌++◌, ◌+◌, max, [], ◌∷◌, ap, sym, ◌∙◌, refl, slice_index_or, arith, rules}
+use Rattle.std.proofs.Common.{◌≡◌, ◌<◌, ◌≤◌, ◌++◌, ◌+◌, max, [], ◌∷◌, ap, sym, ◌∙◌, refl, slice_index_or, rules}
 use Rattle.std.proofs.lemmas.List.{append_assoc, append-nil, get_or_default}
 use Rattle.loop_clips.specs.declared.clip.Clip.{Clip}
 use Rattle.loop_pipeline.proofs.DeskPlaces.{goes-still}
