@@ -7,3 +7,7 @@ mod Rule
 mod Turns
 mod Runs
 mod Filmings
+mod DeskGroups
+mod Rechoosing
+mod FilmingRuns
+mod FilmingsHold

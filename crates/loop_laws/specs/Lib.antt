@@ -1,3 +1,4 @@
 pub mod Stores
 pub mod Laws
 pub mod Filmings
+pub mod FilmingRuns

@@ -7,10 +7,13 @@
 //!
 //! The laws are of plain recordings. That a camera's stores stand for such ones is said by the contracts of
 //! `loop_store` and `loop_desk`; `a_filming_chooses` says of what happens to a camera's desks (`DeskEvents` of
-//! `loop_pipeline`, `specs/Filmings`) that each choice of a store is one by this rule. No law says that a whole filming
-//! is a `Run`: for that its flushes have to be put together to groups that stores take.
+//! `loop_pipeline`, `specs/Filmings`) that each choice of a store is one by this rule, and `a_filming_is_a_run` that a
+//! stretch of a filming in which all goes well is a `Run` (`specs/FilmingRuns`): so the newest frames are there after
+//! it (`a_filming_holds_the_newest`). No law says that of a stretch in which a frame is refused, a flush fails, or a
+//! visit locks or unlocks.
 #![tactic(auto)]
 
+ghost use Rattle.loop_laws.specs.FilmingRuns.{FilmingHoldsNewest, FilmingIsRun, UnlockedNeverFull};
 ghost use Rattle.loop_laws.specs.Filmings.{FrameIsChoice, TurnIsChoice};
 ghost use Rattle.loop_laws.specs.Laws.{StoresGoOn, StoresHoldNewest};
 
@@ -36,6 +39,31 @@ pub fn stores_go_on()
 pub fn a_filming_chooses<D: Disk + Drop>(disk: &D)
     ensures turns { TurnIsChoice D.medium }
     ensures frames { FrameIsChoice D.medium }
+{
+    let _any = disk;
+}
+
+/// A stretch of a filming in which all goes well is a run of the long ring: several desks at which nothing waits at
+/// first accept each frame and do each flush, turns lead from one to another, visits change nothing, empty stores join,
+/// and one store always has room for a block. Then the stores took, group by group, each by the rule, just the frames
+/// that the desks accepted, in order and each in the store of its desk, but for those that still wait at the active
+/// one.
+pub fn a_filming_is_a_run<D: Disk + Drop>(disk: &D)
+    ensures { FilmingIsRun D.medium }
+{
+    let _any = disk;
+}
+
+/// A store in which nothing is locked always has room for a block, where fewer blocks are kept than it has segments.
+pub fn an_unlocked_store_never_fills()
+    ensures { UnlockedNeverFull }
+{}
+
+/// So after such a stretch the stores hold the newest of all frames that came to them, each store those that it took:
+/// where they were empty at first, and runs, starts and stores that joined led to what the desks stood for before it.
+/// What still waits isn't among them.
+pub fn a_filming_holds_the_newest<D: Disk + Drop>(disk: &D)
+    ensures { FilmingHoldsNewest D.medium }
 {
     let _any = disk;
 }
