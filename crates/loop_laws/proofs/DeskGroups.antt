@@ -1,15 +1,13 @@
 -- What calls of a desk make of the recording for which its store stands: a group that is taken, or nothing.
-use Rattle.std.proofs.Common.{◌≡◌, ◌≢◌, ◌⊎◌, inl, inr, ℕ, zero, suc, ◌+◌, ◌-◌, ◌%◌, ◌≤◌, Bool, true, false, Option, Some, None, min, Ok, Err, List, [], ◌∷◌, ◌++◌, drop, length, take, refl, sym, ap, ◌∙◌, subst, arith}
-use Rattle.std.proofs.lemmas.List.{append-nil, length-append, length-take, take-append-drop, take_min}
+use Rattle.std.proofs.Common.{◌≡◌, ◌≢◌, ◌⊎◌, inl, inr, ℕ, ◌+◌, ◌-◌, ◌%◌, ◌≤◌, true, Option, Some, None, min, Ok, Err, List, [], ◌∷◌, ◌++◌, drop, length, take, refl, sym, ap, ◌∙◌, subst, arith}
+use Rattle.std.proofs.lemmas.List.{length-append, length-take, take-append-drop, take_min}
 use Rattle.std.specs.List.{list_all}
 use Rattle.loop_disk.specs.Medium.{Medium}
 use Rattle.loop_record.specs.Recording.{Picture, Recording, Ring, Step, plain, ring_of, room, steps}
-use Rattle.loop_store.specs.declared.fault.StoreFault.{StoreFault}
 use Rattle.loop_store.specs.Calls.{Call, StoreState, after_calls, after_store_call, appended}
-use Rattle.loop_store.specs.Goes.{Goes, Stands, TellsState}
-use Rattle.loop_store.specs.Seen.{Seen, StandsFor, ring_in}
+use Rattle.loop_store.specs.Goes.{Goes, Stands}
+use Rattle.loop_store.specs.Seen.{StandsFor, ring_in}
 use Rattle.loop_store.proofs.AppendAnswers.{answered-some}
-use Rattle.loop_store.proofs.ModelRuns.{none-either}
 use Rattle.loop_store.proofs.Names.{steps_or_none}
 use Rattle.loop_store.proofs.NextNumber.{next-one}
 use Rattle.loop_desk.specs.declared.limits.Flushed.{Flushed}

@@ -15,13 +15,13 @@ use Rattle.loop_desk.specs.declared.limits.Space.{Space}
 use Rattle.loop_desk.specs.Desk.{DeskCall, accepted_in, clip_locked, clip_unlocked, flushed, frame_read, layout_upgraded, run_told, status_told, submitted}
 use Rattle.loop_desk.specs.Seen.{DeskGoes, SeenDesk}
 use Rattle.loop_desk.specs.Space.{TellsSpace}
-use Rattle.loop_pipeline.specs.Backs.{Part, calls_of, own, visited}
+use Rattle.loop_pipeline.specs.Backs.{own, visited}
 use Rattle.loop_pipeline.specs.DeskEvents.{DeskEvent, DesksNow, GoesOnBy, Happened, HappensTo, TakesFrame, TurnsOver, done, joined_by, turned_to}
 use Rattle.loop_pipeline.specs.Nexts.{HasNone, IsElsewhere, TakesNext, end_past, has_free}
 use Rattle.loop_pipeline.specs.Turns.{RoomForBlock}
 use Rattle.loop_pipeline.proofs.Places.{get-joined, get-set-other, get-set-same}
 use Rattle.loop_laws.specs.Filmings.{IsDeskOf, StandEach, ring_now}
-use Rattle.loop_laws.specs.FilmingRuns.{Begins, FilmingIsRun, GoesWell, HappensWell, IsRun, NeverFull, is_append, is_quiet, is_start, placed_accepted, placed_at}
+use Rattle.loop_laws.specs.FilmingRuns.{Begins, FilmingIsRun, HappensWell, IsRun, NeverFull, is_append, is_quiet, is_start, placed_accepted, placed_at}
 use Rattle.loop_laws.specs.Stores.{EachTells, LongRing, RingEvent, Run, TakesBlock, TakesGroup, end_after, frames_placed, joined, placed_by, taken}
 use Rattle.loop_laws.proofs.DeskGroups.{Ends, Flushes, Stays, Takes, flush-does, quiet-stays, submit-waits}
 use Rattle.loop_laws.proofs.Filmings.{is-choice, stays-by-choice}

@@ -1,15 +1,15 @@
 -- After a stretch of a filming the stores hold the newest frames.
-use Rattle.std.proofs.Common.{◌≡◌, ◌⊎◌, inl, inr, ℕ, zero, suc, ◌+◌, ◌-◌, ◌%◌, ◌^◌, ◌<◌, ◌≤◌, ◌||◌, Bool, true, false, cond, not, max, Option, Some, None, is_some, List, [], ◌∷◌, ◌++◌, length, map, take, refl, sym, ap, ◌∙◌, subst, arith}
+use Rattle.std.proofs.Common.{◌≡◌, ◌⊎◌, inl, inr, ℕ, ◌+◌, ◌-◌, ◌<◌, ◌≤◌, Bool, true, false, cond, not, max, Option, Some, None, is_some, List, [], ◌∷◌, ◌++◌, length, map, refl, sym, ap, ◌∙◌, subst, arith}
 use Rattle.std.proofs.lemmas.Bool.{cases_lt}
 use Rattle.std.proofs.lemmas.List.{length-take}
-use Rattle.std.specs.List.{filter, find, flat_map, list_all, list_any}
+use Rattle.std.specs.List.{filter, find, list_all, list_any}
 use Rattle.loop_disk.specs.Medium.{Medium}
 use Rattle.loop_record.specs.declared.clip.Span.{Span}
-use Rattle.loop_record.specs.Recording.{Picture, Recording, Ring, Step, after_step, held_blocks, is_locked, lock, meets, older_blocks, plain, recycle, store, unlock, victim}
+use Rattle.loop_record.specs.Recording.{Picture, Recording, Ring, Step, after_step, held_blocks, is_locked, lock, meets, older_blocks, plain, recycle, store, unlock}
 use Rattle.loop_pipeline.specs.Turns.{RoomForBlock}
-use Rattle.loop_laws.specs.FilmingRuns.{FilmingHoldsNewest, IsRun, NeverFull, UnlockedNeverFull, is_append, is_start, placed_accepted, placed_at}
+use Rattle.loop_laws.specs.FilmingRuns.{FilmingHoldsNewest, UnlockedNeverFull, is_append, is_start, placed_at}
 use Rattle.loop_laws.specs.Filmings.{ring_now}
-use Rattle.loop_laws.specs.Stores.{AreCounted, Counted, RingEvent, frames_placed, joined, placed_by, started, taken}
+use Rattle.loop_laws.specs.Stores.{AreCounted, Counted, RingEvent, frames_placed, joined, started, taken}
 use Rattle.loop_laws.proofs.Counting.{counted-up}
 use Rattle.loop_laws.proofs.FilmingRuns.{filming-is-run}
 use Rattle.loop_laws.proofs.Runs.{stores-hold_newest}
