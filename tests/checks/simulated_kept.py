@@ -756,6 +756,8 @@ class Kept:
     def reads_store_absent(self, said: dict, time: int) -> None:
         """A store isn't there any more, or the disk had no room for it."""
         self.lost_at.setdefault(said["camera"], []).append(time)
+        # What fails as stores are opened again is no store that is written.
+        self.written -= set(self.judge.cameras[said["camera"]].paths())
         if said["why"] == "NoRoom":
             self.no_room[said["camera"]] = time
 
