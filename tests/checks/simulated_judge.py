@@ -602,7 +602,7 @@ class Judge:
             since = self.given[label] - seconds * SECOND
             until = self.given[label] + more * SECOND
             if "from" in words:
-                since, until = moment_of(words[3]), min(until, moment_of(words[5]))
+                since, until = moment_of(words[3]), moment_of(words[5])
             want = {it for at, it in self.here[name] if since + READ <= at <= until - READ}
             have = set().union(*(it.get("names", set()) for it in mine))
             if any("names" not in it for it in mine):

@@ -90,6 +90,8 @@ class Kept:
         self.opened_at: dict[tuple[str, int], int] = {}
         self.closed_at: dict[tuple[str, int], int] = {}
         self.saved_of: dict[tuple[str, int], tuple[int, set[int]]] = {}
+        # How many frames the clips of each id have that were told as kept.
+        self.kept_counts: dict[tuple[str, int], set[int]] = {}
         self.tables_at: dict[str, dict[str, dict[int, Span]]] = {}
         self.rooms_at: dict[str, dict[str, tuple[int, int]]] = {}
         self.away: dict[int, int] = {}
@@ -348,15 +350,19 @@ class Kept:
             self.kept_at[name, said["id"]] = time
         else:
             self.is_in_order(said)
+        count = said["last"] - said["first"] + 1
+        self.kept_counts.setdefault((name, said["id"]), set()).add(count)
 
     def is_in_order(self, said: dict) -> None:
-        """A keep is told before its clip is told as saved. That it is told before its release is
-        asked where the line is read."""
+        """A keep is told before its clip is told as saved, unless that was an earlier clip of that
+        id. That it is told before its release is asked where the line is read."""
         which = said["camera"], said["id"]
         path = self.judge.cameras[which[0]].paths()[which[1] // 64]
         locked = self.opened_at.get((path, which[1] % 64))
         time, names = self.saved_of.get(which, (-1, set()))
-        if locked is not None and time > locked and names and names <= said.get("names", set()):
+        if locked is not None and time > locked and names and \
+                names <= said.get("names", set()) and \
+                len(names) not in self.kept_counts.get(which, set()):
             self.says(f"it was told as saved at {time}, and locked at {locked}: {said}")
 
     def reads_event_begun(self, said: dict, time: int) -> None:
@@ -763,13 +769,13 @@ class Kept:
 
     def reads_removed_out_of_order(self, said: dict, time: int) -> None:
         """While stores are opened frames wait in memory: none goes out of order before that is
-        full, so not where it has room for all that came."""
+        full, so not where it has room for more than all that came."""
         camera = self.judge.cameras[said["camera"]]
         memory = camera.words.get("memory", "4 s")
         room = memory // SIZE if isinstance(memory, int) else \
             int(str(memory).split()[0]) * (SECOND // camera.period)
         came = sum(at <= time for at, _ in self.judge.here[camera.name])
-        if came <= room and camera.name not in self.judge.moved:
+        if came < room and camera.name not in self.judge.moved:
             self.says(f"{came} frames came, and memory has room for {room}: {said}")
 
     def reads_camera_ended(self, said: dict, time: int) -> None:
