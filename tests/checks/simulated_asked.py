@@ -135,7 +135,7 @@ class Asked:
         for other, at, it in self.released if "\npause" not in self.lived.life.script else ():
             if other == label and time - at > ENDED:
                 self.says(f"{it} released what @{other} reads, which ended at {time}")
-        if words[0] in ("keep", "release", "cancel", "list"):
+        if words[0] in ("keep", "release", "list"):
             self.begun |= {it for it, (name, _) in self.saves.items()
                            if name in words or words[0] == "list"
                            if self.turns[it] < self.turns[label]}
