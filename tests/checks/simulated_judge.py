@@ -302,6 +302,8 @@ class Judge:
         self.begun: set[int] = set()
         self.begin_next = {it: self.stored_in(lived.before, it) for it in self.cameras}
         self.late = {it for it in self.cameras if self.cameras[it].is_ahead}
+        # The writers that went on while no store of their camera had a frame.
+        self.headless = {it: self.writer[it] for it in self.late if not self.begin_next[it]}
         # Which cameras' writers left amid a frame, and the times that their frames say.
         self.cuts: dict[str, int] = {}
         self.said_at: dict[str, dict[int, int]] = {it: {} for it in self.cameras}
@@ -579,10 +581,19 @@ class Judge:
         if known > len(came) and name not in self.late:
             self.says(f"{len(came)} frames came since {self.begin_next[name]} were stored: {said}")
         quiet = not came or time - came[-1][0] > SOON
-        if quiet and known < len(came) and name in self.opened and name not in self.broken \
-                and not self.lived.life.is_slow:
+        if quiet and known < len(self.to_store(name)) and name in self.opened \
+                and name not in self.broken and not self.lived.life.is_slow:
             self.says(f"{len(came)} frames came since {self.begin_next[name]} were stored, and no"
                       f" more for {SOON // SECOND} s: {said}")
+
+    def to_store(self, name: str) -> list[tuple[int, int]]:
+        """The frames that came and are to be stored. Where a writer went on, without a header, and
+        no store had a frame that says what its frames are like, what it gave before that was told
+        isn't: then its pipe is closed."""
+        headless = self.headless.get(name)
+        told_at = min(self.told.kinds.get(("source_unusable", name), ()), default=-1)
+        return [(at, it) for at, it in self.here[name]
+                if at > told_at or self.streams[name][it] != headless]
 
     def kept_all(self, label: str) -> None:
         """A keep has all frames that came in its seconds, or says what it hasn't."""
@@ -692,7 +703,7 @@ class Judge:
             return
         files = self.disk.present()
         for name, camera in self.cameras.items():
-            came = [it for at, it in self.here[name] if at < time - SOON]
+            came = [it for at, it in self.to_store(name) if at < time - SOON]
             since = max(self.opened.get(name, time), self.room_at.get(name, 0))
             frees = any(it[0] == name for it in self.freeing)
             if not came or frees or time - since < SOON or name in self.moved:
@@ -795,7 +806,7 @@ class Judge:
         for name, stored in self.stored.items():
             if self.lived.life.is_faulty or name in self.moved | self.broken | self.gave_up:
                 continue
-            lacks = [it for _, it in self.here[name] if it < max(stored, default=0)]
+            lacks = [it for _, it in self.to_store(name) if it < max(stored, default=0)]
             lacks = [it for it in lacks if it not in stored]
             if lacks:
                 self.says(f"{lacks} of {name} came, and weren't stored, and {max(stored)} was")
