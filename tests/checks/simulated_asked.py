@@ -156,10 +156,7 @@ class Asked:
         to = min(given, moment_of(words[5])) if "from" in words and len(words) > 5 else given
         lines = self.judge.answers.get(label, [])
         for name in self.judge.cameras:
-            # Where room came just now, for a part of what waits, a keep isn't told as refused.
-            is_freed = self.judge.told.has_told("all_locked", name) and \
-                self.judge.room_at.get(name, 0) > given - ENDED
-            if self.is_whole(name, lines) and over - given < STUCK and not is_freed and \
+            if self.is_whole(name, lines) and over - given < STUCK and \
                     label not in self.judge.kept.joined:
                 self.stored_to[name] = max(self.stored_to.get(name, (0, "")), (to, label))
 

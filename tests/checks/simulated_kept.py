@@ -863,10 +863,8 @@ class Kept:
                     name not in self.judge.late and not self.judge.lived.life.is_faulty:
                 self.says(f"a keep doesn't tell that {sorted(missing)} aren't held: {mine}")
             newest = max((max(it.names.values()) for it in held if it and it.names), default=-1)
-            # Where room came just now, for a part of what waits, a keep isn't told as refused.
-            is_freed = self.judge.room_at.get(name, 0) > given - SECOND // 2
             if [it for it in missing if it > newest] and name not in self.judge.late and \
-                    name not in self.judge.gave_up and not is_freed:
+                    name not in self.judge.gave_up:
                 self.says(f"a keep isn't refused, and {sorted(missing)} aren't stored: {mine}")
 
     def tells_gaps(self, camera: Camera, mine: list[dict], since: int, until: int) -> None:

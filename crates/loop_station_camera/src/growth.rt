@@ -62,19 +62,19 @@ impl CameraState {
     }
 
     // An event is over, and these are its clips. Once that is in the file of events, it is told whether all of it is
-    // held.
+    // held, or why that isn't known.
     fn end_growing<R: Wait>(
         &self,
         rt: &R,
         alloc: Global,
         growing: Growing,
         (found, unread): (&[FoundClip], &[UnreadClip]),
-        runs: &[Run],
+        (runs, fault): (&[Run], Option<StoreFault>),
     ) {
         let mut lines = self.lines(alloc);
         // Where memory for the lines is refused, they aren't printed.
-        let _ = match unread.first() {
-            Some(one) => self.tell_unread(&growing, found, unread, one.fault, &mut lines),
+        let _ = match fault {
+            Some(fault) => self.tell_unread(&growing, found, unread, fault, &mut lines),
             None => self.tell_event(&growing, found, runs, &mut lines),
         };
         let kept = match self.kept_clips(alloc, found) {
@@ -84,7 +84,7 @@ impl CameraState {
         self.note_open(rt, alloc, Announcement::Told(lines, kept));
     }
 
-    // Tells how an event ended of which not all clips' times can be read: then it isn't known how much of it is held.
+    // Tells how an event ended of which not all times can be read: then it isn't known how much of it is held.
     fn tell_unread(
         &self,
         growing: &Growing,
@@ -174,8 +174,9 @@ pub(crate) fn grow<R: Wait + Clock, D: Disk + Drop>(
         GrowthTurn::Release => release_covered(rt, state, desks, growing),
         GrowthTurn::End => {
             let (mut found, unread) = times_of(rt, alloc, state, desks, growing.clips());
-            let runs = runs_of(rt, alloc, state, desks, found.as_mut_slice());
-            state.end_growing(rt, alloc, growing, (&found, &unread), &runs);
+            let (runs, unsearched) = runs_of(rt, alloc, state, desks, found.as_mut_slice());
+            let fault = unread.first().map(|one| one.fault).or(unsearched);
+            state.end_growing(rt, alloc, growing, (&found, &unread), (&runs, fault));
         }
         GrowthTurn::Leave => {
             state.desk.put_growing(rt, growing);

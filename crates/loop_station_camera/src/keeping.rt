@@ -40,7 +40,7 @@ pub(crate) fn turn_of<R: Wait + Clock>(rt: &R, state: &CameraState, keep: Keep) 
         time: now,
         come,
         block: state.newest_block(rt),
-        locked: state.is_locked(rt),
+        locked: state.is_locked(rt) && state.room(rt).free == 0,
         stopping: state.is_stopped(rt),
     };
     next_turn(keep, &look)

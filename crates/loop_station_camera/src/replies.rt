@@ -19,7 +19,7 @@ use std::sync::Wait;
 const LEAST_GAP: u64 = 250_000;
 
 /// What came of a keep: what was locked of a part of its time, the times of its clips, those whose times can't be read,
-/// when their frames came, and why not all that waited could be stored before, if so.
+/// when their frames came, why not all of these gaps are known, and why not all that waited could be stored before, if so.
 #[derive(Drop)]
 pub(crate) struct KeepOutcome {
     pub keep: Keep,
@@ -29,11 +29,12 @@ pub(crate) struct KeepOutcome {
     pub found: Vec<FoundClip>,
     pub unread: Vec<UnreadClip>,
     pub runs: Vec<Run>,
+    pub unsearched: Option<StoreFault>,
 }
 
 /// Tells what a keep has locked up to a time, a line for each clip, and why not everything was locked. Where nothing
-/// of its time lies ahead, it also tells how much of it is held, and where frames are missing, unless the times of a
-/// clip can't be read.
+/// of its time lies ahead, it also tells how much of it is held, and where frames are missing, unless not all times can
+/// be read.
 pub(crate) fn tell_kept(
     state: &CameraState,
     outcome: &KeepOutcome,
@@ -53,7 +54,9 @@ pub(crate) fn tell_kept(
     if let Some(fault) = kept.fault {
         lines.refused(name, fault)?;
     }
-    if answer.held && outcome.unread.is_empty() {
+    if let Some(fault) = outcome.unsearched {
+        lines.refused(name, fault)?;
+    } else if answer.held && outcome.unread.is_empty() {
         tell_shortfall(state, keep, part.until, &outcome.runs, lines)?;
     }
     if answer.begun {

@@ -5,7 +5,7 @@ use Rattle.loop_pipeline.proofs.DeskPlaces.{goes-still}
 use Rattle.loop_station_camera.specs.Keeping.{IsOnlyRead}
 use Rattle.loop_station_camera.proofs.ReadRuns.{here-then, not-read}
 use Rattle.loop_station_camera.proofs.reading.add_stretches.Goals as goal
-use Rattle.loop_station_camera.proofs.reading.add_stretches.Goals.{in-Read+in-Ok, in-Gap+in_ok-push-in-Gap, in-Again, else-turns-test, then-turns-test+in-Read+in_default, then-turns-test+in-Over}
+use Rattle.loop_station_camera.proofs.reading.add_stretches.Goals.{in-Read+in-Ok, in-Gap+in_ok-push-in-Gap, in-Again, else-turns-test, then-turns-test+in-Read+in-Err, then-turns-test+in-Over}
 
 pub turns-init : goal.turns-init
 turns-init g c = record {
@@ -57,7 +57,7 @@ returns-in_err-push-clause-reads g c =
           subst
           (λ (d : SeenDesks g.row.D.Denot). GoesAt c.args.place c.args.desks.now.desks d.desks (IsOnlyRead g.D.Disk.medium))
           (sym w.desks-is) c.turns.invariant.reads
-      | then-turns-test+in-Read+in_default w ↦
+      | then-turns-test+in-Read+in-Err w ↦
           subst
           (λ (d : SeenDesks g.row.D.Denot). GoesAt c.args.place c.args.desks.now.desks d.desks (IsOnlyRead g.D.Disk.medium))
           (sym w.desks-is)
@@ -76,7 +76,7 @@ returns-clause-reads g c =
           subst
           (λ (d : SeenDesks g.row.D.Denot). GoesAt c.args.place c.args.desks.now.desks d.desks (IsOnlyRead g.D.Disk.medium))
           (sym w.desks-is) c.turns.invariant.reads
-      | then-turns-test+in-Read+in_default w ↦
+      | then-turns-test+in-Read+in-Err w ↦
           subst
           (λ (d : SeenDesks g.row.D.Denot). GoesAt c.args.place c.args.desks.now.desks d.desks (IsOnlyRead g.D.Disk.medium))
           (sym w.desks-is)

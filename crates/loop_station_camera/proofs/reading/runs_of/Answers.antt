@@ -10,7 +10,7 @@ clips-init g c = record {
 
 pub clips-preserved : goal.clips-preserved
 clips-preserved g c = record {
-  reads = each-then g.D.Disk.medium c.args.desks.now.desks c.clips.desks.desks c.add_held.new.desks.desks
-      c.clips.invariant.reads c.add_held.ensures.reads;
-  lent = c.add_held.ensures.lent ∙ c.clips.invariant.lent;
+  reads = each-then g.D.Disk.medium c.args.desks.now.desks c.clips.desks.desks c.add_held-fault.new.desks.desks
+      c.clips.invariant.reads c.add_held-fault.ensures.reads;
+  lent = c.add_held-fault.ensures.lent ∙ c.clips.invariant.lent;
 }
