@@ -19,7 +19,8 @@ use std::sync::Wait;
 const LEAST_GAP: u64 = 250_000;
 
 /// What came of a keep: what was locked of a part of its time, the times of its clips, those whose times can't be read,
-/// when their frames came, why not all of these gaps are known, and why not all that waited could be stored before, if so.
+/// when their frames came, and, if so, why not all gaps between them are known, and why not all that waited could be
+/// stored before.
 #[derive(Drop)]
 pub(crate) struct KeepOutcome {
     pub keep: Keep,
