@@ -6,6 +6,7 @@ mod CountedTicks
 mod EmptyQueue
 mod FrameSteps
 mod FrontRuns
+mod Handing
 mod Happening
 mod Joining
 mod Doors
@@ -20,6 +21,7 @@ mod Roomy
 mod Searching
 mod Settling
 mod SeveralStarts
+mod Telling
 mod SeveralSteps
 mod TickSteps
 mod Turning

@@ -1,3 +1,4 @@
+pub mod Heards
 pub mod Notes
 pub mod Seats
 pub mod Backs
