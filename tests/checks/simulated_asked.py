@@ -70,7 +70,7 @@ class Asked:
             stores = {it: self.judge.held(lived.before.get(it)) for it in camera.paths()}
             newest = max(((max(held.names.values()), path) for path, held in stores.items()
                           if held and held.names), default=None)
-            if newest is None or camera.stores == 1:
+            if newest is None or camera.stores == 1 or camera.is_pattern():
                 continue
             held = stores[newest[1]]
             if held and (max(held.names) + 1) % held.geometry.slots:
@@ -139,7 +139,7 @@ class Asked:
             self.begun |= {it for it, (name, _) in self.saves.items()
                            if name in words or words[0] == "list"
                            if self.turns[it] < self.turns[label]}
-        if words[0] == "keep":
+        if words[0] == "keep" and not self.judge.more.memory.is_unsure(label):
             self.waits_for_what_came(label, words)
             self.locks_what_was_stored(label, words)
 
@@ -321,6 +321,8 @@ class Asked:
         # told without what those have that aren't open yet.
         is_again = self.judge.cameras[name].stores > 1 and time - self.seen.get(name, 0) < AGAIN
         is_known = event in self.judge.kept.here or not self.lived.life.is_slow
+        # Where memory was refused meanwhile a clip may not be named.
+        is_known = is_known and not self.judge.more.memory.lacked(0, time)
         if is_known and not is_again and said.get("why") != "TooManyEvents":
             self.knows_its_clips(name, event, parts)
 

@@ -518,7 +518,8 @@ class Kept:
         name, own = said["camera"], said["id"]
         locked = self.opened_at.get((path, own % 64))
         saved = self.saved_of.get((name, own), (-1, set()))[0]
-        if locked is not None and saved < locked and name not in self.judge.moved:
+        if locked is not None and saved < locked and name not in self.judge.moved and \
+                not self.judge.more.memory.lacked(locked, 2**63):
             self.says(f"it was locked at {locked}, and not saved since then: {said}")
 
     def is_not_read(self, said: dict, given: int) -> None:
@@ -608,7 +609,9 @@ class Kept:
         """A save of an event has each frame once, in the order of their times, and all of them."""
         words = self.orders[label][1]
         tag, name = int(words[2][1:]), said["camera"]
-        if names != sorted(set(names)) and name not in self.judge.moved:
+        if self.judge.cameras[name].is_pattern():
+            self.judge.more.pattern.follows(said, names)
+        elif names != sorted(set(names)) and name not in self.judge.moved:
             self.says(f"its frames aren't in order, or not once: {said}")
         allowed: set[int | None] = set()
         for path in self.judge.cameras[name].paths():
@@ -775,7 +778,7 @@ class Kept:
         room = memory // SIZE if isinstance(memory, int) else \
             int(str(memory).split()[0]) * (SECOND // camera.period)
         came = sum(at <= time for at, _ in self.judge.here[camera.name])
-        if came < room and camera.name not in self.judge.moved:
+        if came < room and not camera.is_pattern() and camera.name not in self.judge.moved:
             self.says(f"{came} frames came, and memory has room for {room}: {said}")
 
     def reads_camera_ended(self, said: dict, time: int) -> None:
@@ -794,7 +797,8 @@ class Kept:
         self.in_its_turn(label, words)
         self.soon(label, given, words, time)
         if words[0] == "keep":
-            self.locks_all_that_is_stored(label, given, words)
+            if not self.judge.more.memory.is_unsure(label):
+                self.locks_all_that_is_stored(label, given, words)
             lines = self.judge.answers.get(label, [])
             for it in lines if all(it["kind"] != "event_begun" for it in lines) else ():
                 if it["kind"] == "kept":
@@ -804,7 +808,8 @@ class Kept:
         """Each camera does its own orders in their order."""
         for name, labels in self.turns.items():
             if label in labels:
-                before = [it for it in labels[:labels.index(label)] if it not in self.joined]
+                before = [it for it in labels[:labels.index(label)] if it not in self.joined and
+                          not self.judge.more.memory.is_unsure(it)]
                 if before and name not in self.judge.moved:
                     self.says(f"@{label} is done before {before} of {name}")
                 self.turns[name] = [it for it in labels if it != label]
