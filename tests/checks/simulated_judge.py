@@ -18,7 +18,7 @@ from simulated_kept import Kept
 from simulated_more import More, number_of
 from simulated_run import Lived, chooser, told
 from simulated_told import Told
-from simulated_world import EPOCH, SECOND, SIZE, Camera, World
+from simulated_world import EPOCH, HEIGHT, SECOND, SIZE, WIDTH, Camera, World
 
 # What the entry of a clip says: its first and last number, and its tag.
 ENTRY = struct.Struct("<8xQQQ")
@@ -164,7 +164,7 @@ def names_in_text(text: bytes) -> list[int]:
     """The names of the frames of a saved file."""
     header, _, rest = text.partition(b"\n")
     size = len(b"FRAME\n") + SIZE
-    if not header.startswith(b"YUV4MPEG2 ") or len(rest) % size:
+    if not header.startswith(b"YUV4MPEG2 W%d H%d F" % (WIDTH, HEIGHT)) or len(rest) % size:
         raise Wrong(f"a saved file isn't whole: {header[:40]!r} and {len(rest)} bytes")
     pieces = [rest[it:it + size] for it in range(0, len(rest), size)]
     if any(not it.startswith(b"FRAME\n") for it in pieces):

@@ -116,14 +116,14 @@ class Memory:
             return
         if known > len(came):
             self.judge.says(f"{len(came)} frames came: {said}")
-        before = [it for at, it in came if at < time - SOON]
+        before = [it for at, it in came if at < time - SECOND]
         waits = self.judge.told.locked.get(name) or self.judge.kept.rooms_at.get(
             said.get("label"), {}).get(name, (0, 0))[0] == 0
         if self.is_well(time) and known < len(before) and not self.judge.cuts.get(name) and \
                 not waits and not self.lost_a_stream(name) and \
                 "\nslow " not in self.lived.life.script:
-            self.judge.says(f"{len(before)} frames came until {SOON // SECOND} s before {time}, and"
-                            f" memory was refused until {self.refused[-1]}: {said}")
+            self.judge.says(f"{len(before)} frames came until a second before {time}, and memory"
+                            f" was refused until {self.refused[-1]}: {said}")
 
     def lost_a_stream(self, name: str) -> bool:
         """Whether another writer of a source came while memory was refused: then its frames are

@@ -72,13 +72,27 @@ def refused_once(scene: Scene, now: int) -> Act:
 
 def refused_first(scene: Scene, now: int) -> Act:
     """Memory is refused while the station begins, which ends then, or goes on."""
-    pick = scene.chance
-    lines = [] if scene.lived % 2 else [
-        f"refuse {now + at} {now + at + 500_000} {pick.choice((3, 20, 100))} 1"
-        for at in (0, pick.randint(0, 200_000))]
+    pick, at = scene.chance, now + scene.chance.choice((0, 1000, 5000, 20_000, 60_000))
+    count, most = pick.choice((1, 2, 3, 20)), pick.choice((1, 1, 2, 4))
+    lines = [] if scene.lived == 1 else [f"refuse {at} {at + 500_000} {count} {most}"]
     orders = [*well_again(scene, now + 2 * SECOND + WELL),
               (now + WELL + 7 * SECOND, f"keep {scene.first.name} 1 +20")]
     return Act(WELL + 8 * SECOND, orders, "", lines)
+
+
+def refused_orders(scene: Scene, now: int) -> Act:
+    """Memory is refused once as an event begins or a clip is saved; then the program is killed."""
+    pick, name, at = scene.chance, scene.first.name, now + 3 * SECOND
+    orders, lines = [(at, f"keep {name} 1 55")], []
+    for _ in range(6):
+        at += 300_000
+        orders.append((at, pick.choice((f"keep {name} 0 +{pick.randint(20, 60)}",
+                                        f"keep {name} 0 +{pick.randint(20, 60)}",
+                                        f"save {name} 0 {scene.out()}"))))
+        lines.append(f"refuse {at} {at + 30_000} {pick.choice((2, 4, 8, 16))} 1")
+    if scene.lived % 2 == 0:
+        return Act(10 * SECOND, [], "kill")
+    return Act(at + SECOND // 2 - now, orders, "kill", lines)
 
 
 def refused_writers(scene: Scene, now: int) -> Act:
@@ -169,6 +183,13 @@ def stalled_pattern(scene: Scene, now: int) -> Act:
     return Act(stall + 13 * SECOND, orders, "", lines)
 
 
+def stalled(scene: Scene, now: int) -> Act:
+    """A disk stands still for as long as memory has room."""
+    since = now + 3 * SECOND
+    stall = scene.chance.choice((6, 7, 8)) * SECOND
+    return Act(20 * SECOND, [], "", [f"slow {since} {since + SECOND} {scene.first.name}. {stall}"])
+
+
 def of_pattern(camera: dict[str, object], rate: int, words: dict[str, object], act) -> Shape:
     """A scene whose first camera has the pattern, of so many frames a second."""
     return Shape({**camera, "period": SECOND // rate, "says_numbers": False},
@@ -186,9 +207,10 @@ SHAPES = [
     Shape(ONE, {**ITSELF, "release": True}, refused),
     Shape(ONE, PLAIN, many_taken, "", SINKS),
     of_pattern(TWO, 10, {}, pattern),
-    Shape(ONE, PLAIN, refused_once),
+    Shape({**ONE, "segments": 30}, PLAIN, refused_orders),
     Shape(ONE, PLAIN, refused_first),
     Shape({**ONE, "says_numbers": True}, PLAIN, refused_writers),
+    Shape({**ONE, "period": 40_000}, PLAIN, stalled),
 ]
 
 

@@ -1,5 +1,5 @@
-"""What is wrong with memory, pipes and patterns, which the judge of tests/simulate has to find: as in
-simulated_wrong.py, each changes what a life told, or what it wrote."""
+"""What is wrong with memory, pipes and patterns, which the judge of tests/simulate has to find: as
+in simulated_wrong.py, each changes what a life told, or what it wrote."""
 from __future__ import annotations
 
 import random
