@@ -274,6 +274,8 @@ class Judge:
                       for since, until, rate in readers)
         if lived.why().startswith("ended") and not dropped and is_read and asked - done:
             self.says(f"lines are missing, and that isn't told: {sorted(asked - done)}")
+        if not dropped:
+            self.told.reads_all(lived, lines)
 
     def begins(self, lived: Lived) -> None:
         """A life begins."""

@@ -79,6 +79,23 @@ class Memory:
                 self.judge.says(f"memory was refused until {self.refused[-1]}, and of {name} frame"
                                 f" {came[-1]} isn't stored at {end}, but {newest}")
 
+    def goes_on_with_events(self, lived: Lived) -> None:
+        """An event that was answered goes on after a start that lacked memory: that is told, or
+        what comes is locked."""
+        for event, (meant, over) in self.judge.pending.items() if self.refused else ():
+            until = min(self.judge.spans[event][1], lived.end()) - 2 * SECOND
+            for name in meant - over - self.judge.moved if event not in self.judge.begun else ():
+                opened = self.judge.opened.get(name, lived.end())
+                tag = self.judge.kept.tags.get((event, name), event)
+                ends = [self.judge.kept.begun_of(path, last)
+                        for path in self.judge.cameras[name].paths()
+                        for _, _, last, its in self.judge.table(path) if its == tag]
+                came = [at for at, _ in self.judge.here[name] if opened < at < until - SECOND]
+                if came and max(ends, default=0) < came[0] and opened + SOON < until and \
+                        not self.judge.told.has_told("all_locked", name):
+                    self.judge.says(f"event {event} of {name} doesn't go on after a start without"
+                                    f" memory: it is locked up to {ends}")
+
     def answers(self, lived: Lived) -> None:
         """An order that comes once there is memory again is answered."""
         for label, at in self.judge.given.items():
@@ -111,7 +128,8 @@ class Memory:
         name = said["camera"]
         came = self.judge.here[name]
         known = said["stored"] - self.judge.begin_next[name] + said["given_up"] + said["waiting"]
-        if not self.refused or name in self.judge.moved | self.judge.late or \
+        # A pipe that is closed, since there is no memory to read it, loses what it held.
+        if not self.refused or name in self.judge.moved | self.judge.late | self.judge.broken or \
                 self.judge.cameras[name].is_pattern():
             return
         if known > len(came):
@@ -391,6 +409,7 @@ class More:
         """A life has ended."""
         self.memory.goes_on(lived)
         self.memory.answers(lived)
+        self.memory.goes_on_with_events(lived)
         self.pipes.ends_with_its_reader(lived.end())
         self.pattern.has_its_rate(lived)
         self.pattern.goes_on(lived)

@@ -84,11 +84,9 @@ def refused_orders(scene: Scene, now: int) -> Act:
     """Memory is refused once as an event begins or a clip is saved; then the program is killed."""
     pick, name, at = scene.chance, scene.first.name, now + 3 * SECOND
     orders, lines = [(at, f"keep {name} 1 55")], []
-    for _ in range(6):
-        at += 300_000
-        orders.append((at, pick.choice((f"keep {name} 0 +{pick.randint(20, 60)}",
-                                        f"keep {name} 0 +{pick.randint(20, 60)}",
-                                        f"save {name} 0 {scene.out()}"))))
+    for text in (f"save {name} 0 {scene.out()}", f"keep {name} 0 +{pick.randint(20, 60)}"):
+        at += 500_000
+        orders.append((at, text))
         lines.append(f"refuse {at} {at + 30_000} {pick.choice((2, 4, 8, 16))} 1")
     if scene.lived % 2 == 0:
         return Act(10 * SECOND, [], "kill")

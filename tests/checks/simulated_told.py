@@ -284,6 +284,18 @@ class Told:
                 self.says(f"the output has no line of this time and label: {said}")
                 break
 
+    def reads_all(self, lived: Lived, lines: list) -> None:
+        """Who reads a pipe of answers, or comes next, gets each line, where none is told as
+        dropped."""
+        text = b"".join(it.data for it in lived.records if it.kind == "O" and it.number == 1)
+        there = {((said.get("time") or "").encode(), (said.get("label") or "").encode())
+                 for _, _, said in lines}
+        last = max((it[0] for it in there), default=b"")
+        for it in filter(None, map(LINE.match, text.split(b"\n"))):
+            if it[1] < last and (it[1], it[2] or b"") not in there:
+                self.says(f"nobody gets a line of {it[0].decode()}, and that isn't told")
+                break
+
     def answers_are_there(self, lived: Lived) -> None:
         """A file of answers that was moved away is made anew with the next line."""
         moves = [int(it[1]) for it in self.script if it[0] == "move" and it[2] == "answers"]
