@@ -18,8 +18,8 @@ SOON = 5 * SECOND
 READ = 300_000
 # So long after memory was refused last all works as before.
 WELL = 3 * SECOND
-# Within so much time a save that ended is told.
-ENDED = SECOND
+# Within so much time a store is opened again that had no memory.
+AGAIN = 5 * SECOND
 # So many frames of the pattern have one look.
 LOOKS = 256
 
@@ -134,6 +134,9 @@ class Memory:
             return
         if known > len(came):
             self.judge.says(f"{len(came)} frames came: {said}")
+        if said.get("stores", 1) < said.get("stores_wanted", 1):
+            self.opens_all(said, time)
+            return
         before = [it for at, it in came if at < time - SECOND]
         waits = self.judge.told.locked.get(name) or self.judge.kept.rooms_at.get(
             said.get("label"), {}).get(name, (0, 0))[0] == 0
@@ -142,6 +145,16 @@ class Memory:
                 "\nslow " not in self.lived.life.script:
             self.judge.says(f"{len(before)} frames came until a second before {time}, and memory"
                             f" was refused until {self.refused[-1]}: {said}")
+
+    def opens_all(self, said: dict, time: int) -> None:
+        """A store that had no memory is tried again every second, as any that is absent."""
+        refused = self.refused[-1]
+        opened = self.judge.opened.get(said["camera"], time)
+        if time - max(refused, opened) > AGAIN and not self.judge.single(said["camera"]) and \
+                said["camera"] not in self.judge.moved and "\nslow " not in \
+                self.lived.life.script:
+            self.judge.says(f"memory was refused until {refused}, and not all stores are open:"
+                            f" {said}")
 
     def lost_a_stream(self, name: str) -> bool:
         """Whether another writer of a source came while memory was refused: then its frames are
