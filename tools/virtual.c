@@ -26,6 +26,10 @@
  *                           open, read, write, sync, truncate or rename
  *   answers NAME            the file of answers, which no loss of power touches
  *   reader FROM TO N        where that is a pipe: somebody reads it in that time, N bytes a second
+ *   sink NAME ROOM          a pipe into which clips are saved, with room for so many bytes
+ *   taker FROM TO NAME N    somebody reads that pipe in that time, N bytes a second
+ *   refuse FROM TO N MOST   the program gets no memory at one of N times in that time, MOST times
+ *                           at most
  *   pipe AHEAD NAME HEADER  the next pipe of a source; where AHEAD is 1, its writer goes on, and
  *                           gave its header before
  *   orders NAME             the pipe of orders
@@ -46,13 +50,16 @@
  * number: the file from now on), W written, T its length, S synced (place: how many records came
  * before the sync began), N renamed, L linked, U unlinked, M a folder made, F a folder synced,
  * V somebody moved a file, B a call on a file failed (number: its letter, bytes: the file's name),
- * A answers, O standard output or error, P a frame or an order came (number: the pipe, place: the
- * line of the script), D nobody read it, Q its writer closed it, E the end (bytes: why).
+ * A answers, I a pipe of clips is opened to be written (number: the pipe, place: the descriptor),
+ * Y written to it, Z memory was refused (place: how much), O standard output or error, P a frame or
+ * an order came (number: the pipe, place: the line of the script), D nobody read it, Q its writer
+ * closed it, E the end (bytes: why).
  */
 #define _GNU_SOURCE
 #include <dlfcn.h>
 #include <errno.h>
 #include <fcntl.h>
+#include <link.h>
 #include <linux/futex.h>
 #include <pthread.h>
 #include <sched.h>
@@ -154,6 +161,33 @@ struct reader {
 static struct reader readers[RULES];
 static int reader_count, held_ends;
 static uint64_t answers_held, drained_at;
+
+/* A pipe into which clips are saved: its room, how many bytes are in it, and how many of its ends
+ * the program has open to be read. */
+struct sink {
+    char *path;
+    uint64_t room, held, drained_at;
+    int ends;
+};
+
+/* Who reads such a pipe. */
+struct taker {
+    uint64_t from, to, rate;
+    int sink;
+};
+
+static struct sink sinks[PIPES];
+static int sink_count;
+static struct taker takers[RULES];
+static int taker_count;
+
+/* When the program gets no memory. */
+struct lack {
+    uint64_t from, to, every, most;
+};
+
+static struct lack lacks[RULES];
+static int lack_count;
 
 /* A number below n. */
 static uint64_t pick(uint64_t n) {
@@ -519,6 +553,49 @@ static void change(void) {
 }
 
 /* ------------------------------------------------------------------------------------------------
+ * memory */
+
+void *__libc_malloc(size_t size);
+void *__libc_realloc(void *block, size_t size);
+
+/* Where the program itself lies, whose calls alone are refused: not those of its libraries. */
+static uintptr_t own_from, own_to;
+
+static int find_own(struct dl_phdr_info *it, size_t size, void *data) {
+    (void)size, (void)data;
+    for (int at = 0; at < it->dlpi_phnum; at++) {
+        const ElfW(Phdr) *part = &it->dlpi_phdr[at];
+        if (part->p_type != PT_LOAD || !(part->p_flags & PF_X)) continue;
+        own_from = it->dlpi_addr + part->p_vaddr;
+        own_to = own_from + part->p_memsz;
+    }
+    return 1;
+}
+
+/* Whether somebody who calls from there gets no memory now. */
+static int refuses(const void *caller, size_t size) {
+    uintptr_t from = (uintptr_t)caller;
+    if (!is_on || !self || from < own_from || from >= own_to) return 0;
+    for (int at = 0; at < lack_count; at++) {
+        struct lack *it = &lacks[at];
+        if (now < it->from || now >= it->to || !it->most || pick(it->every)) continue;
+        it->most--;
+        note('Z', 0, size, 0, NULL);
+        errno = ENOMEM;
+        return 1;
+    }
+    return 0;
+}
+
+void *malloc(size_t size) {
+    return refuses(__builtin_return_address(0), size) ? NULL : __libc_malloc(size);
+}
+
+void *realloc(void *block, size_t size) {
+    return refuses(__builtin_return_address(0), size) ? NULL : __libc_realloc(block, size);
+}
+
+/* ------------------------------------------------------------------------------------------------
  * the script */
 
 static void add_event(struct event it) {
@@ -542,6 +619,13 @@ static void refuse(const char *line) {
     int count = snprintf(text, sizeof text, "virtual.c: what is this: %s\n", line);
     RAW(SYS_write, 2, text, count, 0);
     RAW(SYS_exit_group, 99, 0, 0, 0);
+}
+
+/* The pipe of clips that has a name, or -1. */
+static int sink_of(const char *name) {
+    for (int at = 0; at < sink_count; at++)
+        if (!strcmp(sinks[at].path, name)) return at;
+    return -1;
 }
 
 static void take_line(char *line, int number) {
@@ -589,7 +673,14 @@ static void take_line(char *line, int number) {
                && rule_count < RULES) {
         rules[rule_count] = (struct rule){'b', call[0], a, b, c, d, ""};
         strcpy(rules[rule_count++].name, name);
-    } else if (sscanf(line, "answers %255s", answers_name) == 1) return;
+    } else if (sscanf(line, "sink %63s %llu", name, &a) == 2 && sink_count < PIPES)
+        sinks[sink_count++] = (struct sink){strdup(name), a, 0, 0, 0};
+    else if (sscanf(line, "taker %llu %llu %63s %llu", &a, &b, name, &c) == 4
+             && taker_count < RULES && sink_of(name) >= 0)
+        takers[taker_count++] = (struct taker){a, b, c, sink_of(name)};
+    else if (sscanf(line, "refuse %llu %llu %llu %llu", &a, &b, &c, &d) == 4 && lack_count < RULES)
+        lacks[lack_count++] = (struct lack){a, b, c, d};
+    else if (sscanf(line, "answers %255s", answers_name) == 1) return;
     else if (sscanf(line, "reader %llu %llu %llu", &a, &b, &c) == 3 && reader_count < RULES)
         readers[reader_count++] = (struct reader){a, b, c};
     else if (sscanf(line, "pipe %llu %63s %n", &a, name, &at) == 2 && pipe_count < PIPES) {
@@ -630,6 +721,7 @@ __attribute__((constructor)) static void begin(void) {
     }
     if (RAW(SYS_getcwd, folder, sizeof folder, 0, 0) < 0) folder[0] = 0;
     read_script(script);
+    dl_iterate_phdr(find_own, NULL);
     unsetenv("LD_PRELOAD");
     self = &threads[thread_count++];
     self->state = READY;
@@ -665,7 +757,7 @@ struct file {
     char name[256];
 };
 
-enum kind { PLAIN, WATCHED, ANSWERS, FOLDER, PIPE, TAP };
+enum kind { PLAIN, WATCHED, ANSWERS, FOLDER, PIPE, TAP, SINK };
 
 struct fd {
     enum kind kind;
@@ -785,6 +877,71 @@ static ssize_t tapped(const void *bytes, size_t count) {
     return count;
 }
 
+/* Who reads a pipe of clips now. */
+static struct taker *taker_now(int which) {
+    for (int at = 0; at < taker_count; at++)
+        if (takers[at].sink == which && takers[at].from <= now && now < takers[at].to)
+            return &takers[at];
+    return NULL;
+}
+
+/* What was read of it since that was looked at. */
+static void empty(int which) {
+    struct sink *it = &sinks[which];
+    struct taker *who = taker_now(which);
+    uint64_t since = who && who->from > it->drained_at ? who->from : it->drained_at;
+    uint64_t count = who ? (now - since) * who->rate / 1000000 : 0;
+    if (who && !count && who->rate) return;
+    it->drained_at = now;
+    it->held -= count < it->held ? count : it->held;
+}
+
+/* When it may be written or opened again: soon, or when the next one reads it. */
+static uint64_t next_taker(int which) {
+    uint64_t least = NEVER;
+    if (taker_now(which)) return now + 5000;
+    for (int at = 0; at < taker_count; at++)
+        if (takers[at].sink == which && takers[at].from > now && takers[at].from < least)
+            least = takers[at].from;
+    return least;
+}
+
+/* Opens a pipe of clips. Who opens it to be written waits until it is read. */
+static int open_sink(int which, const char *path, int flags) {
+    struct sink *it = &sinks[which];
+    int is_rw = (flags & O_ACCMODE) == O_RDWR;
+    int fd = (int)seen(RAW(SYS_openat, AT_FDCWD, path, O_RDWR | O_NONBLOCK | O_CLOEXEC, 0));
+    if (fd < 0) return fd;
+    if (is_rw) it->ends++;
+    else while (!taker_now(which) && !it->ends) block(it, next_taker(which));
+    fds[fd] = (struct fd){SINK, which, is_rw};
+    if (!is_rw) note('I', which, fd, 0, NULL);
+    return fd;
+}
+
+/* Bytes are written to a pipe of clips, as far as somebody reads it. */
+static ssize_t sunk(int fd, int which, const char *bytes, size_t count) {
+    struct sink *it = &sinks[which];
+    size_t done = 0;
+    for (;;) {
+        empty(which);
+        if (!taker_now(which) && !it->ends) {
+            if (done) return done;
+            errno = EPIPE;
+            return -1;
+        }
+        size_t more = count - done;
+        if (more > it->room - it->held) more = it->room - it->held;
+        if (more) note('Y', which, fd, more, bytes + done);
+        it->held += more;
+        done += more;
+        if (done == count) return done;
+        /* While its reader is there it goes on soon, and where that leaves, it is seen then. */
+        struct taker *who = taker_now(which);
+        block(it, who ? now + 5000 : next_taker(which));
+    }
+}
+
 static int open_uptime(void) {
     char text[64];
     unsigned long long hundredths = (now + BOOT) / 10000;
@@ -804,6 +961,7 @@ static int opened(const char *path, int flags, int mode) {
     const char *name = named(path);
     for (int at = 0; at < pipe_count; at++)
         if (!strcmp(name, pipes[at].path)) return open_pipe(at, path, flags);
+    if (sink_of(name) >= 0) return open_sink(sink_of(name), path, flags);
     if (fails(name, 'o')) return -1;
     struct stat before, found;
     int was_there = RAW(SYS_stat, path, &before, 0, 0) == 0;
@@ -896,6 +1054,8 @@ int close(int fd) {
     struct fd *it = fd_of(fd);
     if (it->kind == PIPE) left_by(&pipes[it->index]);
     if (it->kind == TAP && it->is_rw) held_ends--;
+    if (it->kind == SINK && it->is_rw) sinks[it->index].ends--;
+    if (it->kind == SINK && !it->is_rw && !taker_now(it->index)) sinks[it->index].held = 0;
     if (is_on && fd >= 0 && fd < FDS) fds[fd] = (struct fd){PLAIN, 0, 0};
     return (int)seen(RAW(SYS_close, fd, 0, 0, 0));
 }
@@ -924,6 +1084,8 @@ static ssize_t written(int fd, const void *bytes, size_t count, off_t at) {
         return count;
     } else if (it->kind == TAP) {
         return tapped(bytes, count);
+    } else if (it->kind == SINK) {
+        return sunk(fd, it->index, bytes, count);
     } else if (fd == 1 || fd == 2) {
         note('O', fd, 0, count, bytes);
     }

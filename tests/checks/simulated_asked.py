@@ -70,7 +70,7 @@ class Asked:
             stores = {it: self.judge.held(lived.before.get(it)) for it in camera.paths()}
             newest = max(((max(held.names.values()), path) for path, held in stores.items()
                           if held and held.names), default=None)
-            if newest is None or camera.stores == 1:
+            if newest is None or camera.stores == 1 or camera.is_pattern():
                 continue
             held = stores[newest[1]]
             if held and (max(held.names) + 1) % held.geometry.slots:
@@ -139,7 +139,7 @@ class Asked:
             self.begun |= {it for it, (name, _) in self.saves.items()
                            if name in words or words[0] == "list"
                            if self.turns[it] < self.turns[label]}
-        if words[0] == "keep":
+        if words[0] == "keep" and not self.judge.more.memory.is_unsure(label):
             self.waits_for_what_came(label, words)
             self.locks_what_was_stored(label, words)
 
@@ -202,9 +202,20 @@ class Asked:
         if said["why"] == "Stopped" and said.get("label") in self.before_stop and \
                 not self.lived.life.changed and time - stopping < STUCK:
             self.says(f"it came before the stop at {stopping}: {said}")
+        self.does_what_was_asked(said, time)
         words = self.judge.kept.orders.get(said.get("label", ""), (0, ["?"]))[1]
         if words[0] in ("save", "save!") and words[2].startswith("#"):
             self.finds_all_open(said, time)
+
+    def does_what_was_asked(self, said: dict, time: int) -> None:
+        """A camera that a reload removes ends once what it was asked for is done."""
+        label = said.get("label", "")
+        given = self.judge.given.get(label, time)
+        reloads = [it for it, (_, words) in self.judge.kept.orders.items() if words == ["reload"]
+                   and self.turns[it] > self.turns.get(label, len(self.turns))]
+        if said["why"] == "Stopped" and reloads and not self.judge.kept.stopping and \
+                time - given < STUCK and not self.judge.kept.joined & {label, *reloads}:
+            self.says(f"it came before the reload @{reloads[0]}: {said}")
 
     def finds_all_open(self, said: dict, time: int) -> None:
         """An event is saved where all stores are open, which they are soon after the start, and
@@ -321,6 +332,8 @@ class Asked:
         # told without what those have that aren't open yet.
         is_again = self.judge.cameras[name].stores > 1 and time - self.seen.get(name, 0) < AGAIN
         is_known = event in self.judge.kept.here or not self.lived.life.is_slow
+        # Where memory was refused meanwhile a clip may not be named.
+        is_known = is_known and not self.judge.more.memory.lacked(0, time)
         if is_known and not is_again and said.get("why") != "TooManyEvents":
             self.knows_its_clips(name, event, parts)
 
@@ -340,8 +353,9 @@ class Asked:
             self.says(f"an event hasn't {sorted(lacks)}, which are stored: {said}, {parts}")
 
     def is_calm(self, time: int) -> bool:
-        """Whether the disk has worked for some time."""
-        rules = [it.split() for it in self.judge.script if it.startswith(("bad ", "slow "))]
+        """Whether the disk has worked for some time, and memory was there."""
+        rules = [it.split() for it in self.judge.script
+                 if it.startswith(("bad ", "slow ", "refuse "))]
         return all(int(it[2]) < time - AGAIN for it in rules)
 
     def knows_its_clips(self, name: str, event: int, parts: list[dict]) -> None:

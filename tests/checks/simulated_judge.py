@@ -15,9 +15,10 @@ import layout
 from simulated_asked import Asked
 from simulated_disk import Disk, File, Record
 from simulated_kept import Kept
+from simulated_more import More, number_of
 from simulated_run import Lived, chooser, told
 from simulated_told import Told
-from simulated_world import EPOCH, SECOND, SIZE, Camera, World
+from simulated_world import EPOCH, HEIGHT, SECOND, SIZE, WIDTH, Camera, World
 
 # What the entry of a clip says: its first and last number, and its tag.
 ENTRY = struct.Struct("<8xQQQ")
@@ -144,8 +145,8 @@ def moment_of(text: str) -> int:
 
 
 def name_of(pixels: bytes) -> int:
-    """The name of a frame: what its pixels say again and again."""
-    if pixels != pixels[:8] * (SIZE // 8):
+    """The name of a frame: what its pixels say again and again, or how those of a pattern begin."""
+    if pixels != pixels[:8] * (SIZE // 8) and number_of(pixels) is None:
         raise Wrong(f"a frame has pixels of two: {pixels.hex()}")
     return int.from_bytes(pixels[:8], "little")
 
@@ -163,7 +164,7 @@ def names_in_text(text: bytes) -> list[int]:
     """The names of the frames of a saved file."""
     header, _, rest = text.partition(b"\n")
     size = len(b"FRAME\n") + SIZE
-    if not header.startswith(b"YUV4MPEG2 ") or len(rest) % size:
+    if not header.startswith(b"YUV4MPEG2 W%d H%d F" % (WIDTH, HEIGHT)) or len(rest) % size:
         raise Wrong(f"a saved file isn't whole: {header[:40]!r} and {len(rest)} bytes")
     pieces = [rest[it:it + size] for it in range(0, len(rest), size)]
     if any(not it.startswith(b"FRAME\n") for it in pieces):
@@ -195,11 +196,12 @@ class Judge:
         self.writer = dict.fromkeys(self.cameras, 0)
         self.kept_of: dict[tuple[int, str], set[int]] = {}
         # Which paths are pipes.
-        self.pipes = {"nobody"}
+        self.pipes = {"nobody", *world.sinks}
         self.found: list[str] = []
         # How many frames a camera gave up, in any life.
         self.gave: dict[str, int] = {}
         self.told, self.kept, self.asked = Told(self), Kept(self), Asked(self)
+        self.more = More(self)
 
     def says(self, what: str) -> None:
         """Something is wrong."""
@@ -212,10 +214,10 @@ class Judge:
     def judges(self, lived: Lived, seed: str) -> list[str]:
         """Judges a life; answers what was wrong."""
         self.found = []
-        self.begins(lived)
-        chance = random.Random(f"judge {seed}")
         lines = told(lived.records)
         self.lines_of = lines
+        self.begins(lived)
+        chance = random.Random(f"judge {seed}")
         for it in [it for _, _, it in lines if it["kind"] == "given_up"]:
             self.gave[it["camera"]] = self.gave.get(it["camera"], 0) + it["frames"]
         # Whose frames waited before they were read: they have a later time than they came.
@@ -242,6 +244,7 @@ class Judge:
                 self.kept.names_change(record)
             if record.kind == "B":
                 self.kept.breaks(record)
+            self.more.takes(record)
             self.disk.take(record)
             if record.kind == "V":
                 self.moves(record.data.decode().split("\0")[0])
@@ -271,6 +274,8 @@ class Judge:
                       for since, until, rate in readers)
         if lived.why().startswith("ended") and not dropped and is_read and asked - done:
             self.says(f"lines are missing, and that isn't told: {sorted(asked - done)}")
+        if not dropped:
+            self.told.reads_all(lived, lines)
 
     def begins(self, lived: Lived) -> None:
         """A life begins."""
@@ -311,6 +316,7 @@ class Judge:
         self.told.begins(lived)
         self.kept.begins(lived)
         self.asked.begins(lived)
+        self.more.begins(lived)
 
     def stored_in(self, files: dict[str, bytes], name: str) -> int:
         """How many frames the stores of a camera say that they ever had."""
@@ -394,13 +400,15 @@ class Judge:
         self.told.reads(said, time)
         self.kept.reads(said, time)
         self.asked.reads(said, time)
+        self.more.reads(said, time)
 
     def reads_done(self, said: dict, time: int) -> None:
         """An order is answered, once; a release by its id is done, or refused."""
         label = said["label"]
         self.done[label] = time
         faults = {it.get("name") for it in self.answers[label]} & {"Disk", "MustReopen"}
-        if self.lived.life.orders[label].startswith("release") and faults:
+        if self.lived.life.orders[label].startswith("release") and (
+                faults or self.more.memory.is_unsure(label)):
             # Nobody knows then whether it was released.
             for which in [it for it, clip in self.clips.items() if self.is_in_doubt(it, clip)]:
                 del self.clips[which]
@@ -408,7 +416,8 @@ class Judge:
             labels.discard(label)
             if not labels:
                 del self.freeing[which]
-        if self.lived.life.orders[label].startswith("keep"):
+        if self.lived.life.orders[label].startswith("keep") and \
+                not self.more.memory.is_unsure(label):
             self.kept_all(label)
 
     def reads_kept(self, said: dict, time: int) -> None:
@@ -487,6 +496,8 @@ class Judge:
         """The file is there, whole, and has as many frames."""
         path = said["path"]
         file = self.disk.names.get(path)
+        if path in self.pipes:
+            return
         if file is None:
             self.says(f"told as saved, and there is no file: {said}")
             return
@@ -576,7 +587,7 @@ class Judge:
         name = said["camera"]
         came = self.here[name]
         known = said["stored"] - self.begin_next[name] + said["given_up"] + said["waiting"]
-        if self.lived.life.is_faulty or name in self.moved:
+        if self.lived.life.is_faulty or name in self.moved or self.cameras[name].is_pattern():
             return
         if known > len(came) and name not in self.late:
             self.says(f"{len(came)} frames came since {self.begin_next[name]} were stored: {said}")
@@ -723,9 +734,12 @@ class Judge:
         stopped = lived.why().startswith("ended")
         for label, at in self.given.items():
             is_late = stopped or not life.is_faulty and end - at > 70 * SECOND
-            if label not in self.done and is_late and label not in self.kept.joined:
+            is_sure = label not in self.kept.joined and not self.more.memory.is_unsure(label)
+            if label not in self.done and is_late and is_sure:
                 self.says(f"no answer to @{label} {life.orders[label]}, given at {at}")
-        if lived.status not in (0, 137) or lived.why().startswith(("all threads", "broken")):
+        # Where memory is refused at the start, or for a line, the status says so.
+        well = (0, 137, 1) if self.more.memory.refused else (0, 137)
+        if lived.status not in well or lived.why().startswith(("all threads", "broken")):
             self.says(f"ended with {lived.status}, {lived.why()}")
         if life.end == "stop" and not stopped:
             self.says(f"`stop` didn't end it: {lived.why()}")
@@ -735,6 +749,7 @@ class Judge:
         self.told.ends(lived, lines)
         self.kept.ends(lived, lines)
         self.asked.ends(lived)
+        self.more.ends(lived)
         self.goes_on_with_events(lived)
         self.forgets(lived.after)
 
@@ -758,6 +773,8 @@ class Judge:
             self.stored[name].update(names)
         self.kept.writes(name, path, record, names)
         self.asked.writes(name, path, record, names)
+        if names:
+            self.more.pattern.stores(name, record)
 
     def goes(self, name: str, path: str, file: File, record: Record) -> None:
         """A block that goes is the oldest of all that no clip locks and that aren't the newest of
@@ -782,6 +799,9 @@ class Judge:
         # read slowly.
         if "\nreads " in self.lived.life.script and \
                 self.lived.end() - self.opened.get(name, 0) < OPENING:
+            return
+        if self.cameras[name].is_pattern():
+            self.more.pattern.goes(self.cameras[name], path, block, record.time)
             return
         gone = held.first_of(block)
         may = [it.first_of(block) for it in stores.values() if it

@@ -3,6 +3,7 @@ file has that was saved, what may go, and which counts are told. Each question i
 name docs and tests use."""
 from __future__ import annotations
 
+import bisect
 import posixpath
 import re
 from typing import TYPE_CHECKING
@@ -83,12 +84,16 @@ class Kept:
         self.waiting: dict[tuple[str, int], int] = {}
         self.lost_at: dict[str, list[int]] = {}
         self.no_room: dict[str, int] = {}
+        # When a camera's store was told as open.
+        self.opened_again: dict[str, list[int]] = {}
         self.itself_at: dict[tuple[str, int], int] = {}
         self.kept_at: dict[tuple[str, int], int] = {}
         # When each clip's entry was opened last, and when closed; when a file of each id was told,
         # of which frames.
         self.opened_at: dict[tuple[str, int], int] = {}
         self.closed_at: dict[tuple[str, int], int] = {}
+        # When the entry of each clip that was closed last had been opened, if in this life.
+        self.was_opened: dict[tuple[str, int], int | None] = {}
         self.saved_of: dict[tuple[str, int], tuple[int, set[int]]] = {}
         # How many frames the clips of each id have that were told as kept.
         self.kept_counts: dict[tuple[str, int], set[int]] = {}
@@ -104,6 +109,11 @@ class Kept:
         self.joined: set[str] = set()
         # The clips that were released since they were saved, some time before the end.
         self.full_of: list[tuple[dict, tuple]] = []
+        # The newest sequence of each camera, and since when its source is seen to have waited.
+        self.newest: dict[str, int] = {}
+        self.waited_at: dict[str, int] = {}
+        # When each camera's frames were stored.
+        self.stored_at: dict[str, list[int]] = {}
         # The clips of which a save was told in this life.
         self.whole: set[tuple[str, int, int, int]] = set()
         for path in [it for camera in self.judge.cameras.values() for it in camera.paths()]:
@@ -195,6 +205,7 @@ class Kept:
             self.dirty.add(path)
             if record.data[:1] == bytes([layout.CLOSED]):
                 self.closed_at[path, own] = record.time
+                self.was_opened[path, own] = self.opened_at.get((path, own))
                 self.closes(name, path, own)
             elif record.data[:1] == bytes([layout.OPEN]):
                 self.opened_at[path, own] = record.time
@@ -209,11 +220,23 @@ class Kept:
             number, sequence, _, moment, *_ = layout.SLOT_HEAD.unpack_from(record.data, at)
             frame = int.from_bytes(record.data[at + layout.HEAD:][:8], "little")
             time = moment - EPOCH
+            self.rises(camera, path, number, sequence)
             self.slots[path][number] = (frame, sequence, time)
             if frame in came and name not in self.judge.late:
-                self.has_its_time(camera, frame, time, came[frame])
+                self.has_its_time(camera, frame, time, came[frame], record.time)
 
-    def has_its_time(self, camera: Camera, frame: int, time: int, came: int) -> None:
+    def rises(self, camera: Camera, path: str, number: int, sequence: int) -> None:
+        """A frame comes after all that its camera's stores have, by the camera's count."""
+        if camera.name not in self.newest:
+            found = [it[1] for other in camera.paths() for it in self.slots[other].values()]
+            self.newest[camera.name] = max(found, default=-1)
+        before = self.newest[camera.name]
+        if sequence <= before and self.is_plain(camera.name) and not self.absent:
+            self.says(f"frame {number} of {path} has the sequence {sequence}, and {before} was"
+                      f" there")
+        self.newest[camera.name] = max(before, sequence)
+
+    def has_its_time(self, camera: Camera, frame: int, time: int, came: int, now: int) -> None:
         """A frame has the time at which it came, or that which its source says."""
         if camera.says_times:
             at = self.judge.said_at[camera.name].get(frame)
@@ -224,6 +247,39 @@ class Kept:
                 not self.judge.told.has_told("all_locked", camera.name) and \
                 not self.judge.told.has_told("waited", camera.name):
             self.says(f"frame {frame} of {camera.name} has the time {time}, and came at {came}")
+        self.stored_at.setdefault(camera.name, []).append(now)
+        if not camera.says_times and time > came + SECOND and camera.name not in self.judge.moved:
+            self.waited_at.setdefault(camera.name, time)
+
+    def tells_that_it_waits(self, end: int) -> None:
+        """That memory is full, so that the source waits, is told."""
+        for name, at in self.waited_at.items():
+            told = self.judge.told
+            if not told.has_told("waited", name) and not told.has_told("all_locked", name) and \
+                    self.script_pause() == 0 and end - at > 3 * SECOND and \
+                    not self.judge.more.memory.refused and not self.lost_at.get(name):
+                self.says(f"the source of {name} has waited since {at}, and that isn't told")
+
+    def reads_waited(self, said: dict, time: int) -> None:
+        """A source waits only where memory is full: not where it has room for all that came and
+        isn't stored."""
+        name = said["camera"]
+        camera = self.judge.cameras[name]
+        stored = self.stored_at.get(name, [])
+        behind = max((place - bisect.bisect(stored, at) for place, (at, _) in
+                      enumerate(self.judge.here[name], 1) if at <= time), default=0)
+        if behind < self.room_in_memory(camera) and name not in self.judge.moved and \
+                not self.judge.more.memory.refused and not self.lost_at.get(name) and \
+                self.script_pause() == 0 and not camera.is_pattern():
+            self.says(f"{behind} frames wait, and memory has room for"
+                      f" {self.room_in_memory(camera)}: {said}")
+
+    @staticmethod
+    def room_in_memory(camera: Camera) -> int:
+        """How many frames have room in the memory for them."""
+        memory = camera.words.get("memory", "4 s")
+        return max(2, memory // SIZE if isinstance(memory, int) else
+                   int(str(memory).split()[0]) * (SECOND // camera.period))
 
     def closes(self, name: str, path: str, own: int) -> None:
         """A clip is unlocked: what could have gone instead is looked at, where the station may have
@@ -516,9 +572,11 @@ class Kept:
     def was_saved(self, said: dict, path: str) -> None:
         """A clip that goes by itself, of those that were locked in this life, was saved before."""
         name, own = said["camera"], said["id"]
-        locked = self.opened_at.get((path, own % 64))
+        # Another clip may have its id by now.
+        locked = self.was_opened.get((path, own % 64), self.opened_at.get((path, own % 64)))
         saved = self.saved_of.get((name, own), (-1, set()))[0]
-        if locked is not None and saved < locked and name not in self.judge.moved:
+        if locked is not None and saved < locked and name not in self.judge.moved and \
+                not self.judge.more.memory.lacked(locked, 2**63):
             self.says(f"it was locked at {locked}, and not saved since then: {said}")
 
     def is_not_read(self, said: dict, given: int) -> None:
@@ -608,7 +666,9 @@ class Kept:
         """A save of an event has each frame once, in the order of their times, and all of them."""
         words = self.orders[label][1]
         tag, name = int(words[2][1:]), said["camera"]
-        if names != sorted(set(names)) and name not in self.judge.moved:
+        if self.judge.cameras[name].is_pattern():
+            self.judge.more.pattern.follows(said, names)
+        elif names != sorted(set(names)) and name not in self.judge.moved:
             self.says(f"its frames aren't in order, or not once: {said}")
         allowed: set[int | None] = set()
         for path in self.judge.cameras[name].paths():
@@ -708,6 +768,7 @@ class Kept:
         """Room, frames that are behind and lost frames are counted."""
         name, label = said["camera"], said.get("label")
         camera = self.judge.cameras[name]
+        self.counts_all(said, time)
         if not self.is_plain(name) or name in self.judge.late:
             return
         before, now = self.rooms_at.get(label, {}).get(name), self.room(camera)
@@ -725,6 +786,24 @@ class Kept:
         if is_quiet and name not in self.judge.broken | self.judge.waits and not is_full:
             self.counts_what_is_behind(said, camera, behind)
             self.counts_what_is_lost(said, camera)
+
+    def counts_all(self, said: dict, time: int) -> None:
+        """What came some time ago is stored, waits at the desk, or was told as lost, also after a
+        disk has failed."""
+        name = said["camera"]
+        known = said["stored"] - self.judge.begin_next[name] + said["given_up"] + said["waiting"]
+        is_fast = all(int(it.split()[2]) < 10_000 for it in self.judge.script
+                      if it.startswith("sync "))
+        recent = 2 * SECOND if is_fast else SOON
+        came = [it for at, it in self.judge.to_store(name) if at < time - recent]
+        at = max(self.judge.opened.get(name, time), self.judge.room_at.get(name, 0),
+                 self.script_pause(), *self.lost_at.get(name, ()), *self.opened_again.get(name, ()))
+        if known < len(came) and self.judge.asked.is_calm(time) and said["room"] > 0 and \
+                time - at > 2 * SOON and name not in self.judge.moved | self.judge.late | \
+                self.judge.broken and not self.judge.told.locked.get(name) and \
+                not self.judge.cuts.get(name) and not self.judge.more.memory.refused and \
+                not self.absent and "\nreads " not in self.judge.lived.life.script:
+            self.says(f"{len(came)} frames came {recent // SECOND} s before {time}: {said}")
 
     def counts_what_is_behind(self, said: dict, camera: Camera, behind: int) -> None:
         """What came and is neither stored nor given up is behind."""
@@ -771,11 +850,9 @@ class Kept:
         """While stores are opened frames wait in memory: none goes out of order before that is
         full, so not where it has room for more than all that came."""
         camera = self.judge.cameras[said["camera"]]
-        memory = camera.words.get("memory", "4 s")
-        room = memory // SIZE if isinstance(memory, int) else \
-            int(str(memory).split()[0]) * (SECOND // camera.period)
+        room = self.room_in_memory(camera)
         came = sum(at <= time for at, _ in self.judge.here[camera.name])
-        if came < room and camera.name not in self.judge.moved:
+        if came < room and not camera.is_pattern() and camera.name not in self.judge.moved:
             self.says(f"{came} frames came, and memory has room for {room}: {said}")
 
     def reads_camera_ended(self, said: dict, time: int) -> None:
@@ -785,6 +862,7 @@ class Kept:
     def reads_store_open(self, said: dict, time: int) -> None:
         """A store is there again."""
         self.no_room.pop(said["camera"], None)
+        self.opened_again.setdefault(said["camera"], []).append(time)
 
     def reads_done(self, said: dict, time: int) -> None:
         """An order is answered: in its turn, soon, and by all that it asked for."""
@@ -794,7 +872,8 @@ class Kept:
         self.in_its_turn(label, words)
         self.soon(label, given, words, time)
         if words[0] == "keep":
-            self.locks_all_that_is_stored(label, given, words)
+            if not self.judge.more.memory.is_unsure(label):
+                self.locks_all_that_is_stored(label, given, words)
             lines = self.judge.answers.get(label, [])
             for it in lines if all(it["kind"] != "event_begun" for it in lines) else ():
                 if it["kind"] == "kept":
@@ -804,7 +883,8 @@ class Kept:
         """Each camera does its own orders in their order."""
         for name, labels in self.turns.items():
             if label in labels:
-                before = [it for it in labels[:labels.index(label)] if it not in self.joined]
+                before = [it for it in labels[:labels.index(label)] if it not in self.joined and
+                          not self.judge.more.memory.is_unsure(it)]
                 if before and name not in self.judge.moved:
                     self.says(f"@{label} is done before {before} of {name}")
                 self.turns[name] = [it for it in labels if it != label]
@@ -871,6 +951,9 @@ class Kept:
         """Where no frame is for more than one and a half times their distance, and a quarter of a
         second, `held` and `gap` say so."""
         kept = [it for it in mine if it["kind"] == "kept"]
+        kinds = {it["kind"] for it in mine}
+        if "held" in kinds and "gap" not in kinds and not self.judge.more.memory.refused:
+            self.says(f"less is held, and no place is told: {mine}")
         if not kept or any(it["kind"] in ("held", "gap", "kept_unread") for it in mine):
             return
         times = [since, until]
@@ -903,6 +986,7 @@ class Kept:
         self.makes_all_stores(lived, end)
         self.leaves_no_part(lived)
         self.tries_again(self.stopping or end)
+        self.tells_that_it_waits(self.stopping or end)
         self.ends_with_its_store(end)
         if "config" in lived.changed_files:
             self.says("the station's file was changed")

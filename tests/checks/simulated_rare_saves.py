@@ -48,14 +48,16 @@ class Shape(NamedTuple):
     act: Callable[[Scene, int], Act]
     # The only folder into which orders may write.
     saves: str = ""
+    # The pipes into which clips are saved, and that somebody reads.
+    sinks: tuple[str, ...] = ()
 
 
 class Scene:
     """The scene of a world."""
 
-    def __init__(self, world: World) -> None:
+    def __init__(self, world: World, shape: Shape) -> None:
         self.world, self.chance = world, random.Random(f"scene {world.seed}")
-        self.shape = shape = SHAPES[world.seed % PLACES]
+        self.shape = shape
         world.has_faults = world.kills_early = world.is_piped = False
         world.saves = shape.saves
         del world.cameras[2:]
@@ -67,6 +69,7 @@ class Scene:
         first.words = {it: value for it, value in {**first.words, **words}.items()
                        if value is not None}
         first.says_times = "times_from" in first.words
+        world.sinks = shape.sinks
         if shape.saves:
             world.links.update({"clips/away": "..", "clips/leads": "../precious"})
         self.lived, self.begun = 0, 0
@@ -98,14 +101,17 @@ class Scene:
         script = [*self.world.begins(now, True), *syncs, *act.lines, *(it for _, it in events)]
         calls = {it.split()[0] for it in act.lines}
         down = self.chance.choice((100_000, SECOND))
-        return Life(now, until, "\n".join(script) + "\n", end, orders, "bad" in calls,
-                    bool(calls & {"bad", "slow", "reads"}), down, {}, set())
+        return Life(now, until, "\n".join(script) + "\n", end, orders,
+                    bool(calls & {"bad", "refuse"}),
+                    bool(calls & {"bad", "slow", "reads", "refuse"}), down, {}, set())
 
     def frames(self, camera: Camera, since: int, until: int, rests: list[tuple[int, int, bool]],
                jumps: int) -> list[tuple[int, str]]:
         """What a source brings meanwhile: frames, but where it rests."""
         from simulated_world import SIZE
         found, at = [], max(camera.due, since + self.chance.randint(0, SECOND // 2))
+        if camera.is_pattern():
+            return []
         left = sorted(rests)
         while at < until:
             if left and left[0][0] <= at:
@@ -316,4 +322,6 @@ SHAPES += SHAPES[2:6]
 
 def scene_of(world: World) -> Scene | None:
     """The scene of a world, if it has one."""
-    return Scene(world) if FIRST <= world.seed <= LAST else None
+    if FIRST <= world.seed <= LAST:
+        return Scene(world, SHAPES[world.seed % PLACES])
+    return None

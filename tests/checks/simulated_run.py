@@ -107,7 +107,7 @@ class Runner:
         self.config = world.config()
         for camera in world.cameras:
             os.mkfifo(self.folder / f"{camera.name}.y4m")
-        for name in ("orders", "nobody"):
+        for name in ("orders", "nobody", *world.sinks):
             os.mkfifo(self.folder / name)
         self.lays(world.files())
         for name, where in world.links.items():

@@ -199,7 +199,9 @@ class Told:
     def overdue(self, time: int) -> None:
         """What was to be told by now was told."""
         late = [it for it in self.due if it[0] < time]
-        for _, kind, _, what in late if not self.stopping else ():
+        # Where memory is refused a line may be missing.
+        for _, kind, _, what in late if not self.stopping and not self.judge.more.memory.refused \
+                else ():
             if kind == "stood_still" or not self.pauses:
                 self.says(f"not told: {what}")
         self.due = [it for it in self.due if it[0] >= time]
@@ -276,10 +278,22 @@ class Told:
         text = b"".join(it.data for it in lived.records if it.kind == "O" and it.number == 1)
         told = {(it[1], it[2] or b"") for it in map(LINE.match, text.split(b"\n")) if it}
         last = max((it[0] for it in told), default=b"")
-        for _, _, said in lines:
+        for _, _, said in lines if not self.judge.more.memory.refused else ():
             time = (said.get("time") or "").encode()
             if time < last and (time, (said.get("label") or "").encode()) not in told:
                 self.says(f"the output has no line of this time and label: {said}")
+                break
+
+    def reads_all(self, lived: Lived, lines: list) -> None:
+        """Who reads a pipe of answers, or comes next, gets each line, where none is told as
+        dropped."""
+        text = b"".join(it.data for it in lived.records if it.kind == "O" and it.number == 1)
+        there = {((said.get("time") or "").encode(), (said.get("label") or "").encode())
+                 for _, _, said in lines}
+        last = max((it[0] for it in there), default=b"")
+        for it in filter(None, map(LINE.match, text.split(b"\n"))):
+            if it[1] < last and (it[1], it[2] or b"") not in there:
+                self.says(f"nobody gets a line of {it[0].decode()}, and that isn't told")
                 break
 
     def answers_are_there(self, lived: Lived) -> None:

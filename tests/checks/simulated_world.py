@@ -11,6 +11,7 @@ import time
 
 import layout
 import simulated_rare_keeps
+import simulated_rare_more
 import simulated_rare_saves
 
 # The time of day when a world begins, in microseconds since 1970.
@@ -70,6 +71,10 @@ class Camera:
         """Its stores' files."""
         return paths_of(self.name, self.stores)
 
+    def is_pattern(self) -> bool:
+        """Whether its frames are the station's own pattern."""
+        return self.words.get("source") == "pattern"
+
     def header(self) -> str:
         """The first line of its source."""
         return f"YUV4MPEG2 W{WIDTH} H{HEIGHT} F{SECOND // self.period}:1 Ip A0:0 Cmono"
@@ -85,6 +90,8 @@ class Camera:
         }
         said = {it: str(value).lower() if isinstance(value, (bool, int)) else f'"{value}"'
                 for it, value in given.items()}
+        if self.is_pattern():
+            del said["losses"]
         return "[[camera]]\n" + "".join(f"{it} = {value}\n" for it, value in said.items())
 
 
@@ -134,8 +141,10 @@ class World:
         self.foreign: dict[str, bytes] = {}
         # Links beside the stores, and where they lead.
         self.links = {LINKED[0]: LINKED[1]}
+        # The pipes into which clips are saved, and that somebody reads.
+        self.sinks: tuple[str, ...] = ()
         # All that happens, where that is one scene.
-        self.scene = simulated_rare_saves.scene_of(self)
+        self.scene = simulated_rare_saves.scene_of(self) or simulated_rare_more.scene_of(self)
 
     def camera(self, at: int) -> Camera:
         """A camera of any kind."""

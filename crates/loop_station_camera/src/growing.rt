@@ -241,6 +241,8 @@ pub(crate) struct Waiting {
 struct Inner {
     waiting: Option<Waiting>,
     growing: HeapCircularBuffer<Growing>,
+    // The keep of the event that the thread of the desk goes on with now.
+    going: Option<Keep>,
     // Clips that are saved and are to be released, which had to wait.
     saved: Vec<SaveKey>,
     // The events that were open when the program ended last go on, where there were some.
@@ -260,6 +262,7 @@ impl Ongoing {
             inner: Mutex::new(Inner {
                 waiting: None,
                 growing: HeapCircularBuffer::with_capacity(alloc, MOST_OPEN)?,
+                going: None,
                 saved: Vec::new(alloc),
                 has_gone_on: false,
             }),
@@ -283,12 +286,24 @@ impl Ongoing {
 
     /// The event that is next to go on with. It has to be put back, unless it is over.
     pub fn next_growing<R: Wait>(&self, rt: &R) -> Option<Growing> {
-        self.inner.lock(rt).growing.pop_front()
+        let mut inner = self.inner.lock(rt);
+        let growing = inner.growing.pop_front()?;
+        inner.going = Some(growing.keep);
+        Some(growing)
+    }
+
+    /// The event that the thread of the desk went on with is over.
+    pub fn end_growing<R: Wait>(&self, rt: &R) {
+        self.inner.lock(rt).going = None;
     }
 
     /// An event goes on. Returns it where too many do.
     pub fn put_growing<R: Wait>(&self, rt: &R, growing: Growing) -> Option<Growing> {
-        match self.inner.lock(rt).growing.try_push_back(growing) {
+        let mut inner = self.inner.lock(rt);
+        if inner.going.is_some_and(|keep: Keep| keep.event == growing.keep.event) {
+            inner.going = None;
+        }
+        match inner.growing.try_push_back(growing) {
             Ok(()) => None,
             Err(growing) => Some(growing),
         }
@@ -365,10 +380,14 @@ impl Ongoing {
         }
     }
 
-    /// The keeps of the events that go on. None where memory is refused.
+    /// The keeps of the events that go on, also of the one that the thread of the desk has now. None where memory is
+    /// refused.
     pub fn keeps<R: Wait>(&self, rt: &R, alloc: Global) -> Option<Vec<Keep>> {
         let inner = self.inner.lock(rt);
         let mut keeps = Vec::new(alloc);
+        if let Some(keep) = inner.going {
+            keeps.push(keep).ok()?;
+        }
         for growing in inner.growing.iter() {
             if keeps.push(growing.keep).is_err() {
                 return None;

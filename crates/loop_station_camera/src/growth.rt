@@ -81,6 +81,7 @@ impl CameraState {
             Some(kept) => kept,
             None => Vec::new(alloc),
         };
+        self.desk.end_growing(rt);
         self.note_open(rt, alloc, Announcement::Told(lines, kept));
     }
 
@@ -125,11 +126,12 @@ impl CameraState {
         }
     }
 
-    /// The events that are open now go into the camera's file of events, and then this is told.
+    /// The events that are open now go into the camera's file of events, and then this is told. Where there is no memory
+    /// for them, the thread of that file looks for them.
     pub fn note_open<R: Wait>(&self, rt: &R, alloc: Global, told: Announcement) {
         match self.open_events(rt, alloc) {
             Some(open) => self.notes.note(rt, open, told),
-            None => self.announce(rt, told),
+            None => self.notes.look(rt, told),
         }
     }
 

@@ -264,7 +264,10 @@ impl<I: Read + Drop> Input<I> {
                 break;
             }
         }
-        let is_frame = self.read_ahead(size, &mut ahead)? && self.begins_with()? != Joined::Other;
+        // Where there is no memory for its line, or for what follows, some of these bytes are lost.
+        let is_frame = ahead.ends_with(b"\n")
+            && self.read_ahead(size, &mut ahead)?
+            && self.begins_next()?.is_some_and(|next: Joined| next != Joined::Other);
         self.begin_line();
         let kept = if is_frame { 0 } else { 1 };
         Ok(self.give_back(ahead.get(kept..).unwrap_or(&[])) && is_frame)
@@ -292,8 +295,13 @@ impl<I: Read + Drop> Input<I> {
         Ok(false)
     }
 
-    /// What begins with the next byte. It waits until that is known.
+    /// What begins with the next byte. It waits until that is known. Where memory is refused, the next bytes are lost.
     pub fn begins_with(&mut self) -> io::Result<Joined> {
+        Ok(self.begins_next()?.unwrap_or(Joined::End))
+    }
+
+    // The same; None where memory is refused, and the bytes that were looked at are lost.
+    fn begins_next(&mut self) -> io::Result<Option<Joined>> {
         let mut first = [0u8; LENGTH];
         let mut count = 0usize;
         let mut joined = None;
@@ -303,7 +311,7 @@ impl<I: Read + Drop> Input<I> {
                 break;
             };
             if self.read(place)? == 0 {
-                return Ok(Joined::End);
+                return Ok(Some(Joined::End));
             }
             count = end;
             joined = beginning_of(first.get(..count).unwrap_or(&[]));
@@ -313,9 +321,9 @@ impl<I: Read + Drop> Input<I> {
         }
         self.begin_line();
         if !self.give_back(first.get(..count).unwrap_or(&[])) {
-            return Ok(Joined::End);
+            return Ok(None);
         }
-        Ok(joined.unwrap_or(Joined::Other))
+        Ok(Some(joined.unwrap_or(Joined::Other)))
     }
 
     // Drops so many of the bytes that are there.

@@ -13,6 +13,8 @@ use std::time::{Clock, Duration};
 pub enum Note {
     /// These events are open, and no others; and what is told once that is on the disk.
     Open(Vec<OpenEvent>, Announcement),
+    /// Other events are open than before, for which there was no memory; and what is told once they are on the disk.
+    Look(Announcement),
     /// What is told after that.
     Tell(Announcement),
     /// The program ends.
@@ -55,6 +57,12 @@ impl Notes {
     pub fn note<R: Wait>(&self, rt: &R, events: Vec<OpenEvent>, told: Announcement) {
         let _later = self.come(rt, true);
         self.post.put(rt, Note::Open(events, told));
+    }
+
+    /// Other events are open than before: once the file has them this is told.
+    pub fn look<R: Wait>(&self, rt: &R, told: Announcement) {
+        let _later = self.come(rt, true);
+        self.post.put(rt, Note::Look(told));
     }
 
     /// Something is told, after what waits. Returns it where nothing does: then it is to be told at once.

@@ -163,7 +163,10 @@ fn film_into<R: AllocGlobal + Places + Threads + Wait + Clock + Sync, W: Write +
         Ok(member) => member,
         Err(why) => return why,
     };
-    let (events, clips) = (open_events(rt, state), member.clips.as_slice());
+    let Some(events) = open_events(rt, state) else {
+        return Absent::NoBuffers;
+    };
+    let clips = member.clips.as_slice();
     tell_clips(rt, state, &mut store, clips, events.as_slice());
     let first = first_of(newest, *next);
     let Some(camera) = camera_before(rt.alloc(), state, store, first) else {
@@ -224,16 +227,16 @@ fn take_store<R: Wait>(rt: &R, state: &CameraState, store: &mut Store<FileDisk>)
     }
 }
 
-// The events that go on: at first those that were open when the program ended last.
-fn open_events<R: AllocGlobal + Places + Wait>(rt: &R, state: &CameraState) -> Vec<OpenEvent> {
-    let known = if state.has_gone_on(rt) {
+// The events that go on: at first those that were open when the program ended last. None where there is no memory for
+// them.
+fn open_events<R: AllocGlobal + Places + Wait>(
+    rt: &R,
+    state: &CameraState,
+) -> Option<Vec<OpenEvent>> {
+    if state.has_gone_on(rt) {
         state.open_events(rt, rt.alloc())
     } else {
-        None
-    };
-    match known {
-        Some(events) => events,
-        None => read_events(rt, rt.alloc(), state.config.store.as_str()),
+        read_events(rt, rt.alloc(), state.config.store.as_str())
     }
 }
 

@@ -11,12 +11,16 @@ use loop_station_core::OpenEvent;
 use loop_station_outside::{PathKind, Places};
 use loop_station_shared::{Announcement, Note};
 use std::alloc::{AllocGlobal, Global};
-use std::io::Write;
+use std::io::{ErrorKind, Write};
 use std::sync::Wait;
+use std::thread;
 use std::time::{Clock, Duration};
 
 // How many milliseconds pass before a file that couldn't be written is tried again.
 const TRY_AGAIN: u64 = 1_000;
+
+// How many milliseconds pass before memory for the events, or for a path, is asked for again.
+const MEMORY_AGAIN: u64 = 10;
 
 /// The thread that writes the file of a camera's events, until the camera has ended and all that it told is printed.
 pub(crate) fn run_notes<R: AllocGlobal + Places + Wait + Clock>(rt: &R, state: &CameraState) {
@@ -35,6 +39,11 @@ pub(crate) fn run_notes<R: AllocGlobal + Places + Wait + Clock>(rt: &R, state: &
                 unwritten = write_or_keep(rt, state, events, unwritten.is_some());
                 tell(rt, state, told);
             }
+            Some(Note::Look(told)) => {
+                let events = open_now(rt, state);
+                unwritten = write_or_keep(rt, state, events, unwritten.is_some());
+                tell(rt, state, told);
+            }
             Some(Note::Tell(told)) => tell(rt, state, told),
             Some(Note::End) => ended = true,
             None => {
@@ -49,6 +58,29 @@ pub(crate) fn run_notes<R: AllocGlobal + Places + Wait + Clock>(rt: &R, state: &
     }
 }
 
+// The events that are open now, once there is memory for them.
+fn open_now<R: AllocGlobal + Wait + Clock>(rt: &R, state: &CameraState) -> Vec<OpenEvent> {
+    for _ in rt.forever() {
+        if let Some(events) = state.open_events(rt, rt.alloc()) {
+            return events;
+        }
+        thread::sleep(rt, Duration::from_millis(MEMORY_AGAIN));
+    }
+    unreachable!()
+}
+
+// The path of a camera's file of events, once there is memory for it.
+fn path_of_events<R: AllocGlobal + Wait + Clock>(rt: &R, state: &CameraState) -> String {
+    let store = state.config.store.as_str();
+    for _ in rt.forever() {
+        if let Ok(path) = format!(in rt.alloc(); "{store}.events") {
+            return path;
+        }
+        thread::sleep(rt, Duration::from_millis(MEMORY_AGAIN));
+    }
+    unreachable!()
+}
+
 // Tells what waited for the file.
 fn tell<R: Wait>(rt: &R, state: &CameraState, told: Announcement) {
     state.posts.announce(rt, Some(state.place), told);
@@ -56,16 +88,13 @@ fn tell<R: Wait>(rt: &R, state: &CameraState, told: Announcement) {
 }
 
 // Writes the file of a camera's events. Where that fails, it is told, unless it was, and the answer has the events.
-fn write_or_keep<R: AllocGlobal + Places + Wait>(
+fn write_or_keep<R: AllocGlobal + Places + Wait + Clock>(
     rt: &R,
     state: &CameraState,
     events: Vec<OpenEvent>,
     was_told: bool,
 ) -> Option<Vec<OpenEvent>> {
-    let store = state.config.store.as_str();
-    let Ok(path) = format!(in rt.alloc(); "{store}.events") else {
-        return Some(events);
-    };
+    let path = path_of_events(rt, state);
     if write_events(rt, path.as_str(), events.as_slice()) {
         return None;
     }
@@ -131,27 +160,26 @@ fn print_event<W: Write>(out: &mut W, event: &OpenEvent) -> std::io::Result<()> 
     out.write_all(b"\n")
 }
 
-/// The events that were open when the program ended last, as the file of a store's events has them. A line that can't
-/// be read is left out.
+/// The events that were open when the program ended last, as the file of a store's events has them; None where there is
+/// no memory for them. A line that can't be read is left out.
 pub(crate) fn read_events<R: AllocGlobal + Places>(
     rt: &R,
     alloc: Global,
     store: &str,
-) -> Vec<OpenEvent> {
+) -> Option<Vec<OpenEvent>> {
     let mut events = Vec::new(alloc);
-    let Ok(path) = format!(in alloc; "{store}.events") else {
-        return events;
-    };
-    let Ok(text) = rt.read_text(path.as_str()) else {
-        return events;
+    let path = format!(in alloc; "{store}.events").ok()?;
+    let text = match rt.read_text(path.as_str()) {
+        Ok(text) => text,
+        Err(fault) if fault.kind() == ErrorKind::OutOfMemory => return None,
+        Err(_) => return Some(events),
     };
     for line in text.as_str().lines() {
         if let Some(event) = event_of(line) {
-            // Where memory is refused, it is left out.
-            let _ = events.push(event);
+            events.push(event).ok()?;
         }
     }
-    events
+    Some(events)
 }
 
 // The event of a line.
