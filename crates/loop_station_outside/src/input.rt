@@ -1,8 +1,13 @@
 //! What a source's file or pipe brings, of which bytes can be given back, and how the next header in it is found.
 //!
 //! Writers of a pipe may follow each other without an end in between: one ends amid a frame, and the next one's header
-//! stands where the rest of that frame was to come. So a header is looked for in each frame.
+//! stands where the rest of that frame was to come. So a header is looked for in each frame, all of it: also a frame
+//! that is followed by the line of one may have broken off, where the next writer's frames are smaller.
 
+ghost use Rattle.std.specs.Prelude.{IsNone};
+ghost use Rattle.loop_station_outside.specs.Headers.{HasNoHeader};
+
+use memchr::memmem;
 use std::alloc::Global;
 use std::io;
 use std::io::{BufRead, BufReader, Read};
@@ -28,49 +33,19 @@ const PIECE: usize = 4_096;
 // Reads of at most so many bytes are of lines, and others of frames.
 const OF_LINES: usize = 16;
 
-// How far a header may lie ahead, at least, where the last byte of a window isn't its last one: as far as the last such
-// byte of its beginning is from that beginning's end.
-fn skip_of(last: u8) -> usize {
-    match last {
-        b'2' => 1,
-        b'G' => 2,
-        b'E' => 3,
-        b'P' => 4,
-        b'M' => 5,
-        b'4' => 6,
-        b'V' => 7,
-        b'U' => 8,
-        b'Y' => 9,
-        _ => LENGTH,
-    }
-}
-
 /// Where a header begins among bytes, or where their end has at least so many bytes of its beginning.
-pub fn find_header(bytes: &[u8], least: usize) -> Option<usize> {
-    // The last byte of the window that is looked at: in most, nine bytes of ten aren't read.
-    let mut at = LENGTH - 1;
-    for _ in 0..bytes.len() {
-        let Some(last) = bytes.get(at) else {
-            break;
-        };
-        if *last == b' ' {
-            let start = at.saturating_sub(LENGTH - 1);
-            if bytes
-                .get(start..)
-                .unwrap_or(&[])
-                .starts_with(MAGIC.as_slice())
-            {
-                return Some(start);
-            }
-        }
-        at = at.saturating_add(skip_of(*last));
+pub fn find_header(bytes: &[u8], least: usize) -> Option<usize>
+    ensures { IsNone result → HasNoHeader bytes.now }
+{
+    match memmem::find(bytes, MAGIC.as_slice()) {
+        Some(at) => Some(at),
+        None => find_beginning(bytes, least),
     }
-    find_beginning(bytes, at.saturating_sub(LENGTH - 1), least)
 }
 
-// Where the end of bytes, from a place on, has at least so many bytes of a header's beginning.
-fn find_beginning(bytes: &[u8], from: usize, least: usize) -> Option<usize> {
-    let mut at = from.max(bytes.len().saturating_sub(LENGTH.saturating_sub(1)));
+// Where the end of bytes has at least so many bytes of a header's beginning.
+fn find_beginning(bytes: &[u8], least: usize) -> Option<usize> {
+    let mut at = bytes.len().saturating_sub(LENGTH - 1);
     for _ in 0..LENGTH {
         let end = bytes.get(at..).unwrap_or(&[]);
         if end.len() < least.max(1) {

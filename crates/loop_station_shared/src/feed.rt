@@ -13,6 +13,7 @@ use loop_station_core::{
 use loop_station_outside::Timeline;
 use std::alloc::{AllocError, Global};
 use std::mem;
+use std::snapshot::Snapshot;
 use std::sync::{Arc, Condvar, Mutex, Wait};
 use std::time::{Clock, Duration};
 
@@ -521,6 +522,8 @@ pub struct FeedSource {
     feed: Arc<Feed>,
     /// The frame that is lent.
     frame: Vec<u8>,
+    /// The frame that came last, as it was when it came.
+    came: Snapshot<Vec<u8>>,
     /// Its mark.
     mark: u32,
 }
@@ -528,17 +531,20 @@ pub struct FeedSource {
 impl FeedSource {
     /// A source that lends the frames that are ready there.
     pub fn new(alloc: Global, feed: Arc<Feed>) -> FeedSource {
+        let frame = Vec::new(alloc);
+        let came = Snapshot::of(&frame);
         FeedSource {
             feed,
-            frame: Vec::new(alloc),
+            frame,
+            came,
             mark: 0,
         }
     }
 }
 
 impl FrameSource for FeedSource {
-    /// A frame's bytes are those of the one that lay in the feed, which is lent from then on.
-    ghost next_gives = { λ source answer bytes after. answer ≡ More → bytes ≡ after.frame.items };
+    /// A frame's bytes are those of the one that lay in the feed, as it came.
+    ghost next_gives = { λ source answer bytes after. answer ≡ More → bytes ≡ after.came.value.items };
 
     ghost lends = { λ source. source.frame.items };
 
@@ -567,6 +573,7 @@ impl FrameSource for FeedSource {
         };
         let fits = frame.bytes.len() == size;
         self.mark = frame.mark;
+        self.came = Snapshot::of(&frame.bytes);
         let row = mem::replace(&mut self.frame, frame.bytes);
         if !row.is_empty() {
             ready.row = Some(row);
@@ -576,6 +583,15 @@ impl FrameSource for FeedSource {
 
     fn lent(&self) -> &[u8] {
         &self.frame
+    }
+
+    fn give_row(&mut self) -> Option<Vec<u8>> {
+        let none = Vec::new(*self.frame.allocator());
+        Some(mem::replace(&mut self.frame, none))
+    }
+
+    fn return_row(&mut self, row: Vec<u8>) {
+        self.frame = row;
     }
 
     fn mark(&self) -> u32 {
