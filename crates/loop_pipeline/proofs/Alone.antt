@@ -10,40 +10,29 @@ use Rattle.loop_desk.specs.Desk.{DeskCall}
 use Rattle.loop_pipeline.specs.declared.ending.CameraEnd.{CameraEnd}
 use Rattle.loop_pipeline.specs.declared.film.Unfilmed.{Unfilmed}
 use Rattle.loop_pipeline.specs.declared.film.Unfilmed.TheVariants.{NoMemory, NoThread}
-use Rattle.loop_pipeline.specs.Cameras.{CameraKeeps, CameraTold, KeepsJoined, SeenCamera}
+use Rattle.loop_pipeline.specs.Cameras.{CameraKeeps, KeepsJoined, SeenCamera}
 use Rattle.loop_pipeline.specs.Fronts.{IsRegular}
-use Rattle.loop_pipeline.specs.Heards.{Counts}
 use Rattle.loop_pipeline.specs.Returns.{IsReturned, GivesJoined}
 
 module _ {S D P : Type 0} (medium : D → Medium) (gives : S → Next → List ℕ → S → Type 0) (meaning : P → Plane)
     (asks : DeskCall → Type 0) (gives_up : StoreFault → Type 0) (due : ℕ → ℕ → Type 0) (ends : ℕ → Type 0)
     (shut : Type 0) (is : shut) (camera : SeenCamera S D P) where
-  alone : (new : SeenCamera S D P) (given_up left missed failed : ℕ) (over : Bool) (told : Counts)
-      → KeepsJoined medium gives meaning asks gives_up due ends shut camera new given_up left missed failed over told
-      → CameraTold medium gives meaning asks gives_up due ends camera new given_up left missed failed over told
-  alone new given_up left missed failed over told kept =
-      subst (λ l. CameraTold medium gives meaning asks gives_up due ends (record camera { joined = l }) new given_up left missed
-      failed over told) (ap (λ l. camera.joined ++ l) (kept.none is) ∙ append-nil camera.joined) kept.keeps
+  alone : (new : SeenCamera S D P) (given_up left missed failed : ℕ) (over : Bool)
+      → KeepsJoined medium gives meaning asks gives_up due ends shut camera new given_up left missed failed over
+      → CameraKeeps medium gives meaning asks gives_up due ends camera new given_up left missed failed over
+  alone new given_up left missed failed over kept =
+      subst (λ l. CameraKeeps medium gives meaning asks gives_up due ends (record camera { joined = l }) new given_up left missed
+      failed over) (ap (λ l. camera.joined ++ l) (kept.none is) ∙ append-nil camera.joined) kept.keeps
 
   pub filmed-alone : {G : Type 0} (filmed : Result (CameraEnd S D P G Global) (Unfilmed S D P G))
       → IfOk filmed (λ e. IsRegular meaning camera.queue → KeepsJoined medium gives meaning asks gives_up due ends shut camera
       (record { device = e.device; queue = e.queue; desk = e.desk; joined = e.joined.items }) e.given_up e.left e.missed
-      e.failed e.over e.told.counts)
-      → IfOk filmed (λ e. IsRegular meaning camera.queue → CameraTold medium gives meaning asks gives_up due ends camera
-      (record { device = e.device; queue = e.queue; desk = e.desk; joined = e.joined.items }) e.given_up e.left e.missed
-      e.failed e.over e.told.counts)
-  filmed-alone (Ok e) kept = λ regular. alone _ e.given_up e.left e.missed e.failed e.over e.told.counts (kept regular)
-  filmed-alone (Err u) kept = kept
-
-  pub filmed-keeps : {G : Type 0} (filmed : Result (CameraEnd S D P G Global) (Unfilmed S D P G))
-      → IfOk filmed (λ e. IsRegular meaning camera.queue → KeepsJoined medium gives meaning asks gives_up due ends shut camera
-      (record { device = e.device; queue = e.queue; desk = e.desk; joined = e.joined.items }) e.given_up e.left e.missed
-      e.failed e.over e.told.counts)
+      e.failed e.over)
       → IfOk filmed (λ e. IsRegular meaning camera.queue → CameraKeeps medium gives meaning asks gives_up due ends camera
       (record { device = e.device; queue = e.queue; desk = e.desk; joined = e.joined.items }) e.given_up e.left e.missed
       e.failed e.over)
-  filmed-keeps (Ok e) kept = λ regular. (alone _ e.given_up e.left e.missed e.failed e.over e.told.counts (kept regular)).keeps
-  filmed-keeps (Err u) kept = kept
+  filmed-alone (Ok e) kept = λ regular. alone _ e.given_up e.left e.missed e.failed e.over (kept regular)
+  filmed-alone (Err u) kept = kept
 
   pub given-alone : {G : Type 0} (filmed : Result (CameraEnd S D P G Global) (Unfilmed S D P G))
       → IfErr filmed (GivesJoined medium gives meaning asks gives_up due ends shut camera)
@@ -51,4 +40,4 @@ module _ {S D P : Type 0} (medium : D → Medium) (gives : S → Next → List �
   given-alone (Ok e) kept = kept
   given-alone (Err (NoMemory c)) kept = kept
   given-alone (Err (NoThread e)) (device, queue, port, kept) =
-      (device, queue, port, λ regular. (alone _ e.given_up e.left e.missed e.failed e.over e.told.counts (kept regular)).keeps)
+      (device, queue, port, λ regular. alone _ e.given_up e.left e.missed e.failed e.over (kept regular))

@@ -20,7 +20,6 @@ use Rattle.loop_desk.specs.Seen.{DeskGoes, SeenDesk}
 use Rattle.loop_desk.proofs.CallRuns.{desk-joined, desk-none}
 use Rattle.loop_pipeline.specs.Backs.{Came, EachServed, GoesBy, IsFed, IsLast, IsRightful, IsSoAt, MayGiveUp, MayGiveUpAt, Part, Served, WasRefused, asked, calls_at, calls_by, calls_of, is_placed_submit, is_submit, lost_by, own, part_for, parts_at, picture_of, placed_calls, unasked, unasked_by}
 use Rattle.loop_pipeline.specs.DeskEvents.{DesksNow, Happened, IsDue, TakesFrame, desk_in, done, end_by, joined_by, part_in, turned_to}
-use Rattle.loop_pipeline.specs.Heards.{Handed}
 use Rattle.loop_pipeline.specs.KeptBacks.{BackKeeps}
 use Rattle.loop_pipeline.specs.Nexts.{end_past}
 use Rattle.loop_pipeline.specs.Turns.{Chooses, IsBetween, TurnsTo, turned_by}
@@ -163,10 +162,10 @@ module _ {D : Type 0} (medium : D → Medium) where
 
 module _ {D A : Type 0} (medium : D → Medium) (asks : DeskCall → Type 0) (gives_up : StoreFault → Type 0) where
   -- a new back has one desk, and has done nothing
-  pub begun : {end : ℕ} {handed : Handed} (desk : SeenDesk D) (from : Consumer (Frame A) A AnyItems) → TellsOne desk.store
+  pub begun : {end : ℕ} (desk : SeenDesk D) (from : Consumer (Frame A) A AnyItems) → TellsOne desk.store
       → ((medium desk.store.disk).honest → IsSound (medium desk.store.disk)) → received from ≡ []
-      → BackKeeps medium asks gives_up (record { began = desk ∷ []; from = from; start = end; desks = desk ∷ []; active = 0; end = end; handed = handed }) from 0 false
-  begun {end} {handed} desk from one sound none = record {
+      → BackKeeps medium asks gives_up (record { began = desk ∷ []; from = from; start = end; desks = desk ∷ []; active = 0; end = end }) from 0 false
+  begun {end} desk from one sound none = record {
     ring = ((refl, refl, refl, refl), refl);
     all = refl;
     inside = omega arith;
@@ -200,18 +199,18 @@ module _ {D A : Type 0} (medium : D → Medium) (asks : DeskCall → Type 0) (gi
   same-ring a b c first second =
       ((second.0.0 ∙ first.0.0, second.0.1 ∙ first.0.1, second.0.2 ∙ first.0.2, second.0.3 ∙ first.0.3), second.1 ∙ first.1)
 
-  module _ {start end : ℕ} {handed : Handed} (began desks : List (SeenDesk D)) (active : ℕ) (before from up : Consumer (Frame A) A AnyItems) (given_up : ℕ)
+  module _ {start end : ℕ} (began desks : List (SeenDesk D)) (active : ℕ) (before from up : Consumer (Frame A) A AnyItems) (given_up : ℕ)
       (refused : Bool)
-      (keeps : BackKeeps medium asks gives_up (record { began = began; from = before; start = start; desks = desks; active = active; end = end; handed = handed })
+      (keeps : BackKeeps medium asks gives_up (record { began = began; from = before; start = start; desks = desks; active = active; end = end })
       from given_up refused)
     where
       abbrev pub now : DesksNow D
       now = record { desks = desks; active = active; end = end }
 
       -- a flush was refused
-      pub was-refused : {after : Handed} → refused ≡ true
-          → WasRefused medium gives_up (record { began = began; from = before; start = start; desks = desks; active = active; end = end; handed = after })
-      was-refused {after} is =
+      pub was-refused : refused ≡ true
+          → WasRefused medium gives_up (record { began = began; from = before; start = start; desks = desks; active = active; end = end })
+      was-refused is =
           let why = keeps.tried is in
           let old = some-there began why.place why.among in
           let new = some-there desks why.place (subst (λ n. why.place < n) (sym keeps.all) why.among) in
@@ -277,7 +276,7 @@ module _ {D A : Type 0} (medium : D → Medium) (asks : DeskCall → Type 0) (gi
         pub called : (part : Part) → IsRightful asks part → filter is_submit (calls_of part) ≡ []
             → DeskGoes medium old new (calls_of part)
             → BackKeeps medium asks gives_up
-            (record { began = began; from = before; start = start; desks = slice_set desks place new; active = active; end = end; handed = handed }) from given_up refused
+            (record { began = began; from = before; start = start; desks = slice_set desks place new; active = active; end = end }) from given_up refused
         called part is none goes = record {
           ring = keeps.ring;
           all = length-set desks place new ∙ keeps.all;
@@ -300,13 +299,13 @@ module _ {D A : Type 0} (medium : D → Medium) (asks : DeskCall → Type 0) (gi
         -- a flush that was answered
         pub flushed-on : (answer : Result Flushed StoreFault) → DeskGoes medium old new (flushed answer ∷ [])
             → BackKeeps medium asks gives_up
-            (record { began = began; from = before; start = start; desks = slice_set desks place new; active = active; end = end; handed = handed }) from given_up refused
+            (record { began = began; from = before; start = start; desks = slice_set desks place new; active = active; end = end }) from given_up refused
         flushed-on answer goes = called (own (flushed answer)) refl refl goes
 
         -- a flush that was refused, and isn't tried again
         pub refused-flush : (fault : StoreFault) → gives_up fault → DeskGoes medium old new (flushed (Err fault) ∷ [])
             → BackKeeps medium asks gives_up
-            (record { began = began; from = before; start = start; desks = slice_set desks place new; active = active; end = end; handed = handed }) from given_up true
+            (record { began = began; from = before; start = start; desks = slice_set desks place new; active = active; end = end }) from given_up true
         refused-flush fault gives goes =
             let part = own (flushed (Err fault)) in record {
               ring = keeps.ring;
@@ -340,14 +339,14 @@ module _ {D A : Type 0} (medium : D → Medium) (asks : DeskCall → Type 0) (gi
         came-out frame got = ap (map picture) got ∙ map-append picture (received from) (frame ∷ [])
 
         -- and the desk was asked for it
-        pub brought : {after : Handed} (frame : Frame A) (answer : Result ℕ StoreFault) → place ≡ active
+        pub brought : (frame : Frame A) (answer : Result ℕ StoreFault) → place ≡ active
             → (2 ≤ length desks → TakesFrame medium now) → SameConsumer from up
             → received up ≡ received from ++ frame ∷ []
             → DeskGoes medium old new (submitted (picture frame) (length frame.bytes.items) answer ∷ [])
             → BackKeeps medium asks gives_up
-            (record { began = began; from = before; start = start; desks = slice_set desks place new; active = active; end = end_past frame.sequence; handed = after }) up
+            (record { began = began; from = before; start = start; desks = slice_set desks place new; active = active; end = end_past frame.sequence }) up
             (given_up + length (lost_by (asked place (picture frame) answer))) refused
-        brought {after} frame answer here due same got goes =
+        brought frame answer here due same got goes =
             let part = own (submitted (picture frame) (length frame.bytes.items) answer) in
             let x = asked place (picture frame) answer in record {
               ring = same-ring before from up keeps.ring same;
@@ -377,14 +376,14 @@ module _ {D A : Type 0} (medium : D → Medium) (asks : DeskCall → Type 0) (gi
             }
 
         -- and accepted it
-        pub accepted : {after : Handed} (frame : Frame A) (number : ℕ) → place ≡ active → (2 ≤ length desks → TakesFrame medium now)
+        pub accepted : (frame : Frame A) (number : ℕ) → place ≡ active → (2 ≤ length desks → TakesFrame medium now)
             → SameConsumer from up → received up ≡ received from ++ frame ∷ []
             → DeskGoes medium old new (submitted (picture frame) (length frame.bytes.items) (Ok number) ∷ [])
             → BackKeeps medium asks gives_up
-            (record { began = began; from = before; start = start; desks = slice_set desks place new; active = active; end = end_past frame.sequence; handed = after }) up given_up refused
-        accepted {after} frame number here due same got goes =
+            (record { began = began; from = before; start = start; desks = slice_set desks place new; active = active; end = end_past frame.sequence }) up given_up refused
+        accepted frame number here due same got goes =
             subst (λ n. BackKeeps medium asks gives_up
-            (record { began = began; from = before; start = start; desks = slice_set desks place new; active = active; end = end_past frame.sequence; handed = after }) up n refused)
+            (record { began = began; from = before; start = start; desks = slice_set desks place new; active = active; end = end_past frame.sequence }) up n refused)
             (plus-none given_up) (brought frame (Ok number) here due same got goes)
 
       -- the call that the active desk answered last
@@ -404,10 +403,10 @@ module _ {D A : Type 0} (medium : D → Medium) (asks : DeskCall → Type 0) (gi
           }
 
       -- none came out of the ring
-      pub nothing : {after : Handed} → SameConsumer from up → received up ≡ received from
-          → BackKeeps medium asks gives_up (record { began = began; from = before; start = start; desks = desks; active = active; end = end; handed = after }) up
+      pub nothing : SameConsumer from up → received up ≡ received from
+          → BackKeeps medium asks gives_up (record { began = began; from = before; start = start; desks = desks; active = active; end = end }) up
           given_up refused
-      nothing {after} same none = record {
+      nothing same none = record {
         ring = same-ring before from up keeps.ring same;
         all = keeps.all;
         inside = keeps.inside;
@@ -427,10 +426,10 @@ module _ {D A : Type 0} (medium : D → Medium) (asks : DeskCall → Type 0) (gi
       }
 
       -- or it was given up unasked
-      pub dropped : {after : Handed} (frame : Frame A) → refused ≡ true → SameConsumer from up → received up ≡ received from ++ frame ∷ []
-          → BackKeeps medium asks gives_up (record { began = began; from = before; start = start; desks = desks; active = active; end = end; handed = after }) up
+      pub dropped : (frame : Frame A) → refused ≡ true → SameConsumer from up → received up ≡ received from ++ frame ∷ []
+          → BackKeeps medium asks gives_up (record { began = began; from = before; start = start; desks = desks; active = active; end = end }) up
           (given_up + 1) refused
-      dropped {after} frame is same got =
+      dropped frame is same got =
           let x = unasked (picture frame) in record {
             ring = same-ring before from up keeps.ring same;
             all = keeps.all;
@@ -455,14 +454,14 @@ module _ {D A : Type 0} (medium : D → Medium) (asks : DeskCall → Type 0) (gi
           }
 
   -- a desk more
-  pub one-more : {start end : ℕ} {handed : Handed} (began desks : List (SeenDesk D)) (active : ℕ) (before from : Consumer (Frame A) A AnyItems)
+  pub one-more : {start end : ℕ} (began desks : List (SeenDesk D)) (active : ℕ) (before from : Consumer (Frame A) A AnyItems)
       (given_up : ℕ) (refused : Bool) (desk : SeenDesk D) → TellsOne desk.store
       → ((medium desk.store.disk).honest → IsSound (medium desk.store.disk))
-      → BackKeeps medium asks gives_up (record { began = began; from = before; start = start; desks = desks; active = active; end = end; handed = handed }) from
+      → BackKeeps medium asks gives_up (record { began = began; from = before; start = start; desks = desks; active = active; end = end }) from
       given_up refused
       → BackKeeps medium asks gives_up
-      (record { began = began ++ desk ∷ []; from = before; start = start; desks = desks ++ desk ∷ []; active = active; end = end; handed = handed }) from given_up refused
-  one-more {start} {end} {handed} began desks active before from given_up refused desk one sound keeps = record {
+      (record { began = began ++ desk ∷ []; from = before; start = start; desks = desks ++ desk ∷ []; active = active; end = end }) from given_up refused
+  one-more {start} {end} began desks active before from given_up refused desk one sound keeps = record {
     ring = keeps.ring;
     all = length-append desks (desk ∷ []) ∙ (ap (λ n. n + 1) keeps.all ∙ sym (length-append began (desk ∷ [])));
     inside = subst (λ n. active < n) (sym (length-append desks (desk ∷ []))) (omega (arith, keeps.inside));
@@ -504,23 +503,23 @@ module _ {D A : Type 0} (medium : D → Medium) (asks : DeskCall → Type 0) (gi
           (record { goes = desk-none medium desk one sound; went = refl })))
 
   -- a turn, after which another desk may be active
-  pub turned-on : {start end : ℕ} {handed : Handed} (began desks : List (SeenDesk D)) (active place : ℕ) (before from : Consumer (Frame A) A AnyItems)
+  pub turned-on : {start end : ℕ} (began desks : List (SeenDesk D)) (active place : ℕ) (before from : Consumer (Frame A) A AnyItems)
       (given_up : ℕ) (refused locked : Bool) → place < length desks → IsSoAt active desks IsBetween
       → TurnsTo medium desks end active place locked
-      → BackKeeps medium asks gives_up (record { began = began; from = before; start = start; desks = desks; active = active; end = end; handed = handed }) from
+      → BackKeeps medium asks gives_up (record { began = began; from = before; start = start; desks = desks; active = active; end = end }) from
       given_up refused
-      → BackKeeps medium asks gives_up (record { began = began; from = before; start = start; desks = desks; active = place; end = end; handed = handed }) from
+      → BackKeeps medium asks gives_up (record { began = began; from = before; start = start; desks = desks; active = place; end = end }) from
       given_up refused
-  turned-on {start} {end} {handed} began desks active place before from given_up refused locked inside between turns keeps =
+  turned-on {start} {end} began desks active place before from given_up refused locked inside between turns keeps =
       go turns.next turns.chosen turns.turns
     where
       go : (next : Option ℕ) → Chooses medium desks end active next → place ≡ turned_by next active
           → BackKeeps medium asks gives_up
-          (record { began = began; from = before; start = start; desks = desks; active = place; end = end; handed = handed }) from
+          (record { began = began; from = before; start = start; desks = desks; active = place; end = end }) from
           given_up refused
       go None chosen is =
           subst (λ n. BackKeeps medium asks gives_up
-          (record { began = began; from = before; start = start; desks = desks; active = n; end = end; handed = handed }) from given_up
+          (record { began = began; from = before; start = start; desks = desks; active = n; end = end }) from given_up
           refused) (sym is) keeps
       go (Some other) chosen is = record {
         ring = keeps.ring;
@@ -548,24 +547,24 @@ module _ {D A : Type 0} (medium : D → Medium) (asks : DeskCall → Type 0) (gi
       }
 
   -- as a back turns, or stays where its active desk isn't between two blocks
-  pub turned-once : {start end : ℕ} {handed : Handed} (began desks : List (SeenDesk D)) (active place : ℕ) (before from : Consumer (Frame A) A AnyItems)
+  pub turned-once : {start end : ℕ} (began desks : List (SeenDesk D)) (active place : ℕ) (before from : Consumer (Frame A) A AnyItems)
       (given_up : ℕ) (refused locked : Bool) → place < length desks
       → (IsSoAt active desks IsBetween → TurnsTo medium desks end active place locked)
       → ((IsSoAt active desks IsBetween → ⊥) → place ≡ active)
-      → BackKeeps medium asks gives_up (record { began = began; from = before; start = start; desks = desks; active = active; end = end; handed = handed }) from
+      → BackKeeps medium asks gives_up (record { began = began; from = before; start = start; desks = desks; active = active; end = end }) from
       given_up refused
-      → BackKeeps medium asks gives_up (record { began = began; from = before; start = start; desks = desks; active = place; end = end; handed = handed }) from
+      → BackKeeps medium asks gives_up (record { began = began; from = before; start = start; desks = desks; active = place; end = end }) from
       given_up refused
-  turned-once {start} {end} {handed} began desks active place before from given_up refused locked inside turns stays keeps =
+  turned-once {start} {end} began desks active place before from given_up refused locked inside turns stays keeps =
       go (between-or-not desks active keeps.inside)
     where
       go : IsSoAt active desks IsBetween ⊎ (IsSoAt active desks IsBetween → ⊥)
           → BackKeeps medium asks gives_up
-          (record { began = began; from = before; start = start; desks = desks; active = place; end = end; handed = handed }) from
+          (record { began = began; from = before; start = start; desks = desks; active = place; end = end }) from
           given_up refused
       go (inl between) =
           turned-on began desks active place before from given_up refused locked inside between (turns between) keeps
       go (inr never) =
           subst (λ n. BackKeeps medium asks gives_up
-          (record { began = began; from = before; start = start; desks = desks; active = n; end = end; handed = handed }) from given_up
+          (record { began = began; from = before; start = start; desks = desks; active = n; end = end }) from given_up
           refused) (sym (stays never)) keeps

@@ -34,20 +34,19 @@ module _ {D A : Type 0} (medium : D → Medium) (old new : SeenBack D A) (locked
 
 -- a frame, after a turn
 module _ {D A : Type 0} (old mid new : SeenBack D A) (same : mid ≡ record old { active = mid.active })
-    (goes : IsChangedAt mid.active mid (record new { end = mid.end; handed = mid.handed })) where
+    (goes : IsChangedAt mid.active mid (record new { end = mid.end })) where
   -- the active one stays
   still-active : mid.active ≡ new.active
   still-active = ap (λ (b : SeenBack D A). b.active) (sym goes.1)
 
-  pub brought-then : IsChangedAt new.active old (record new { active = old.active; end = old.end; handed = old.handed })
+  pub brought-then : IsChangedAt new.active old (record new { active = old.active; end = old.end })
   brought-then = (
     goes.0,
-    ap (λ (b : SeenBack D A). record b { active = old.active; end = old.end; handed = old.handed }) goes.1
+    ap (λ (b : SeenBack D A). record b { active = old.active; end = old.end }) goes.1
         ∙ (ap (λ (b : SeenBack D A). record b {
           desks = slice_set b.desks mid.active goes.0;
           active = old.active;
           end = old.end;
-          handed = old.handed;
         }) same
         ∙ ap (λ n. record old { desks = slice_set old.desks n goes.0 }) still-active),
   )

@@ -10,7 +10,6 @@ use Rattle.loop_desk.specs.Seen.{DeskGoes, SeenDesk}
 use Rattle.loop_desk.proofs.CallRuns.{told-then}
 use Rattle.loop_pipeline.specs.Backs.{FitsBlock, GoesAt, HasRoom, IsChangedAt, SeenBack}
 use Rattle.loop_pipeline.specs.Desks.{SeenDesks}
-use Rattle.loop_pipeline.specs.Heards.{Handed}
 use Rattle.loop_pipeline.proofs.Places.{set-twice, some-same, some-there, get-set-same}
 
 -- what is said of the desk at a place
@@ -115,7 +114,7 @@ module _ {D A : Type 0} where
 
   -- nothing, whatever the end was before
   pub unchanged-end : (inside old : SeenBack D A) → inside ≡ old → inside.active < length inside.desks
-      → IsChangedAt old.active old (record old { end = old.end; handed = old.handed })
+      → IsChangedAt old.active old (record old { end = old.end })
   unchanged-end inside old is less = unchanged inside old is less
 
   -- only the active desk did
@@ -128,16 +127,12 @@ module _ {D A : Type 0} where
         ∙ ap (λ (b : SeenBack D A). record b { desks = slice_set b.desks b.active desk }) is,
   )
 
-  -- only the active desk did, the end, and what came out of the ring
+  -- only the active desk did, and the end
   pub brought-to : (inside old : SeenBack D A) (desk : SeenDesk D) (desks : List (SeenDesk D)) (active : ℕ) → inside ≡ old
       → desks ≡ slice_set inside.desks inside.active desk → active ≡ inside.active
-      → IsChangedAt old.active old
-      (record inside { desks = desks; active = active; end = old.end; handed = old.handed })
-  brought-to inside old desk desks active is so same = (
-    desk,
-    (λ i. record inside { desks = so i; active = same i; end = (sym is i).end; handed = (sym is i).handed })
-        ∙ ap (λ (b : SeenBack D A). record b { desks = slice_set b.desks b.active desk }) is,
-  )
+      → IsChangedAt old.active old (record inside { desks = desks; active = active; end = old.end })
+  brought-to inside old desk desks active is so same =
+      changed inside old desk desks active old.end is so same (ap (λ (b : SeenBack D A). b.end) (sym is))
 
 module _ {D : Type 0} (medium : D → Medium) where
   -- what waits at a desk after a frame was accepted

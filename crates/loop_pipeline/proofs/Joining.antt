@@ -16,10 +16,9 @@ use Rattle.loop_desk.specs.Seen.{SeenDesk}
 use Rattle.loop_pipeline.specs.declared.waiting.Arrival.{Arrival}
 use Rattle.loop_pipeline.specs.declared.waiting.Arrival.TheVariants.{Joined, Full, Nobody}
 use Rattle.loop_pipeline.specs.Backs.{Joins, SeenBack}
-use Rattle.loop_pipeline.specs.Cameras.{CameraTold, KeepsJoined, SeenCamera}
+use Rattle.loop_pipeline.specs.Cameras.{CameraKeeps, KeepsJoined, SeenCamera}
 use Rattle.loop_pipeline.specs.Doors.{HasArrived}
 use Rattle.loop_pipeline.specs.Fronts.{IsRegular, SeenFront}
-use Rattle.loop_pipeline.specs.Heards.{Counts, Handed, AllTold}
 
 module _ {D A : Type 0} (shut : Type 0) where
   -- none
@@ -56,30 +55,23 @@ module _ {D A : Type 0} (shut : Type 0) where
   joins-arrived old new Nobody wide arrived =
       joins-none old new (ap (λ b. b.began) arrived) (ap (λ b. b.from) arrived) (ap (λ b. b.start) arrived)
 
--- of what came out of its ring nothing changes
-pub arrived-handed : {D A : Type 0} (old new : SeenBack D A) (came : Arrival) → HasArrived came old new
-    → new.handed ≡ old.handed
-arrived-handed old new Joined arrived = ap (λ b. b.handed) arrived.1
-arrived-handed old new Full arrived = ap (λ b. b.handed) arrived
-arrived-handed old new Nobody arrived = ap (λ b. b.handed) arrived
-
 -- what a camera keeps that they joined, from what its two threads left
 module _ {S D P G A : Type 0} (medium : D → Medium) (gives : S → Next → List ℕ → S → Type 0) (meaning : P → Plane)
     (asks : DeskCall → Type 0) (gives_up : StoreFault → Type 0) (due : G → ℕ → ℕ → Type 0) (ends : G → ℕ → Type 0)
     (shut : Type 0) where
-  pub keeps-joined : {end : ℕ} {handed : Handed} (camera last : SeenCamera S D P) (device : SeenDevice S) (queue : Lined P) (desk : SeenDesk D)
+  pub keeps-joined : {end : ℕ} (camera last : SeenCamera S D P) (device : SeenDevice S) (queue : Lined P) (desk : SeenDesk D)
       (to : Producer (Frame A) A AnyItems) (guide : G) (seen : SeenFront S P G A) (from : Consumer (Frame A) A AnyItems)
-      (old new : SeenBack D A) (given_up left missed failed : ℕ) (over : Bool) (told : Counts)
+      (old new : SeenBack D A) (given_up left missed failed : ℕ) (over : Bool)
       → record { device = device; queue = queue; desk = desk; joined = [] } ≡ camera
       → seen ≡ record { queue = queue; device = device; to = to; guide = guide }
-      → old ≡ record { began = desk ∷ []; from = from; start = end; desks = desk ∷ []; active = 0; end = end; handed = handed } → end ≡ device.next → Joins shut old new
+      → old ≡ record { began = desk ∷ []; from = from; start = end; desks = desk ∷ []; active = 0; end = end } → end ≡ device.next → Joins shut old new
       → ((first : SeenDesk D) (others : List (SeenDesk D)) → new.began ≡ first ∷ others → new.start ≡ seen.device.next → IsRegular meaning seen.queue
-      → AllTold new.handed → CameraTold medium gives meaning asks gives_up (due seen.guide) (ends seen.guide)
-      (record { device = seen.device; queue = seen.queue; desk = first; joined = others }) last given_up left missed failed over told)
-      → AllTold new.handed → IsRegular meaning camera.queue
-      → KeepsJoined medium gives meaning asks gives_up (due guide) (ends guide) shut camera last given_up left missed failed over told
-  keeps-joined {end} {handed} camera last device queue desk to guide seen from old new given_up left missed failed over told is made was starts joins keeps
-      all regular =
+      → CameraKeeps medium gives meaning asks gives_up (due seen.guide) (ends seen.guide)
+      (record { device = seen.device; queue = seen.queue; desk = first; joined = others }) last given_up left missed failed over)
+      → IsRegular meaning camera.queue
+      → KeepsJoined medium gives meaning asks gives_up (due guide) (ends guide) shut camera last given_up left missed failed over
+  keeps-joined {end} camera last device queue desk to guide seen from old new given_up left missed failed over is made was starts joins keeps
+      regular =
       let same : seen.queue ≡ camera.queue =
       ap (λ (s : SeenFront S P G A). s.queue) made ∙ ap (λ (c : SeenCamera S D P). c.queue) is in
       let began : new.began ≡ desk ∷ joins.others =
@@ -90,9 +82,9 @@ module _ {S D P G A : Type 0} (medium : D → Medium) (gives : S → Next → Li
       record {
         others = joins.others;
         none = joins.none;
-        keeps = subst (λ (c : SeenCamera S D P). CameraTold medium gives meaning asks gives_up (due guide) (ends guide)
-            (record c { joined = c.joined ++ joins.others }) last given_up left missed failed over told) is
-            (subst (λ (s : SeenFront S P G A). CameraTold medium gives meaning asks gives_up (due s.guide) (ends s.guide)
+        keeps = subst (λ (c : SeenCamera S D P). CameraKeeps medium gives meaning asks gives_up (due guide) (ends guide)
+            (record c { joined = c.joined ++ joins.others }) last given_up left missed failed over) is
+            (subst (λ (s : SeenFront S P G A). CameraKeeps medium gives meaning asks gives_up (due s.guide) (ends s.guide)
             (record { device = s.device; queue = s.queue; desk = desk; joined = joins.others }) last given_up left missed
-            failed over told) made (keeps desk joins.others began start (subst (IsRegular meaning) (sym same) regular) all));
+            failed over) made (keeps desk joins.others began start (subst (IsRegular meaning) (sym same) regular)));
       }

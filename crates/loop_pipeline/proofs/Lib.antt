@@ -6,7 +6,6 @@ mod CountedTicks
 mod EmptyQueue
 mod FrameSteps
 mod FrontRuns
-mod Handing
 mod Happening
 mod Joining
 mod Doors
@@ -21,7 +20,6 @@ mod Roomy
 mod Searching
 mod Settling
 mod SeveralStarts
-mod Telling
 mod SeveralSteps
 mod TickSteps
 mod Turning

@@ -66,65 +66,53 @@ module _ {S D P G A : Type 0} (medium : D → Medium) (gives : S → Next → Li
       → FrontKeeps gives m due ends seen device queue to missed failed over → BackKeeps medium asks gives_up back from given_up refused
       → ProducerLooked to up → ConsumerLooked from down → received down ++ known_items down ≡ sent up
       → left ≡ length (known_items down)
-      → (k : CameraKeeps medium gives m asks gives_up due ends
+      → CameraKeeps medium gives m asks gives_up due ends
       (record { device = seen.device; queue = seen.queue; desk = first; joined = others })
-      (record { device = device; queue = queue; desk = desk; joined = joined }) given_up left missed failed over)
-      × (length k.came ≡ length (received from) + left)
+      (record { device = device; queue = queue; desk = desk; joined = joined }) given_up left missed failed over
   both seen back first desk others joined device queue to up from down given_up left missed failed over refused was starts is front kept
       up_looked down_looked fifo count =
       let items = map picture (known_items down) in
       let fed = fed-all (map picture (received from)) (flat_map placed_calls keeps.parts) given_up keeps.came items keeps.fed in
       let all : map picture (received from) ++ items ≡ map picture (sent to) =
       ap (λ l. map picture l ++ items) (sym down_looked.1)
-      ∙ (sym (map-append picture (received down) (known_items down)) ∙ ap (map picture) (fifo ∙ up_looked.1)) in (
-        record {
-          given = front.given;
-          source = front.source;
-          told = front.told;
-          completed = front.completed;
-          shows = front.shows;
-          first = front.first;
-          last = front.last;
-          stood = front.stood;
-          stands = front.stands;
-          streams = front.streams;
-          came = keeps.came ++ map unasked items;
-          whole = front.whole ∙ ap (λ l. map without_flags l ++ map without_flags (frames_waiting queue front.last))
-              (sym (fed.whole ∙ all));
-          lost = fed.lost ∙ ap (λ n. given_up + n) (length-map (known_items down) picture ∙ sym count);
-          all = omega (arith, keeps.all);
-          events = keeps.events;
-          active = back.active;
-          end = back.end;
-          happened = subst (λ d. Happened medium (record { desks = d ∷ []; active = 0; end = seen.device.next }) keeps.events
-              (record { desks = desk ∷ joined; active = back.active; end = back.end })) (sym only.0) keeps.happened;
-          joins = sym only.1;
-          parts = keeps.parts;
-          are = keeps.are;
-          among = keeps.among;
-          submits = fed.submits;
-          served = keeps.served;
-          rightful = keeps.rightful;
-          excused = excuse refused refl;
-          footage = λ place d e first last s stands now.
-              keeps-footage medium d e (calls_at place keeps.parts) s (keeps.served place d e first last).goes stands now;
-        },
-        counted,
-      )
+      ∙ (sym (map-append picture (received down) (known_items down)) ∙ ap (map picture) (fifo ∙ up_looked.1)) in
+      record {
+        given = front.given;
+        source = front.source;
+        told = front.told;
+        completed = front.completed;
+        shows = front.shows;
+        first = front.first;
+        last = front.last;
+        stood = front.stood;
+        stands = front.stands;
+        streams = front.streams;
+        came = keeps.came ++ map unasked items;
+        whole = front.whole ∙ ap (λ l. map without_flags l ++ map without_flags (frames_waiting queue front.last))
+            (sym (fed.whole ∙ all));
+        lost = fed.lost ∙ ap (λ n. given_up + n) (length-map (known_items down) picture ∙ sym count);
+        all = omega (arith, keeps.all);
+        events = keeps.events;
+        active = back.active;
+        end = back.end;
+        happened = subst (λ d. Happened medium (record { desks = d ∷ []; active = 0; end = seen.device.next }) keeps.events
+            (record { desks = desk ∷ joined; active = back.active; end = back.end })) (sym only.0) keeps.happened;
+        joins = sym only.1;
+        parts = keeps.parts;
+        are = keeps.are;
+        among = keeps.among;
+        submits = fed.submits;
+        served = keeps.served;
+        rightful = keeps.rightful;
+        excused = excuse refused refl;
+        footage = λ place d e first last s stands now.
+            keeps-footage medium d e (calls_at place keeps.parts) s (keeps.served place d e first last).goes stands now;
+      }
     where
       keeps : BackKeeps medium asks gives_up
-          (record { began = first ∷ others; from = back.from; start = seen.device.next; desks = desk ∷ joined; active = back.active; end = back.end; handed = back.handed }) from given_up refused
+          (record { began = first ∷ others; from = back.from; start = seen.device.next; desks = desk ∷ joined; active = back.active; end = back.end }) from given_up refused
       keeps = subst (λ b. BackKeeps medium asks gives_up b from given_up refused)
-          (λ i. record { began = was i; from = back.from; start = starts i; desks = (sym is) i; active = back.active; end = back.end; handed = back.handed }) kept
-
-      counted : length (keeps.came ++ map unasked (map picture (known_items down))) ≡ length (received from) + left
-      counted =
-          let items = map picture (known_items down) in
-          let got : length keeps.came ≡ length (received from) =
-          sym (length-map keeps.came picture_of) ∙ (ap length keeps.fed.whole ∙ length-map (received from) picture) in
-          let rest : length (map unasked items) ≡ left =
-          length-map items unasked ∙ (length-map (known_items down) picture ∙ sym count) in
-          length-append keeps.came (map unasked items) ∙ (λ i. got i + rest i)
+          (λ i. record { began = was i; from = back.from; start = starts i; desks = (sym is) i; active = back.active; end = back.end }) kept
 
       only : (first ≡ keeps.first) × (others ≡ flat_map desk_in keeps.events)
       only = (some-same first keeps.first (ap (λ l. slice_get l 0) keeps.began), ap (drop 1) keeps.began)

@@ -10,7 +10,6 @@ use Rattle.loop_store.specs.declared.fault.StoreFault.{StoreFault}
 use Rattle.loop_desk.specs.declared.limits.Status.{Status}
 use Rattle.loop_desk.specs.Seen.{SeenDesk, TellsStatus}
 use Rattle.loop_pipeline.specs.Backs.{IsSettledBack, IsSoAt, Joins, SeenBack}
-use Rattle.loop_pipeline.specs.Heards.{Handed}
 use Rattle.loop_pipeline.specs.Cameras.{AreLeft, EndsSettled, HasRefusedFlush, HasRefusedOne, IsSettledDesk}
 use Rattle.loop_pipeline.proofs.Places.{some-same}
 
@@ -39,12 +38,12 @@ joined-late shut old new same late is was joins =
 
 module _ {D : Type 0} (medium : D → Medium) (gives_up : StoreFault → Type 0) (shut : Type 0) where
   -- what a back leaves that was made with one desk
-  pub ends-settled : {A : Type 0} {end : ℕ} {handed : Handed} (first desk : SeenDesk D) (from : Consumer (Frame A) A AnyItems)
+  pub ends-settled : {A : Type 0} {end : ℕ} (first desk : SeenDesk D) (from : Consumer (Frame A) A AnyItems)
       (old new : SeenBack D A) (last : SeenDesk D) (joined : List (SeenDesk D)) → desk ≡ first
-      → old ≡ record { began = desk ∷ []; from = from; start = end; desks = desk ∷ []; active = 0; end = end; handed = handed } → Joins shut old new
+      → old ≡ record { began = desk ∷ []; from = from; start = end; desks = desk ∷ []; active = 0; end = end } → Joins shut old new
       → last ∷ joined ≡ new.desks → length new.desks ≡ length new.began → AreLeft medium new.began new.desks new.active
       → IsSettledBack medium gives_up new → EndsSettled medium gives_up shut first (last ∷ joined)
-  ends-settled {A} {end} {handed} first desk from old new last joined is was joins leaves counted left settled = record {
+  ends-settled {A} first desk from old new last joined is was joins leaves counted left settled = record {
     others = joins.others;
     none = joins.none;
     all = ap length leaves ∙ (counted ∙ ap length began);

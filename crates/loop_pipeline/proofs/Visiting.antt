@@ -17,7 +17,6 @@ use Rattle.loop_desk.specs.Desk.{DeskCall, flushed}
 use Rattle.loop_desk.specs.Seen.{DeskGoes, SeenDesk}
 use Rattle.loop_pipeline.specs.Backs.{GoesBy, IsFed, IsLast, IsRightful, IsSoAt, MayGiveUp, MayGiveUpAt, Part, SeenBack, Served, calls_at, calls_of, is_placed_submit, is_submit, part_for, parts_at, placed_calls, visited}
 use Rattle.loop_pipeline.specs.Desks.{AreVisited, EachWent, Lent, SeenDesks, turned}
-use Rattle.loop_pipeline.specs.Heards.{Handed}
 use Rattle.loop_pipeline.specs.Turns.{IsBetween}
 use Rattle.loop_pipeline.specs.DeskEvents.{desk_in, part_in}
 use Rattle.loop_pipeline.specs.KeptBacks.{BackKeeps}
@@ -156,14 +155,14 @@ refused-still gives_up count parts more why = record {
 
 module _ {D A : Type 0} (medium : D → Medium) (asks : DeskCall → Type 0) (gives_up : StoreFault → Type 0) where
   -- what the back kept before the visit it keeps after it
-  pub kept-since : {start : ℕ} {handed : Handed} (began : List (SeenDesk D)) (before from : Consumer (Frame A) A AnyItems) (given_up : ℕ) (refused : Bool)
+  pub kept-since : {start : ℕ} (began : List (SeenDesk D)) (before from : Consumer (Frame A) A AnyItems) (given_up : ℕ) (refused : Bool)
       (seen : SeenDesks D) → AreVisited medium asks seen
       → BackKeeps medium asks gives_up
-      (record { began = began; from = before; start = start; desks = seen.lent.began; active = seen.lent.active; end = seen.lent.end; handed = handed }) from given_up refused
+      (record { began = began; from = before; start = start; desks = seen.lent.began; active = seen.lent.active; end = seen.lent.end }) from given_up refused
       → BackKeeps medium asks gives_up
-      (record { began = began; from = before; start = start; desks = seen.desks; active = seen.lent.active; end = seen.lent.end; handed = handed })
+      (record { began = began; from = before; start = start; desks = seen.desks; active = seen.lent.active; end = seen.lent.end })
       from given_up refused
-  kept-since {start} {handed} began before from given_up refused seen so keeps = record {
+  kept-since {start} began before from given_up refused seen so keeps = record {
     ring = keeps.ring;
     all = so.all ∙ keeps.all;
     inside = so.inside;
@@ -199,28 +198,28 @@ module _ {D A : Type 0} (medium : D → Medium) (asks : DeskCall → Type 0) (gi
   }
 
   -- so it is of the desks that were lent
-  pub kept-lent : {start end : ℕ} {handed : Handed} (began desks : List (SeenDesk D)) (active : ℕ) (before from : Consumer (Frame A) A AnyItems) (given_up : ℕ)
+  pub kept-lent : {start end : ℕ} (began desks : List (SeenDesk D)) (active : ℕ) (before from : Consumer (Frame A) A AnyItems) (given_up : ℕ)
       (refused : Bool) (seen : SeenDesks D) → seen.lent ≡ record { began = desks; active = active; end = end }
       → AreVisited medium asks seen
-      → BackKeeps medium asks gives_up (record { began = began; from = before; start = start; desks = desks; active = active; end = end; handed = handed }) from
+      → BackKeeps medium asks gives_up (record { began = began; from = before; start = start; desks = desks; active = active; end = end }) from
       given_up refused
       → BackKeeps medium asks gives_up
-      (record { began = began; from = before; start = start; desks = seen.desks; active = seen.lent.active; end = seen.lent.end; handed = handed })
+      (record { began = began; from = before; start = start; desks = seen.desks; active = seen.lent.active; end = seen.lent.end })
       from given_up refused
-  kept-lent {start} {end} {handed} began desks active before from given_up refused seen lent so keeps =
+  kept-lent {start} {end} began desks active before from given_up refused seen lent so keeps =
       kept-since began before from given_up refused seen so
       (subst (λ (l : Lent D). BackKeeps medium asks gives_up
-      (record { began = began; from = before; start = start; desks = l.began; active = l.active; end = l.end; handed = handed }) from given_up refused) (sym lent) keeps)
+      (record { began = began; from = before; start = start; desks = l.began; active = l.active; end = l.end }) from given_up refused) (sym lent) keeps)
 
   -- what it keeps of desks, of the active one's place and of the end it keeps of those that are seen
-  pub kept-as : {start end : ℕ} {handed : Handed} (began desks : List (SeenDesk D)) (active : ℕ) (before from : Consumer (Frame A) A AnyItems) (given_up : ℕ)
+  pub kept-as : {start end : ℕ} (began desks : List (SeenDesk D)) (active : ℕ) (before from : Consumer (Frame A) A AnyItems) (given_up : ℕ)
       (refused : Bool) (seen : SeenDesks D) → seen.desks ≡ desks → seen.lent.active ≡ active → seen.lent.end ≡ end
-      → BackKeeps medium asks gives_up (record { began = began; from = before; start = start; desks = desks; active = active; end = end; handed = handed }) from
+      → BackKeeps medium asks gives_up (record { began = began; from = before; start = start; desks = desks; active = active; end = end }) from
       given_up refused
       → BackKeeps medium asks gives_up
-      (record { began = began; from = before; start = start; desks = seen.desks; active = seen.lent.active; end = seen.lent.end; handed = handed })
+      (record { began = began; from = before; start = start; desks = seen.desks; active = seen.lent.active; end = seen.lent.end })
       from given_up refused
-  kept-as {start} {end} {handed} began desks active before from given_up refused seen is same still keeps =
+  kept-as {start} {end} began desks active before from given_up refused seen is same still keeps =
       subst (λ (b : SeenBack D A). BackKeeps medium asks gives_up b from given_up refused)
       (λ i. record {
         began = began;
@@ -229,7 +228,6 @@ module _ {D A : Type 0} (medium : D → Medium) (asks : DeskCall → Type 0) (gi
         desks = (sym is) i;
         active = (sym same) i;
         end = (sym still) i;
-        handed = handed;
       }) keeps
 
 -- and so the last call

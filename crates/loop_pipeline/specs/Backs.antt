@@ -1,5 +1,5 @@
 -- What one thread keeps that has a camera's desks and the end of a ring.
-use Rattle.std.specs.Prelude.{◌≡◌, ◌==◌, ◌+◌, ◌<◌, ◌≤◌, ◌-◌, ◌%◌, ◌⊎◌, ℕ, Bool, true, false, if◌then◌else◌, List, [], ◌∷◌, ◌++◌, All, Contains, length, map, slice_get, slice_set, Option, Some, None, Result, Ok, Err}
+use Rattle.std.specs.Prelude.{◌≡◌, ◌==◌, ◌<◌, ◌≤◌, ◌-◌, ◌%◌, ◌⊎◌, ℕ, Bool, true, false, if◌then◌else◌, List, [], ◌∷◌, ◌++◌, All, Contains, length, map, slice_get, slice_set, Option, Some, Result, Ok, Err}
 use Rattle.std.specs.List.{filter, flat_map}
 use Rattle.rtrb.specs.declared.AnyItems.{AnyItems}
 use Rattle.rtrb.specs.declared.consumer.Consumer.{Consumer}
@@ -14,7 +14,6 @@ use Rattle.loop_desk.specs.Seen.{DeskGoes, SeenDesk}
 use Rattle.loop_pipeline.specs.declared.back.Brought.{Brought}
 use Rattle.loop_pipeline.specs.declared.back.Brought.TheVariants.{GivenUp, Submitted}
 use Rattle.loop_pipeline.specs.declared.back.LostFrame.{LostFrame}
-use Rattle.loop_pipeline.specs.Heards.{Handed}
 use Rattle.loop_pipeline.specs.Nexts.{end_past}
 
 -- ---- frames that came
@@ -137,7 +136,7 @@ pub record IsFed (got : List Picture) (calls : List (ℕ × DeskCall)) (given_up
 
 -- a back as its callers see it: its desks as they were when it took them, the end of its ring and one past the newest
 -- sequence as they were when it was made, the desks as they are now, the place of the one to which frames are brought,
--- one past the sequence of the last frame that was brought to any, and what came out of its ring
+-- and one past the sequence of the last frame that was brought to any
 pub record SeenBack (D A : Type 0) : Type 0 where
   pub began : List (SeenDesk D)
   pub from : Consumer (Frame A) A AnyItems
@@ -145,7 +144,6 @@ pub record SeenBack (D A : Type 0) : Type 0 where
   pub desks : List (SeenDesk D)
   pub active : ℕ
   pub end : ℕ
-  pub handed : Handed
 
 -- of several desks the one at a place goes on so, and the others stay
 pub record GoesAt {D : Type 0} (place : ℕ) (old new : List (SeenDesk D)) (P : SeenDesk D → SeenDesk D → Type 0)
@@ -239,21 +237,3 @@ abbrev pub IsBrought : {D A : Type 0} → (D → Medium) → ℕ → SeenBack D 
 IsBrought medium end seen (Submitted number) = IsAccepted medium seen number
 IsBrought medium end seen (GivenUp fault lost) = IsTurnedDown medium seen lost
 IsBrought medium end seen _ = seen.end ≡ end
-
--- a frame came out of the ring, or one that was given up
-abbrev pub one_taken : Handed → Handed
-one_taken handed = record handed { taken = handed.taken + 1 }
-
-abbrev pub one_lost : Handed → Handed
-one_lost handed = record handed { taken = handed.taken + 1; given_up = handed.given_up + 1 }
-
--- what came out of the ring with a frame that was brought to the active desk, of which nothing is told yet
-abbrev pub HandsOut : Handed → Handed → Brought → Type 0
-HandsOut old new (Submitted number) = new ≡ one_taken old
-HandsOut old new (GivenUp fault lost) = new ≡ one_lost old
-HandsOut old new _ = new ≡ old
-
--- and with one that was given up unasked
-abbrev pub HandsLost : {X : Type 0} → Handed → Handed → Option X → Type 0
-HandsLost old new (Some lost) = new ≡ one_lost old
-HandsLost old new None = new ≡ old

@@ -1,5 +1,5 @@
 -- What one camera keeps of its frames, from its device to its disk.
-use Rattle.std.specs.Prelude.{◌≡◌, ◌⊎◌, ℕ, ◌+◌, ◌<◌, Bool, Some, Ok, Err, List, [], ◌∷◌, ◌++◌, All, length, map, slice_get}
+use Rattle.std.specs.Prelude.{◌≡◌, ◌⊎◌, ℕ, ◌+◌, ◌<◌, Bool, Some, List, [], ◌∷◌, ◌++◌, All, length, map, slice_get}
 use Rattle.std.specs.List.{filter, flat_map}
 use Rattle.loop_disk.specs.Medium.{Medium}
 use Rattle.loop_plane.specs.Plane.{Plane}
@@ -16,7 +16,6 @@ use Rattle.loop_desk.specs.Waiting.{frames_waiting, without_flags}
 use Rattle.loop_desk.specs.Seen.{DeskGoes, SeenDesk}
 use Rattle.loop_pipeline.specs.Backs.{Came, EachServed, GoesBy, IsRightful, IsSoAt, MayGiveUp, MayGiveUpAt, Part, asked, calls_at, calls_by, calls_of, is_placed_submit, is_submit, lost_by, picture_of, placed_calls, unasked, unasked_by}
 use Rattle.loop_pipeline.specs.DeskEvents.{DeskEvent, Happened, desk_in, part_in}
-use Rattle.loop_pipeline.specs.Heards.{Counts}
 use Rattle.loop_pipeline.specs.Fronts.{AreTicksTold, GoesOn, TickRecord, shown_of, shown_given}
 
 -- a camera: its device, its queue, its desk, and those that joined it
@@ -76,37 +75,15 @@ pub record CameraKeeps {S D P : Type 0} (medium : D → Medium) (gives : S → N
       → slice_get (desks_of new) place ≡ Some e → (s : StoreState) → Stands medium d.store s
       → (medium d.store.disk).honest → KeepsFootage medium d e (calls_at place parts) s
 
--- ---- what its guide was told
-
--- the number under which a desk accepted the frame
-abbrev pub accepted_by : Came → List ℕ
-accepted_by (asked place p (Ok number)) = number ∷ []
-accepted_by (asked place p (Err fault)) = []
-accepted_by (unasked p) = []
-
--- Of the frames that came each was told once: as brought where a desk accepted it, as given up where it was given up. Of
--- those that were left at the end nothing was told.
-pub record AreFramesTold (came : List Came) (given_up : ℕ) (told : Counts) : Type 0 where
-  pub brought : told.brought ≡ length (flat_map accepted_by came)
-  pub lost : told.given_up ≡ given_up
-
--- a camera keeps its frames, and this is what its guide was told of them
-pub record CameraTold {S D P : Type 0} (medium : D → Medium) (gives : S → Next → List ℕ → S → Type 0)
-    (meaning : P → Plane) (asks : DeskCall → Type 0) (gives_up : StoreFault → Type 0) (due : ℕ → ℕ → Type 0)
-    (ends : ℕ → Type 0) (old new : SeenCamera S D P) (given_up left missed failed : ℕ) (over : Bool) (told : Counts)
-    : Type 0 where
-  pub keeps : CameraKeeps medium gives meaning asks gives_up due ends old new given_up left missed failed over
-  pub frames : AreFramesTold keeps.came given_up told
-
 -- So it is of a camera that other desks joined meanwhile, each from when it joined; none did where the door is shut.
 pub record KeepsJoined {S D P : Type 0} (medium : D → Medium) (gives : S → Next → List ℕ → S → Type 0)
     (meaning : P → Plane) (asks : DeskCall → Type 0) (gives_up : StoreFault → Type 0) (due : ℕ → ℕ → Type 0)
     (ends : ℕ → Type 0) (shut : Type 0) (old new : SeenCamera S D P) (given_up left missed failed : ℕ) (over : Bool)
-    (told : Counts) : Type 0 where
+    : Type 0 where
   pub others : List (SeenDesk D)
   pub none : shut → others ≡ []
-  pub keeps : CameraTold medium gives meaning asks gives_up due ends
-      (record old { joined = old.joined ++ others }) new given_up left missed failed over told
+  pub keeps : CameraKeeps medium gives meaning asks gives_up due ends
+      (record old { joined = old.joined ++ others }) new given_up left missed failed over
 
 -- ---- nothing is left waiting
 

@@ -1,4 +1,3 @@
-pub mod Heards
 pub mod Notes
 pub mod Seats
 pub mod Backs

@@ -31,4 +31,4 @@ GivesJoined medium gives meaning asks gives_up due ends shut camera (NoThread e)
     (e.device ≡ camera.device) × (e.queue ≡ camera.queue) × StandsPort meaning e.queue e.table
     × (IsRegular meaning camera.queue → KeepsJoined medium gives meaning asks gives_up due ends shut camera
     (record { device = e.device; queue = e.queue; desk = e.desk; joined = e.joined.items })
-    e.given_up e.left e.missed e.failed e.over e.told.counts)
+    e.given_up e.left e.missed e.failed e.over)

@@ -4,14 +4,12 @@ ghost use Rattle.std.specs.Prelude.{◌≡◌, ◌∷◌, ◌<◌, ◌≤◌, �
 ghost use Rattle.loop_desk.specs.Desk.{flushed};
 ghost use Rattle.rtrb.specs.Ring.{received};
 ghost use Rattle.loop_pipeline.specs.declared.back.Brought.TheVariants.{Submitted};
-ghost use Rattle.loop_pipeline.specs.Backs.{FitsBlock, HandsLost, HandsOut, IsAccepted, IsBrought, IsChangedAt, IsGivenUp, IsLastOf, IsSoAt, WasRefused, with_joined};
+ghost use Rattle.loop_pipeline.specs.Backs.{FitsBlock, IsAccepted, IsBrought, IsChangedAt, IsGivenUp, IsLastOf, IsSoAt, WasRefused, with_joined};
 ghost use Rattle.loop_pipeline.specs.DeskEvents.{IsTurnedFor, TakesFrame, desks_now};
-ghost use Rattle.loop_pipeline.specs.Heards.{counts_after, handed_after, none_handed};
-ghost use Rattle.loop_pipeline.specs.declared.heard.Report.TheVariants.{FrameBrought, FrameGivenUp};
 ghost use Rattle.loop_pipeline.specs.KeptBacks.{BackKeeps};
 ghost use Rattle.loop_pipeline.specs.Turns.{AllLocked, IsBetween, MayBegin, TurnsTo};
 
-use crate::{Desks, Heard, Report, Seat, Taken, Visits};
+use crate::{Desks, Seat, Taken, Visits};
 use loop_desk::Flushed;
 use loop_disk::Disk;
 use loop_record::Frame;
@@ -59,24 +57,6 @@ impl<T: Copy> Told<T> {
     }
 }
 
-impl Told<u64> {
-    /// The guide was told of this frame: one more that a desk accepted.
-    pub fn heard(self, heard: &mut Heard)
-        ensures { heard.new.counts ≡ counts_after heard.old.counts FrameBrought }
-    {
-        *heard = heard.after(&Report::FrameBrought);
-    }
-}
-
-impl Told<LostFrame> {
-    /// The guide was told of this frame: one more that was given up.
-    pub fn heard(self, heard: &mut Heard)
-        ensures { heard.new.counts ≡ counts_after heard.old.counts FrameGivenUp }
-    {
-        *heard = heard.after(&Report::FrameGivenUp);
-    }
-}
-
 impl<T: Copy> Untold<T> {
     /// What it did.
     pub fn what(&self) -> T
@@ -87,36 +67,17 @@ impl<T: Copy> Untold<T> {
 }
 
 /// What a camera's guide is told of its desks, each of it once, and whether flushes go on. The calls that only report
-/// do nothing by default. What is reported is so: the contract asks the caller for the desk's own answer. What the
-/// guide hears of a frame it counts, once (`Told::heard`).
+/// do nothing by default. What is reported is so: the contract asks the caller for the desk's own answer.
 pub trait Reports: Visits {
     /// The active desk accepted a frame under this number.
-    fn brought<R: Wait, D: Disk + Drop>(
-        &self,
-        rt: &R,
-        back: &Back<D, Self>,
-        number: Told<u64>,
-        heard: &mut Heard,
-    )
+    fn brought<R: Wait, D: Disk + Drop>(&self, rt: &R, back: &Back<D, Self>, number: Told<u64>)
         requires { IsAccepted D.medium back.now number }
-        ensures { heard.new.counts ≡ counts_after heard.old.counts FrameBrought }
-    {
-        number.heard(heard);
-    }
+    {}
 
     /// This frame was given up: the desk refused it, or a flush was refused.
-    fn gave_up<R: Wait, D: Disk + Drop>(
-        &self,
-        rt: &R,
-        back: &Back<D, Self>,
-        frame: Told<LostFrame>,
-        heard: &mut Heard,
-    )
+    fn gave_up<R: Wait, D: Disk + Drop>(&self, rt: &R, back: &Back<D, Self>, frame: Told<LostFrame>)
         requires { IsGivenUp D.medium Self.gives_up back.now frame }
-        ensures { heard.new.counts ≡ counts_after heard.old.counts FrameGivenUp }
-    {
-        frame.heard(heard);
-    }
+    {}
 
     /// A flush stored frames.
     fn stored<R: Wait, D: Disk + Drop>(&self, rt: &R, back: &Back<D, Self>, done: Told<Flushed>)
@@ -135,15 +96,12 @@ impl Untold<u64> {
         self,
         rt: &R,
         guide: &G,
-        back: &mut Back<D, G>,
+        back: &Back<D, G>,
     )
-        requires { IsAccepted D.medium back.old self }
-        ensures { back.new ≡ record back.old { handed = handed_after back.old.handed FrameBrought } }
+        requires { IsAccepted D.medium back.now self }
     {
         let Untold { what } = self;
-        let mut heard = back.told.same();
-        guide.brought(rt, back, Told { what }, &mut heard);
-        back.told = heard;
+        guide.brought(rt, back, Told { what });
     }
 }
 
@@ -153,15 +111,12 @@ impl Untold<LostFrame> {
         self,
         rt: &R,
         guide: &G,
-        back: &mut Back<D, G>,
+        back: &Back<D, G>,
     )
-        requires { IsGivenUp D.medium G.gives_up back.old self }
-        ensures { back.new ≡ record back.old { handed = handed_after back.old.handed FrameGivenUp } }
+        requires { IsGivenUp D.medium G.gives_up back.now self }
     {
         let Untold { what } = self;
-        let mut heard = back.told.same();
-        guide.gave_up(rt, back, Told { what }, &mut heard);
-        back.told = heard;
+        guide.gave_up(rt, back, Told { what });
     }
 }
 
@@ -218,8 +173,6 @@ pub struct Back<D: Disk + Drop, K: Visits, A: Allocator + Copy = Global> {
     pub(crate) start: u32,
     pub(crate) began: Vec<Snapshot<Seat<D, K, A>>, A>,
     pub(crate) from_before: Snapshot<Consumer<Frame<A>, A>>,
-    // What its guide was told.
-    told: Heard,
 }
 
 /// What is left of a back.
@@ -235,13 +188,10 @@ pub struct BackParts<D: Disk + Drop, K: Visits, A: Allocator + Copy = Global> {
     pub given_up: u64,
     /// Whether a flush was refused, and wasn't tried again.
     pub refused: bool,
-    /// What its guide was told.
-    pub told: Heard,
 }
 
 impl<D: Disk + Drop, K: Visits, A: Allocator + Copy> Model for Back<D, K, A> {
-    ghost use Rattle.std.specs.Prelude.{length, map};
-    ghost use Rattle.rtrb.specs.Ring.{received};
+    ghost use Rattle.std.specs.Prelude.{map};
     ghost use Rattle.loop_pipeline.specs.Backs.{SeenBack};
     ghost use Rattle.loop_pipeline.specs.KeptBacks.{BackKeeps};
 
@@ -254,7 +204,6 @@ impl<D: Disk + Drop, K: Visits, A: Allocator + Copy> Model for Back<D, K, A> {
       desks = b.desks.desks;
       active = b.desks.lent.active;
       end = b.desks.lent.end;
-      handed = record { taken = length (received b.from); given_up = b.given_up; told = b.told.counts };
     } };
 
     ghost invariant = { λ b. BackKeeps D.medium K.asks K.gives_up
@@ -265,7 +214,6 @@ impl<D: Disk + Drop, K: Visits, A: Allocator + Copy> Model for Back<D, K, A> {
           desks = b.desks.desks;
           active = b.desks.lent.active;
           end = b.desks.lent.end;
-          handed = record { taken = length (received b.from); given_up = b.given_up; told = b.told.counts };
         }) b.from b.given_up b.refused };
 }
 
@@ -283,15 +231,7 @@ impl<D: Disk + Drop, K: Visits, A: Allocator + Copy> Back<D, K, A> {
         requires ring { received from ≡ [] }
         requires room { 1 ≤ most }
         ensures made { IfOk result (λ back. back
-            ≡ record {
-              began = desk ∷ [];
-              from = from;
-              start = end;
-              desks = desk ∷ [];
-              active = 0;
-              end = end;
-              handed = none_handed;
-            }) }
+            ≡ record { began = desk ∷ []; from = from; start = end; desks = desk ∷ []; active = 0; end = end }) }
         ensures refused { IfErr result (λ parts. parts ≡ (desk, from)) }
     {
         let Ok(mut began) = Vec::with_capacity(alloc, most) else {
@@ -314,7 +254,6 @@ impl<D: Disk + Drop, K: Visits, A: Allocator + Copy> Back<D, K, A> {
             start: end,
             began,
             from_before,
-            told: Heard::none(),
         })
     }
 
@@ -325,8 +264,7 @@ impl<D: Disk + Drop, K: Visits, A: Allocator + Copy> Back<D, K, A> {
     pub fn bring(&mut self, alone: bool, anyway: bool) -> Brought
         ensures told { IsBrought D.medium self.old.end self.new result }
         ensures same { IsChangedAt self.new.active self.old
-            (record self.new { active = self.old.active; end = self.old.end; handed = self.old.handed }) }
-        ensures hands { HandsOut self.old.handed self.new.handed result }
+            (record self.new { active = self.old.active; end = self.old.end }) }
         ensures turns { IsTurnedFor D.medium self.old self.new.active }
         ensures fits { (n : ℕ) → result ≡ Submitted n → (alone ≡ true → 2 ≤ length self.old.desks)
             → IsSoAt self.new.active self.new.desks FitsBlock }
@@ -352,9 +290,7 @@ impl<D: Disk + Drop, K: Visits, A: Allocator + Copy> Back<D, K, A> {
     fn bring_here(&mut self, alone: bool, anyway: bool) -> Brought
         requires { 2 ≤ length self.old.desks → TakesFrame D.medium (desks_now self.old) }
         ensures told { IsBrought D.medium self.old.end self.new result }
-        ensures same { IsChangedAt self.old.active self.old
-            (record self.new { end = self.old.end; handed = self.old.handed }) }
-        ensures hands { HandsOut self.old.handed self.new.handed result }
+        ensures same { IsChangedAt self.old.active self.old (record self.new { end = self.old.end }) }
         ensures fits { (n : ℕ) → result ≡ Submitted n → (alone ≡ true → 2 ≤ length self.old.desks)
             → IsSoAt self.old.active self.new.desks FitsBlock }
         ensures begins { (n : ℕ) → result ≡ Submitted n → anyway ≡ false
@@ -388,8 +324,7 @@ impl<D: Disk + Drop, K: Visits, A: Allocator + Copy> Back<D, K, A> {
     /// or flushes go on.
     pub fn give_up(&mut self) -> Option<Untold<LostFrame>>
         ensures refused { IfSome result (λ lost. WasRefused D.medium K.gives_up self.new) }
-        ensures same { self.new ≡ record self.old { handed = self.new.handed } }
-        ensures hands { HandsLost self.old.handed self.new.handed result }
+        ensures same { self.new ≡ self.old }
     {
         if !self.refused {
             return None;
@@ -475,11 +410,6 @@ impl<D: Disk + Drop, K: Visits, A: Allocator + Copy> Back<D, K, A> {
     pub fn into_parts(self) -> BackParts<D, K, A>
         ensures desks { result.desk ∷ result.joined.items ≡ self.desks }
         ensures keeps { BackKeeps D.medium K.asks K.gives_up self result.from result.given_up result.refused }
-        ensures handed { self.handed ≡ record {
-          taken = length (received result.from);
-          given_up = result.given_up;
-          told = result.told.counts;
-        } }
     {
         let Back {
             desks,
@@ -490,7 +420,6 @@ impl<D: Disk + Drop, K: Visits, A: Allocator + Copy> Back<D, K, A> {
             start: _,
             began: _,
             from_before: _,
-            told,
         } = self;
         let mut desks = desks.into_seats();
         let desk = desks.remove(0);
@@ -500,7 +429,6 @@ impl<D: Disk + Drop, K: Visits, A: Allocator + Copy> Back<D, K, A> {
             from,
             given_up,
             refused,
-            told,
         }
     }
 }

@@ -3,11 +3,10 @@
 ghost use Rattle.std.specs.Prelude.{◌≡◌, ◌∷◌, List, length};
 ghost use Rattle.rtrb.specs.Ring.{IsPair};
 ghost use Rattle.loop_desk.specs.Seen.{SeenDesk};
-ghost use Rattle.loop_pipeline.specs.Cameras.{AreLeft, CameraKeeps, CameraTold};
-ghost use Rattle.loop_pipeline.specs.Heards.{AllTold};
+ghost use Rattle.loop_pipeline.specs.Cameras.{AreLeft, CameraKeeps};
 ghost use Rattle.loop_pipeline.specs.Fronts.{HandIsSpent, IsRegular, Leaves, StaysOpen, made_of};
 
-use crate::{Back, BackParts, Begun, FrontParts, Guide, Heard, Seat, Visits};
+use crate::{Back, BackParts, Begun, FrontParts, Guide, Seat, Visits};
 use loop_capture::{Device, FrameSource};
 use loop_desk::Hand;
 use loop_disk::Disk;
@@ -46,8 +45,6 @@ pub struct CameraEnd<
     pub failed: u64,
     /// Whether its guide or its source has ended it.
     pub over: bool,
-    /// What its guide was told.
-    pub told: Heard,
 }
 
 /// Ends a camera, after both its threads have ended. `begun` is what its front was made of; front and back were made on
@@ -67,13 +64,6 @@ pub fn end<S: FrameSource + Drop, D: Disk + Drop, P: PlaneMemory, G: Guide, A: A
         (record { device = begun.device.value; queue = begun.queue.value; desk = first; joined = others })
         (record { device = result.device; queue = result.queue; desk = result.desk; joined = result.joined.items })
         result.given_up result.left result.missed result.failed result.over }
-    ensures told { (first : SeenDesk D) (others : List (SeenDesk D)) → back.began ≡ first ∷ others
-        → back.start ≡ begun.device.value.next → IsRegular P.plane begun.queue.value → AllTold back.handed
-        → CameraTold D.medium S.next_gives P.plane G.asks G.gives_up
-        (G.due begun.guide.value) (G.ends begun.guide.value)
-        (record { device = begun.device.value; queue = begun.queue.value; desk = first; joined = others })
-        (record { device = result.device; queue = result.queue; desk = result.desk; joined = result.joined.items })
-        result.given_up result.left result.missed result.failed result.over result.told.counts }
     ensures again { StaysOpen P.plane begun.queue.value result.queue result.table }
     ensures held { HandIsSpent result.queue result.hand }
     ensures desks { result.desk ∷ result.joined.items ≡ back.desks }
@@ -103,7 +93,6 @@ pub fn end<S: FrameSource + Drop, D: Disk + Drop, P: PlaneMemory, G: Guide, A: A
         mut from,
         given_up,
         refused: _,
-        told,
     } = back.into_parts();
     let left = from.slots_beside(&mut to) as u64;
     CameraEnd {
@@ -118,6 +107,5 @@ pub fn end<S: FrameSource + Drop, D: Disk + Drop, P: PlaneMemory, G: Guide, A: A
         missed,
         failed,
         over,
-        told,
     }
 }

@@ -3,9 +3,8 @@
 ghost use Rattle.std.specs.Prelude.{◌≡◌, ◌∷◌, [], IfErr, IfOk, List, None, false, length, true};
 ghost use Rattle.loop_desk.specs.Seen.{SeenDesk};
 ghost use Rattle.loop_pipeline.specs.Backs.{IsSettledBack, Joins};
-ghost use Rattle.loop_pipeline.specs.Cameras.{AreLeft, CameraKeeps, CameraTold, EndsSettled, IsSettledDesk, KeepsJoined};
+ghost use Rattle.loop_pipeline.specs.Cameras.{AreLeft, CameraKeeps, EndsSettled, IsSettledDesk, KeepsJoined};
 ghost use Rattle.loop_pipeline.specs.Returns.{IsReturned, GivesJoined};
-ghost use Rattle.loop_pipeline.specs.Heards.{AllTold};
 ghost use Rattle.rtrb.specs.Ring.{IsPair, sent};
 ghost use Rattle.loop_pipeline.specs.Fronts.{HandIsSpent, IsRegular, Leaves, LeavesCarried, StaysOpen, made_of, StandsPort};
 
@@ -214,51 +213,8 @@ struct Bounds {
     anyway: bool,
 }
 
-// Brings the next frame in the ring to the desk that takes it, within these bounds, and tells the guide; returns whether
-// one came out of it. If the active desk has no room and no flush is tried any more, it is given up.
-fn bring_one<R: Wait, D: Disk + Drop, G: Guide>(
-    rt: &R,
-    guide: &G,
-    back: &mut Back<D, G>,
-    bounds: Bounds,
-) -> bool
-    ensures same { back.new ≡ record back.old {
-      desks = back.new.desks;
-      active = back.new.active;
-      end = back.new.end;
-      handed = back.new.handed;
-    } }
-    ensures told { AllTold back.old.handed → AllTold back.new.handed }
-{
-    match back.bring(bounds.alone, bounds.anyway) {
-        Brought::Submitted(number) => {
-            number.tell_brought(rt, guide, back);
-            true
-        }
-        Brought::GivenUp(_, frame) => {
-            frame.tell_given_up(rt, guide, back);
-            true
-        }
-        Brought::NoRoom => give_up_one(rt, guide, back),
-        Brought::Nothing => false,
-    }
-}
-
-// Gives up the next frame in the ring if no flush is tried any more, and tells the guide; returns whether it did.
-fn give_up_one<R: Wait, D: Disk + Drop, G: Guide>(rt: &R, guide: &G, back: &mut Back<D, G>) -> bool
-    ensures same { back.new ≡ record back.old { handed = back.new.handed } }
-    ensures told { AllTold back.old.handed → AllTold back.new.handed }
-{
-    match back.give_up() {
-        Some(frame) => {
-            frame.tell_given_up(rt, guide, back);
-            true
-        }
-        None => false,
-    }
-}
-
 // Brings the frames in the ring to the desks that take them, within these bounds; returns whether one came out of it.
+// If the active desk has no room and no flush is tried any more, frames are given up.
 fn bring_all<R: Wait, D: Disk + Drop, G: Guide>(
     rt: &R,
     link: &Link,
@@ -266,19 +222,23 @@ fn bring_all<R: Wait, D: Disk + Drop, G: Guide>(
     back: &mut Back<D, G>,
     bounds: Bounds,
 ) -> bool
-    ensures same { back.new ≡ record back.old {
+    ensures { back.new ≡ record back.old {
       desks = back.new.desks;
       active = back.new.active;
       end = back.new.end;
-      handed = back.new.handed;
     } }
-    ensures told { AllTold back.old.handed → AllTold back.new.handed }
 {
     let mut some = false;
     let most = back.desks().group();
     'frames: for _ in 0..most {
-        if !bring_one(rt, guide, back, bounds) {
-            break;
+        match back.bring(bounds.alone, bounds.anyway) {
+            Brought::Submitted(number) => number.tell_brought(rt, guide, back),
+            Brought::GivenUp(_, frame) => frame.tell_given_up(rt, guide, back),
+            Brought::NoRoom => match back.give_up() {
+                Some(frame) => frame.tell_given_up(rt, guide, back),
+                None => break,
+            },
+            Brought::Nothing => break,
         }
         some = true;
     }
@@ -303,8 +263,7 @@ fn give_memory<R: Wait, D: Disk + Drop, K: Visits>(rt: &R, link: &Link, back: &m
 
 // Lets in the desks that wait at the door, while there is memory for them; none where calls are noted.
 fn join_all<R: Wait, D: Disk + Drop, K: Visits>(rt: &R, door: &Door<D>, back: &mut Back<D, K>)
-    ensures joins { Joins (door.now ≡ false) back.old back.new }
-    ensures handed { back.new.handed ≡ back.old.handed }
+    ensures { Joins (door.now ≡ false) back.old back.new }
 {
     if K::NOTED {
         return;
@@ -348,8 +307,7 @@ fn serve<R: Wait + Clock, D: Disk + Drop, G: Guide>(
     door: &Door<D>,
     back: &mut Back<D, G>,
 ) -> bool
-    ensures joins { Joins (door.now ≡ false) back.old back.new }
-    ensures told { AllTold back.old.handed → AllTold back.new.handed }
+    ensures { Joins (door.now ≡ false) back.old back.new }
 {
     join_all(rt, door, back);
     let bounds = turn_for(rt, guide, !door.is_open(), back);
@@ -398,7 +356,6 @@ pub fn film_back<R: Wait + Clock, D: Disk + Drop, G: Guide>(
 ) -> Back<D, G>
     ensures joins { Joins (door.now ≡ false) back result }
     ensures settled { G.NOTED ≡ false → IsSettledBack D.medium G.gives_up result }
-    ensures told { AllTold back.handed → AllTold result.handed }
 {
     'turns: for _ in rt.forever() {
         let seen = link.given.count(rt);
@@ -610,7 +567,6 @@ fn film_beside<R: Wait + Clock, D: Disk + Drop, G: Guide>(
     ensures joins { IfOk result (Joins (door.now ≡ false) back) }
     ensures settled { G.NOTED ≡ false → IfOk result (IsSettledBack D.medium G.gives_up) }
     ensures unasked { IfErr result (λ same. same ≡ back) }
-    ensures told { IfOk result (λ filmed. AllTold back.handed → AllTold filmed.handed) }
 {
     if !link.wait_for_others(rt) {
         return Err(back);
@@ -630,7 +586,6 @@ fn film_late<R: Wait + Clock, D: Disk + Drop, G: Guide>(
 ) -> Back<D, G>
     ensures joins { Joins (door.now ≡ false) unasked.0 result }
     ensures settled { G.NOTED ≡ false → unasked.1 ≡ true → IsSettledBack D.medium G.gives_up result }
-    ensures told { AllTold unasked.0.handed → AllTold result.handed }
 {
     let (back, over) = unasked;
     if over {
@@ -672,7 +627,6 @@ fn run_in<
         (G.ends halves.entry.begun.guide.value) (made_of halves.entry.begun) result.front }
     ensures back { Joins (halves.entry.door.now ≡ false) halves.entry.back result.back }
     ensures settled { G.NOTED ≡ false → result.front.over ≡ true → IsSettledBack D.medium G.gives_up result.back }
-    ensures told { AllTold halves.entry.back.handed → AllTold result.back.handed }
 {
     let Halves {
         begun,
@@ -715,12 +669,12 @@ fn end_both<S: FrameSource + Drop, D: Disk + Drop, P: PlaneMemory, G: Guide, W: 
         (G.due begun.guide.value) (G.ends begun.guide.value) (made_of begun) front }
     requires pair { IsPair begun.to.value back.from }
     ensures keeps { (first : SeenDesk D) (others : List (SeenDesk D)) → back.began ≡ first ∷ others
-        → back.start ≡ begun.device.value.next → IsRegular P.plane begun.queue.value → AllTold back.handed
-        → CameraTold D.medium S.next_gives P.plane G.asks G.gives_up
+        → back.start ≡ begun.device.value.next → IsRegular P.plane begun.queue.value
+        → CameraKeeps D.medium S.next_gives P.plane G.asks G.gives_up
         (G.due begun.guide.value) (G.ends begun.guide.value)
         (record { device = begun.device.value; queue = begun.queue.value; desk = first; joined = others })
         (record { device = result.device; queue = result.queue; desk = result.desk; joined = result.joined.items })
-        result.given_up result.left result.missed result.failed result.over result.told.counts }
+        result.given_up result.left result.missed result.failed result.over }
     ensures again { StaysOpen P.plane begun.queue.value result.queue result.table }
     ensures held { HandIsSpent result.queue result.hand }
     ensures desks { (result.desk ∷ result.joined.items ≡ back.desks) × (length back.desks ≡ length back.began) }
@@ -795,7 +749,7 @@ pub fn film_desks<
         → KeepsJoined D.medium S.next_gives P.plane G.asks G.gives_up (G.due guided.entry.guide.now)
         (G.ends guided.entry.guide.now) (door.now ≡ false) guided.entry.camera
         (record { device = e.device; queue = e.queue; desk = e.desk; joined = e.joined.items })
-        e.given_up e.left e.missed e.failed e.over e.told.counts) }
+        e.given_up e.left e.missed e.failed e.over) }
     ensures settled { G.NOTED ≡ false → IfOk result (λ e. EndsSettled D.medium G.gives_up (door.now ≡ false)
         guided.entry.camera.desk (e.desk ∷ e.joined.items)) }
     ensures ended { IfOk result (λ e. e.over ≡ true) }
@@ -880,11 +834,6 @@ pub fn film_camera<
         (G.due guide.now) (G.ends guide.now) camera
         (record { device = e.device; queue = e.queue; desk = e.desk; joined = e.joined.items })
         e.given_up e.left e.missed e.failed e.over) }
-    ensures told { IfOk result (λ e. IsRegular P.plane camera.queue
-        → CameraTold D.medium S.next_gives P.plane G.asks G.gives_up
-        (G.due guide.now) (G.ends guide.now) camera
-        (record { device = e.device; queue = e.queue; desk = e.desk; joined = e.joined.items })
-        e.given_up e.left e.missed e.failed e.over e.told.counts) }
     ensures settled { G.NOTED ≡ false → IfOk result (λ e. IsSettledDesk D.medium G.gives_up camera.desk e.desk) }
     ensures ended { IfOk result (λ e. e.over ≡ true) }
     ensures again { IfOk result (λ e. StaysOpen P.plane camera.queue e.queue e.table) }

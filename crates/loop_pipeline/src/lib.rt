@@ -4,8 +4,7 @@
 //!   end of the ring, and the desks; `desks`: desks before stores, which are lent to visits; `guided`: what a back does
 //!   by its guide; `ending`: both halves, brought together; `camera`: what is filmed;
 //! - `film`: `film_camera` and `film_desks`, which run both, and what each does; `door`: where desks wait (`waiting`)
-//!   that join a camera meanwhile; `guide`: what they ask and report; `heard`: how much a guide was told, for contracts
-//!   alone; `visits`: what visitors of the desks may call;
+//!   that join a camera meanwhile; `guide`: what they ask and report; `visits`: what visitors of the desks may call;
 //!   `bell`: where one sleeps until the other has work for it; `laws`: what follows;
 //! - `next`: which desk takes the next block;
 //! - `seat`: a desk that one thread owns, alone or with its calls noted; `entry`: what is noted of a call, and a
@@ -39,7 +38,6 @@ mod film;
 mod front;
 mod guide;
 mod guided;
-mod heard;
 pub mod laws;
 mod next;
 pub mod notes;
@@ -63,7 +61,6 @@ pub use film::{
 };
 pub use front::{Begun, Front, FrontParts, TakeOutcome};
 pub use guide::{Guide, ToldTick, UntoldTick};
-pub use heard::{Heard, Report};
 pub use seat::{Notes, Noting, Seat, Taken};
 pub use several::{Filmed, Outcome, Shot, film_all};
 pub use start::{new_queue, start_queue};

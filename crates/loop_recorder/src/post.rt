@@ -5,7 +5,7 @@ ghost use Rattle.loop_recorder.specs.Recordings.{IsTickTime};
 use crate::{Pace, Step};
 use loop_desk::Flushed;
 use loop_disk::Disk;
-use loop_pipeline::{Back, Desks, Guide, Heard, Noting, Reports, Told, ToldTick, Visits};
+use loop_pipeline::{Back, Desks, Guide, Noting, Reports, Told, ToldTick, Visits};
 use loop_record::Geometry;
 use loop_store::StoreFault;
 use std::alloc::Global;
@@ -67,14 +67,7 @@ impl<W: Pace> Visits for Post<W> {
 }
 
 impl<W: Pace> Reports for Post<W> {
-    fn brought<R: Wait, D: Disk + Drop>(
-        &self,
-        _rt: &R,
-        _back: &Back<D, Self>,
-        number: Told<u64>,
-        heard: &mut Heard,
-    ) {
-        number.heard(heard);
+    fn brought<R: Wait, D: Disk + Drop>(&self, _rt: &R, _back: &Back<D, Self>, _number: Told<u64>) {
         self.pace.reached(self.camera, Step::Submitted);
     }
 

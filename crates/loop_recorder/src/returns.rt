@@ -53,7 +53,6 @@ fn parts_left<'a, S: FrameSource + Drop, D: Disk + Drop, P: PlaneMemory, Q: Pace
         missed: _,
         failed: _,
         over: _,
-        told: _,
     } = ended;
     Parts {
         device,

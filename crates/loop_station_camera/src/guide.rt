@@ -5,7 +5,7 @@ use crate::state::CameraState;
 use loop_capture::Tick;
 use loop_desk::Flushed;
 use loop_disk::Disk;
-use loop_pipeline::{Back, Desks, Guide, Heard, LostFrame, Reports, Told, ToldTick};
+use loop_pipeline::{Back, Desks, Guide, LostFrame, Reports, Told, ToldTick};
 use loop_station_core::{Act, FilmingEvent};
 use loop_store::StoreFault;
 use std::alloc::Global;
@@ -20,10 +20,8 @@ impl Reports for CameraState {
         &self,
         rt: &R,
         _back: &Back<D, CameraState>,
-        number: Told<u64>,
-        heard: &mut Heard,
+        _number: Told<u64>,
     ) {
-        number.heard(heard);
         self.life.bring(rt, self.come(rt));
     }
 
@@ -31,10 +29,8 @@ impl Reports for CameraState {
         &self,
         rt: &R,
         _back: &Back<D, CameraState>,
-        frame: Told<LostFrame>,
-        heard: &mut Heard,
+        _frame: Told<LostFrame>,
     ) {
-        frame.heard(heard);
         self.give_up(rt);
     }
 

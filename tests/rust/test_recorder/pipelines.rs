@@ -7,7 +7,7 @@ use loop_desk::{Desk, Flushed, Hand, LaneFault};
 use loop_disk::{Disk, FuseDisk, MemDisk};
 use loop_lane::{LostFrames, Numbers, film_and_export};
 use loop_pipeline::{
-    Back, Begun, Brought, Camera, CameraEnd, Desks, Front, Guide, GuidedCamera, Heard, Leave, Link,
+    Back, Begun, Brought, Camera, CameraEnd, Desks, Front, Guide, GuidedCamera, Leave, Link,
     LostFrame, Noting, Outcome, Reports, Seat, Shot, TakeOutcome, Taken, Told, Unlocks, Visits, end,
     film_all, film_camera, heap_start, new_queue, start_queue,
 };
@@ -91,10 +91,8 @@ impl Reports for Guided {
         &self,
         _rt: &R,
         _back: &Back<D, Guided>,
-        number: Told<u64>,
-        heard: &mut Heard,
+        _number: Told<u64>,
     ) {
-        number.heard(heard);
         self.brought.fetch_add(1, Ordering::SeqCst);
     }
 
@@ -102,10 +100,8 @@ impl Reports for Guided {
         &self,
         _rt: &R,
         _back: &Back<D, Guided>,
-        frame: Told<LostFrame>,
-        heard: &mut Heard,
+        _frame: Told<LostFrame>,
     ) {
-        frame.heard(heard);
         self.gave_up.fetch_add(1, Ordering::SeqCst);
     }
 

@@ -1,18 +1,16 @@
-use Rattle.std.proofs.Common.{◌≡◌, ◌∙◌, false, ap, refl, subst, sym}
+use Rattle.std.proofs.Common.{◌≡◌, ◌∙◌, false, ap, subst, sym}
 use Rattle.std.specs.Global.{Global}
 use Rattle.loop_pipeline.specs.Fronts.{Leaves, SeenFront, StaysOpen}
 use Rattle.loop_pipeline.proofs.Joining.{keeps-joined}
 use Rattle.loop_pipeline.proofs.Settling.{ends-settled}
-use Rattle.loop_pipeline.proofs.Telling.{told-here}
 use Rattle.loop_pipeline.proofs.film.film_desks.Goals as goal
 
 pub returns-then-ended-clause-keeps : goal.returns-then-ended-clause-keeps
 returns-then-ended-clause-keeps g c =
     keeps-joined g.D.Disk.medium g.S.FrameSource.next_gives g.P.PlaneMemory.plane g.G.Visits.asks g.G.Visits.gives_up
     g.G.Guide.due g.G.Guide.ends _ c.args.guided.camera _ c.camera.inside.device c.camera.inside.queue c.camera.inside.desk _
-    c.args.guided.guide.now _ _ _ c.run_in-front.result.back _ _ _ _ _ _ c.camera.view_is c.of-again.ensures c.in-Ok-new.ensures.made
+    c.args.guided.guide.now _ _ _ c.run_in-front.result.back _ _ _ _ _ c.camera.view_is c.of-again.ensures c.in-Ok-new.ensures.made
     c.next_sequence.ensures c.run_in-front.ensures.back c.end_both-ended.ensures.keeps
-    (c.run_in-front.ensures.told (told-here _ _ c.in-Ok-new.ensures.made (refl, refl)))
 
 -- the queue that ended is that of the camera that was given
 pub returns-then-ended-clause-again : goal.returns-then-ended-clause-again
@@ -49,9 +47,8 @@ returns-else-ended-clause-refused g c =
       c.end_both-ended.ensures.again.0,
       keeps-joined g.D.Disk.medium g.S.FrameSource.next_gives g.P.PlaneMemory.plane g.G.Visits.asks g.G.Visits.gives_up
           g.G.Guide.due g.G.Guide.ends _ c.args.guided.camera _ c.camera.inside.device c.camera.inside.queue c.camera.inside.desk _
-          c.args.guided.guide.now _ _ _ c.run_in-front.result.back _ _ _ _ _ _ c.camera.view_is c.of-again.ensures c.in-Ok-new.ensures.made
-          c.next_sequence.ensures c.run_in-front.ensures.back c.end_both-ended.ensures.keeps
-          (c.run_in-front.ensures.told (told-here _ _ c.in-Ok-new.ensures.made (refl, refl))),
+          c.args.guided.guide.now _ _ _ c.run_in-front.result.back _ _ _ _ _ c.camera.view_is c.of-again.ensures c.in-Ok-new.ensures.made
+          c.next_sequence.ensures c.run_in-front.ensures.back c.end_both-ended.ensures.keeps,
     )
 
 pub returns-then-ended-clause-settled : goal.returns-then-ended-clause-settled

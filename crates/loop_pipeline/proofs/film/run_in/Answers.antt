@@ -1,7 +1,6 @@
 use Rattle.std.proofs.Common.{subst, sym}
 use Rattle.std.specs.Global.{Global}
 use Rattle.loop_pipeline.specs.Fronts.{LeavesCarried, SeenFront}
-use Rattle.loop_pipeline.proofs.Telling.{told-here}
 use denote.Param.Send.{sendable}
 use Rattle.std.proofs.Crossing.{crosses}
 use Rattle.loop_pipeline.proofs.Crossing.{inlet_send, left_send, link_sync}
@@ -52,12 +51,4 @@ returns-after-filmed-clause-settled g c plain over =
       | in-Ok-filmed w ↦ settled-here g.D.Disk.medium g.G.Visits.gives_up _ _ w.back-is (w.in-Ok-filmed.ensures.settled plain)
       | in-Err-filmed w ↦ settled-here g.D.Disk.medium g.G.Visits.gives_up _ _ w.back-is
           (w.film_late-back.ensures.settled plain over)
-    ]
-
-pub returns-after-filmed-clause-told : goal.returns-after-filmed-clause-told
-returns-after-filmed-clause-told g c is =
-    elim c.match-filmed.branch [
-      | in-Ok-filmed w ↦ told-here _ _ w.back-is (w.in-Ok-filmed.ensures.told is)
-      | in-Err-filmed w ↦ told-here _ _ w.back-is
-          (w.film_late-back.ensures.told (told-here _ _ w.in-Err-filmed.ensures.unasked is))
     ]

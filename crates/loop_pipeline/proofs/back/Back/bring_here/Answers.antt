@@ -8,7 +8,6 @@ use Rattle.loop_pipeline.specs.Turns.{MayBegin}
 use Rattle.loop_pipeline.proofs.BackRuns.{accepted, brought, last, nothing}
 use Rattle.loop_pipeline.proofs.DeskPlaces.{answered, brought-to, same-desk, still-fits, unchanged-end}
 use Rattle.loop_pipeline.proofs.Places.{get-set-same, set-got}
-use Rattle.loop_pipeline.proofs.Handing.{came-none, came-one, came-refused, one-longer}
 use Rattle.loop_pipeline.proofs.Visiting.{kept-as, last-as}
 use Rattle.loop_pipeline.proofs.back.Back.bring_here.Goals as goal
 
@@ -118,23 +117,3 @@ returns-in-Nothing-clause-told g c =
 pub returns-in-Unnoted-clause-told : goal.returns-in-Unnoted-clause-told
 returns-in-Unnoted-clause-told g c =
     c.in-Unnoted.ensures.end ∙ ap (λ (b : SeenBack g.row.D.Denot g.row.A.Denot). b.end) c.self.view_is
-
-pub returns-in-Nothing-clause-hands : goal.returns-in-Nothing-clause-hands
-returns-in-Nothing-clause-hands g c =
-    came-none _ _ _ _ _ (ap length c.in-Nothing.ensures.takes.got)
-    (ap (λ (b : SeenBack g.row.D.Denot g.row.A.Denot). b.handed) c.self.view_is)
-
-pub returns-in-Unnoted-clause-hands : goal.returns-in-Unnoted-clause-hands
-returns-in-Unnoted-clause-hands g c =
-    came-none _ _ _ _ _ (ap length c.in-Unnoted.ensures.takes.got)
-    (ap (λ (b : SeenBack g.row.D.Denot g.row.A.Denot). b.handed) c.self.view_is)
-
-pub returns-in-Asked-default-Ok-clause-hands : goal.returns-in-Asked-default-Ok-clause-hands
-returns-in-Asked-default-Ok-clause-hands g c =
-    came-one _ _ _ _ _ (one-longer _ _ _ c.in-Asked-default-Ok.ensures.takes.got)
-    (ap (λ (b : SeenBack g.row.D.Denot g.row.A.Denot). b.handed) c.self.view_is)
-
-pub returns-in-Asked-default-Err-clause-hands : goal.returns-in-Asked-default-Err-clause-hands
-returns-in-Asked-default-Err-clause-hands g c =
-    came-refused _ _ _ _ _ (one-longer _ _ _ c.in-Asked-default-Err.ensures.takes.got)
-    (ap (λ (b : SeenBack g.row.D.Denot g.row.A.Denot). b.handed) c.self.view_is)

@@ -1,7 +1,4 @@
-use Rattle.std.proofs.Common.{ap, length}
-use Rattle.loop_pipeline.specs.Backs.{SeenBack}
 use Rattle.loop_pipeline.proofs.BackRuns.{dropped, nothing, was-refused}
-use Rattle.loop_pipeline.proofs.Handing.{back-but-handed, came-refused, one-longer}
 use Rattle.loop_pipeline.proofs.back.Back.give_up.Goals as goal
 
 pub invariant_of-self : goal.invariant_of-self
@@ -22,9 +19,4 @@ returns-clause-refused g c =
     c.self.invariant c.if-not-self.false)
 
 pub returns-clause-same : goal.returns-clause-same
-returns-clause-same g c = rw c.return_memory.ensures (back-but-handed _ _ _ c.self.view_is)
-
-pub returns-clause-hands : goal.returns-clause-hands
-returns-clause-hands g c =
-    came-refused _ _ _ _ _ (one-longer _ _ _ c.in-Ok.ensures.ok.0)
-    (ap (λ (b : SeenBack g.row.D.Denot g.row.A.Denot). b.handed) c.self.view_is)
+returns-clause-same g c = rw c.return_memory.ensures c.self.view_is

@@ -1,6 +1,0 @@
--- It owns nothing that a thread could leave behind.
-use denote.Param.Send.{IsSend, owning_send, sendable}
-use Rattle.loop_pipeline.specs.contracts.heard.Heard.{the_row, the_type}
-
-pub send : IsSend the_row
-send = owning_send the_type (search sendable) (λ d. tt) (λ k x w. tt)
