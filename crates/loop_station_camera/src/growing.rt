@@ -300,7 +300,10 @@ impl Ongoing {
     /// An event goes on. Returns it where too many do.
     pub fn put_growing<R: Wait>(&self, rt: &R, growing: Growing) -> Option<Growing> {
         let mut inner = self.inner.lock(rt);
-        if inner.going.is_some_and(|keep: Keep| keep.event == growing.keep.event) {
+        if inner
+            .going
+            .is_some_and(|keep: Keep| keep.event == growing.keep.event)
+        {
             inner.going = None;
         }
         match inner.growing.try_push_back(growing) {

@@ -126,8 +126,8 @@ impl CameraState {
         }
     }
 
-    /// The events that are open now go into the camera's file of events, and then this is told. Where there is no memory
-    /// for them, the thread of that file looks for them.
+    /// The events that are open now go into the camera's file of events, and then this is told. Where there is no
+    /// memory for them, the thread of that file looks for them.
     pub fn note_open<R: Wait>(&self, rt: &R, alloc: Global, told: Announcement) {
         match self.open_events(rt, alloc) {
             Some(open) => self.notes.note(rt, open, told),

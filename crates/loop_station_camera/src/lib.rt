@@ -13,6 +13,7 @@
 //! A keep locks exactly the held frames of its time, as `Desks::keep` of loop_pipeline ensures.
 #![tactic(auto)]
 
+mod answered;
 mod clerk;
 mod ends;
 mod event;

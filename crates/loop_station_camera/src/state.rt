@@ -2,6 +2,7 @@
 
 ghost use Rattle.std.specs.Prelude.{false};
 
+use crate::answered::Answered;
 use crate::growing::Ongoing;
 use crate::leave::DeskLeave;
 use crate::saves::Saves;
@@ -15,7 +16,7 @@ use loop_station_shared::{
     Notes, Posts, Request, Room, Stored,
 };
 use loop_station_words::{CameraConfig, Lines, duration_of, numbered};
-use loop_store::{Clip, ReadFrame, StoreFault};
+use loop_store::{Clip, StoreFault};
 use std::alloc::{AllocError, Global};
 use std::sync::atomic::{AtomicBool, Ordering};
 use std::sync::{Arc, Wait};
@@ -74,7 +75,7 @@ pub struct CameraState {
     /// The saves of all cameras.
     pub saves: Arc<Saves>,
     /// The inbox for reads of frames for a save: by the number of a store, and that of a frame.
-    pub reader: Inbox<(u32, u64), Result<ReadFrame, StoreFault>, Absent>,
+    pub(crate) reader: Inbox<(u32, u64), Result<Answered, StoreFault>, Absent>,
     /// What its stores held when they were last changed.
     pub stored: Stored,
     /// Which of its clips may go where every block is locked.

@@ -242,7 +242,9 @@ impl<I: Read + Drop> Input<I> {
         // Where there is no memory for its line, or for what follows, some of these bytes are lost.
         let is_frame = ahead.ends_with(b"\n")
             && self.read_ahead(size, &mut ahead)?
-            && self.begins_next()?.is_some_and(|next: Joined| next != Joined::Other);
+            && self
+                .begins_next()?
+                .is_some_and(|next: Joined| next != Joined::Other);
         self.begin_line();
         let kept = if is_frame { 0 } else { 1 };
         Ok(self.give_back(ahead.get(kept..).unwrap_or(&[])) && is_frame)

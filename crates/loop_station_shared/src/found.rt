@@ -1,5 +1,7 @@
 //! A clip that a camera has, with its times.
 
+ghost use Rattle.std.specs.Prelude.{◌≡◌, true};
+
 use loop_station_core::SaveKey;
 use loop_store::Clip;
 
@@ -36,7 +38,10 @@ impl FoundClip {
 
     /// Whether a frame with one of the clip's numbers and this time may be one of its frames: in another store the
     /// frames with its first and its last number have other times.
-    pub fn fits(&self, number: u64, time: u64) -> bool {
+    pub fn fits(&self, number: u64, time: u64) -> bool
+        ensures first { result ≡ true → number ≡ self.now.clip.from → time ≡ self.now.first }
+        ensures last { result ≡ true → number ≡ self.now.clip.to → time ≡ self.now.last }
+    {
         (number != self.clip.from || time == self.first)
             && (number != self.clip.to || time == self.last)
     }

@@ -4,7 +4,8 @@
 //! into first. Users know a store by its number, which its file's name has. Clips have here the ids that users know, of
 //! which each is in one store alone (`clip_id_in`).
 
-ghost use Rattle.std.specs.Prelude.{◌<◌};
+ghost use Rattle.std.specs.Prelude.{◌≡◌, ◌<◌};
+ghost use Rattle.loop_station_core.specs.Sets.{store_of};
 
 use loop_record::Geometry;
 use loop_station_core::{held_after, holds_back, id_parts, keeps_in, opens_before};
@@ -529,6 +530,8 @@ fn forgive(failed: &mut Vec<(u32, u64)>, number: u32) {
 }
 
 /// The number of the store that has the clip of an id.
-pub fn store_of(id: u32) -> u32 {
+pub fn store_of(id: u32) -> u32
+    ensures { result ≡ store_of id }
+{
     id_parts(id).0
 }

@@ -1,20 +1,20 @@
 //! The file of a save: its path, and its text, by the proved writer of loop_y4m.
 
-ghost use Rattle.std.specs.Prelude.{◌≡◌, ◌≤◌, All, IfOk, List, OnOk, true, ℕ};
-ghost use Rattle.std.specs.Io.KnownBytes.{Appends};
-ghost use Rattle.loop_y4m.specs.Text.{frame};
-ghost use Rattle.loop_station_camera.specs.Saves.{WroteClips, WrotePiece, clips_read};
+ghost use Rattle.std.specs.Prelude.{◌≡◌, ◌≤◌, All, IfOk, OnOk, Some, true};
+ghost use Rattle.loop_y4m.specs.Depths.{depth_of};
+ghost use Rattle.loop_station_core.specs.Marks.{bits_of};
+ghost use Rattle.loop_station_camera.specs.Saves.{WroteClips, WroteFrame, WrotePiece, clips_read};
 
 use super::frames::read_one;
 use super::pieces::{Piece, next_piece};
+use crate::answered::{Answered, Written};
 use crate::saves::{Save, SaveTarget};
 use crate::state::CameraState;
-use loop_record::Geometry;
+use loop_record::{FrameHead, Geometry};
 use loop_station_core::bits_of;
 use loop_station_outside::{Absent, NotSaved, PartFile, PathKind, Places};
 use loop_station_shared::FoundClip;
 use loop_station_words::print_clip_path;
-use loop_store::ReadFrame;
 use loop_y4m::{Depth, may_have, write_deep_header, write_frame};
 use std::alloc::{AllocGlobal, Global};
 use std::io::{BufWriter, Write};
@@ -182,22 +182,22 @@ fn write_clips<R: AllocGlobal + Wait>(
     let Ok(mut out) = BufWriter::with_capacity(rt.alloc(), AT_ONCE, file) else {
         return Err(NotSaved::NoMemory);
     };
-    let count = write_text(rt, state, save, geometry, &mut out)?;
+    let written = write_text(rt, state, save, geometry, &mut out)?;
     match out.flush() {
-        Ok(()) => Ok(count),
+        Ok(()) => Ok(written.count()),
         Err(_) => Err(NotSaved::CannotWrite),
     }
 }
 
 // Writes the text of the clips that a save reads: a header for the geometry of their stores and the bits of their
-// samples, and their frames, in the order of their times. Returns how many frames there are.
+// samples, and their frames, in the order of their times. Returns those frames.
 fn write_text<R: AllocGlobal + Wait, W: Write>(
     rt: &R,
     state: &CameraState,
     save: &Save,
     geometry: &Geometry,
     out: &mut W,
-) -> Result<u64, NotSaved>
+) -> Result<Written, NotSaved>
     ensures { IfOk result
         (WroteClips (W.contents out.old) (W.contents out.new) geometry.now (clips_read save.now)) }
 {
@@ -206,7 +206,7 @@ fn write_text<R: AllocGlobal + Wait, W: Write>(
         return Err(NotSaved::NoSuchClip);
     }
     let first = read_one(rt, state, &save.found, save.found.clip.from)?;
-    let depth = depth_of(&first)?;
+    let depth = depth_of(first.head())?;
     if !may_have(geometry, depth) {
         return Err(NotSaved::MixedBits);
     }
@@ -214,16 +214,13 @@ fn write_text<R: AllocGlobal + Wait, W: Write>(
         Ok(()) => {}
         Err(_) => return Err(NotSaved::CannotWrite),
     }
-    let mut count = 0u64;
+    let mut written = Written::nothing(rt.alloc());
     'pieces: for _ in rt.forever() {
         let Some(piece) = next_piece(rt, state, u64::from(geometry.slots), &mut left)? else {
-            return Ok(count);
+            return Ok(written);
         };
-        let written = write_piece(rt, state, save, &piece, depth, out)?;
-        let Some(more) = count.checked_add(written) else {
-            return Err(NotSaved::NoSuchClip);
-        };
-        count = more;
+        let more = write_piece(rt, state, save, &piece, depth, out)?;
+        written.append(more)?;
     }
     unreachable!()
 }
@@ -235,7 +232,7 @@ fn have_frames(clips: &[FoundClip]) -> bool
     clips.iter().all(|found| found.clip.from <= found.clip.to)
 }
 
-// Writes the frames of a piece, unless the save is to end before. Returns how many there are.
+// Writes the frames of a piece, unless the save is to end before. Returns them.
 fn write_piece<R: Wait, W: Write>(
     rt: &R,
     state: &CameraState,
@@ -243,14 +240,15 @@ fn write_piece<R: Wait, W: Write>(
     piece: &Piece,
     depth: Depth,
     out: &mut W,
-) -> Result<u64, NotSaved>
-    ensures { IfOk result (WrotePiece (W.contents out.old) (W.contents out.new) piece.now) }
+) -> Result<Written, NotSaved>
+    ensures { IfOk result (WrotePiece (W.contents out.old) (W.contents out.new) depth piece.now) }
 {
     let (from, to) = (piece.clip.clip.from, piece.end);
     if from > to || to - from == u64::MAX {
         return Err(NotSaved::NoSuchClip);
     }
     let count = to - from + 1;
+    let mut written = Written::nothing(state.alloc);
     'frames: for at in 0..count {
         if state.saves.stopped.load(Ordering::SeqCst) {
             return Err(NotSaved::Stopped);
@@ -258,33 +256,39 @@ fn write_piece<R: Wait, W: Write>(
         if save.ended.load(Ordering::SeqCst) {
             return Err(NotSaved::Cancelled);
         }
-        write_one(rt, state, &piece.clip, from + at, depth, out)?;
+        let frame = read_one(rt, state, &piece.clip, from + at)?;
+        write_one(frame, depth, out, &mut written)?;
     }
-    Ok(count)
+    Ok(written)
 }
 
 // How many bits the samples of a frame have, by its flags.
-fn depth_of(frame: &ReadFrame) -> Result<Depth, NotSaved> {
-    Depth::of_bits(bits_of(frame.head.flags)).ok_or(NotSaved::MixedBits)
+fn depth_of(head: FrameHead) -> Result<Depth, NotSaved>
+    ensures { IfOk result (λ depth. depth_of (bits_of head.flags) ≡ Some depth) }
+{
+    match Depth::of_bits(bits_of(head.flags)) {
+        Some(depth) => Ok(depth),
+        None => Err(NotSaved::MixedBits),
+    }
 }
 
-// Reads a frame, whose samples have to have so many bits, and writes it.
-fn write_one<R: Wait, W: Write>(
-    rt: &R,
-    state: &CameraState,
-    found: &FoundClip,
-    number: u64,
+// Writes a frame, whose samples have to have so many bits.
+fn write_one<W: Write>(
+    frame: Answered,
     depth: Depth,
     out: &mut W,
+    written: &mut Written,
 ) -> Result<(), NotSaved>
-    ensures { OnOk result ((bytes : List ℕ) × Appends (W.contents out.old) (W.contents out.new) (frame bytes)) }
+    ensures { OnOk result
+        (WroteFrame (W.contents out.old) (W.contents out.new) depth frame written.old written.new) }
 {
-    let frame = read_one(rt, state, found, number)?;
-    if depth_of(&frame)? != depth {
+    if depth_of(frame.head())? != depth {
         return Err(NotSaved::MixedBits);
     }
-    match write_frame(&frame.bytes, out) {
-        Ok(()) => Ok(()),
-        Err(_) => Err(NotSaved::CannotWrite),
+    match write_frame(frame.bytes(), out) {
+        Ok(()) => {}
+        Err(_) => return Err(NotSaved::CannotWrite),
     }
+    written.add(frame)?;
+    Ok(())
 }

@@ -1,13 +1,17 @@
-use Rattle.std.proofs.Common.{◌≡◌, ℕ, ◌+◌, List, length}
+use Rattle.std.proofs.Common.{◌≡◌, ◌+◌, List, length}
 use Rattle.std.specs.Io.KnownBytes.{Appends}
+use Rattle.std.specs.List.{flat_map}
 use Rattle.loop_y4m.specs.Text.{deep_text}
-use Rattle.loop_station_camera.specs.Saves.{clips_read, frames_in_clips}
+use Rattle.loop_station_camera.specs.declared.save.pieces.Piece.{Piece}
+use Rattle.loop_station_camera.specs.Answers.{bytes_of}
+use Rattle.loop_station_camera.specs.Saves.{AreCut, AreSaved, clips_read, frames_in_clips, numbers_in}
 use Rattle.loop_station_camera.proofs.save.written.write_text.Given as goal
 
 abbrev pub invariant-pieces : goal.invariant-pieces
 invariant-pieces g l = record {
-  frames : List (List ℕ);
-  written : Appends (g.W.Write.contents l.fn.out) (g.W.Write.contents l.out) (deep_text l.geometry l.depth frames);
-  counted : length frames ≡ l.count;
-  left : l.count + frames_in_clips l.left.items ≡ frames_in_clips (clips_read l.save);
+  pieces : List Piece;
+  cut : AreCut (clips_read l.save) pieces l.left.items;
+  frames : AreSaved l.depth (flat_map numbers_in pieces) l.written;
+  written : Appends (g.W.Write.contents l.fn.out) (g.W.Write.contents l.out) (deep_text l.geometry l.depth (bytes_of l.written));
+  left : length l.written + frames_in_clips l.left.items ≡ frames_in_clips (clips_read l.save);
 }
