@@ -11,21 +11,21 @@ use Rattle.loop_y4m.specs.declared.depth.Depth.{Depth}
 use Rattle.loop_y4m.specs.Text.{deep_header, deep_text, frame}
 use Rattle.loop_station_shared.specs.declared.found.FoundClip.{FoundClip}
 use Rattle.loop_station_camera.specs.declared.save.pieces.Piece.{Piece}
-use Rattle.loop_station_camera.specs.Answers.{SeenAnswer, bytes_of}
-use Rattle.loop_station_camera.specs.Saves.{AreCut, AreSaved, IsSaved, frames_in_clips, numbers_in}
+use Rattle.loop_station_camera.specs.Answers.{SeenAnswer, answered_bytes}
+use Rattle.loop_station_camera.specs.Saves.{AreCut, AreSaved, IsSaved, frames_in_clips, piece_numbers}
 
 -- ---- none yet
 
 pub begun : (g : Geometry) (b : Depth) (old new : Option (List ℕ)) (answers : List SeenAnswer) → answers ≡ []
-    → Appends old new (deep_header g b) → Appends old new (deep_text g b (bytes_of answers))
+    → Appends old new (deep_header g b) → Appends old new (deep_text g b (answered_bytes answers))
 begun g b old new answers none wrote =
-    subst (λ (l : List SeenAnswer). Appends old new (deep_text g b (bytes_of l))) (sym none)
+    subst (λ (l : List SeenAnswer). Appends old new (deep_text g b (answered_bytes l))) (sym none)
     (subst (λ (l : List ℕ). Appends old new l) (sym (append-nil (deep_header g b))) wrote)
 
 pub none-written : (now : Option (List ℕ)) (answers : List SeenAnswer) → answers ≡ []
-    → Appends now now (flat_map frame (bytes_of answers))
+    → Appends now now (flat_map frame (answered_bytes answers))
 none-written now answers none =
-    subst (λ (l : List SeenAnswer). Appends now now (flat_map frame (bytes_of l))) (sym none) (Appends-nil now)
+    subst (λ (l : List SeenAnswer). Appends now now (flat_map frame (answered_bytes l))) (sym none) (Appends-nil now)
 
 pub none-saved : (depth : Depth) (answers : List SeenAnswer) → answers ≡ [] → AreSaved depth [] answers
 none-saved depth answers none = subst (λ (l : List SeenAnswer). AreSaved depth [] l) (sym none) tt
@@ -41,31 +41,31 @@ none-counted answers clips left none same =
 
 -- what is written of answers, and then of more
 joined : (answers more : List SeenAnswer)
-    → flat_map frame (bytes_of answers) ++ flat_map frame (bytes_of more) ≡ flat_map frame (bytes_of (answers ++ more))
+    → flat_map frame (answered_bytes answers) ++ flat_map frame (answered_bytes more) ≡ flat_map frame (answered_bytes (answers ++ more))
 joined answers more =
-    sym (flat_map-append frame (bytes_of answers) (bytes_of more))
+    sym (flat_map-append frame (answered_bytes answers) (answered_bytes more))
     ∙ ap (flat_map frame) (sym (map-append (λ (a : SeenAnswer). a.bytes) answers more))
 
 -- one more frame after others
 pub one-more : (old mid new : Option (List ℕ)) (answers after : List SeenAnswer) (a : SeenAnswer)
-    → after ≡ answers ++ a ∷ [] → Appends old mid (flat_map frame (bytes_of answers))
-    → Appends mid new (frame a.bytes) → Appends old new (flat_map frame (bytes_of after))
+    → after ≡ answers ++ a ∷ [] → Appends old mid (flat_map frame (answered_bytes answers))
+    → Appends mid new (frame a.bytes) → Appends old new (flat_map frame (answered_bytes after))
 one-more old mid new answers after a is first then =
     subst (λ (l : List ℕ). Appends old new l)
-    (ap (λ (l : List ℕ). flat_map frame (bytes_of answers) ++ l) (sym (append-nil (frame a.bytes)))
-    ∙ joined answers (a ∷ []) ∙ ap (λ (l : List SeenAnswer). flat_map frame (bytes_of l)) (sym is))
-    (Appends-trans old mid new (flat_map frame (bytes_of answers)) (frame a.bytes) first then)
+    (ap (λ (l : List ℕ). flat_map frame (answered_bytes answers) ++ l) (sym (append-nil (frame a.bytes)))
+    ∙ joined answers (a ∷ []) ∙ ap (λ (l : List SeenAnswer). flat_map frame (answered_bytes l)) (sym is))
+    (Appends-trans old mid new (flat_map frame (answered_bytes answers)) (frame a.bytes) first then)
 
 -- a text, and more frames
 pub some-more : (g : Geometry) (b : Depth) (old mid new : Option (List ℕ)) (answers more after : List SeenAnswer)
-    → after ≡ answers ++ more → Appends old mid (deep_text g b (bytes_of answers))
-    → Appends mid new (flat_map frame (bytes_of more)) → Appends old new (deep_text g b (bytes_of after))
+    → after ≡ answers ++ more → Appends old mid (deep_text g b (answered_bytes answers))
+    → Appends mid new (flat_map frame (answered_bytes more)) → Appends old new (deep_text g b (answered_bytes after))
 some-more g b old mid new answers more after is first then =
     subst (λ (l : List ℕ). Appends old new l)
-    (append_assoc (deep_header g b) (flat_map frame (bytes_of answers)) (flat_map frame (bytes_of more))
+    (append_assoc (deep_header g b) (flat_map frame (answered_bytes answers)) (flat_map frame (answered_bytes more))
     ∙ ap (λ (l : List ℕ). deep_header g b ++ l) (joined answers more)
-    ∙ ap (λ (l : List SeenAnswer). deep_text g b (bytes_of l)) (sym is))
-    (Appends-trans old mid new (deep_text g b (bytes_of answers)) (flat_map frame (bytes_of more)) first then)
+    ∙ ap (λ (l : List SeenAnswer). deep_text g b (answered_bytes l)) (sym is))
+    (Appends-trans old mid new (deep_text g b (answered_bytes answers)) (flat_map frame (answered_bytes more)) first then)
 
 -- the frames of some numbers, and then of more
 saved-more : (depth : Depth) (under : List (FoundClip × ℕ)) (answers : List SeenAnswer)
@@ -97,14 +97,14 @@ counted-one answers after a n same is =
 
 -- and those of pieces
 pub saved-piece : (depth : Depth) (pieces : List Piece) (p : Piece) (answers more after : List SeenAnswer)
-    → after ≡ answers ++ more → AreSaved depth (flat_map numbers_in pieces) answers
-    → AreSaved depth (numbers_in p) more → AreSaved depth (flat_map numbers_in (pieces ++ p ∷ [])) after
+    → after ≡ answers ++ more → AreSaved depth (flat_map piece_numbers pieces) answers
+    → AreSaved depth (piece_numbers p) more → AreSaved depth (flat_map piece_numbers (pieces ++ p ∷ [])) after
 saved-piece depth pieces p answers more after same first then =
-    subst (λ (l : List SeenAnswer). AreSaved depth (flat_map numbers_in (pieces ++ p ∷ [])) l) (sym same)
+    subst (λ (l : List SeenAnswer). AreSaved depth (flat_map piece_numbers (pieces ++ p ∷ [])) l) (sym same)
     (subst (λ (under : List (FoundClip × ℕ)). AreSaved depth under (answers ++ more))
-    (ap (λ (l : List (FoundClip × ℕ)). flat_map numbers_in pieces ++ l) (sym (append-nil (numbers_in p)))
-    ∙ sym (flat_map-append numbers_in pieces (p ∷ [])))
-    (saved-more depth (flat_map numbers_in pieces) answers (numbers_in p) more first then))
+    (ap (λ (l : List (FoundClip × ℕ)). flat_map piece_numbers pieces ++ l) (sym (append-nil (piece_numbers p)))
+    ∙ sym (flat_map-append piece_numbers pieces (p ∷ [])))
+    (saved-more depth (flat_map piece_numbers pieces) answers (piece_numbers p) more first then))
 
 pub counted-piece : (answers more after : List SeenAnswer) (clips left new : List FoundClip) (from end : ℕ)
     → after ≡ answers ++ more → length answers + frames_in_clips left ≡ frames_in_clips clips → from ≤ end
@@ -117,7 +117,7 @@ counted-piece answers more after clips left new from end same first some all tak
 -- ---- at the end
 
 pub all-written : (depth : Depth) (p : Piece) (n : ℕ) (answers : List SeenAnswer) → n ≡ p.end - p.clip.clip.from + 1
-    → AreSaved depth (under-clip p.clip p.clip.clip.from n) answers → AreSaved depth (numbers_in p) answers
+    → AreSaved depth (under-clip p.clip p.clip.clip.from n) answers → AreSaved depth (piece_numbers p) answers
 all-written depth p n answers is so =
     subst (λ (k : ℕ). AreSaved depth (under-clip p.clip p.clip.clip.from k) answers) is so
 

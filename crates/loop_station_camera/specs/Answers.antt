@@ -21,5 +21,5 @@ desk_answer (Ok a) = Ok (a.head, a.bytes)
 desk_answer (Err fault) = Err fault
 
 -- the bytes of several, in their order
-abbrev pub bytes_of : List SeenAnswer → List (List ℕ)
-bytes_of answers = map (λ a. a.bytes) answers
+abbrev pub answered_bytes : List SeenAnswer → List (List ℕ)
+answered_bytes answers = map (λ a. a.bytes) answers

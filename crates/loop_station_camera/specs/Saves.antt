@@ -12,7 +12,7 @@ use Rattle.loop_station_core.specs.Sets.{store_of}
 use Rattle.loop_station_shared.specs.declared.found.FoundClip.{FoundClip}
 use Rattle.loop_station_camera.specs.declared.saves.Save.{Save}
 use Rattle.loop_station_camera.specs.declared.save.pieces.Piece.{Piece}
-use Rattle.loop_station_camera.specs.Answers.{SeenAnswer, bytes_of}
+use Rattle.loop_station_camera.specs.Answers.{SeenAnswer, answered_bytes}
 
 -- the clips that a save reads
 abbrev pub clips_read : Save → List FoundClip
@@ -50,8 +50,8 @@ AreCut clips [] left = clips ≡ left
 AreCut clips (p ∷ ps) left = (rest : List FoundClip) × TakesFirst clips rest p × AreCut rest ps left
 
 -- the numbers of a piece, each with its clip
-abbrev pub numbers_in : Piece → List (FoundClip × ℕ)
-numbers_in p = map (λ n. (p.clip, n)) (range_with_len p.clip.clip.from (p.end - p.clip.clip.from + 1))
+abbrev pub piece_numbers : Piece → List (FoundClip × ℕ)
+piece_numbers p = map (λ n. (p.clip, n)) (range_with_len p.clip.clip.from (p.end - p.clip.clip.from + 1))
 
 -- ---- the frames
 
@@ -78,10 +78,10 @@ pub record WroteClips (old new : Option (List ℕ)) (geometry : Geometry) (clips
     (answers : List SeenAnswer) : Type 0 where
   pub depth : Depth
   pub fits : may_have geometry depth ≡ true
-  pub written : Appends old new (deep_text geometry depth (bytes_of answers))
+  pub written : Appends old new (deep_text geometry depth (answered_bytes answers))
   pub pieces : List Piece
   pub cut : AreCut clips pieces []
-  pub frames : AreSaved depth (flat_map numbers_in pieces) answers
+  pub frames : AreSaved depth (flat_map piece_numbers pieces) answers
   pub all : length answers ≡ frames_in_clips clips
   pub some : All (λ f. f.clip.from ≤ f.clip.to) clips
 
@@ -97,8 +97,8 @@ pub record WroteFrame (old new : Option (List ℕ)) (depth : Depth) (a : SeenAns
 -- the frames of a piece were written, one after the other
 pub record WrotePiece (old new : Option (List ℕ)) (depth : Depth) (piece : Piece) (answers : List SeenAnswer)
     : Type 0 where
-  pub written : Appends old new (flat_map frame (bytes_of answers))
-  pub frames : AreSaved depth (numbers_in piece) answers
+  pub written : Appends old new (flat_map frame (answered_bytes answers))
+  pub frames : AreSaved depth (piece_numbers piece) answers
   pub all : piece.clip.clip.from + length answers ≡ piece.end + 1
 
 -- the piece that began first was taken out of what was left of clips; or nothing was left
