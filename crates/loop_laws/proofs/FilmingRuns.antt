@@ -49,7 +49,7 @@ module _ (ring : Ring) (keep : ℕ) where
         one,
         refl,
         subst (λ (rs : List Recording). Run ring keep one (replicate n joined) (record stores { recordings = rs }))
-        (append_assoc stores.recordings (empty ∷ []) (replicate n empty)) (run-late n one),
+            (append_assoc stores.recordings (empty ∷ []) (replicate n empty)) (run-late n one),
       )
 
 replicate-more : {X : Type 0} (n : ℕ) (x : X) → replicate n x ++ x ∷ [] ≡ x ∷ replicate n x
@@ -736,7 +736,7 @@ module _ {D : Type 0} (medium : D → Medium) (ring : Ring) (keep : ℕ) (some :
               plain ring b.mine t.made,
               ap (slice_get new.recordings) same ∙ at-new,
               never-full ring keep b.mine t.made (steps-append ring keep b.mine t.group t.made t.by)
-              (subst (NeverFull ring keep) equal b.never),
+                  (subst (NeverFull ring keep) equal b.never),
             )
         room (inr apart) = (
           b.recording,
