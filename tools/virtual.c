@@ -28,8 +28,9 @@
  *   reader FROM TO N        where that is a pipe: somebody reads it in that time, N bytes a second
  *   sink NAME ROOM          a pipe into which clips are saved, with room for so many bytes
  *   taker FROM TO NAME N    somebody reads that pipe in that time, N bytes a second
- *   refuse FROM TO N MOST   the program gets no memory at one of N times in that time, MOST times
- *                           at most
+ *   refuse FROM TO N MOST LEAST UNTIL   the program gets no memory at one of N times in that time,
+ *                           MOST times at most: where that is LEAST bytes or more, and fewer than
+ *                           UNTIL; without those, whatever it asks for
  *   pipe AHEAD NAME HEADER  the next pipe of a source; where AHEAD is 1, its writer goes on, and
  *                           gave its header before
  *   orders NAME             the pipe of orders
@@ -53,7 +54,7 @@
  * A answers, I a pipe of clips is opened to be written (number: the pipe, place: the descriptor),
  * Y written to it, Z memory was refused (place: how much), O standard output or error, P a frame or
  * an order came (number: the pipe, place: the line of the script), D nobody read it, Q its writer
- * closed it, E the end (bytes: why).
+ * closed it, R a file is read there, which no other record counts, E the end (bytes: why).
  */
 #define _GNU_SOURCE
 #include <dlfcn.h>
@@ -183,7 +184,7 @@ static int taker_count;
 
 /* When the program gets no memory. */
 struct lack {
-    uint64_t from, to, every, most;
+    uint64_t from, to, every, most, least, until;
 };
 
 static struct lack lacks[RULES];
@@ -217,7 +218,7 @@ static void note(char kind, uint32_t number, uint64_t place, uint64_t count, con
     if (count) memcpy(to + 25, bytes, count);
     to[0] = kind;
     log_at += 25 + count;
-    log_records++;
+    log_records += kind != 'R';
 }
 
 static void ends(const char *why) {
@@ -578,7 +579,8 @@ static int refuses(const void *caller, size_t size) {
     if (!is_on || !self || from < own_from || from >= own_to) return 0;
     for (int at = 0; at < lack_count; at++) {
         struct lack *it = &lacks[at];
-        if (now < it->from || now >= it->to || !it->most || pick(it->every)) continue;
+        if (now < it->from || now >= it->to || !it->most) continue;
+        if (size < it->least || size >= it->until || pick(it->every)) continue;
         it->most--;
         note('Z', 0, size, 0, NULL);
         errno = ENOMEM;
@@ -629,7 +631,7 @@ static int sink_of(const char *name) {
 }
 
 static void take_line(char *line, int number) {
-    unsigned long long a, b, c, d, e;
+    unsigned long long a, b, c, d, e, f;
     int at = 0;
     char name[64], call[16];
     if (!*line || *line == '#') return;
@@ -678,8 +680,11 @@ static void take_line(char *line, int number) {
     else if (sscanf(line, "taker %llu %llu %63s %llu", &a, &b, name, &c) == 4
              && taker_count < RULES && sink_of(name) >= 0)
         takers[taker_count++] = (struct taker){a, b, c, sink_of(name)};
+    else if (sscanf(line, "refuse %llu %llu %llu %llu %llu %llu", &a, &b, &c, &d, &e, &f) == 6
+             && lack_count < RULES)
+        lacks[lack_count++] = (struct lack){a, b, c, d, e, f};
     else if (sscanf(line, "refuse %llu %llu %llu %llu", &a, &b, &c, &d) == 4 && lack_count < RULES)
-        lacks[lack_count++] = (struct lack){a, b, c, d};
+        lacks[lack_count++] = (struct lack){a, b, c, d, 0, NEVER};
     else if (sscanf(line, "answers %255s", answers_name) == 1) return;
     else if (sscanf(line, "reader %llu %llu %llu", &a, &b, &c) == 3 && reader_count < RULES)
         readers[reader_count++] = (struct reader){a, b, c};
@@ -1146,6 +1151,7 @@ ssize_t pread(int fd, void *bytes, size_t count, off_t at) {
     if (fd_of(fd)->kind == WATCHED) takes_time(name_of(fd_of(fd)), 'r');
     struct fd *it = fd_of(fd);
     if (it->kind == WATCHED && fails(name_of(it), 'r')) return -1;
+    if (it->kind == WATCHED) note('R', it->index, at, 0, NULL);
     return seen(RAW(SYS_pread64, fd, bytes, count, at));
 }
 

@@ -15,6 +15,7 @@ import layout
 from simulated_asked import Asked
 from simulated_disk import Disk, File, Record
 from simulated_kept import Kept
+from simulated_last import Last
 from simulated_more import More, number_of
 from simulated_run import Lived, chooser, told
 from simulated_told import Told
@@ -201,7 +202,7 @@ class Judge:
         # How many frames a camera gave up, in any life.
         self.gave: dict[str, int] = {}
         self.told, self.kept, self.asked = Told(self), Kept(self), Asked(self)
-        self.more = More(self)
+        self.more, self.last = More(self), Last(self)
 
     def says(self, what: str) -> None:
         """Something is wrong."""
@@ -317,6 +318,7 @@ class Judge:
         self.kept.begins(lived)
         self.asked.begins(lived)
         self.more.begins(lived)
+        self.last.begins(lived)
 
     def stored_in(self, files: dict[str, bytes], name: str) -> int:
         """How many frames the stores of a camera say that they ever had."""
@@ -401,6 +403,7 @@ class Judge:
         self.kept.reads(said, time)
         self.asked.reads(said, time)
         self.more.reads(said, time)
+        self.last.reads(said, time)
 
     def reads_done(self, said: dict, time: int) -> None:
         """An order is answered, once; a release by its id is done, or refused."""
@@ -750,6 +753,7 @@ class Judge:
         self.kept.ends(lived, lines)
         self.asked.ends(lived)
         self.more.ends(lived)
+        self.last.ends(lived)
         self.goes_on_with_events(lived)
         self.forgets(lived.after)
 

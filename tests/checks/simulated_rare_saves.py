@@ -28,7 +28,8 @@ IDS = 6
 class Act:
     """What a life has: how long it lasts and how it ends, where that matters; lines of its script;
     orders, and other lines that happen at a time; when its source rests, and whether its writer
-    leaves then; and how many numbers the next writer passes over."""
+    leaves then; how many numbers the next writer passes over, and one that stays; which files are
+    there besides, and which cameras come or go."""
 
     span: int
     orders: list[tuple[int, str]]
@@ -37,6 +38,9 @@ class Act:
     others: list[tuple[int, str]] = dataclasses.field(default_factory=list)
     rests: list[tuple[int, int, bool]] = dataclasses.field(default_factory=list)
     jumps: int = 0
+    lost: int = 0
+    files: dict[str, str] = dataclasses.field(default_factory=dict)
+    changed: set[str] = dataclasses.field(default_factory=set)
 
 
 class Shape(NamedTuple):
@@ -89,7 +93,7 @@ class Scene:
         events = [(at, self.world.order(text, at, orders)) for at, text in act.orders]
         for camera in self.world.cameras:
             rests = act.rests if camera is self.first else []
-            events += self.frames(camera, now, until, rests, act.jumps)
+            events += self.frames(camera, now, until, rests, act)
         events += act.others
         if end == "stop":
             events.append((until, self.world.order("stop", until, orders)))
@@ -103,10 +107,11 @@ class Scene:
         down = self.chance.choice((100_000, SECOND))
         return Life(now, until, "\n".join(script) + "\n", end, orders,
                     bool(calls & {"bad", "refuse"}),
-                    bool(calls & {"bad", "slow", "reads", "refuse"}), down, {}, set())
+                    bool(calls & {"bad", "slow", "reads", "refuse"}), down, act.files,
+                    act.changed)
 
     def frames(self, camera: Camera, since: int, until: int, rests: list[tuple[int, int, bool]],
-               jumps: int) -> list[tuple[int, str]]:
+               act: Act) -> list[tuple[int, str]]:
         """What a source brings meanwhile: frames, but where it rests."""
         from simulated_world import SIZE
         found, at = [], max(camera.due, since + self.chance.randint(0, SECOND // 2))
@@ -118,7 +123,7 @@ class Scene:
                 begin, at, is_left = left.pop(0)
                 if is_left:
                     found.append((begin, f"close {begin} {camera.pipe}"))
-                    camera.frame += jumps
+                camera.frame += act.jumps if is_left else act.lost
                 continue
             found.append((at, f"frame {at} {camera.pipe} {camera.frame} {SIZE}"
                               f" {self.world.line(camera, at)}"))

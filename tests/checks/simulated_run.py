@@ -53,6 +53,8 @@ class Lived(NamedTuple):
     has_answers: bool
     links: set[str]
     changed_files: set[str]
+    # The reads of files, which change nothing.
+    reads: list[Record]
 
     def end(self) -> int:
         """When it ended."""
@@ -146,7 +148,9 @@ class Runner:
         if known and data == known.log and output == known.output and before == known.before:
             self.lays(known.after)
             return known
-        records = log_of(str(log))
+        logged = log_of(str(log))
+        records = [it for it in logged if it.kind != "R"]
+        reads = [it for it in logged if it.kind == "R"]
         left = self.held()
         after = left
         if life.end == "power" and status == 137:
@@ -161,7 +165,7 @@ class Runner:
         config = (self.folder / "station.toml").read_text()
         changed = set() if config in (self.config, *life.files.values()) else {"config"}
         return Lived(life, data, records, before, left, after, output, status,
-                     (self.folder / "answers").exists(), links, changed)
+                     (self.folder / "answers").exists(), links, changed, reads)
 
     def runs(self, env: dict[str, str], out: Path) -> tuple[bytes, int]:
         """Runs the program; answers its output and its status."""

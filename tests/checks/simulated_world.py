@@ -11,6 +11,7 @@ import time
 
 import layout
 import simulated_rare_keeps
+import simulated_rare_last
 import simulated_rare_more
 import simulated_rare_saves
 
@@ -144,7 +145,8 @@ class World:
         # The pipes into which clips are saved, and that somebody reads.
         self.sinks: tuple[str, ...] = ()
         # All that happens, where that is one scene.
-        self.scene = simulated_rare_saves.scene_of(self) or simulated_rare_more.scene_of(self)
+        self.scene = simulated_rare_saves.scene_of(self) or \
+            simulated_rare_more.scene_of(self) or simulated_rare_last.scene_of(self)
 
     def camera(self, at: int) -> Camera:
         """A camera of any kind."""

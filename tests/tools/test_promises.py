@@ -9,6 +9,7 @@ sys.path[1:1] = [str(TOP / "tools"), str(TOP / "tests/checks")]
 import simulated_asked
 import simulated_judge
 import simulated_kept
+import simulated_last
 import simulated_more
 import simulated_told
 
@@ -16,7 +17,7 @@ PAGE, ROWS = TOP / "docs/station.md", TOP / "tests/cases/promises.txt"
 CLASSES = {"Judge": simulated_judge.Judge, "Kept": simulated_kept.Kept,
            "Told": simulated_told.Told, "Asked": simulated_asked.Asked,
            "Memory": simulated_more.Memory, "Pipes": simulated_more.Pipes,
-           "Pattern": simulated_more.Pattern}
+           "Pattern": simulated_more.Pattern, "Last": simulated_last.Last}
 
 
 def plain(text):
