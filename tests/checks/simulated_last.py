@@ -190,8 +190,10 @@ class Last:
         for event, (meant, over) in self.judge.events.items():
             is_open = name in meant - over and event not in self.judge.unsure and \
                 (event in self.judge.pending or event in self.judge.kept.here)
+            # What an order of several cameras doesn't say, each of them has for itself.
+            ahead = [it for it in meant if "after" in self.judge.cameras[it].words]
             if is_open and tags == {event} and name not in self.judge.moved and \
-                    not self.judge.more.memory.refused:
+                    (name in ahead or not ahead) and not self.judge.more.memory.refused:
                 self.judge.says(f"the event {event} goes on: {said}")
 
     # -------------------------------------------------------------------------------------------
