@@ -12,8 +12,7 @@
 //! A writer that went on while the program was begun anew gives no header again. Then its frames are read from their
 //! next line on, as the store has them. Where that can't be, the pipe is closed: its writer ends, and comes again.
 
-ghost use Rattle.std.specs.Prelude.{◌≡◌, IfOk, IfSome, false, length};
-ghost use Rattle.loop_station_outside.specs.Headers.{HasNoHeader};
+ghost use Rattle.std.specs.Prelude.{◌≡◌, IfSome, length};
 
 use loop_capture::{FrameSource, Pattern};
 use loop_desk::frame_memory;
@@ -698,15 +697,13 @@ fn header_begun(bytes: &[u8]) -> Begun {
     begun
 }
 
-// Reads a frame, with what its line says, or how the stream ends instead. One of a pipe has no header in it.
+// Reads a frame, with what its line says, or how the stream ends instead.
 fn next_of<R: AllocGlobal + Wait + Clock, I: Read + Drop>(
     rt: &R,
     state: &CameraState,
     reader: &mut Y4mReader<I>,
     paced: bool,
-) -> Result<(Vec<u8>, FrameLine), StreamEnd>
-    ensures { paced ≡ false → IfOk result (λ came. HasNoHeader came.0.items) }
-{
+) -> Result<(Vec<u8>, FrameLine), StreamEnd> {
     let Some(mut bytes) = row_for(rt, state, reader.frame_bytes()) else {
         return Err(StreamEnd::Ended);
     };
