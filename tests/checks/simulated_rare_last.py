@@ -1,7 +1,7 @@
-"""What is rare in the last worlds of tests/simulate: the station's file is read anew while something
-is under way, disks fail while frames wait, clips that are saved by themselves are cancelled or found
-again, and memory is refused for one thing alone. From the seed 60,000 to 69,999 each world has one
-of these scenes, by its seed, and nothing else."""
+"""What is rare in the last worlds of tests/simulate: the station's file is read anew while
+something is under way, disks fail while frames wait, clips that are saved by themselves are
+cancelled or found again, and memory is refused for one thing alone. From the seed 60,000 to 69,999
+each world has one of these scenes, by its seed, and nothing else."""
 from __future__ import annotations
 
 from typing import TYPE_CHECKING
